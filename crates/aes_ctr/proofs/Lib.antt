@@ -1,0 +1,4 @@
+pub mod ColumnLemmas
+pub mod TableLemmas
+pub mod KeyLemmas
+pub mod StreamLemmas
