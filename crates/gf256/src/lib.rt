@@ -1,0 +1,46 @@
+//! The field of 256 elements, as polynomials over the two elements modulo x^8 + x^4 + x^3 + x^2 + 1 (0x11D), the
+//! field of zfec.
+//!
+//! A byte is a polynomial: bit i is the coefficient of x^i. The sum of two elements is their exclusive or.
+#![tactic(auto)]
+
+ghost use Rattle.std.specs.Prelude.{◌≡◌, ◌<◌};
+ghost use Rattle.gf256.specs.Field.{polynomial_product, IsRemainder, product, point_of};
+
+mod lanes;
+mod tables;
+
+pub use lanes::add_mul;
+use tables::{INVERSES, LOGARITHMS, POWERS};
+
+/// The product of two elements.
+pub fn mul(a: u8, b: u8) -> u8
+    ensures value { result ≡ product a b }
+    ensures remainder { IsRemainder (polynomial_product 8 a b) result }
+{
+    if a == 0 || b == 0 {
+        return 0;
+    }
+    let exponent = usize::from(LOGARITHMS[usize::from(a)])
+        + usize::from(LOGARITHMS[usize::from(b)]);
+    POWERS[exponent]
+}
+
+/// The inverse of an element other than 0.
+pub fn inv(a: u8) -> u8
+    requires { 0 < a }
+    ensures { product a result ≡ 1 }
+{
+    INVERSES[usize::from(a)]
+}
+
+/// The evaluation point of share `i`: 0 for share 0, and x^(i - 1) for the others.
+pub fn point(i: u8) -> u8
+    ensures { result ≡ point_of i }
+{
+    if i == 0 {
+        0
+    } else {
+        POWERS[usize::from(i - 1)]
+    }
+}

@@ -1,0 +1,4 @@
+pub mod CodeError
+pub mod Shares
+pub mod Rows
+pub mod ShareValue
