@@ -1,0 +1,50 @@
+-- The values of caps.
+use Rattle.std.specs.Prelude.{ℕ, ◌<◌, ◌≤◌, List, length, slice_index}
+use Rattle.cap_text.specs.declared.cap.TheConstants.{MIN_SIZE, MAX_SIZE, MAX_SHARES, MAX_LIT_SIZE}
+use Rattle.cap_text.specs.Base32.{IsBytes}
+use Rattle.tagged_hash.specs.TaggedHash.{storage_index_of}
+
+-- what a read cap says
+pub record ReadCapValue : Type 0 where
+  pub key : List ℕ
+  pub ueb_hash : List ℕ
+  pub needed : ℕ
+  pub total : ℕ
+  pub size : ℕ
+
+-- what a verify cap says
+pub record VerifyCapValue : Type 0 where
+  pub storage_index : List ℕ
+  pub ueb_hash : List ℕ
+  pub needed : ℕ
+  pub total : ℕ
+  pub size : ℕ
+
+-- so many shares are needed of so many, and the file is of such a size
+pub record AreParameters (needed total size : ℕ) : Type 0 where
+  pub some : 1 ≤ needed
+  pub enough : needed ≤ total
+  pub shares : total ≤ MAX_SHARES
+  pub least : MIN_SIZE ≤ size
+  pub most : size ≤ MAX_SIZE
+
+-- such a read cap may be
+pub record IsReadCap (c : ReadCapValue) : Type 0 where
+  pub key : IsBytes 16 c.key
+  pub ueb_hash : IsBytes 32 c.ueb_hash
+  pub parameters : AreParameters c.needed c.total c.size
+
+-- such a verify cap may be
+pub record IsVerifyCap (c : VerifyCapValue) : Type 0 where
+  pub storage_index : IsBytes 16 c.storage_index
+  pub ueb_hash : IsBytes 32 c.ueb_hash
+  pub parameters : AreParameters c.needed c.total c.size
+
+-- the file of a literal cap
+pub record IsLitCap (file : List ℕ) : Type 0 where
+  pub short : length file ≤ MAX_LIT_SIZE
+  pub below : (i : ℕ) → slice_index file i < 256
+
+-- the verify cap of a read cap's file
+abbrev pub verify_cap_of : ReadCapValue → VerifyCapValue
+verify_cap_of c = record { storage_index = storage_index_of c.key; ueb_hash = c.ueb_hash; needed = c.needed; total = c.total; size = c.size }

@@ -1,0 +1,2 @@
+pub mod OneSegment
+pub mod GoodShares

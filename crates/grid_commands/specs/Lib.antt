@@ -1,0 +1,4 @@
+pub mod Geometry
+pub mod Encoding
+pub mod FileOf
+pub mod OneSegment

@@ -1,0 +1,101 @@
+//! The commands of `grid`, which keeps files on a grid of servers that need not be trusted.
+//!
+//! `grid` takes the words of the command line and two writers, and gives the exit status. The parts that encode a file and read it
+//! back are proved against the definition of a file's encoding in `specs/`; what files and folders hold is their premise.
+#![tactic(auto)]
+
+mod encoding;
+mod fault;
+mod folders;
+mod get;
+mod put;
+mod reading;
+mod words;
+
+use clap::error::ErrorKind;
+use fault::Fault;
+use std::alloc::Global;
+use std::convert::AsStr;
+use std::io;
+use std::rt::Files;
+use words::{Request, read_words};
+
+// The exit status of wrong words, and that of a failed file, writer or allocation.
+const WRONG_WORDS: u8 = 2;
+
+const FAILED: u8 = 7;
+
+/// Why a run ended without its result.
+#[derive(Drop)]
+enum Failure {
+    /// The words are wrong, or ask for help.
+    Words(clap::Error),
+    Fault(Fault),
+}
+
+impl From<Fault> for Failure {
+    fn from(fault: Fault) -> Failure {
+        Failure::Fault(fault)
+    }
+}
+
+/// Runs the command that `words` asks for, of which the first is the program's name. Its result goes to `out`, and a fault, as one
+/// line with its number and name, to `err`.
+///
+/// The exit status is 0 where it is done, 2 for wrong words, 3 for refused input, 4 for an unhappy upload, 5 for too few shares, 6
+/// for inconsistent ones, and 7 for a file or folder, memory, or a fault of `out` or `err`, after which nothing more is written.
+pub fn grid<R, S, O, E>(rt: &R, words: &[S], out: &mut O, err: &mut E) -> u8
+where
+    R: Files + AllocGlobal + Clone + Drop,
+    S: AsStr,
+    O: io::Write,
+    E: io::Write,
+{
+    match run(rt, words) {
+        Ok(result) => write(out, &result, 0),
+        Err(Failure::Fault(fault)) => report(rt.alloc(), err, &fault),
+        Err(Failure::Words(error)) => match error.kind() {
+            ErrorKind::OutOfMemory => report(rt.alloc(), err, &Fault::OutOfMemory),
+            _ if error.use_stderr() => show(rt.alloc(), err, &error, WRONG_WORDS),
+            _ => show(rt.alloc(), out, &error, 0),
+        },
+    }
+}
+
+// Runs a command, and gives what goes to standard output.
+fn run<R, S>(rt: &R, words: &[S]) -> Result<Vec<u8>, Failure>
+where
+    R: Files + AllocGlobal + Clone + Drop,
+    S: AsStr,
+{
+    match read_words(rt.alloc(), words) {
+        Err(error) => Err(Failure::Words(error)),
+        Ok(Request::Put(words)) => Ok(put::put(rt, &words)?),
+        Ok(Request::Get(words)) => Ok(get::get(rt, &words)?),
+    }
+}
+
+// Writes a fault's line, and gives its exit status.
+fn report<E: io::Write>(alloc: Global, err: &mut E, fault: &Fault) -> u8 {
+    match format!(in alloc; "grid: {fault}\n") {
+        Ok(line) => write(err, line.as_bytes(), fault.status()),
+        Err(_) => write(err, b"grid: 1 OutOfMemory\n", FAILED),
+    }
+}
+
+// Writes `clap`'s text, which ends its own lines, and gives the exit status.
+fn show<W: io::Write>(alloc: Global, to: &mut W, error: &clap::Error, status: u8) -> u8 {
+    match format!(in alloc; "{error}") {
+        Ok(text) => write(to, text.as_bytes(), status),
+        Err(_) => FAILED,
+    }
+}
+
+// Writes bytes, and gives this exit status, or that of a failed writer.
+fn write<W: io::Write>(to: &mut W, bytes: &[u8], status: u8) -> u8 {
+    if to.write_all(bytes).is_err() || to.flush().is_err() {
+        FAILED
+    } else {
+        status
+    }
+}

@@ -1,0 +1,147 @@
+// The words of the command line, read by `clap`.
+
+use clap::{Arg, ArgMatches, Command, Error, value_parser};
+use std::alloc::{AllocError, Global};
+use std::convert::AsStr;
+
+/// What the user asks for.
+#[derive(Drop)]
+pub(crate) enum Request<'a> {
+    Put(PutWords<'a>),
+    Get(GetWords<'a>),
+}
+
+/// `grid put FILE --grid DIR ..`: numbers as the user wrote them, in no range yet.
+#[derive(Drop)]
+pub(crate) struct PutWords<'a> {
+    pub file: &'a str,
+    pub grid: &'a str,
+    pub secret: &'a str,
+    pub needed: u64,
+    pub happy: u64,
+    pub total: u64,
+    pub max_segment: u64,
+    pub servers: u64,
+}
+
+/// `grid get CAP --grid DIR`.
+#[derive(Drop)]
+pub(crate) struct GetWords<'a> {
+    pub cap: &'a str,
+    pub grid: &'a str,
+}
+
+/// Reads the words after the program's name. An `Err` holds `clap`'s text, of help too.
+pub(crate) fn read_words<'a, S: AsStr>(
+    alloc: Global,
+    words: &'a [S],
+) -> Result<Request<'a>, Error> {
+    let command = grid_command(alloc)?;
+    let matches = command.try_get_matches_from(words)?;
+    Ok(match matches.subcommand() {
+        Some(("put", put)) => Request::Put(put_words(put)),
+        // A command is required, and this is the only other one.
+        Some((_, get)) => Request::Get(get_words(get)),
+        None => Request::Get(get_words(&matches)),
+    })
+}
+
+fn grid_command<'a>(alloc: Global) -> Result<Command<'a>, AllocError> {
+    Command::new(alloc, "grid")
+        .bin_name("grid")?
+        .about(
+            "Keeps files on a grid of servers that need not be trusted: encrypted, erasure-coded and checked.",
+        )
+        .after_help(STATUSES)
+        .subcommand_required(true)
+        .subcommand(put_command(alloc)?)?
+        .subcommand(get_command(alloc)?)
+}
+
+const STATUSES: &str =
+    "Exit status: 0 done, 2 wrong words, 3 refused input, 4 unhappy, 5 not enough shares, \
+6 inconsistent, 7 file or memory. A refusal is one line on standard error, with its number and name.";
+
+fn put_command<'a>(alloc: Global) -> Result<Command<'a>, AllocError> {
+    Command::new(alloc, "put")
+        .about(
+            "Stores a file and prints its cap, which alone gives it back, and how many servers hold shares.",
+        )
+        .arg(required(alloc, "FILE", "The file to store"))?
+        .arg(grid_folder(alloc))?
+        .arg(number(alloc, "k", "3", "How many shares give the file back"))?
+        .arg(number(
+            alloc,
+            "happy",
+            "7",
+            "How many servers must hold a share of their own",
+        ))?
+        .arg(number(alloc, "n", "10", "How many shares are made"))?
+        .arg(number(alloc, "segment", "131072", "The greatest segment, in bytes"))?
+        .arg(number(alloc, "servers", "10", "How many server folders are used"))?
+        .arg(
+            Arg::new(alloc, "secret")
+                .long("secret")
+                .value_name("TEXT")
+                .default_value("")
+                .help("A secret that the key depends on, of at most 64 bytes"),
+        )
+}
+
+fn get_command<'a>(alloc: Global) -> Result<Command<'a>, AllocError> {
+    Command::new(alloc, "get")
+        .about("Writes the file of a cap to standard output.")
+        .arg(required(alloc, "CAP", "The cap that `put` printed"))?
+        .arg(grid_folder(alloc))
+}
+
+fn required<'a>(alloc: Global, name: &'a str, help: &'a str) -> Arg<'a> {
+    Arg::new(alloc, name).required(true).help(help)
+}
+
+fn grid_folder<'a>(alloc: Global) -> Arg<'a> {
+    Arg::new(alloc, "grid")
+        .long("grid")
+        .value_name("DIR")
+        .required(true)
+        .help("The folder of the grid, which holds a folder for each server")
+}
+
+fn number<'a>(alloc: Global, name: &'a str, default: &'a str, help: &'a str) -> Arg<'a> {
+    Arg::new(alloc, name)
+        .long(name)
+        .value_name("NUMBER")
+        .value_parser(value_parser!(u64))
+        .default_value(default)
+        .help(help)
+}
+
+fn put_words<'a>(matches: &ArgMatches<'a>) -> PutWords<'a> {
+    PutWords {
+        file: text_of(matches, "FILE"),
+        grid: text_of(matches, "grid"),
+        secret: text_of(matches, "secret"),
+        needed: number_of(matches, "k"),
+        happy: number_of(matches, "happy"),
+        total: number_of(matches, "n"),
+        max_segment: number_of(matches, "segment"),
+        servers: number_of(matches, "servers"),
+    }
+}
+
+fn get_words<'a>(matches: &ArgMatches<'a>) -> GetWords<'a> {
+    GetWords {
+        cap: text_of(matches, "CAP"),
+        grid: text_of(matches, "grid"),
+    }
+}
+
+// The value of an argument that is required or has a default, so that it is always there.
+fn text_of<'a>(matches: &ArgMatches<'a>, name: &str) -> &'a str {
+    matches.get_str(name).unwrap_or("")
+}
+
+// The same of a number, which `clap` has tested.
+fn number_of(matches: &ArgMatches<'_>, name: &str) -> u64 {
+    matches.get_one::<u64>(name).unwrap_or(0)
+}

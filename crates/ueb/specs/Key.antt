@@ -1,0 +1,41 @@
+-- The known keys, and the order in which they are told.
+use Rattle.std.specs.Prelude.{ℕ, ◌<◌, List, [], ◌∷◌, codes}
+use Rattle.ueb.specs.declared.key.Key.{Key}
+use Rattle.ueb.specs.declared.key.Key.TheVariants.{CodecName, CodecParams, CrypttextHash, CrypttextRootHash, NeededShares, NumSegments, SegmentSize, ShareRootHash, Size, TailCodecParams, TotalShares}
+
+-- a key as it stands in the block
+unfoldable pub key_name : Key → List ℕ
+key_name CodecName = codes "codec_name"
+key_name CodecParams = codes "codec_params"
+key_name CrypttextHash = codes "crypttext_hash"
+key_name CrypttextRootHash = codes "crypttext_root_hash"
+key_name NeededShares = codes "needed_shares"
+key_name NumSegments = codes "num_segments"
+key_name SegmentSize = codes "segment_size"
+key_name ShareRootHash = codes "share_root_hash"
+key_name Size = codes "size"
+key_name TailCodecParams = codes "tail_codec_params"
+key_name TotalShares = codes "total_shares"
+
+-- all keys in their order, which is that of their bytes
+abbrev pub known_keys : List Key
+known_keys = CodecName ∷ CodecParams ∷ CrypttextHash ∷ CrypttextRootHash ∷ NeededShares ∷ NumSegments ∷ SegmentSize ∷ ShareRootHash ∷ Size ∷ TailCodecParams ∷ TotalShares ∷ []
+
+-- a key's place among them, from 0 on
+abbrev pub place : Key → ℕ
+place CodecName = 0
+place CodecParams = 1
+place CrypttextHash = 2
+place CrypttextRootHash = 3
+place NeededShares = 4
+place NumSegments = 5
+place SegmentSize = 6
+place ShareRootHash = 7
+place Size = 8
+place TailCodecParams = 9
+place TotalShares = 10
+
+-- the first key in order of which something holds
+pub record IsFirst (P : Key → Type 0) (key : Key) : Type 0 where
+  pub holds : P key
+  pub before : (other : Key) → place other < place key → ¬ P other
