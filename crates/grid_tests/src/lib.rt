@@ -6,11 +6,17 @@ mod aes_ctr_tests;
 #[cfg(test)]
 mod cap_text_tests;
 #[cfg(test)]
+mod frames_tests;
+#[cfg(test)]
 mod gf256_tests;
 #[cfg(test)]
 mod grid_commands_tests;
 #[cfg(test)]
 mod merkle_tests;
+#[cfg(test)]
+mod placement_tests;
+#[cfg(test)]
+mod requests_tests;
 #[cfg(test)]
 mod tagged_hash_tests;
 #[cfg(test)]

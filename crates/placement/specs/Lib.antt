@@ -1,0 +1,5 @@
+pub mod Matching
+pub mod PlacementError
+pub mod Plan
+pub mod Ranking
+pub mod Search

@@ -1,0 +1,9 @@
+pub mod FieldLaws
+pub mod ShareLaws
+pub mod BodyLaws
+pub mod MessageLaws
+pub mod StreamLaws
+pub mod RecordLaws
+pub mod HeldLaws
+pub mod LengthLaws
+pub mod SharesLoop
