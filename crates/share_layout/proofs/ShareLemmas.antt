@@ -1,0 +1,148 @@
+-- The sections of a share, at their places.
+use Rattle.std.proofs.Common.{◌≡◌, ℕ, ◌+◌, ◌<◌, ◌≤◌, List, ◌++◌, length, take, drop, get_or, ap, sym, subst, refl, ◌∙◌, length-append, append_assoc, arith}
+use Rattle.std.specs.Int.{w32, to_be_bytes}
+use Rattle.std.proofs.lemmas.List.{take_at, take-take, length-take-le, length-drop}
+use Rattle.std.proofs.lemmas.List.Edits.{length-between}
+use Rattle.merkle.specs.Tree.{height, needed_numbers}
+use Rattle.share_layout.specs.Geometry.{Geometry, hashes_size}
+use Rattle.share_layout.specs.Share.{header, header_numbers, share_bytes, CarriesNumbers, HaveLengths, IsShare, Sections}
+use Rattle.share_layout.specs.Places.{AreRising, EndsWith, HasOwnPlaces, HasVersion, LocatesUeb, places_in, places_of}
+use Rattle.share_layout.specs.Reading.{HasHeader, HasNumbers, IsCut, IsWhole, sections_at}
+use Rattle.share_layout.proofs.ListLemmas.{take_between, take_before, between_parts, tail_text, HasTail, has_tail}
+
+-- an extension block that is cut out
+pub located : (bytes : List ℕ) (s : Sections) → ((i : ℕ) → get_or (take 4 (drop (places_in bytes).extension_block bytes)) i 0 < 256)
+    → HasVersion bytes → HasOwnPlaces bytes → IsCut (places_in bytes) bytes s → LocatesUeb bytes s.extension_block
+located bytes s small version places cut =
+    let e = (places_in bytes).extension_block in
+    let text = tail_text bytes e small cut.end in
+    let found : EndsWith (places_in bytes) bytes (drop (e + 4) bytes) = record {
+      text = text;
+      place = omega (arith, cut.end);
+      short = omega (arith, length-drop (e + 4) bytes, cut.end, cut.short);
+    } in
+    record {
+      version = version;
+      places = places;
+      ends = subst (λ (t : Sections). EndsWith (places_in bytes) bytes t.extension_block) (sym cut.sections) found;
+    }
+
+-- where an extension block is located, all is right, and it stands behind its length
+pub located_tail : (bytes block : List ℕ) → LocatesUeb bytes block → HasTail bytes (places_in bytes).extension_block block
+located_tail bytes block l =
+    let e = (places_in bytes).extension_block in
+    has_tail bytes (take e bytes) block e l.ends.text (length-take-le e bytes l.ends.place) (omega (arith, l.ends.short))
+
+pub located_whole : (bytes block : List ℕ) → LocatesUeb bytes block → IsWhole (HasOwnPlaces bytes) (places_in bytes) bytes
+located_whole bytes block l =
+    let t = located_tail bytes block l in
+    record { version = l.version; right = l.places; short = omega (arith, t.number, l.ends.short); end = omega (arith, t.number, t.long) }
+
+-- the sections that are cut out of a share
+pub cut_is_share : (g : Geometry) (num : ℕ) (bytes : List ℕ) (s : Sections)
+    → ((i : ℕ) → get_or (take 4 (drop (places_of g).extension_block bytes)) i 0 < 256)
+    → HasHeader g bytes → AreRising (places_of g) → IsCut (places_of g) bytes s → num < g.total
+    → CarriesNumbers (needed_numbers (height g.total) num) s.share_hashes → IsShare g num bytes s
+cut_is_share g num bytes s small right rising cut number numbers =
+    let p = places_of g in
+    let long : p.extension_block ≤ length bytes = omega (arith, cut.end) in
+    let t = sections_at p bytes in
+    let hashes : length t.share_hashes ≡ hashes_size g = length-between bytes p.share_hashes p.extension_block long ∙ omega arith in
+    let header_is : header (header_numbers g (length t.share_hashes)) ≡ take 36 bytes = ap (λ n. header (header_numbers g n)) hashes ∙ sym right in
+    let front : take p.extension_block bytes ≡ header (header_numbers g (length t.share_hashes)) ++ t.blocks ++ t.unused ++ t.ciphertext_tree ++ t.block_tree ++ t.share_hashes =
+    take_between bytes p.share_hashes p.extension_block (omega arith)
+    ∙ ap (λ (l : List ℕ). l ++ t.share_hashes) (take_between bytes p.block_tree p.share_hashes (omega arith)
+    ∙ ap (λ (l : List ℕ). l ++ t.block_tree) (take_between bytes p.ciphertext_tree p.block_tree (omega arith)
+    ∙ ap (λ (l : List ℕ). l ++ t.ciphertext_tree) (take_between bytes p.unused p.ciphertext_tree (omega arith)
+    ∙ ap (λ (l : List ℕ). l ++ t.unused) (take_between bytes 36 p.unused (omega arith)
+    ∙ ap (λ (l : List ℕ). l ++ t.blocks) (sym header_is))))) in
+    let text : bytes ≡ share_bytes g t =
+    tail_text bytes p.extension_block small cut.end
+    ∙ ap (λ (l : List ℕ). l ++ to_be_bytes w32 (length t.extension_block) ++ t.extension_block) front in
+    let lengths : HaveLengths g t = record {
+      blocks = length-between bytes 36 p.unused (omega arith) ∙ omega arith;
+      unused = length-between bytes p.unused p.ciphertext_tree (omega arith) ∙ omega arith;
+      ciphertext_tree = length-between bytes p.ciphertext_tree p.block_tree (omega arith) ∙ omega arith;
+      block_tree = length-between bytes p.block_tree p.share_hashes (omega arith) ∙ omega arith;
+      share_hashes = hashes;
+      extension_block = omega (arith, length-drop (p.extension_block + 4) bytes, cut.end, cut.short);
+    } in
+    record {
+      text = subst (λ (x : Sections). bytes ≡ share_bytes g x) (sym cut.sections) text;
+      lengths = subst (HaveLengths g) (sym cut.sections) lengths;
+      number = number;
+      numbers = numbers;
+    }
+
+-- what a share's bytes are, as a reader goes over them
+pub record Parts (g : Geometry) (bytes : List ℕ) (s : Sections) : Type 0 where
+  pub header : take 36 bytes ≡ header (header_numbers g (hashes_size g))
+  pub sections : s ≡ sections_at (places_of g) bytes
+  pub tail : HasTail bytes (places_of g).extension_block s.extension_block
+  pub text : bytes ≡ take (places_of g).extension_block bytes ++ to_be_bytes w32 (length s.extension_block) ++ s.extension_block
+
+pub parts_of : (g : Geometry) (bytes : List ℕ) (s : Sections) → bytes ≡ share_bytes g s → HaveLengths g s → Parts g bytes s
+parts_of g bytes s text l =
+    let p = places_of g in
+    let h = header (header_numbers g (length s.share_hashes)) in
+    let p1 = h ++ s.blocks in
+    let p2 = p1 ++ s.unused in
+    let p3 = p2 ++ s.ciphertext_tree in
+    let p4 = p3 ++ s.block_tree in
+    let p5 = p4 ++ s.share_hashes in
+    let n0 : length h ≡ 36 = refl in
+    let n1 : length p1 ≡ p.unused = length-append h s.blocks ∙ omega (arith, l.blocks, n0) in
+    let n2 : length p2 ≡ p.ciphertext_tree = length-append p1 s.unused ∙ omega (arith, l.unused, n1) in
+    let n3 : length p3 ≡ p.block_tree = length-append p2 s.ciphertext_tree ∙ omega (arith, l.ciphertext_tree, n2) in
+    let n4 : length p4 ≡ p.share_hashes = length-append p3 s.block_tree ∙ omega (arith, l.block_tree, n3) in
+    let n5 : length p5 ≡ p.extension_block = length-append p4 s.share_hashes ∙ omega (arith, l.share_hashes, n4) in
+    let t5 : take p.extension_block bytes ≡ p5 =
+    ap (take p.extension_block) (text ∙ append_assoc p5 (to_be_bytes w32 (length s.extension_block)) s.extension_block)
+    ∙ take_at p5 (to_be_bytes w32 (length s.extension_block) ++ s.extension_block) p.extension_block n5 in
+    let t4 = take_before bytes p4 s.share_hashes p.share_hashes p.extension_block t5 n4 (omega arith) in
+    let t3 = take_before bytes p3 s.block_tree p.block_tree p.share_hashes t4 n3 (omega arith) in
+    let t2 = take_before bytes p2 s.ciphertext_tree p.ciphertext_tree p.block_tree t3 n2 (omega arith) in
+    let t1 = take_before bytes p1 s.unused p.unused p.ciphertext_tree t2 n1 (omega arith) in
+    let t0 = take_before bytes h s.blocks 36 p.unused t1 n0 (omega arith) in
+    let tail = has_tail bytes p5 s.extension_block p.extension_block text n5 (omega (arith, l.extension_block)) in
+    let s0 = between_parts bytes h s.blocks 36 p.unused t1 n0 in
+    let s1 = between_parts bytes p1 s.unused p.unused p.ciphertext_tree t2 n1 in
+    let s2 = between_parts bytes p2 s.ciphertext_tree p.ciphertext_tree p.block_tree t3 n2 in
+    let s3 = between_parts bytes p3 s.block_tree p.block_tree p.share_hashes t4 n3 in
+    let s4 = between_parts bytes p4 s.share_hashes p.share_hashes p.extension_block t5 n4 in
+    record {
+      header = t0 ∙ ap (λ n. header (header_numbers g n)) l.share_hashes;
+      sections = λ i. record {
+        blocks = sym s0 i;
+        unused = sym s1 i;
+        ciphertext_tree = sym s2 i;
+        block_tree = sym s3 i;
+        share_hashes = sym s4 i;
+        extension_block = tail.tail i;
+      };
+      tail = tail;
+      text = text ∙ ap (λ (l : List ℕ). l ++ to_be_bytes w32 (length s.extension_block) ++ s.extension_block) (sym t5);
+    }
+
+-- a share is whole, and its hashes carry its numbers
+pub share_whole : (g : Geometry) (num : ℕ) (bytes : List ℕ) (s : Sections) → IsShare g num bytes s → IsWhole (HasHeader g bytes) (places_of g) bytes
+share_whole g num bytes s is =
+    let parts = parts_of g bytes s is.text is.lengths in
+    let long : 36 ≤ length bytes = omega (arith, parts.tail.long) in
+    record {
+      version = record { long = long; version = sym (take-take 4 36 bytes (omega arith)) ∙ ap (take 4) parts.header ∙ refl };
+      right = parts.header;
+      short = omega (arith, parts.tail.number, is.lengths.extension_block);
+      end = omega (arith, parts.tail.number, parts.tail.long);
+    }
+
+pub share_numbers : (g : Geometry) (num : ℕ) (bytes : List ℕ) (s : Sections) → IsShare g num bytes s → HasNumbers g num bytes
+share_numbers g num bytes s is = record {
+  number = is.number;
+  numbers = subst (λ (t : Sections). CarriesNumbers (needed_numbers (height g.total) num) t.share_hashes) (parts_of g bytes s is.text is.lengths).sections is.numbers;
+}
+
+-- a share has one reading
+pub one_reading : (g : Geometry) (num other : ℕ) (bytes : List ℕ) (s t : Sections) → IsShare g num bytes s → IsShare g other bytes t → s ≡ t
+one_reading g num other bytes s t is also =
+    (parts_of g bytes s is.text is.lengths).sections ∙ sym (parts_of g bytes t also.text also.lengths).sections

@@ -1,0 +1,244 @@
+//! How a file is cut up, and how long each part of its shares is.
+
+ghost use Rattle.std.specs.Prelude.{◌≡◌, ◌+◌, ◌*◌, ◌^◌, ◌<◌, ◌≤◌, ◌↔◌, Ok, Err, IfOk};
+ghost use Rattle.merkle.specs.Tree.{height};
+ghost use Rattle.ueb.specs.Shape.{rounded_up};
+ghost use Rattle.share_layout.specs.Geometry.{GivesItself};
+ghost use Rattle.share_layout.specs.Share.{header};
+
+use crate::error::LayoutError;
+use crate::tree::height;
+use std::marker::Model;
+use ueb::{MAX_FILE_SIZE, MAX_SEGMENT_SIZE, MAX_SEGMENTS, MAX_SHARES};
+
+/// How a file of some size is cut into segments, and these into blocks, of which any `needed` of `total` give a segment back.
+///
+/// The file has 1 to `ueb::MAX_FILE_SIZE` bytes, and at most `ueb::MAX_SEGMENTS` segments. There are 1 to `ueb::MAX_SHARES` shares. The segment
+/// size is a multiple of the shares needed.
+#[derive(Clone, Copy, Debug, PartialEq, Eq)]
+pub struct Geometry {
+    size: u64,
+    needed: u16,
+    total: u16,
+    segment_size: u32,
+}
+
+impl Model for Geometry {
+    ghost use Rattle.share_layout.specs.Geometry.{Geometry, IsGeometry};
+
+    ghost Value = { Geometry };
+
+    ghost view = { λ g. record { size = g.size; needed = g.needed; total = g.total; segment_size = g.segment_size } };
+
+    ghost invariant = { λ g. IsGeometry (record { size = g.size; needed = g.needed; total = g.total; segment_size = g.segment_size }) };
+
+    ghost inverse = { λ g. record { size = g.size; needed = g.needed; total = g.total; segment_size = g.segment_size } };
+}
+
+impl Geometry {
+    ghost use Rattle.share_layout.specs.Geometry.{geometry_of, HasGeometry, IsGeometryFault, IsGeometry, segment_count, tail_length, block_size, tail_block_size, share_data_size, tree_size, hashes_size};
+    ghost use Rattle.share_layout.specs.Share.{header_numbers};
+
+    /// The geometry of a file of `size` bytes, of which `k` of `n` shares are needed, with segments of at most `max` bytes, or of the least
+    /// multiple of `k` from there on.
+    ///
+    /// Otherwise the first fault in this order: `BadParameters` (size 0, not 1 <= k <= n <= 256, or `max` not 1 to `ueb::MAX_SEGMENT_SIZE`),
+    /// `TooLarge`, `TooManySegments`.
+    pub fn of(size: u64, k: u16, n: u16, max: u32) -> Result<Geometry, LayoutError>
+        ensures given { IfOk result (λ g. g ≡ geometry_of size k n max) }
+        ensures parameters { IfOk result (λ _. HasGeometry size k n max) }
+        ensures valid { IfOk result IsGeometry }
+        // What has a geometry is given it.
+        ensures complete { HasGeometry size k n max → result ≡ Ok (geometry_of size k n max) }
+        // When each refusal comes.
+        ensures refused { (error : LayoutError) → (result ≡ Err error) ↔ IsGeometryFault size k n max error }
+    {
+        if size == 0 || k == 0 || k > n || n > MAX_SHARES || max == 0 || max > MAX_SEGMENT_SIZE {
+            return Err(LayoutError::BadParameters);
+        }
+        if size > MAX_FILE_SIZE {
+            return Err(LayoutError::TooLarge);
+        }
+        let segment_size = rounded_up(u64::from(max).min(size), k);
+        if size.div_ceil(segment_size) > u64::from(MAX_SEGMENTS) {
+            return Err(LayoutError::TooManySegments);
+        }
+        Ok(Geometry {
+            size,
+            needed: k,
+            total: n,
+            segment_size: segment_size as u32,
+        })
+    }
+
+    /// The file's size in bytes.
+    pub fn size(&self) -> u64
+        ensures value { result ≡ self.now.size }
+        ensures valid { IsGeometry self.now }
+    {
+        self.size
+    }
+
+    /// How many shares give the file back.
+    pub fn needed(&self) -> u16
+        ensures value { result ≡ self.now.needed }
+        ensures valid { IsGeometry self.now }
+    {
+        self.needed
+    }
+
+    /// How many shares there are in all.
+    pub fn total(&self) -> u16
+        ensures value { result ≡ self.now.total }
+        ensures valid { IsGeometry self.now }
+    {
+        self.total
+    }
+
+    /// The size of each segment but the last, in bytes.
+    pub fn segment_size(&self) -> u32
+        ensures value { result ≡ self.now.segment_size }
+        ensures valid { IsGeometry self.now }
+    {
+        self.segment_size
+    }
+
+    /// How many segments the file has.
+    pub fn segment_count(&self) -> u32
+        ensures value { result ≡ segment_count self.now }
+        ensures valid { IsGeometry self.now }
+        ensures range { (0 < result) × (result ≤ MAX_SEGMENTS) }
+    {
+        self.size.div_ceil(u64::from(self.segment_size)) as u32
+    }
+
+    /// The length of the last segment, in bytes: a whole segment's or less.
+    pub fn tail_length(&self) -> u32
+        ensures value { result ≡ tail_length self.now }
+        ensures valid { IsGeometry self.now }
+        ensures range { (0 < result) × (result ≤ self.now.segment_size) }
+    {
+        let left = (self.size % u64::from(self.segment_size)) as u32;
+        if left == 0 { self.segment_size } else { left }
+    }
+
+    /// The length of each block but those of the last segment, in bytes.
+    pub fn block_size(&self) -> u32
+        ensures value { result ≡ block_size self.now }
+        ensures valid { IsGeometry self.now }
+        ensures range { (0 < result) × (result ≤ self.now.segment_size) }
+    {
+        self.segment_size / u32::from(self.needed)
+    }
+
+    /// The length of each block of the last segment, in bytes.
+    pub fn tail_block_size(&self) -> u32
+        ensures value { result ≡ tail_block_size self.now }
+        ensures valid { IsGeometry self.now }
+        ensures range { (0 < result) × (result ≤ block_size self.now) }
+    {
+        self.tail_length().div_ceil(u32::from(self.needed))
+    }
+
+    /// The length of a share's blocks together, in bytes.
+    pub fn share_data_size(&self) -> u32
+        ensures value { result ≡ share_data_size self.now }
+        ensures valid { IsGeometry self.now }
+        ensures range { (0 < result) × (result ≤ MAX_FILE_SIZE) }
+    {
+        self.size.div_ceil(u64::from(self.needed)) as u32
+    }
+
+    // The number of leaves of a tree with a leaf for each segment, those that fill it up to a power of two among them.
+    fn tree_width(&self) -> u32
+        ensures value { result ≡ 2 ^ height (segment_count self.now) }
+        ensures valid { IsGeometry self.now }
+        ensures range { (0 < result) × (result ≤ MAX_SEGMENTS) }
+    {
+        1 << height(self.segment_count())
+    }
+
+    /// The height of the tree with a leaf for each share.
+    pub(crate) fn share_tree_height(&self) -> u32
+        ensures value { result ≡ height self.now.total }
+        ensures valid { IsGeometry self.now }
+        ensures low { result ≤ 8 }
+        ensures room { self.now.total ≤ 2 ^ result }
+    {
+        height(u32::from(self.total))
+    }
+
+    /// The length of each section of a share that holds a tree, in bytes.
+    pub fn tree_size(&self) -> u32
+        ensures value { result ≡ tree_size self.now }
+        ensures valid { IsGeometry self.now }
+        ensures range { (32 ≤ result) × (result < 2 ^ 22) }
+    {
+        (2 * self.tree_width() - 1) * 32
+    }
+
+    /// The length of a share's share hashes, in bytes.
+    pub fn hashes_size(&self) -> u32
+        ensures value { result ≡ hashes_size self.now }
+        ensures valid { IsGeometry self.now }
+        ensures range { (34 ≤ result) × (result ≤ 306) }
+    {
+        (self.share_tree_height() + 1) * 34
+    }
+
+    /// The header of each share.
+    pub fn header(&self) -> [u8; 36]
+        ensures { result ≡ header (header_numbers self.now (hashes_size self.now)) }
+    {
+        spell(self.header_numbers())
+    }
+
+    // The numbers in the header.
+    fn header_numbers(&self) -> [u32; 9]
+        ensures { result ≡ header_numbers self.now (hashes_size self.now) }
+    {
+        let tree = self.tree_size();
+        let data = self.share_data_size();
+        let unused = 36 + data;
+        let hashes = unused + 3 * tree;
+        [
+            1,
+            self.block_size(),
+            data,
+            36,
+            unused,
+            unused + tree,
+            unused + 2 * tree,
+            hashes,
+            hashes + self.hashes_size(),
+        ]
+    }
+}
+
+// The least multiple of `k` that is `n` or more.
+fn rounded_up(n: u64, k: u16) -> u64
+    requires some { 0 < k }
+    requires low { n ≤ MAX_SEGMENT_SIZE }
+    ensures value { result ≡ rounded_up n k }
+    ensures above { n ≤ result }
+    ensures low { result < n + k }
+{
+    n.div_ceil(u64::from(k)) * u64::from(k)
+}
+
+// Numbers in four bytes each.
+fn spell(numbers: [u32; 9]) -> [u8; 36]
+    ensures { result ≡ header numbers }
+{
+    let mut bytes = [0; 36];
+    for i in 0..9 {
+        bytes[4 * i..4 * i + 4].copy_from_slice(&numbers[i].to_be_bytes());
+    }
+    bytes
+}
+
+/// A law of the definitions: a geometry whose segment size is at most `ueb::MAX_SEGMENT_SIZE` is the one that `Geometry::of` gives for its
+/// own segment size. The law is the contract; the call does nothing.
+pub fn geometry_gives_itself()
+    ensures { GivesItself }
+{}

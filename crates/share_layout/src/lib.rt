@@ -1,0 +1,23 @@
+//! Shares of an immutable file: how the file is cut up, and how a share stands in its bytes.
+//!
+//! A `Geometry` says how a file of some size is cut into segments, these into blocks, and how long each part of a share is. A share is a
+//! header of nine numbers and six sections: its blocks, a tree that is no longer used, the ciphertext tree, the block tree, the share hashes
+//! and the extension block behind its length. The format is layout 1 of Tahoe-LAFS.
+//!
+//! `ShareView` reads a share whose geometry is known, `locate_ueb` finds the extension block of one whose geometry is not, and `ShareWriter`
+//! writes a share to any writer. Each refusal is the first fault.
+#![tactic(auto)]
+
+mod error;
+mod geometry;
+mod places;
+mod reader;
+mod tree;
+mod view;
+mod writer;
+
+pub use error::{LayoutError, Section};
+pub use geometry::{Geometry, geometry_gives_itself};
+pub use reader::{locate_ueb, shares_have_one_reading, shares_locate_their_blocks};
+pub use view::ShareView;
+pub use writer::{ShareWriter, sections_make_a_share};
