@@ -1,0 +1,154 @@
+-- Blocks of a segment, and what they decode to.
+use Rattle.std.proofs.Common.{◌≡◌, ℕ, ◌+◌, ◌-◌, ◌*◌, ◌<◌, ◌≤◌, List, [], ◌∷◌, ◌++◌, length, map, take, drop, min, get_or, Bor, inl, inr, ap, sym, subst, ◌∙◌, arith}
+use Rattle.std.proofs.lemmas.List.{drop_at, drop-append-le, get_or-map, length-append, length-drop, length-map, length-take, map-append, take_all, take-append-le}
+use Rattle.std.proofs.lemmas.Grind.{div_ceil_times, take_at_read}
+use Rattle.std.proofs.lemmas.Bool.{cases_lt}
+use Rattle.std.proofs.lemmas.Nat.Gcd.{dvd_of_mod-eq-zero}
+use Rattle.std.proofs.Math.Nat.{add-mul, div-mul_cancel, mul_assoc, mul_comm, mul-le-mul_right}
+use Rattle.tagged_hash.specs.TaggedHash.{tagged_hash}
+use Rattle.tagged_hash.specs.declared.tag.Tag.TheVariants.{CiphertextSegment}
+use Rattle.zfec_code.specs.Shares.{HaveLengths}
+use Rattle.share_layout.specs.Geometry.{Geometry, IsGeometry, block_size, segment_count, share_data_size}
+use Rattle.file_encoding.specs.Decoding.{AreBlocks, DecodesPadded, block_length}
+use Rattle.file_encoding.specs.Reading.{DecodedBelow, Decodes, IsDecoded, block_at, segment_at, segment_length}
+
+-- one more share's block is cut
+pub cut_more : (g : Geometry) (number : ℕ) (shares done new : List (ℕ × Bor (List ℕ))) (index n : ℕ) (b : Bor (List ℕ)) (d : ℕ × Bor (List ℕ)) → index < length shares
+    → new ≡ done ++ (n, b) ∷ [] → n ≡ (get_or shares index d).0 → b.now ≡ block_at g number (get_or shares index d).1.now
+    → map (λ (s : ℕ × Bor (List ℕ)). s.0) done ≡ take index (map (λ (s : ℕ × Bor (List ℕ)). s.0) shares)
+    → map (λ (s : ℕ × Bor (List ℕ)). s.1.now) done ≡ map (block_at g number) (take index (map (λ (s : ℕ × Bor (List ℕ)). s.1.now) shares))
+    → (map (λ (s : ℕ × Bor (List ℕ)). s.0) new ≡ take (index + 1) (map (λ (s : ℕ × Bor (List ℕ)). s.0) shares))
+    × (map (λ (s : ℕ × Bor (List ℕ)). s.1.now) new ≡ map (block_at g number) (take (index + 1) (map (λ (s : ℕ × Bor (List ℕ)). s.1.now) shares)))
+cut_more g number shares done new index n b d inside pushed named cut numbered blocks =
+    let first : ℕ × Bor (List ℕ) → ℕ = λ s. s.0 in
+    let second : ℕ × Bor (List ℕ) → List ℕ = λ s. s.1.now in
+    let all_first = length-map shares first in
+    let all_second = length-map shares second in
+    let this_first : n ≡ get_or (map first shares) index 0 = named ∙ sym (get_or-map first shares index d 0 inside) in
+    let this_second : b.now ≡ block_at g number (get_or (map second shares) index []) = cut ∙ ap (block_at g number) (sym (get_or-map second shares index d [] inside)) in (
+      ap (map first) pushed ∙ map-append first done ((n, b) ∷ []) ∙ (λ i. numbered i ++ this_first i ∷ [])
+          ∙ sym (take_at_read (map first shares) index 0 (omega (arith, inside, all_first))).1,
+      ap (map second) pushed ∙ map-append second done ((n, b) ∷ []) ∙ (λ i. blocks i ++ this_second i ∷ [])
+          ∙ sym (map-append (block_at g number) (take index (map second shares)) (get_or (map second shares) index [] ∷ []))
+          ∙ ap (map (block_at g number)) (sym (take_at_read (map second shares) index [] (omega (arith, inside, all_second))).1),
+    )
+
+-- the length of each block
+pub length-block_at : (g : Geometry) (number : ℕ) (blocks : List ℕ) → length blocks ≡ share_data_size g → length (block_at g number blocks) ≡ block_length g number
+length-block_at g number blocks size =
+    length-take (block_size g) (drop (number * block_size g) blocks)
+    ∙ ap (min (block_size g)) (length-drop (number * block_size g) blocks ∙ ap (λ n. n - number * block_size g) size)
+
+pub have_lengths : (g : Geometry) (number : ℕ) (numbers : List ℕ) (blocks these : List (List ℕ)) (size : ℕ) → AreBlocks g numbers blocks
+    → these ≡ map (block_at g number) blocks → size ≡ g.needed * block_length g number → HaveLengths g.needed these size
+have_lengths g number numbers blocks these size are is whole =
+    subst (λ (bs : List (List ℕ)). HaveLengths g.needed bs size) (sym is) (
+      block_length g number,
+      record {
+        count = length-map blocks (block_at g number) ∙ are.counted;
+        alike = λ k d inside.
+            let in_blocks : k < length blocks = (let all = length-map blocks (block_at g number) in omega (arith, inside, all)) in
+            ap length (get_or-map (block_at g number) blocks k d d in_blocks) ∙ length-block_at g number (get_or blocks k d) (are.whole k d in_blocks);
+        whole = whole;
+      },
+    )
+
+-- the padded segment is long enough for the segment
+pub covers : (g : Geometry) (number : ℕ) → IsGeometry g → segment_length g number ≤ g.needed * block_length g number
+covers g number valid =
+    let m : ℕ = block_length g number in
+    let bs : ℕ = block_size g in
+    let sd : ℕ = share_data_size g in
+    let whole : bs * g.needed ≡ g.segment_size = div-mul_cancel g.needed (dvd_of_mod-eq-zero g.needed valid.multiple) in
+    let over : g.size ≤ sd * g.needed = (div_ceil_times g.size g.needed valid.some_needed).0 in
+    let turn : g.needed * m ≡ m * g.needed = mul_comm g.needed m in
+    elim (cases_lt m bs) [
+      | inl short ↦ (let is : m ≡ sd - number * bs = omega (arith, short) in
+          let reach : sd ≤ m + number * bs = omega (arith, is) in
+          let times : sd * g.needed ≤ (m + number * bs) * g.needed = mul-le-mul_right g.needed reach in
+          let split : (m + number * bs) * g.needed ≡ m * g.needed + number * bs * g.needed = add-mul m (number * bs) g.needed in
+          let rest : number * bs * g.needed ≡ number * g.segment_size = mul_assoc number bs g.needed ∙ ap (λ n. number * n) whole in
+          omega (arith, over, times, split, rest, turn))
+      | inr long ↦ (let is : m ≡ bs = omega (arith, long) in
+          let full : m * g.needed ≡ g.segment_size = ap (λ n. n * g.needed) is ∙ whole in
+          omega (arith, full, turn))
+    ]
+
+-- the segment is what is left of the padded one
+pub segment_of : (g : Geometry) (numbers these : List ℕ) (blocks cut_blocks : List (List ℕ)) (number k n : ℕ) (padded segment : List ℕ) → IsGeometry g
+    → k ≡ g.needed → these ≡ numbers → cut_blocks ≡ map (block_at g number) blocks
+    → length padded ≡ g.needed * block_length g number → DecodesPadded k these cut_blocks padded
+    → n ≡ segment_length g number → segment ≡ take n padded → Decodes g numbers blocks number segment
+segment_of g numbers these blocks cut_blocks number k n padded segment valid needed same cut long decoded size is =
+    let enough = covers g number valid in
+    let at : segment ≡ take (segment_length g number) padded = is ∙ ap (λ m. take m padded) size in record {
+      padded = padded;
+      whole = long;
+      decoded = subst (λ (T : Type 0). T) (λ i. DecodesPadded (needed i) (same i) (cut i) padded) decoded;
+      cut = at;
+      long = ap length at ∙ length-take (segment_length g number) padded ∙ omega (arith, enough, long);
+    }
+
+-- a segment that is there begins before the file's end
+pub begins_inside : (g : Geometry) (number : ℕ) → IsGeometry g → number < segment_count g → number * g.segment_size < g.size
+begins_inside g number valid there =
+    let near : segment_count g * g.segment_size < g.size + g.segment_size = (div_ceil_times g.size g.segment_size valid.some_segment).1 in
+    let up : (number + 1) * g.segment_size ≤ segment_count g * g.segment_size = mul-le-mul_right g.segment_size (omega (arith, there)) in
+    let split : (number + 1) * g.segment_size ≡ number * g.segment_size + 1 * g.segment_size = add-mul number 1 g.segment_size in
+    omega (arith, near, up, split)
+
+-- and all of them reach it
+pub reach_end : (g : Geometry) → IsGeometry g → g.size ≤ segment_count g * g.segment_size
+reach_end g valid = (div_ceil_times g.size g.segment_size valid.some_segment).0
+
+module _ (g : Geometry) (numbers : List ℕ) (blocks leaves : List (List ℕ)) where
+  pub decoded_none : DecodedBelow g numbers blocks leaves [] 0
+  decoded_none = record {
+    size = omega arith;
+    segments = λ number below. absurd (omega arith);
+    hashes = λ number below. absurd (omega arith);
+  }
+
+  -- one segment more
+  pub decoded_more : (count : ℕ) (ciphertext segment after : List ℕ) → IsGeometry g → count < segment_count g
+      → DecodedBelow g numbers blocks leaves ciphertext count → Decodes g numbers blocks count segment
+      → tagged_hash CiphertextSegment segment ≡ get_or leaves count [] → after ≡ ciphertext ++ segment
+      → DecodedBelow g numbers blocks leaves after (count + 1)
+  decoded_more count ciphertext segment after valid there before decodes hashed joined =
+      let seg : ℕ = g.segment_size in
+      let inside = begins_inside g count valid there in
+      let long : length ciphertext ≡ count * seg = before.size ∙ omega (arith, inside) in
+      let next : (count + 1) * seg ≡ count * seg + seg = add-mul count 1 seg ∙ omega arith in
+      let held : (number : ℕ) → number < count → segment_at g number after ≡ segment_at g number ciphertext =
+      (λ number below.
+      let up : (number + 1) * seg ≤ count * seg = mul-le-mul_right seg (omega (arith, below)) in
+      let split : (number + 1) * seg ≡ number * seg + seg = add-mul number 1 seg ∙ omega arith in
+      let left : length (drop (number * seg) ciphertext) ≡ length ciphertext - number * seg = length-drop (number * seg) ciphertext in
+      ap (segment_at g number) joined
+      ∙ ap (take seg) (drop-append-le (number * seg) ciphertext segment (omega (arith, up, split, long)))
+      ∙ take-append-le seg (drop (number * seg) ciphertext) segment (omega (arith, up, split, long, left))) in
+      let new : segment_at g count after ≡ segment =
+      ap (segment_at g count) joined ∙ ap (take seg) (drop_at ciphertext segment (count * seg) long)
+      ∙ take_all seg segment (let fits = decodes.long in omega (arith, fits)) in record {
+        size = ap length joined ∙ length-append ciphertext segment ∙ omega (arith, long, decodes.long, inside, next);
+        segments = λ number below.
+            elim (cases_lt number count) [
+              | inl old ↦ subst (Decodes g numbers blocks number) (sym (held number old)) (before.segments number old)
+              | inr same ↦ (let is : count ≡ number = omega (arith, below, same) in
+                  subst (λ n. Decodes g numbers blocks n (segment_at g n after)) is (subst (Decodes g numbers blocks count) (sym new) decodes))
+            ];
+        hashes = λ number below.
+            elim (cases_lt number count) [
+              | inl old ↦ ap (tagged_hash CiphertextSegment) (held number old) ∙ before.hashes number old
+              | inr same ↦ (let is : count ≡ number = omega (arith, below, same) in
+                  subst (λ n. tagged_hash CiphertextSegment (segment_at g n after) ≡ get_or leaves n []) is (ap (tagged_hash CiphertextSegment) new ∙ hashed))
+            ];
+      }
+
+  -- all of them
+  pub decoded_all : (count : ℕ) (ciphertext : List ℕ) → IsGeometry g → count ≡ segment_count g → DecodedBelow g numbers blocks leaves ciphertext count
+      → IsDecoded g numbers blocks leaves ciphertext
+  decoded_all count ciphertext valid all below =
+      let whole : DecodedBelow g numbers blocks leaves ciphertext (segment_count g) = subst (DecodedBelow g numbers blocks leaves ciphertext) all below in
+      let end = reach_end g valid in
+      record { size = whole.size ∙ omega (arith, end); segments = whole.segments; hashes = whole.hashes }

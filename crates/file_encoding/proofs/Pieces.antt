@@ -1,0 +1,57 @@
+-- Texts that are cut into pieces.
+use Rattle.std.proofs.Common.{◌≡◌, ℕ, zero, suc, ◌+◌, ◌-◌, ◌*◌, ◌%◌, ◌<◌, List, [], ◌∷◌, ◌++◌, length, take, drop, get_or, map, min, inl, inr, refl, ap, sym, subst, ◌∙◌, arith}
+use Rattle.std.proofs.lemmas.List.{append_assoc, drop-drop, length-drop, length-take}
+use Rattle.std.proofs.Math.Nat.{dvd-sub, dvd-mul_left_of_dvd}
+use Rattle.std.proofs.lemmas.Nat.Gcd.{dvd_of_mod-eq-zero, mod-eq-zero_of_dvd}
+use Rattle.std.specs.Int.{◌∣◌}
+use Rattle.std.proofs.lemmas.Bool.{cases_lt}
+use Rattle.file_encoding.specs.Encoding.{pieces}
+
+-- the pieces from one on are this one, and those from the next one on
+pub pieces-from : (count size number : ℕ) (text : List ℕ) → number < count
+    → pieces (count - number) size (drop (number * size) text)
+    ≡ take size (drop (number * size) text) ∷ pieces (count - (number + 1)) size (drop ((number + 1) * size) text)
+pieces-from count size number text below =
+    let more : count - number ≡ suc (count - (number + 1)) = omega arith in
+    let next : number * size + size ≡ (number + 1) * size = omega arith in
+    (λ i. pieces (more i) size (drop (number * size) text))
+    ∙ ap (λ rest. take size (drop (number * size) text) ∷ pieces (count - (number + 1)) size rest)
+    (drop-drop size (number * size) text ∙ ap (λ n. drop n text) next)
+
+module _ {X : Type 0} (f : List ℕ → X) where
+  -- one more value of a function of the pieces
+  pub map_pieces-from : (count size number : ℕ) (text : List ℕ) (all done : List X) → number < count
+      → all ≡ done ++ map f (pieces (count - number) size (drop (number * size) text))
+      → all ≡ (done ++ f (take size (drop (number * size) text)) ∷ []) ++ map f (pieces (count - (number + 1)) size (drop ((number + 1) * size) text))
+  map_pieces-from count size number text all done below is =
+      is
+      ∙ ap (λ ps. done ++ map f ps) (pieces-from count size number text below)
+      ∙ sym (append_assoc done (f (take size (drop (number * size) text)) ∷ []) (map f (pieces (count - (number + 1)) size (drop ((number + 1) * size) text))))
+
+dvd-min : (k a b : ℕ) → k ∣ a → k ∣ b → k ∣ min a b
+dvd-min k a b p q =
+    elim (cases_lt b a) [
+      | inl below ↦ (let is : min a b ≡ b = omega arith in subst (λ n. k ∣ n) (sym is) q)
+      | inr above ↦ (let is : min a b ≡ a = omega arith in subst (λ n. k ∣ n) (sym is) p)
+    ]
+
+-- a piece of a text has a multiple of k bytes, where the text and the pieces' size have
+pub piece-whole : (k size number : ℕ) (text : List ℕ) → size % k ≡ 0 → length text % k ≡ 0 → length (take size (drop (number * size) text)) % k ≡ 0
+piece-whole k size number text whole all =
+    let by_size : k ∣ size = dvd_of_mod-eq-zero k whole in
+    let rest : k ∣ length text - number * size = dvd-sub k (dvd_of_mod-eq-zero k all) (dvd-mul_left_of_dvd k by_size number) in
+    ap (λ n. n % k) (length-take size (drop (number * size) text) ∙ ap (min size) (length-drop (number * size) text))
+    ∙ mod-eq-zero_of_dvd k (dvd-min k size (length text - number * size) by_size rest)
+
+pub length-pieces : (n size : ℕ) (text : List ℕ) → length (pieces n size text) ≡ n
+length-pieces zero size text = refl
+length-pieces (suc n) size text = ap suc (length-pieces n size (drop size text))
+
+-- a piece by its number
+pub get_or-pieces : (n size i : ℕ) (text d : List ℕ) → i < n → get_or (pieces n size text) i d ≡ take size (drop (i * size) text)
+get_or-pieces zero size i text d inside = absurd (omega arith)
+get_or-pieces (suc n) size zero text d inside = let none : 0 * size ≡ 0 = omega arith in ap (λ m. take size (drop m text)) (sym none)
+get_or-pieces (suc n) size (suc i) text d inside =
+    let next : size + i * size ≡ suc i * size = omega arith in
+    get_or-pieces n size i (drop size text) d (omega (arith, inside))
+    ∙ ap (take size) (drop-drop (i * size) size text ∙ ap (λ m. drop m text) next)

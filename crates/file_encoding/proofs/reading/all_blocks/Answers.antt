@@ -1,0 +1,16 @@
+use Rattle.std.proofs.Common.{get_or, refl, subst}
+use Rattle.file_encoding.proofs.Reread.{blocks_more, readable_at}
+use Rattle.file_encoding.proofs.reading.all_blocks.Goals as goal
+
+pub share_blocks-requires : goal.share_blocks-requires
+share_blocks-requires c =
+    let some = c.requires.readable c.loop-place.place-index c.loop-place-test.true in (
+      some.0,
+      subst (λ (T : Type 0). T) (readable_at c.args.geometry.now c.args.shares.now (get_or c.args.places.now c.loop-place.place-index 0) _ some.0
+          (c.requires.inside c.loop-place.place-index 0 c.loop-place-test.true)) some.1,
+    )
+
+pub loop-place-preserved : goal.loop-place-preserved
+loop-place-preserved c =
+    blocks_more c.args.geometry.now c.args.shares.now c.loop-place.blocks.items c.push.new.self.items c.args.places.now c.loop-place.place-index _ c.share_blocks.result _
+    c.loop-place-test.true (c.requires.inside c.loop-place.place-index 0 c.loop-place-test.true) c.in_ok-push.ensures.items refl c.share_blocks.ensures c.loop-place.invariant

@@ -1,0 +1,56 @@
+use Rattle.std.proofs.Common.{◌≡◌, ℕ, List, length, map, ap, subst, ◌∙◌, arith}
+use Rattle.std.proofs.lemmas.List.{length-map}
+use Rattle.aes_ctr.specs.CounterMode.{xored}
+use Rattle.cap_text.specs.Cap.{VerifyCapValue}
+use Rattle.file_encoding.specs.LowestShares.{GivesCiphertext, TakesAt}
+use Rattle.file_encoding.specs.Reading.{AreInconsistent, LacksShares, TakenShare}
+use Rattle.file_encoding.proofs.Reread.{inside_shares, read_is}
+use Rattle.file_encoding.proofs.reading.read_from.Goals as goal
+
+pub returns-in-Ok-clause-file : goal.returns-in-Ok-clause-file
+returns-in-Ok-clause-file c =
+    read_is c.args.cap.now (map (λ s. s.0) c.args.shares.now) (map (λ s. s.1.now) c.args.shares.now) c.decrypt.result.items c.in-Ok.ciphertext.items
+    (subst (λ (v : VerifyCapValue). GivesCiphertext v (map (λ s. s.0) c.args.shares.now) (map (λ s. s.1.now) c.args.shares.now) c.in-Ok.ciphertext.items) c.to_verify-verify_cap.ensures c.in-Ok.ensures.read)
+    (c.decrypt.ensures ∙ ap (λ (k : List ℕ). xored k c.in-Ok.ciphertext.items) c.key.ensures.value)
+
+takes_at : (c : goal.After-deref) → TakesAt c.to_verify-verify_cap.result (map (λ s. s.0) c.args.shares.now) (map (λ s. s.1.now) c.args.shares.now) c.deref.result.now
+takes_at c =
+    let are = c.in_ok-places.ensures in
+    let count : length c.in_ok-places.places.items ≡ length are.taken = ap length are.at ∙ length-map are.taken (λ (t : TakenShare). t.place) in
+    let needed : c.to_verify-verify_cap.result.needed ≡ c.args.cap.now.needed = ap (λ (v : VerifyCapValue). v.needed) c.to_verify-verify_cap.ensures in
+    record {
+      taken = are.taken;
+      takes = record {
+        lowest = are.lowest;
+        enough = omega (arith, count, needed, are.lowest.few, c.if-len-from.false, c.from.ensures, c.k.ensures.value, c.len.ensures, c.in_ok-places.places.ok);
+      };
+      at = c.deref.ensures.value ∙ are.at;
+    }
+
+pub read_ciphertext-requires-clause-takes : goal.read_ciphertext-requires-clause-takes
+read_ciphertext-requires-clause-takes c = takes_at c
+
+pub read_ciphertext-requires-clause-some : goal.read_ciphertext-requires-clause-some
+read_ciphertext-requires-clause-some c =
+    let all : length c.deref.result.now ≡ length c.in_ok-places.places.items = ap length c.deref.ensures.value in
+    omega (arith, all, c.k.ensures.cap.parameters.some, c.if-len-from.false, c.from.ensures, c.k.ensures.value, c.len.ensures, c.in_ok-places.places.ok)
+
+pub read_ciphertext-requires-clause-inside : goal.read_ciphertext-requires-clause-inside
+read_ciphertext-requires-clause-inside c = λ k d inside.
+    let takes = takes_at c in
+    inside_shares c.to_verify-verify_cap.result c.args.shares.now takes.taken takes.takes c.deref.result.now takes.at k d inside
+
+pub returns-then-len-from-clause-not_enough : goal.returns-then-len-from-clause-not_enough
+returns-then-len-from-clause-not_enough c = λ _.
+    let are = c.in_ok-places.ensures in
+    let count : length c.in_ok-places.places.items ≡ length are.taken = ap length are.at ∙ length-map are.taken (λ (t : TakenShare). t.place) in
+    let needed : c.to_verify-verify_cap.result.needed ≡ c.args.cap.now.needed = ap (λ (v : VerifyCapValue). v.needed) c.to_verify-verify_cap.ensures in
+    subst (λ (v : VerifyCapValue). LacksShares v (map (λ s. s.0) c.args.shares.now) (map (λ s. s.1.now) c.args.shares.now)) c.to_verify-verify_cap.ensures (record {
+      taken = are.taken;
+      lowest = are.lowest;
+      few = omega (arith, count, needed, c.if-len-from.true, c.from.ensures, c.k.ensures.value, c.len.ensures, c.in_ok-places.places.ok);
+    })
+
+pub returns-clause-inconsistent : goal.returns-clause-inconsistent
+returns-clause-inconsistent c = λ is.
+    subst (λ (v : VerifyCapValue). AreInconsistent v (map (λ s. s.0) c.args.shares.now) (map (λ s. s.1.now) c.args.shares.now)) c.to_verify-verify_cap.ensures (c.in-Err.ensures.inconsistent is)

@@ -1,0 +1,115 @@
+-- The encoding of a file: its key, its ciphertext, the blocks and hash trees of its shares, its extension block and its cap.
+-- Whole lists, for every k, N and number of segments.
+use Rattle.std.specs.Prelude.{ℕ, zero, suc, ◌-◌, ◌/◌, List, [], ◌∷◌, ◌++◌, length, take, drop, map, replicate, slice_index_or}
+use Rattle.std.specs.Int.{w16, w32, to_be_bytes}
+use Rattle.std.specs.List.{flat_map, range_with_len}
+use Rattle.aes_ctr.specs.CounterMode.{xored}
+use Rattle.merkle.specs.Tree.{height, needed_numbers, tree_nodes, tree_root}
+use Rattle.tagged_hash.specs.ConvergentKey.{convergent_key_of}
+use Rattle.tagged_hash.specs.TaggedHash.{tagged_hash}
+use Rattle.tagged_hash.specs.declared.tag.Tag.TheVariants.{Block, Ciphertext, CiphertextSegment, ExtensionBlock, WholeShare}
+use Rattle.zfec_code.specs.ShareValue.{share_block}
+use Rattle.cap_text.specs.Cap.{ReadCapValue}
+use Rattle.ueb.specs.Shape.{Contents, rounded_up}
+use Rattle.ueb.specs.Block.{ueb_text}
+use Rattle.share_layout.specs.Geometry.{Geometry, geometry_of, segment_count, tree_size}
+use Rattle.share_layout.specs.Share.{header, header_numbers}
+
+-- how a file is to be encoded: k of N shares, and the greatest length of a segment
+pub record Parameters : Type 0 where
+  pub needed : ℕ
+  pub total : ℕ
+  pub max_segment : ℕ
+
+-- so many pieces of this length, the last perhaps shorter
+abbrev pub pieces : ℕ → ℕ → List ℕ → List (List ℕ)
+pieces zero size text = []
+pieces (suc n) size text = take size text ∷ pieces n size (drop size text)
+
+-- the segments of a text
+abbrev pub segments_of : Geometry → List ℕ → List (List ℕ)
+segments_of g text = pieces (segment_count g) g.segment_size text
+
+-- a segment of ciphertext, padded with zero bytes to a multiple of k
+abbrev pub padded_segment : ℕ → List ℕ → List ℕ
+padded_segment k segment = segment ++ replicate (rounded_up (length segment) k - length segment) 0
+
+-- the block of share i of a segment
+abbrev pub block_of : ℕ → ℕ → List ℕ → List ℕ
+block_of k i segment = share_block k i (length (padded_segment k segment) / k) (padded_segment k segment)
+
+-- the blocks of share i, one for each segment
+abbrev pub blocks_of : ℕ → ℕ → List (List ℕ) → List (List ℕ)
+blocks_of k i segments = map (block_of k i) segments
+
+-- the leaves of the ciphertext tree
+abbrev pub segment_hashes : List (List ℕ) → List (List ℕ)
+segment_hashes segments = map (tagged_hash CiphertextSegment) segments
+
+-- the leaves of a share's block tree
+abbrev pub block_hashes : List (List ℕ) → List (List ℕ)
+block_hashes blocks = map (tagged_hash Block) blocks
+
+-- the leaves of the share tree: the roots of the shares' block trees
+abbrev pub share_leaves : Geometry → List (List ℕ) → List (List ℕ)
+share_leaves g segments =
+    map (λ i. tree_root (block_hashes (blocks_of g.needed i segments))) (range_with_len 0 g.total)
+
+-- a list of hashes, one after another
+abbrev pub joined : List (List ℕ) → List ℕ
+joined hashes = flat_map (λ h. h) hashes
+
+-- the hashes that share i carries of the share tree, each after its node's number in two bytes
+abbrev pub share_hashes : List (List ℕ) → ℕ → List ℕ
+share_hashes leaves i =
+    flat_map (λ n. to_be_bytes w16 n ++ slice_index_or (tree_nodes leaves) n []) (needed_numbers (height (length leaves)) i)
+
+-- a share in layout 1: the header, the blocks, zeros in the place of a tree that is no longer used, the ciphertext tree,
+-- the block tree, the share hashes, and the extension block after its length
+abbrev pub share_text : Geometry → List (List ℕ) → List (List ℕ) → List ℕ → List ℕ → List ℕ
+share_text g blocks segment_leaves hashes extension_block =
+    header (header_numbers g (length hashes)) ++ joined blocks ++ replicate (tree_size g) 0 ++ joined (tree_nodes segment_leaves)
+    ++ joined (tree_nodes (block_hashes blocks)) ++ hashes ++ to_be_bytes w32 (length extension_block) ++ extension_block
+
+-- what the extension block says of a file and its ciphertext
+abbrev pub extension_block_contents : Geometry → List ℕ → List (List ℕ) → Contents
+extension_block_contents g ciphertext segments = record {
+  needed_shares = g.needed;
+  total_shares = g.total;
+  size = g.size;
+  segment_size = g.segment_size;
+  crypttext_hash = tagged_hash Ciphertext ciphertext;
+  crypttext_root_hash = tree_root (segment_hashes segments);
+  share_root_hash = tree_root (share_leaves g segments);
+}
+
+-- a file's encoding: its cap and its shares, by number
+pub record Encoding : Type 0 where
+  pub cap : ReadCapValue
+  pub shares : List (List ℕ)
+
+-- share i of a file
+abbrev pub share_of : Geometry → List (List ℕ) → List ℕ → ℕ → List ℕ
+share_of g segments extension_block i =
+    share_text g (blocks_of g.needed i segments) (segment_hashes segments) (share_hashes (share_leaves g segments) i) extension_block
+
+-- the encoding of a ciphertext and its key
+unfoldable pub ciphertext_encoding : Geometry → List ℕ → List ℕ → Encoding
+ciphertext_encoding g key ciphertext =
+    let segments = segments_of g ciphertext in
+    let extension_block = ueb_text (extension_block_contents g ciphertext segments) in
+    record {
+      cap = record { key = key; ueb_hash = tagged_hash ExtensionBlock extension_block; needed = g.needed; total = g.total; size = g.size };
+      shares = map (share_of g segments extension_block) (range_with_len 0 g.total);
+    }
+
+-- the encoding of a file: its key follows from the file, the secret and the geometry
+unfoldable pub encoding_of : List ℕ → List ℕ → Parameters → Encoding
+encoding_of file secret p =
+    let g = geometry_of (length file) p.needed p.total p.max_segment in
+    let key = convergent_key_of p.needed p.total g.segment_size secret file in
+    ciphertext_encoding g key (xored key file)
+
+-- the digest of a share: its name at the servers
+abbrev pub share_digest : List ℕ → List ℕ
+share_digest share = tagged_hash WholeShare share

@@ -1,0 +1,15 @@
+pub mod EncodeError
+pub mod ReadError
+pub mod Encoding
+pub mod FileOf
+pub mod Params
+pub mod Blocks
+pub mod TreeSection
+pub mod ShareHashes
+pub mod Verify
+pub mod Laws
+pub mod Decoding
+pub mod Reading
+pub mod LowestShares
+pub mod OwnFile
+pub mod Parts

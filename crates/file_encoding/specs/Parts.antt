@@ -1,0 +1,42 @@
+-- What a cap proves of a part of its file: an extension block and one segment with the path of its hash.
+use Rattle.std.specs.Prelude.{◌≡◌, ℕ, ◌<◌, List, [], length, slice_index_or}
+use Rattle.aes_ctr.specs.CounterMode.{xored}
+use Rattle.merkle.specs.Path.{LeadsBy, siblings_of}
+use Rattle.tagged_hash.specs.ConvergentKey.{convergent_key_of}
+use Rattle.tagged_hash.specs.TaggedHash.{tagged_hash}
+use Rattle.tagged_hash.specs.declared.tag.Tag.TheVariants.{CiphertextSegment}
+use Rattle.cap_text.specs.Cap.{VerifyCapValue, verify_cap_of}
+use Rattle.ueb.specs.Block.{ueb_text}
+use Rattle.ueb.specs.Shape.{Contents, IsShape}
+use Rattle.share_layout.specs.Geometry.{Geometry, geometry_of, segment_count}
+use Rattle.file_encoding.specs.Encoding.{Parameters, ciphertext_encoding, encoding_of, extension_block_contents, segment_hashes, segments_of}
+use Rattle.file_encoding.specs.FileOf.{IsUebFor, geometry_by}
+use Rattle.file_encoding.specs.Reading.{segment_length}
+
+-- This is the segment with this number of the cap's file, and the cap proves it: the extension block is the cap's, and by these siblings
+-- the segment's hash leads to the root of the ciphertext tree in it.
+pub record IsPartOf (cap : VerifyCapValue) (extension_block : List ℕ) (u : Contents) (number : ℕ) (segment : List ℕ) (siblings : List (List ℕ)) : Type 0 where
+  pub block : IsUebFor cap extension_block u
+  pub there : number < segment_count (geometry_by u)
+  pub size : length segment ≡ segment_length (geometry_by u) number
+  pub path : LeadsBy (segment_count (geometry_by u)) u.crypttext_root_hash number (tagged_hash CiphertextSegment segment) siblings
+
+-- each segment of this ciphertext is a part of the cap's file, with its own extension block and its own path
+abbrev pub HasParts : VerifyCapValue → Geometry → List ℕ → Type 0
+HasParts cap g ciphertext =
+    let segments = segments_of g ciphertext in
+    let u = extension_block_contents g ciphertext segments in
+    (number : ℕ) → number < segment_count g
+    → IsPartOf cap (ueb_text u) u number (slice_index_or segments number []) (siblings_of (segment_hashes segments) number)
+
+-- a law: each segment of a ciphertext is a part of the file of its encoding's verify cap
+abbrev pub EncodingHasParts : Type 0
+EncodingHasParts = (g : Geometry) (key ciphertext : List ℕ) → IsShape g.needed g.total g.size g.segment_size → length ciphertext ≡ g.size
+    → HasParts (verify_cap_of (ciphertext_encoding g key ciphertext).cap) g ciphertext
+
+-- a law: so is each segment of a file's ciphertext, whatever the secret
+abbrev pub FileHasParts : Type 0
+FileHasParts = (file secret : List ℕ) (p : Parameters)
+    → IsShape p.needed p.total (length file) (geometry_of (length file) p.needed p.total p.max_segment).segment_size
+    → let g = geometry_of (length file) p.needed p.total p.max_segment in
+    HasParts (verify_cap_of (encoding_of file secret p).cap) g (xored (convergent_key_of p.needed p.total g.segment_size secret file) file)

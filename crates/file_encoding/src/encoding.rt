@@ -1,0 +1,266 @@
+// Files, encoded whole.
+
+ghost use Rattle.std.specs.Prelude.{◌≡◌, ◌≤◌, ◌<◌, ◌+◌, ◌*◌, ◌^◌, ◌%◌, ◌++◌, ℕ, List, [], length, map, IfOk, IfErr, IsErrOf, IsOk, IsOkUnless, ◌⊎◌};
+ghost use Rattle.std.specs.List.{range_with_len};
+ghost use Rattle.aes_ctr.specs.CounterMode.{xored};
+ghost use Rattle.cap_text.specs.declared.cap.Cap.TheVariants.{Chk, Lit};
+ghost use Rattle.cap_text.specs.Cap.{ReadCapValue};
+ghost use Rattle.merkle.specs.Tree.{height, tree_nodes, tree_root};
+ghost use Rattle.ueb.specs.Shape.{IsFile, IsSegmentSize};
+ghost use Rattle.ueb.specs.declared.limits.TheConstants.{MAX_FILE_SIZE, MAX_LENGTH, MAX_SEGMENTS, MIN_FILE_SIZE};
+ghost use Rattle.ueb.specs.Block.{ueb_text};
+ghost use Rattle.share_layout.specs.Geometry.{HasGeometry, geometry_of, hashes_size, segment_count};
+ghost use Rattle.share_layout.specs.Share.{header, header_numbers};
+ghost use Rattle.file_encoding.specs.Encoding.{block_hashes, ciphertext_encoding, encoding_of, padded_segment, segment_hashes, segments_of, share_hashes};
+ghost use Rattle.file_encoding.specs.Blocks.{padded_blocks, share_beginning, share_end};
+ghost use Rattle.file_encoding.specs.Params.{HasTooManySegments, IsEncodable, parameters_of};
+
+use crate::blocks::Segments;
+use crate::error::EncodeError;
+use crate::params::Params;
+use crate::share::Share;
+use crate::shares::{AllBegun, Common, begin_shares, build_tree, finish_shares};
+use aes_ctr::Aes128;
+use cap_text::{Cap, LitCap, ReadCap};
+use merkle::Tree;
+use share_layout::Geometry;
+use std::alloc::{AllocError, Global};
+use tagged_hash::{Tag, convergent_key, tagged};
+use ueb::{Expect, MAX_FILE_SIZE, MAX_LENGTH, MIN_FILE_SIZE, Ueb};
+use zfec_code::{Code, CodeError};
+
+/// An encoded file: its cap and its shares, by number.
+#[derive(Drop)]
+pub struct Encoded {
+    pub cap: Cap,
+    pub shares: Vec<Share>,
+}
+
+// The file encrypted, or a ciphertext decrypted, under a key of its own.
+pub(crate) fn encrypt(alloc: Global, key: &[u8; 16], text: &[u8]) -> Result<Vec<u8>, AllocError>
+    requires { length text.now < 2 ^ 64 }
+    ensures value { IfOk result (λ c. c.items ≡ xored key.now text.now) }
+    ensures size { IfOk result (λ c. length c.items ≡ length text.now) }
+{
+    let mut crypted = Vec::from_slice(alloc, text)?;
+    Aes128::new(key).xor_at(0, &mut crypted);
+    Ok(crypted)
+}
+
+// The tree over the hashes of a ciphertext's segments.
+fn ciphertext_tree(
+    alloc: Global,
+    geometry: &Geometry,
+    ciphertext: &[u8],
+) -> Result<Tree, AllocError>
+    ensures { IfOk result (λ tree. tree ≡ segment_hashes (segments_of geometry.now ciphertext.now)) }
+{
+    let segments = Segments {
+        text: ciphertext,
+        size: geometry.segment_size() as usize,
+        count: geometry.segment_count() as usize,
+    };
+    build_tree(alloc, &segments.hashes(alloc)?)
+}
+
+// A text with zero bytes behind it, up to a multiple of the shares needed.
+fn pad(mut text: Vec<u8>, needed: u16) -> Result<Vec<u8>, AllocError>
+    requires some { 0 < needed }
+    ensures { IfOk result (λ padded. padded.items ≡ padded_segment needed text.items) }
+{
+    let needed = usize::from(needed);
+    text.resize(text.len().div_ceil(needed) * needed, 0)?;
+    Ok(text)
+}
+
+// Begins all shares of a padded ciphertext.
+fn begin_file(
+    alloc: Global,
+    geometry: &Geometry,
+    padded: &[u8],
+    ciphertext_tree: &Tree,
+) -> Result<AllBegun, AllocError>
+    requires whole { length padded.now % geometry.now.needed ≡ 0 }
+    ensures shares { IfOk result (λ begun. begun.shares.items ≡ map (λ i. share_beginning
+        (header (header_numbers geometry.now (hashes_size geometry.now)))
+        (padded_blocks geometry.now.needed i (segment_count geometry.now) geometry.now.segment_size padded.now)
+        (tree_nodes ciphertext_tree.now)) (range_with_len 0 geometry.now.total)) }
+    ensures roots { IfOk result (λ begun. begun.roots.items ≡ map (λ i. tree_root (block_hashes
+        (padded_blocks geometry.now.needed i (segment_count geometry.now) geometry.now.segment_size padded.now)))
+        (range_with_len 0 geometry.now.total)) }
+{
+    let code = match Code::new(alloc, geometry.needed(), geometry.total()) {
+        Ok(code) => code,
+        Err(CodeError::OutOfMemory) => return Err(AllocError),
+        Err(_) => unreachable!(),
+    };
+    let header = geometry.header();
+    let common = Common {
+        header: &header,
+        needed: geometry.needed(),
+        code: &code,
+        segments: Segments {
+            text: padded,
+            size: geometry.segment_size() as usize,
+            count: geometry.segment_count() as usize,
+        },
+        ciphertext_tree,
+    };
+    begin_shares(alloc, &common, geometry.total(), share_size(geometry))
+}
+
+// The greatest length of a share, in bytes.
+fn share_size(geometry: &Geometry) -> usize {
+    let sections = geometry.share_data_size() + 3 * geometry.tree_size() + geometry.hashes_size();
+    36 + sections as usize + 4 + MAX_LENGTH
+}
+
+// The extension block of a file.
+fn write_extension_block(
+    alloc: Global,
+    geometry: &Geometry,
+    crypttext_hash: [u8; 32],
+    ciphertext_root: [u8; 32],
+    share_root: [u8; 32],
+) -> Result<Vec<u8>, AllocError>
+    requires file { IsFile geometry.now.needed geometry.now.total geometry.now.size }
+    requires segments { IsSegmentSize geometry.now.needed geometry.now.size geometry.now.segment_size }
+    ensures text { IfOk result (λ text. text.items ≡ ueb_text (record {
+      needed_shares = geometry.now.needed;
+      total_shares = geometry.now.total;
+      size = geometry.now.size;
+      segment_size = geometry.now.segment_size;
+      crypttext_hash = crypttext_hash;
+      crypttext_root_hash = ciphertext_root;
+      share_root_hash = share_root;
+    })) }
+    ensures short { IfOk result (λ text. length text.items ≤ MAX_LENGTH) }
+{
+    let expect = Expect {
+        k: geometry.needed(),
+        n: geometry.total(),
+        size: geometry.size(),
+    };
+    let block = Ueb::new(
+        &expect,
+        geometry.segment_size(),
+        crypttext_hash,
+        ciphertext_root,
+        share_root,
+    );
+    match block.write(alloc) {
+        Ok(text) => Ok(text),
+        Err(_) => Err(AllocError),
+    }
+}
+
+// The cap of a file.
+fn file_cap(geometry: &Geometry, key: [u8; 16], ueb_hash: [u8; 32]) -> ReadCap
+    requires { MIN_FILE_SIZE ≤ geometry.now.size }
+    ensures { result ≡ record { key = key; ueb_hash = ueb_hash; needed = geometry.now.needed; total = geometry.now.total; size = geometry.now.size } }
+{
+    match ReadCap::new(
+        key,
+        ueb_hash,
+        geometry.needed(),
+        geometry.total(),
+        geometry.size(),
+    ) {
+        Ok(cap) => cap,
+        Err(_) => unreachable!(),
+    }
+}
+
+// The cap and the shares of a ciphertext and its key.
+fn encode_ciphertext(
+    alloc: Global,
+    geometry: &Geometry,
+    key: [u8; 16],
+    ciphertext: Vec<u8>,
+) -> Result<Encoded, AllocError>
+    requires size { length ciphertext.items ≡ geometry.now.size }
+    requires least { MIN_FILE_SIZE ≤ geometry.now.size }
+    requires segments { IsSegmentSize geometry.now.needed geometry.now.size geometry.now.segment_size }
+    ensures cap { IfOk result (λ e. e.cap ≡ Chk (ciphertext_encoding geometry.now key ciphertext.items).cap) }
+    ensures shares { IfOk result (λ e. e.shares.items ≡ (ciphertext_encoding geometry.now key ciphertext.items).shares) }
+{
+    let crypttext_hash = tagged(Tag::Ciphertext, &ciphertext);
+    let ciphertext_tree = ciphertext_tree(alloc, geometry, &ciphertext)?;
+    let padded = pad(ciphertext, geometry.needed())?;
+    let begun = begin_file(alloc, geometry, &padded, &ciphertext_tree)?;
+    let share_tree = build_tree(alloc, &begun.roots)?;
+    let extension_block = write_extension_block(
+        alloc,
+        geometry,
+        crypttext_hash,
+        ciphertext_tree.root(),
+        share_tree.root(),
+    )?;
+    let shares = finish_shares(alloc, begun.shares, &share_tree, &extension_block)?;
+    let cap = file_cap(geometry, key, tagged(Tag::ExtensionBlock, &extension_block));
+    Ok(Encoded {
+        cap: Cap::Chk(cap),
+        shares,
+    })
+}
+
+/// Encodes a file: its cap and its shares, under a key that depends on the file, the secret, the numbers of shares and the segment size.
+///
+/// The secret has at most 64 bytes. A file of less than `ueb::MIN_FILE_SIZE` bytes has no shares: its cap holds it. Refuses `TooLarge` and
+/// `TooManySegments`, in this order, and `OutOfMemory`.
+pub fn encode_all(
+    alloc: Global,
+    file: &[u8],
+    secret: &[u8],
+    params: &Params,
+) -> Result<Encoded, EncodeError>
+    requires { length secret.now ≤ 64 }
+    ensures literal { length file.now < MIN_FILE_SIZE → IfOk result (λ e. (e.cap ≡ Lit file.now) × (e.shares.items ≡ [])) }
+    ensures cap { MIN_FILE_SIZE ≤ length file.now → IfOk result (λ e. e.cap ≡ Chk (encoding_of file.now secret.now (parameters_of params.now)).cap) }
+    ensures shares { MIN_FILE_SIZE ≤ length file.now → IfOk result (λ e. e.shares.items ≡ (encoding_of file.now secret.now (parameters_of params.now)).shares) }
+    // When each refusal comes.
+    ensures fits { MIN_FILE_SIZE ≤ length file.now → IfOk result (λ _. IsEncodable (length file.now) params.now) }
+    ensures too_large { IsErrOf result EncodeError.TooLarge → MAX_FILE_SIZE < length file.now }
+    ensures too_many { IsErrOf result EncodeError.TooManySegments → HasTooManySegments (length file.now) params.now }
+    ensures no_other { IfErr result (λ e. (e ≡ EncodeError.OutOfMemory) ⊎ (e ≡ EncodeError.TooLarge) ⊎ (e ≡ EncodeError.TooManySegments)) }
+{
+    if file.len() < MIN_FILE_SIZE as usize {
+        return match LitCap::new(file) {
+            Ok(lit) => Ok(Encoded {
+                cap: Cap::Lit(lit),
+                shares: Vec::new(alloc),
+            }),
+            Err(_) => unreachable!(),
+        };
+    }
+    let geometry = file_geometry(file.len() as u64, params)?;
+    let key = convergent_key(
+        params.needed(),
+        params.total(),
+        geometry.segment_size(),
+        secret,
+        file,
+    );
+    let ciphertext = encrypt(alloc, &key, file)?;
+    Ok(encode_ciphertext(alloc, &geometry, key, ciphertext)?)
+}
+
+// The geometry of a file of this size.
+fn file_geometry(size: u64, params: &Params) -> Result<Geometry, EncodeError>
+    requires { 0 < size }
+    ensures given { IfOk result (λ g. g ≡ geometry_of size params.now.needed params.now.total params.now.max_segment) }
+    ensures segments { IfOk result (λ g. IsSegmentSize g.needed g.size g.segment_size) }
+    ensures fits { IfOk result (λ _. IsEncodable size params.now) }
+    ensures too_large { IsErrOf result EncodeError.TooLarge → MAX_FILE_SIZE < size }
+    ensures too_many { IsErrOf result EncodeError.TooManySegments → HasTooManySegments size params.now }
+    ensures no_other { IfErr result (λ e. (e ≡ EncodeError.TooLarge) ⊎ (e ≡ EncodeError.TooManySegments)) }
+{
+    if size > MAX_FILE_SIZE {
+        return Err(EncodeError::TooLarge);
+    }
+    match Geometry::of(size, params.needed(), params.total(), params.max_segment()) {
+        Ok(geometry) => Ok(geometry),
+        // The parameters are in their ranges.
+        Err(_) => Err(EncodeError::TooManySegments),
+    }
+}

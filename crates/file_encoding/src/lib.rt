@@ -1,0 +1,25 @@
+//! Whole files of Tahoe-LAFS: a file becomes a cap and N shares, of which any k and the cap give it back.
+#![tactic(auto)]
+
+mod blocks;
+mod decoding;
+mod encoding;
+mod error;
+mod laws;
+mod params;
+mod reading;
+mod selection;
+mod share;
+mod shares;
+mod verify;
+
+pub use encoding::{Encoded, encode_all};
+pub use error::EncodeError;
+pub use laws::{
+    ciphertext_shares_pass, encoding_has_parts, file_has_parts, file_shares_pass,
+    own_shares_give_the_file,
+};
+pub use params::{MAX_CHOSEN_SEGMENT_SIZE, Params};
+pub use reading::{ReadError, read_from};
+pub use share::Share;
+pub use verify::{ShareFault, verify_share};

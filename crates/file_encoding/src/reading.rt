@@ -1,0 +1,212 @@
+// Files, read back from shares.
+
+ghost use Rattle.std.specs.Prelude.{◌≡◌, ◌<◌, ◌⊎◌, ℕ, List, [], All, length, map, slice_index, slice_index_or, false, IfOk, IfErr, IfSome, IsErrOf, IsTrue};
+ghost use Rattle.aes_ctr.specs.CounterMode.{xored};
+ghost use Rattle.cap_text.specs.Cap.{verify_cap_of};
+ghost use Rattle.ueb.specs.Shape.{Contents};
+ghost use Rattle.share_layout.specs.Places.{LocatesUeb};
+ghost use Rattle.share_layout.specs.Reading.{sections_in};
+ghost use Rattle.share_layout.specs.Share.{IsShare, Sections};
+ghost use Rattle.file_encoding.specs.FileOf.{IsUebFor, geometry_by};
+ghost use Rattle.file_encoding.specs.LowestShares.{GivesCiphertext, IsReadAs, HaveBlocks, TakesAt};
+ghost use Rattle.file_encoding.specs.Reading.{AreInconsistent, IsReadFrom, LacksShares};
+ghost use Rattle.file_encoding.specs.Verify.{IsSound};
+ghost use Rattle.file_encoding.specs.ReadError.{read_refusal_number};
+
+use crate::decoding::decode_all;
+use crate::selection::take_lowest;
+use crate::verify::{SoundShare, geometry_of, leaves_in, locate, read_ueb, read_view};
+use aes_ctr::Aes128;
+use cap_text::{ReadCap, VerifyCap};
+use share_layout::Geometry;
+use std::alloc::{AllocError, AllocFailed, Global};
+
+/// Why shares do not give their file.
+#[derive(Clone, Copy, Debug, PartialEq, Eq)]
+pub enum ReadError {
+    /// No memory was left (number 1).
+    OutOfMemory,
+    /// Fewer shares pass every check than are needed (number 71).
+    NotEnoughShares,
+    /// The shares pass, but two of their extension blocks differ, or a segment that they decode to is not the one of its leaf (number 72).
+    Inconsistent,
+}
+
+impl ReadError {
+    /// The number of the refusal.
+    pub fn number(self) -> u8
+        ensures { result ≡ read_refusal_number self }
+    {
+        match self {
+            ReadError::OutOfMemory => 1,
+            ReadError::NotEnoughShares => 71,
+            ReadError::Inconsistent => 72,
+        }
+    }
+}
+
+impl From<AllocError> for ReadError {
+    ghost use Rattle.file_encoding.specs.declared.reading.ReadError.TheVariants.{OutOfMemory};
+
+    ghost from_gives = { λ _ e. e ≡ OutOfMemory };
+
+    fn from(_error: AllocError) -> ReadError {
+        ReadError::OutOfMemory
+    }
+}
+
+impl<T: Drop> From<AllocFailed<T>> for ReadError {
+    ghost use Rattle.file_encoding.specs.declared.reading.ReadError.TheVariants.{OutOfMemory};
+
+    ghost from_gives = { λ _ e. e ≡ OutOfMemory };
+
+    fn from(_error: AllocFailed<T>) -> ReadError {
+        ReadError::OutOfMemory
+    }
+}
+
+/// The file of a cap, from shares that come with their numbers, each in the string that it is said to be.
+///
+/// Taken are the lowest numbers that pass `verify_share`, as many as are needed, and of each the first string that passes. Refuses
+/// `NotEnoughShares` where fewer pass, and `Inconsistent` where two of the strings that are taken differ in their extension blocks, or a
+/// segment that they decode to has not the hash of its leaf in the ciphertext tree of the lowest.
+pub fn read_from(
+    alloc: Global,
+    cap: &ReadCap,
+    shares: &[(u16, &[u8])],
+) -> Result<Vec<u8>, ReadError>
+    ensures file { IfOk result (λ file. IsReadFrom cap.now (map (λ s. s.0) shares.now) (map (λ s. s.1.now) shares.now) file.items) }
+    ensures not_enough { IsErrOf result ReadError.NotEnoughShares → LacksShares (verify_cap_of cap.now) (map (λ s. s.0) shares.now) (map (λ s. s.1.now) shares.now) }
+    ensures inconsistent { IsErrOf result ReadError.Inconsistent → AreInconsistent (verify_cap_of cap.now) (map (λ s. s.0) shares.now) (map (λ s. s.1.now) shares.now) }
+{
+    let verify_cap = cap.to_verify();
+    let places = take_lowest(alloc, &verify_cap, shares)?;
+    if places.len() < usize::from(cap.k()) {
+        return Err(ReadError::NotEnoughShares);
+    }
+    match read_ciphertext(alloc, &verify_cap, shares, &places) {
+        Ok(ciphertext) => Ok(decrypt(cap.key(), ciphertext)),
+        Err(error) => Err(error),
+    }
+}
+
+// A ciphertext decrypted where it stands.
+fn decrypt(key: &[u8; 16], mut text: Vec<u8>) -> Vec<u8>
+    ensures { result.items ≡ xored key.now text.items }
+{
+    Aes128::new(key).xor_at(0, &mut text);
+    text
+}
+
+// The ciphertext of the shares at these places, which are as many as are needed.
+fn read_ciphertext(
+    alloc: Global,
+    cap: &VerifyCap,
+    shares: &[(u16, &[u8])],
+    places: &[usize],
+) -> Result<Vec<u8>, ReadError>
+    requires takes { TakesAt cap.now (map (λ s. s.0) shares.now) (map (λ s. s.1.now) shares.now) places.now }
+    requires some { 0 < length places.now }
+    requires inside { All (λ p. p < length shares.now) places.now }
+    ensures read { IfOk result (λ ciphertext. GivesCiphertext cap.now (map (λ s. s.0) shares.now) (map (λ s. s.1.now) shares.now) ciphertext.items) }
+    ensures inconsistent { IsErrOf result ReadError.Inconsistent → AreInconsistent cap.now (map (λ s. s.0) shares.now) (map (λ s. s.1.now) shares.now) }
+    ensures no_other { IfErr result (λ e. (e ≡ ReadError.OutOfMemory) ⊎ (e ≡ ReadError.Inconsistent)) }
+{
+    let (number, string) = shares[places[0]];
+    let Some(first) = read_parts(cap, number, string) else {
+        unreachable!();
+    };
+    let view = first.view;
+    if !agree(shares, places, view.extension_block) {
+        return Err(ReadError::Inconsistent);
+    }
+    let blocks = all_blocks(alloc, shares, places, &first.geometry)?;
+    let leaves = leaves_in(view.ciphertext_tree, first.geometry.segment_count());
+    decode_all(alloc, &first.geometry, &blocks, leaves)
+}
+
+// What is read of a share, where it passes every check. It is not checked again.
+fn read_parts<'a>(cap: &VerifyCap, number: u16, share: &'a [u8]) -> Option<SoundShare<'a>>
+    ensures complete { (u : Contents) (s : Sections) → IsSound cap.now number share.now u s → IsReadAs u s result }
+    ensures geometry { IfSome result (λ found. found.geometry ≡ geometry_by found.ueb) }
+    ensures one_ueb { IfSome result (λ found. (u : Contents) → IsUebFor cap.now (sections_in found.view).extension_block u → found.ueb ≡ u) }
+{
+    let extension_block = match locate(share) {
+        Ok(extension_block) => extension_block,
+        Err(_) => return None,
+    };
+    let ueb = match read_ueb(cap, extension_block) {
+        Ok(ueb) => ueb,
+        Err(_) => return None,
+    };
+    let geometry = geometry_of(&ueb);
+    let view = match read_view(share, number, &geometry) {
+        Ok(view) => view,
+        Err(_) => return None,
+    };
+    Some(SoundShare {
+        ueb,
+        geometry,
+        view,
+    })
+}
+
+// Whether the shares at these places have this extension block.
+fn agree(shares: &[(u16, &[u8])], places: &[usize], extension_block: &[u8]) -> bool
+    requires { All (λ p. p < length shares.now) places.now }
+    ensures yes { IsTrue result → (m : ℕ) → m < length places.now → (block : List ℕ)
+        → LocatesUeb (slice_index_or (map (λ s. s.1.now) shares.now) (slice_index places.now m) []) block → extension_block.now ≡ block }
+    ensures no { result ≡ false → (m : ℕ) × (m < length places.now)
+        × ¬ LocatesUeb (slice_index_or (map (λ s. s.1.now) shares.now) (slice_index places.now m) []) extension_block.now }
+{
+    for place in places {
+        let (_, string) = shares[*place];
+        if !has_block(string, extension_block) {
+            return false;
+        }
+    }
+    true
+}
+
+// Whether a share has this extension block, by its own header.
+fn has_block(share: &[u8], extension_block: &[u8]) -> bool
+    ensures yes { IsTrue result → (block : List ℕ) → LocatesUeb share.now block → extension_block.now ≡ block }
+    ensures no { result ≡ false → ¬ LocatesUeb share.now extension_block.now }
+{
+    match locate(share) {
+        Ok(other) => other == extension_block,
+        Err(_) => false,
+    }
+}
+
+// The blocks of the shares at these places, each with its share's number.
+fn all_blocks<'a>(
+    alloc: Global,
+    shares: &[(u16, &'a [u8])],
+    places: &[usize],
+    geometry: &Geometry,
+) -> Result<Vec<(u16, &'a [u8])>, AllocError>
+    requires inside { All (λ p. p < length shares.now) places.now }
+    requires readable { (m : ℕ) → m < length places.now → (s : Sections)
+        × IsShare geometry.now (slice_index (map (λ s. s.0) shares.now) (slice_index places.now m)) (slice_index_or (map (λ s. s.1.now) shares.now) (slice_index places.now m) []) s }
+    ensures { IfOk result (λ blocks. HaveBlocks geometry.now (map (λ s. s.0) shares.now) (map (λ s. s.1.now) shares.now) places.now
+        (map (λ s. s.0) blocks.items) (map (λ s. s.1.now) blocks.items)) }
+{
+    let mut blocks = Vec::with_capacity(alloc, places.len())?;
+    for place in places {
+        let (number, string) = shares[*place];
+        blocks.push((number, share_blocks(string, number, geometry)))?;
+    }
+    Ok(blocks)
+}
+
+// The blocks of a share of a file with this geometry.
+fn share_blocks<'a>(share: &'a [u8], number: u16, geometry: &Geometry) -> &'a [u8]
+    requires { (s : Sections) × IsShare geometry.now number share.now s }
+    ensures { (s : Sections) → IsShare geometry.now number share.now s → result.now ≡ s.blocks }
+{
+    let Ok(view) = read_view(share, number, geometry) else {
+        unreachable!();
+    };
+    view.blocks
+}
