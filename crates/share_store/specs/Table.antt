@@ -1,0 +1,21 @@
+-- A folder's table of closed shares.
+use Rattle.std.specs.Prelude.{ℕ, ◌-◌, ◌^◌, min, List, Bool, Option, Some, None, if◌then◌else◌, sum_by}
+use Rattle.std.specs.Cmp.Lexicographic.{slice_cmp}
+use Rattle.std.specs.Ordering.{nat_cmp, is_lt}
+use Rattle.std.specs.Map.{values_of}
+use Rattle.cap_text.specs.Base32.{base32}
+use Rattle.share_store.specs.declared.table.KeptShare.{KeptShare}
+use Rattle.share_store.specs.Shelf.{Place}
+
+-- the closed lengths together: past 2^64 - 1 it is that
+abbrev pub kept_bytes : List (Place × KeptShare) → ℕ
+kept_bytes closed = min (sum_by (λ (k : KeptShare). k.length) (values_of closed)) (2 ^ 64 - 1)
+
+-- the text of one digest is below that of another
+abbrev pub has_lower_text : List ℕ → List ℕ → Bool
+has_lower_text a b = is_lt (slice_cmp nat_cmp (base32 a) (base32 b))
+
+-- of two closed shares at one place the one with the lower digest text counts
+abbrev pub lower_of : Option KeptShare → KeptShare → KeptShare
+lower_of None share = share
+lower_of (Some other) share = if has_lower_text share.digest other.digest then share else other

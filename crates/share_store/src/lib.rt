@@ -1,0 +1,11 @@
+//! Where a server keeps its shares: what a store is, and two stores.
+#![tactic(auto)]
+
+pub mod error;
+mod files;
+pub mod folder;
+pub mod memory;
+mod names;
+pub mod shelf;
+pub mod store;
+pub mod table;

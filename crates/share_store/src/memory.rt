@@ -1,0 +1,270 @@
+//! A store in memory.
+
+ghost use Rattle.std.specs.Prelude.{◌≡◌, ◌++◌, ◌==◌, ◌+◌, ◌-◌, ◌<◌, ◌≤◌, ◌^◌, ◌⊎◌, [], length, true, false, None, refl, if◌then◌else◌, IfOk, IfErr, IsErr, IsSome, IsOkUnless, OnOk, OnErr};
+ghost use Rattle.std.specs.BTreeMap.{insert_entry, IsOrdered};
+ghost use Rattle.share_store.specs.declared.error.StoreError.{StoreError};
+ghost use Rattle.share_store.specs.Shelf.{at, digest_at, used, order, written_at, IsPutAt};
+ghost use Rattle.share_store.specs.Memory.{MemoryState, faulted, MemoryWrites, MemoryCloses, MemoryReads, MemoryLists, MemoryRestarts, memory_writes, memory_closes, memory_reads, memory_lists};
+
+use crate::error::StoreError;
+use crate::shelf::{ClosedShare, Place, ShareBytes, place_of};
+use crate::store::{Keeping, Store};
+use crate::table::held_under;
+use std::alloc::{AllocError, Global};
+use std::collections::BTreeMap;
+use std::collections::btree_map::Entry;
+use std::marker::Model;
+use wire::message::{Digest, HeldList, ReadData, ReadLength, ShareId, StorageIndex};
+
+/// A store in memory, which keeps.
+#[derive(Drop)]
+pub struct MemoryStore {
+    alloc: Global,
+    closed: BTreeMap<Place, ClosedShare>,
+    opened: BTreeMap<Place, ShareBytes>,
+    // The sum of the closed lengths.
+    closed_bytes: u64,
+    failures: u64,
+    failing: bool,
+}
+
+impl Model for MemoryStore {
+    ghost use Rattle.share_store.specs.Memory.{MemoryState};
+
+    ghost Value = { MemoryState };
+
+    ghost view = { λ m. record { shelf = record { closed = m.closed.entries; opened = m.opened.entries }; failures = m.failures; failing = m.failing } };
+
+    ghost use Rattle.std.specs.Prelude.{◌≡◌};
+    ghost use Rattle.share_store.specs.Shelf.{used};
+
+    ghost invariant = { λ m. m.closed_bytes ≡ used m.closed.entries };
+}
+
+impl MemoryStore {
+    /// An empty store.
+    pub fn new(alloc: Global) -> MemoryStore
+        ensures { result ≡ record { shelf = record { closed = []; opened = [] }; failures = 0; failing = false } }
+    {
+        MemoryStore {
+            alloc,
+            closed: BTreeMap::new(alloc),
+            opened: BTreeMap::new(alloc),
+            closed_bytes: 0,
+            failures: 0,
+            failing: false,
+        }
+    }
+
+    /// The next write, close, read or list answers `StoreFault`.
+    pub fn fail_next(&mut self)
+        ensures { self.new ≡ record { shelf = self.old.shelf; failures = self.old.failures; failing = true } }
+    {
+        self.failing = true;
+    }
+
+    // Begins a call that can fail: it does where that was asked for.
+    fn begin(&mut self) -> Result<(), StoreError>
+        ensures ok { OnOk result ((self.old.failing ≡ false) × (self.new ≡ self.old)) }
+        ensures err { IfErr result (λ e. (e ≡ StoreError.StoreFault) × (self.old.failing ≡ true) × (self.new ≡ faulted self.old)) }
+        ensures cause { IsErr result → (self.old.failures < self.new.failures) ⊎ (self.old.failures ≡ 2 ^ 64 - 1) }
+        ensures count { self.old.failures ≤ self.new.failures }
+    {
+        if !self.failing {
+            return Ok(());
+        }
+        self.failing = false;
+        self.failures = self.failures.saturating_add(1);
+        Err(StoreError::StoreFault)
+    }
+}
+
+// Begins an open share anew with these bytes.
+fn begin_written(
+    alloc: Global,
+    opened: &mut BTreeMap<Place, ShareBytes>,
+    place: &Place,
+    bytes: &[u8],
+) -> Result<(), StoreError>
+    ensures written { OnOk result (written_at place.now opened.new.entries ≡ bytes.now) }
+    ensures others { IsPutAt place.now opened.old.entries opened.new.entries }
+    ensures err { IfErr result (λ e. (e ≡ StoreError.OutOfMemory) × (opened.new.entries ≡ opened.old.entries)) }
+{
+    opened.insert(*place, ShareBytes::from_slice(alloc, bytes)?)?;
+    Ok(())
+}
+
+// Adds bytes at the end of an open share.
+fn extend_written(
+    opened: &mut BTreeMap<Place, ShareBytes>,
+    place: &Place,
+    bytes: &[u8],
+) -> Result<(), StoreError>
+    requires { IsSome (at place.now opened.old.entries) }
+    ensures written { OnOk result (written_at place.now opened.new.entries ≡ written_at place.now opened.old.entries ++ bytes.now) }
+    ensures others { IsPutAt place.now opened.old.entries opened.new.entries }
+    ensures memory { IsOkUnless result StoreError.OutOfMemory }
+    ensures err { OnErr result (opened.new.entries ≡ opened.old.entries) }
+{
+    if let Some(written) = opened.get_mut(place) {
+        written.extend(bytes)?;
+    }
+    Ok(())
+}
+
+// Writes to an open share: at offset 0 it begins anew, and else the bytes come at its end.
+fn put_written(
+    alloc: Global,
+    opened: &mut BTreeMap<Place, ShareBytes>,
+    place: &Place,
+    offset: u64,
+    bytes: &[u8],
+) -> Result<(), StoreError>
+    ensures written { OnOk result (written_at place.now opened.new.entries
+        ≡ (if offset == 0 then bytes.now else written_at place.now opened.old.entries ++ bytes.now)) }
+    ensures others { IsPutAt place.now opened.old.entries opened.new.entries }
+    ensures err { IfErr result (λ e. (e ≡ StoreError.OutOfMemory) × (opened.new.entries ≡ opened.old.entries)) }
+{
+    if offset == 0 || !opened.contains_key(place) {
+        return begin_written(alloc, opened, place, bytes);
+    }
+    extend_written(opened, place, bytes)
+}
+
+// How many bytes an open share has.
+fn written_length(opened: &BTreeMap<Place, ShareBytes>, place: &Place) -> usize
+    ensures { result ≡ length (written_at place.now opened.now.entries) }
+{
+    match opened.get(place) {
+        Some(written) => written.len(),
+        None => 0,
+    }
+}
+
+// Moves an open share to the closed ones, with no copy of its bytes.
+fn move_closed(
+    alloc: Global,
+    closed: &mut BTreeMap<Place, ClosedShare>,
+    opened: &mut BTreeMap<Place, ShareBytes>,
+    place: &Place,
+    digest: &Digest,
+) -> Result<(), StoreError>
+    requires { at place.now closed.old.entries ≡ None }
+    ensures closed { OnOk result (closed.new.entries
+        ≡ insert_entry order closed.old.entries place.now (record { bytes = written_at place.now opened.old.entries; digest = digest.now })) }
+    ensures opened { IsPutAt place.now opened.old.entries opened.new.entries }
+    ensures ordered { IsOrdered order closed.old }
+    ensures err { IfErr result (λ e. (e ≡ StoreError.OutOfMemory) × (closed.new.entries ≡ closed.old.entries) × (opened.new.entries ≡ opened.old.entries)) }
+{
+    if let Entry::Vacant(room) = closed.entry(*place)? {
+        let bytes = match opened.remove(place) {
+            Some(written) => written,
+            None => ShareBytes::new(alloc),
+        };
+        room.insert(ClosedShare {
+            bytes,
+            digest: *digest,
+        });
+    }
+    Ok(())
+}
+
+impl Store for MemoryStore {
+    ghost told = { λ s id. digest_at id s.shelf.closed };
+
+    ghost used_bytes = { λ s. used s.shelf.closed };
+
+    ghost fault_count = { λ s. s.failures };
+
+    ghost write_gives = { MemoryWrites };
+
+    ghost close_gives = { MemoryCloses };
+
+    ghost read_gives = { MemoryReads };
+
+    ghost list_gives = { MemoryLists };
+
+    ghost restart_gives = { MemoryRestarts };
+
+    fn closed(&self, id: &ShareId) -> Option<Digest> {
+        match self.closed.get(&place_of(id)) {
+            Some(share) => Some(share.digest),
+            None => None,
+        }
+    }
+
+    fn used(&self) -> u64 {
+        self.closed_bytes
+    }
+
+    fn failures(&self) -> u64 {
+        self.failures
+    }
+
+    fn write(&mut self, id: &ShareId, offset: u64, bytes: &[u8]) -> Result<(), StoreError> {
+        self.begin()?;
+        put_written(self.alloc, &mut self.opened, &place_of(id), offset, bytes)
+    }
+
+    // The sum of the closed lengths stays below 2^64: a share for which it would not is refused as one too many for the memory.
+    fn close(&mut self, id: &ShareId, digest: &Digest) -> Result<(), StoreError> {
+        self.begin()?;
+        let place = place_of(id);
+        let written = written_length(&self.opened, &place) as u64;
+        let Some(used) = self.closed_bytes.checked_add(written) else {
+            return Err(StoreError::OutOfMemory);
+        };
+        move_closed(
+            self.alloc,
+            &mut self.closed,
+            &mut self.opened,
+            &place,
+            digest,
+        )?;
+        self.closed_bytes = used;
+        Ok(())
+    }
+
+    fn read(
+        &mut self,
+        alloc: Global,
+        id: &ShareId,
+        offset: u64,
+        length: ReadLength,
+    ) -> Result<ReadData, StoreError> {
+        self.begin()?;
+        let nothing = ShareBytes::new(alloc);
+        let bytes = match self.closed.get(&place_of(id)) {
+            Some(share) => &share.bytes,
+            None => &nothing,
+        };
+        Ok(bytes.piece(alloc, offset, length)?)
+    }
+
+    fn list(&mut self, alloc: Global, index: &StorageIndex) -> Result<HeldList, StoreError> {
+        self.begin()?;
+        held_under(alloc, &self.closed, index)
+    }
+
+    fn restart(&mut self) {
+        self.opened.clear();
+    }
+}
+
+impl Keeping for MemoryStore {
+    ghost shelf = { λ s. s.shelf };
+
+    ghost tells = { λ s id. refl };
+
+    ghost sums = { λ s. refl };
+
+    ghost writes = { memory_writes };
+
+    ghost closes = { memory_closes };
+
+    ghost reads = { memory_reads };
+
+    ghost lists = { memory_lists };
+
+    ghost restarts = { λ s t h i. (h i).shelf.closed };
+}
