@@ -1,0 +1,7 @@
+pub mod Places
+pub mod Shares
+pub mod Listed
+pub mod Kept
+pub mod Owners
+pub mod Keeps
+pub mod Over

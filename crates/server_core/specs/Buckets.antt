@@ -1,0 +1,102 @@
+-- Open buckets: the shares that clients are writing.
+use Rattle.std.specs.Prelude.{◌≡◌, ◌<◌, ◌≤◌, ℕ, ◌+◌, ◌==◌, ◌&&◌, not, List, [], ◌∷◌, ◌++◌, Bool, Option, Some, None, if◌then◌else◌, length, map, filter, sum, bytes_eq}
+use Rattle.wire.specs.declared.message.ShareId.{ShareId}
+use Rattle.tagged_hash.specs.TaggedHash.{tagged_hash}
+use Rattle.tagged_hash.specs.TaggedHasher.{Holds}
+use Rattle.tagged_hash.specs.declared.tag.Tag.TheVariants.{WholeShare}
+use Rattle.server_core.specs.declared.bucket.Gathered.{Gathered}
+use Rattle.server_core.specs.declared.bucket.Gathered.TheVariants.{Part, Whole}
+use Rattle.server_core.specs.declared.bucket.Bucket.{Bucket}
+
+abbrev pub same_id : ShareId → ShareId → Bool
+same_id a b = bytes_eq a.index b.index && (a.share == b.share)
+
+-- ---- what a bucket holds of its share
+
+-- how many bytes there are so far, of so many
+abbrev pub count_in : ℕ → Gathered → ℕ
+count_in len (Part count hasher) = count
+count_in len (Whole digest) = len
+
+abbrev pub bytes_so_far : Bucket → ℕ
+bytes_so_far b = count_in b.length b.gathered
+
+-- These are the bytes so far, of so many: there are fewer, and a hasher was given them, or all are there, and this is their digest.
+abbrev pub Gathers : ℕ → Gathered → List ℕ → Type 0
+Gathers len (Part count hasher) written = (count ≡ length written) × (count < len) × Holds hasher WholeShare written
+Gathers len (Whole digest) written = (len ≡ length written) × (digest ≡ tagged_hash WholeShare written)
+
+-- there is room for so many bytes more
+abbrev pub HasRoom : ℕ → ℕ → Gathered → Type 0
+HasRoom len more (Part count hasher) = count + more ≤ len
+HasRoom len more (Whole digest) = ⊥
+
+-- nothing is written yet
+abbrev pub IsNothing : Gathered → Type 0
+IsNothing (Part count hasher) = (count ≡ 0) × Holds hasher WholeShare []
+IsNothing (Whole digest) = ⊥
+
+-- More bytes came, in order. The share is whole once there are as many as its length.
+abbrev pub GoesOn : ℕ → List ℕ → Gathered → Gathered → Type 0
+GoesOn len bytes (Part count hasher) (Part more next) =
+    (more ≡ count + length bytes) × (more < len)
+    × ((written : List ℕ) → Holds hasher WholeShare written → Holds next WholeShare (written ++ bytes))
+GoesOn len bytes (Part count hasher) (Whole digest) =
+    (count + length bytes ≡ len)
+    × ((written : List ℕ) → Holds hasher WholeShare written → digest ≡ tagged_hash WholeShare (written ++ bytes))
+GoesOn len bytes (Whole digest) after = ⊥
+
+-- ---- buckets
+
+-- a new bucket of a client and session
+abbrev pub IsFresh : ℕ → ℕ → ShareId → ℕ → ℕ → Bucket → Type 0
+IsFresh client session id len now b =
+    (b.client ≡ client) × (b.session ≡ session) × (b.id ≡ id) × (b.length ≡ len) × (b.touched ≡ now) × IsNothing b.gathered
+
+abbrev pub is_owned : ℕ → ℕ → Bucket → Bool
+is_owned client session b = (b.client == client) && (b.session == session)
+
+abbrev pub touched : ℕ → Bucket → Bucket
+touched now b =
+    record { client = b.client; session = b.session; id = b.id; length = b.length; gathered = b.gathered; touched = now }
+
+-- the same bucket, touched, with more bytes
+abbrev pub with_bytes : ℕ → Gathered → Bucket → Bucket
+with_bytes now gathered b =
+    record { client = b.client; session = b.session; id = b.id; length = b.length; gathered = gathered; touched = now }
+
+-- ---- lists of them
+
+-- the first bucket of a share
+abbrev pub bucket_at : ShareId → List Bucket → Option Bucket
+bucket_at id [] = None
+bucket_at id (b ∷ bs) = if same_id b.id id then Some b else bucket_at id bs
+
+-- that bucket changed
+abbrev pub changed : ShareId → (Bucket → Bucket) → List Bucket → List Bucket
+changed id f [] = []
+changed id f (b ∷ bs) = if same_id b.id id then f b ∷ bs else b ∷ changed id f bs
+
+-- the buckets of other shares
+abbrev pub ended : ShareId → List Bucket → List Bucket
+ended id bs = filter (λ (b : Bucket). not (same_id b.id id)) bs
+
+-- the bytes that the buckets are to hold
+abbrev pub promised : List Bucket → ℕ
+promised bs = sum (map (λ (b : Bucket). b.length) bs)
+
+-- ---- places
+
+abbrev pub place_after : Option ℕ → Option ℕ
+place_after None = None
+place_after (Some n) = Some (n + 1)
+
+-- a place, counted from n on
+abbrev pub place_from : ℕ → Option ℕ → Option ℕ
+place_from n None = None
+place_from n (Some k) = Some (n + k)
+
+-- where the bucket of a share stands
+abbrev pub place_of : ShareId → List Bucket → Option ℕ
+place_of id [] = None
+place_of id (b ∷ bs) = if same_id b.id id then Some 0 else place_after (place_of id bs)

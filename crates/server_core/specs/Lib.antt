@@ -1,0 +1,4 @@
+pub mod Faults
+pub mod Buckets
+pub mod Machine
+pub mod Sound

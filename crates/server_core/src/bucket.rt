@@ -1,0 +1,170 @@
+//! Open buckets: the shares that clients are writing.
+
+ghost use Rattle.std.specs.Prelude.{◌≡◌, ◌<◌, ◌-◌, length, IfSome, option_copied};
+ghost use Rattle.server_core.specs.Buckets.{GoesOn, HasRoom, IsNothing, IsFresh, is_owned, touched, with_bytes, count_in, bytes_so_far, bucket_at, changed, ended, promised, place_of};
+ghost use Rattle.server_core.specs.declared.bucket.Gathered.{Gathered};
+
+use std::mem;
+use tagged_hash::{Tag, TaggedHasher};
+use wire::message::{Digest, ShareId, ShareLength};
+
+/// The bytes of a share so far. They are not kept: the store has them.
+#[derive(Drop)]
+pub enum Gathered {
+    /// How many there are, fewer than the share's length, and a hasher that was given them.
+    Part(u64, TaggedHasher),
+    /// The digest of the whole share.
+    Whole(Digest),
+}
+
+/// A share that one client is writing in one session.
+#[derive(Drop)]
+pub struct Bucket {
+    pub client: u16,
+    pub session: u64,
+    pub id: ShareId,
+    /// The length of the whole share.
+    pub length: ShareLength,
+    pub gathered: Gathered,
+    /// The second at which the client last touched it.
+    pub touched: u64,
+}
+
+impl Gathered {
+    // No bytes.
+    fn nothing() -> Gathered
+        ensures { IsNothing result }
+    {
+        Gathered::Part(0, TaggedHasher::new(Tag::WholeShare))
+    }
+
+    // How many bytes there are, of a share of this length.
+    fn count(&self, share_length: ShareLength) -> u64
+        ensures { result ≡ count_in share_length self.now }
+    {
+        match self {
+            Gathered::Part(count, _) => *count,
+            Gathered::Whole(_) => share_length.get(),
+        }
+    }
+
+    // More bytes, of a share of this length.
+    fn followed_by(self, bytes: &[u8], share_length: ShareLength) -> Gathered
+        requires { HasRoom share_length (length bytes.now) self }
+        ensures { GoesOn share_length bytes.now self result }
+    {
+        match self {
+            Gathered::Part(count, mut hasher) => {
+                hasher.update(bytes);
+                let count = count + bytes.len() as u64;
+                if count == share_length.get() {
+                    Gathered::Whole(hasher.finish())
+                } else {
+                    Gathered::Part(count, hasher)
+                }
+            }
+            Gathered::Whole(digest) => Gathered::Whole(digest),
+        }
+    }
+}
+
+impl Bucket {
+    /// An empty bucket.
+    pub fn new(client: u16, session: u64, id: ShareId, length: ShareLength, now: u64) -> Bucket
+        ensures { IsFresh client session id length now result }
+    {
+        Bucket {
+            client,
+            session,
+            id,
+            length,
+            gathered: Gathered::nothing(),
+            touched: now,
+        }
+    }
+
+    /// Is it this client's, in this session?
+    pub fn is_owned(&self, client: u16, session: u64) -> bool
+        ensures { result ≡ is_owned client session self.now }
+    {
+        self.client == client && self.session == session
+    }
+
+    /// How many bytes were written.
+    pub fn bytes_so_far(&self) -> u64
+        ensures { result ≡ bytes_so_far self.now }
+    {
+        self.gathered.count(self.length)
+    }
+
+    // More bytes came.
+    fn push(&mut self, bytes: &[u8], now: u64)
+        requires { HasRoom self.old.length (length bytes.now) self.old.gathered }
+        ensures { (gathered : Gathered) × GoesOn self.old.length bytes.now self.old.gathered gathered × (self.new ≡ with_bytes now gathered self.old) }
+    {
+        let gathered = mem::replace(&mut self.gathered, Gathered::nothing());
+        self.gathered = gathered.followed_by(bytes, self.length);
+        self.touched = now;
+    }
+}
+
+fn place_of(buckets: &[Bucket], id: ShareId) -> Option<usize>
+    ensures value { result ≡ place_of id buckets.now }
+    ensures within { IfSome result (λ i. i < length buckets.now) }
+{
+    for (i, bucket) in buckets.iter().enumerate() {
+        if bucket.id == id {
+            return Some(i);
+        }
+    }
+    None
+}
+
+/// The bucket of a share.
+pub fn find_bucket(buckets: &[Bucket], id: ShareId) -> Option<&Bucket>
+    ensures { option_copied result ≡ bucket_at id buckets.now }
+{
+    for bucket in buckets {
+        if bucket.id == id {
+            return Some(bucket);
+        }
+    }
+    None
+}
+
+/// Notes that the bucket of a share was touched.
+pub fn touch_bucket(buckets: &mut Vec<Bucket>, id: ShareId, now: u64)
+    ensures { buckets.new.items ≡ changed id (touched now) buckets.old.items }
+{
+    if let Some(place) = place_of(buckets, id) {
+        buckets[place].touched = now;
+    }
+}
+
+/// Adds bytes to the bucket of a share.
+pub fn push_bytes(buckets: &mut Vec<Bucket>, id: ShareId, bytes: &[u8], now: u64)
+    requires { IfSome (bucket_at id buckets.old.items) (λ b. HasRoom b.length (length bytes.now) b.gathered) }
+    ensures { IfSome (bucket_at id buckets.old.items) (λ b. (gathered : Gathered) × GoesOn b.length bytes.now b.gathered gathered × (buckets.new.items ≡ changed id (with_bytes now gathered) buckets.old.items)) }
+{
+    if let Some(place) = place_of(buckets, id) {
+        buckets[place].push(bytes, now);
+    }
+}
+
+/// Ends the bucket of a share.
+pub fn end_bucket(buckets: &mut Vec<Bucket>, id: ShareId)
+    ensures { buckets.new.items ≡ ended id buckets.old.items }
+{
+    buckets.retain(|bucket| bucket.id != id);
+}
+
+/// What is left of some room, in bytes, beside what the buckets are to hold.
+pub fn room_beside(buckets: &[Bucket], room: u64) -> u64
+    ensures { result ≡ room - promised buckets.now }
+{
+    let mut left = room;
+    for bucket in buckets {
+        left = left.saturating_sub(bucket.length.get());
+    }
+    left
+}

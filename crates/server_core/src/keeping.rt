@@ -1,0 +1,39 @@
+//! A server over a store that keeps: what it does to what the store holds.
+
+ghost use Rattle.server_core.specs.Machine.{Serves, Ticks, RestartsTo};
+ghost use Rattle.server_core.specs.Sound.{shelf_calls, over, IsSound, IsKept, StaysSound};
+ghost use Rattle.share_store.specs.Shelf.{Restarts};
+
+use crate::error::ServerFault;
+use crate::server::{NodeId, Server};
+use share_store::store::Keeping;
+use wire::message::Message;
+
+/// Answers one message, as `Server::on_message`.
+pub fn serve<S: Keeping>(
+    server: &mut Server<S>,
+    from: NodeId,
+    message: &Message,
+    now: u64,
+) -> Result<Option<Message>, ServerFault>
+    ensures serves { Serves shelf_calls (over S.shelf server.old) from message.now now result (over S.shelf server.new) }
+    ensures keeps { IsSound (over S.shelf server.old) → IsKept (over S.shelf server.old) from message.now result (over S.shelf server.new) }
+{
+    server.on_message(from, message, now)
+}
+
+/// The time, as `Server::tick`.
+pub fn tick<S: Keeping>(server: &mut Server<S>, now: u64)
+    ensures ticks { Ticks (over S.shelf server.old) now (over S.shelf server.new) }
+    ensures keeps { IsSound (over S.shelf server.old) → StaysSound (over S.shelf server.old) (over S.shelf server.new) }
+{
+    server.tick(now);
+}
+
+/// A restart, as `Server::restart`.
+pub fn restart<S: Keeping>(server: &mut Server<S>)
+    ensures restarts { RestartsTo Restarts (over S.shelf server.old) (over S.shelf server.new) }
+    ensures keeps { IsSound (over S.shelf server.old) → StaysSound (over S.shelf server.old) (over S.shelf server.new) }
+{
+    server.restart();
+}

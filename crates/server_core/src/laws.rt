@@ -1,0 +1,24 @@
+//! What holds of every server over a store that keeps. Each law is a contract; its call does nothing.
+
+ghost use Rattle.server_core.specs.Sound.{MessagesKeep, TicksKeep, RestartsKeep, StartsSound};
+
+/// A message leaves a sound server sound, its closed shares as they are, and the buckets of other clients and sessions
+/// and their bytes; what `Already`, `Closed`, `Have` and `Data` tell is so.
+pub fn messages_keep()
+    ensures { MessagesKeep }
+{}
+
+/// A tick leaves a sound server sound, and its closed shares as they are.
+pub fn ticks_keep()
+    ensures { TicksKeep }
+{}
+
+/// A restart leaves a sound server sound, and its closed shares as they are.
+pub fn restarts_keep()
+    ensures { RestartsKeep }
+{}
+
+/// A server whose closed shares have the digests of their bytes is sound from its start on.
+pub fn starts_sound()
+    ensures { StartsSound }
+{}

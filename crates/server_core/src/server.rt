@@ -1,0 +1,355 @@
+//! The server over a store.
+
+ghost use Rattle.std.specs.Prelude.{◌≡◌, ◌≤◌, [], length, max, true};
+ghost use Rattle.server_core.specs.Machine.{Does, Serves, Ticks, RestartsTo, KeepsTerms, ListsHoldings, reply_to, is_full, line_of, allocate_line, write_line, close_line, abort_line, read_line};
+ghost use Rattle.server_core.specs.Buckets.{bucket_at};
+ghost use Rattle.server_core.specs.Sound.{OthersBucketsStay};
+
+use crate::bucket::{
+    Bucket, Gathered, end_bucket, find_bucket, push_bytes, room_beside, touch_bucket,
+};
+use crate::error::ServerFault;
+use share_store::error::StoreError;
+use share_store::memory::MemoryStore;
+use share_store::store::Store;
+use std::alloc::Global;
+use std::marker::Model;
+use wire::message::{Body, Message, ReadLength, ShareId, ShareLength, StorageIndex};
+
+/// The most buckets that are open at a time.
+const MOST_BUCKETS: usize = 1024;
+
+/// The seconds after which a bucket that was not touched is dropped.
+const PATIENCE: u64 = 600;
+
+/// The number of a node of the grid.
+pub type NodeId = u16;
+
+/// A server over any store. Each message of a client is answered by the first line of the table that fits:
+///
+/// | Request | State | Answer and change |
+/// |---|---|---|
+/// | `Ask` | any | `Have` with all closed shares of the file |
+/// | `Allocate` | the share is closed | `Already` |
+/// | `Allocate` | the client's own bucket, of that length | `Granted`; touched |
+/// | `Allocate` | any other bucket of the share | `Busy` |
+/// | `Allocate` | the server takes no shares, has 1,024 buckets, or no room for that length | `Full` |
+/// | `Allocate` | else | `Granted`; an empty bucket |
+/// | `Write` | the share is closed | `Already` |
+/// | `Write` | no bucket of the client's own | `NoShare` |
+/// | `Write` | not at the bytes so far, or past the length | `WrongOffset`; touched |
+/// | `Write` | else | the store's write, then `Wrote`; touched |
+/// | `Close` | the share is closed | `Closed` |
+/// | `Close` | no bucket of the client's own | `NoShare` |
+/// | `Close` | fewer bytes than the length | `NotComplete`; touched |
+/// | `Close` | else | the store's close, and then `Closed`; the bucket ends |
+/// | `Abort` | the client's own bucket | `NoShare`; the bucket ends |
+/// | `Abort` | else | `NoShare` |
+/// | `Read` | the share is closed | `Data` |
+/// | `Read` | else | `NoShare` |
+/// | any other message | any | nothing |
+///
+/// A bucket is a client's own in the session that opened it.
+#[derive(Drop)]
+pub struct Server<S: Store> {
+    store: S,
+    buckets: Vec<Bucket>,
+    clock: u64,
+    capacity: u64,
+    readonly: bool,
+}
+
+impl<S: Store> Model for Server<S> {
+    ghost use Rattle.server_core.specs.Machine.{Machine};
+
+    ghost Value = { Machine S };
+
+    ghost view = { λ s. record { store = s.store; buckets = s.buckets.items; clock = s.clock; capacity = s.capacity; readonly = s.readonly } };
+}
+
+// An answer repeats the request's session and number.
+fn reply_to(message: &Message, body: Body) -> Message
+    ensures { result ≡ reply_to message.now body }
+{
+    Message {
+        session: message.session,
+        number: message.number,
+        body,
+    }
+}
+
+impl<S: Store> Server<S> {
+    /// A server with no bucket open.
+    pub fn start(alloc: Global, store: S, capacity: u64, readonly: bool) -> Server<S>
+        ensures { result ≡ record { store = store; buckets = []; clock = 0; capacity = capacity; readonly = readonly } }
+    {
+        Server {
+            store,
+            buckets: Vec::new(alloc),
+            clock: 0,
+            capacity,
+            readonly,
+        }
+    }
+
+    /// The store.
+    pub fn store(&self) -> &S
+        ensures { result.now ≡ self.now.store }
+    {
+        &self.store
+    }
+
+    // The time, which does not go back.
+    fn later(&self, now: u64) -> u64
+        ensures { result ≡ max self.now.clock now }
+    {
+        self.clock.max(now)
+    }
+
+    // Is there no room for a share of this length?
+    fn is_full(&self, length: ShareLength) -> bool
+        ensures { result ≡ is_full S.used_bytes self.now length }
+    {
+        if self.readonly || self.buckets.len() >= MOST_BUCKETS {
+            return true;
+        }
+        let room = self.capacity.saturating_sub(self.store.used());
+        room_beside(&self.buckets, room) < length.get()
+    }
+
+    fn list(
+        &mut self,
+        message: &Message,
+        index: StorageIndex,
+        now: u64,
+    ) -> Result<Option<Message>, ServerFault>
+        ensures does { Does (record { told = S.told; used = S.used_bytes; write_gives = S.write_gives; close_gives = S.close_gives; read_gives = S.read_gives; list_gives = S.list_gives }) (ListsHoldings index) now self.old message.now result self.new }
+        ensures clock { self.new.clock ≡ self.old.clock }
+        ensures terms { KeepsTerms self.old self.new }
+    {
+        let alloc = *self.buckets.allocator();
+        let found = self.store.list(alloc, &index)?;
+        Ok(Some(reply_to(message, Body::Have(self.readonly, found))))
+    }
+
+    fn allocate(
+        &mut self,
+        from: NodeId,
+        message: &Message,
+        id: ShareId,
+        length: ShareLength,
+        now: u64,
+    ) -> Result<Option<Message>, ServerFault>
+        ensures does { Does (record { told = S.told; used = S.used_bytes; write_gives = S.write_gives; close_gives = S.close_gives; read_gives = S.read_gives; list_gives = S.list_gives }) (allocate_line from message.now.session id length (is_full S.used_bytes self.old length) (S.told self.old.store id) (bucket_at id self.old.buckets)) now self.old message.now result self.new }
+        ensures clock { self.new.clock ≡ self.old.clock }
+        ensures terms { KeepsTerms self.old self.new }
+    {
+        if let Some(digest) = self.store.closed(&id) {
+            return Ok(Some(reply_to(message, Body::Already(digest))));
+        }
+        if let Some(bucket) = find_bucket(&self.buckets, id) {
+            if !bucket.is_owned(from, message.session) || bucket.length != length {
+                return Ok(Some(reply_to(message, Body::Busy)));
+            }
+            touch_bucket(&mut self.buckets, id, now);
+            return Ok(Some(reply_to(message, Body::Granted)));
+        }
+        if self.is_full(length) {
+            return Ok(Some(reply_to(message, Body::Full)));
+        }
+        let bucket = Bucket::new(from, message.session, id, length, now);
+        self.buckets.push(bucket)?;
+        Ok(Some(reply_to(message, Body::Granted)))
+    }
+
+    fn write(
+        &mut self,
+        from: NodeId,
+        message: &Message,
+        id: ShareId,
+        offset: u64,
+        bytes: &[u8],
+        now: u64,
+    ) -> Result<Option<Message>, ServerFault>
+        requires { 1 ≤ length bytes.now }
+        ensures does { Does (record { told = S.told; used = S.used_bytes; write_gives = S.write_gives; close_gives = S.close_gives; read_gives = S.read_gives; list_gives = S.list_gives }) (write_line from message.now.session id offset bytes.now (S.told self.old.store id) (bucket_at id self.old.buckets)) now self.old message.now result self.new }
+        ensures clock { self.new.clock ≡ self.old.clock }
+        ensures terms { KeepsTerms self.old self.new }
+    {
+        if let Some(digest) = self.store.closed(&id) {
+            return Ok(Some(reply_to(message, Body::Already(digest))));
+        }
+        let Some(bucket) = find_bucket(&self.buckets, id) else {
+            return Ok(Some(reply_to(message, Body::NoShare)));
+        };
+        if !bucket.is_owned(from, message.session) {
+            return Ok(Some(reply_to(message, Body::NoShare)));
+        }
+        let so_far = bucket.bytes_so_far();
+        let room = bucket.length.get().saturating_sub(so_far);
+        if offset != so_far || room < bytes.len() as u64 {
+            touch_bucket(&mut self.buckets, id, now);
+            return Ok(Some(reply_to(message, Body::WrongOffset(so_far))));
+        }
+        match self.store.write(&id, offset, bytes) {
+            Ok(()) => {
+                push_bytes(&mut self.buckets, id, bytes, now);
+                Ok(Some(reply_to(message, Body::Wrote(offset + bytes.len() as u64))))
+            }
+            Err(StoreError::StoreFault) => {
+                end_bucket(&mut self.buckets, id);
+                Err(ServerFault::StoreFault)
+            }
+            Err(StoreError::OutOfMemory) => Err(ServerFault::OutOfMemory),
+        }
+    }
+
+    fn close(
+        &mut self,
+        from: NodeId,
+        message: &Message,
+        id: ShareId,
+        now: u64,
+    ) -> Result<Option<Message>, ServerFault>
+        ensures does { Does (record { told = S.told; used = S.used_bytes; write_gives = S.write_gives; close_gives = S.close_gives; read_gives = S.read_gives; list_gives = S.list_gives }) (close_line from message.now.session id (S.told self.old.store id) (bucket_at id self.old.buckets)) now self.old message.now result self.new }
+        ensures clock { self.new.clock ≡ self.old.clock }
+        ensures terms { KeepsTerms self.old self.new }
+    {
+        if let Some(digest) = self.store.closed(&id) {
+            return Ok(Some(reply_to(message, Body::Closed(digest))));
+        }
+        let Some(bucket) = find_bucket(&self.buckets, id) else {
+            return Ok(Some(reply_to(message, Body::NoShare)));
+        };
+        if !bucket.is_owned(from, message.session) {
+            return Ok(Some(reply_to(message, Body::NoShare)));
+        }
+        let digest = match &bucket.gathered {
+            Gathered::Whole(digest) => *digest,
+            Gathered::Part(count, _) => {
+                let count = *count;
+                touch_bucket(&mut self.buckets, id, now);
+                return Ok(Some(reply_to(message, Body::NotComplete(count))));
+            }
+        };
+        match self.store.close(&id, &digest) {
+            Ok(()) => {
+                end_bucket(&mut self.buckets, id);
+                Ok(Some(reply_to(message, Body::Closed(digest))))
+            }
+            Err(StoreError::StoreFault) => {
+                end_bucket(&mut self.buckets, id);
+                Err(ServerFault::StoreFault)
+            }
+            Err(StoreError::OutOfMemory) => Err(ServerFault::OutOfMemory),
+        }
+    }
+
+    fn abort(
+        &mut self,
+        from: NodeId,
+        message: &Message,
+        id: ShareId,
+        now: u64,
+    ) -> Result<Option<Message>, ServerFault>
+        ensures does { Does (record { told = S.told; used = S.used_bytes; write_gives = S.write_gives; close_gives = S.close_gives; read_gives = S.read_gives; list_gives = S.list_gives }) (abort_line from message.now.session id (bucket_at id self.old.buckets)) now self.old message.now result self.new }
+        ensures clock { self.new.clock ≡ self.old.clock }
+        ensures terms { KeepsTerms self.old self.new }
+    {
+        if let Some(bucket) = find_bucket(&self.buckets, id) {
+            if bucket.is_owned(from, message.session) {
+                end_bucket(&mut self.buckets, id);
+            }
+        }
+        Ok(Some(reply_to(message, Body::NoShare)))
+    }
+
+    fn read(
+        &mut self,
+        message: &Message,
+        id: ShareId,
+        offset: u64,
+        length: ReadLength,
+        now: u64,
+    ) -> Result<Option<Message>, ServerFault>
+        ensures does { Does (record { told = S.told; used = S.used_bytes; write_gives = S.write_gives; close_gives = S.close_gives; read_gives = S.read_gives; list_gives = S.list_gives }) (read_line id offset length (S.told self.old.store id)) now self.old message.now result self.new }
+        ensures clock { self.new.clock ≡ self.old.clock }
+        ensures terms { KeepsTerms self.old self.new }
+    {
+        if self.store.closed(&id).is_none() {
+            return Ok(Some(reply_to(message, Body::NoShare)));
+        }
+        let alloc = *self.buckets.allocator();
+        let bytes = self.store.read(alloc, &id, offset, length)?;
+        Ok(Some(reply_to(message, Body::Data(bytes))))
+    }
+
+    /// Answers one message, by the first line that fits.
+    pub fn on_message(
+        &mut self,
+        from: NodeId,
+        message: &Message,
+        now: u64,
+    ) -> Result<Option<Message>, ServerFault>
+        ensures serves { Serves (record { told = S.told; used = S.used_bytes; write_gives = S.write_gives; close_gives = S.close_gives; read_gives = S.read_gives; list_gives = S.list_gives }) self.old from message.now now result self.new }
+        ensures others { OthersBucketsStay from message.now.session self.old.buckets self.new.buckets }
+    {
+        let now = self.later(now);
+        let answer = self.answer(from, message, now);
+        if !matches!(answer, Err(ServerFault::OutOfMemory)) {
+            self.clock = now;
+        }
+        answer
+    }
+
+    // What a message does at a time.
+    fn answer(
+        &mut self,
+        from: NodeId,
+        message: &Message,
+        now: u64,
+    ) -> Result<Option<Message>, ServerFault>
+        ensures does { Does (record { told = S.told; used = S.used_bytes; write_gives = S.write_gives; close_gives = S.close_gives; read_gives = S.read_gives; list_gives = S.list_gives }) (line_of S.told S.used_bytes self.old from message.now.session message.now.body) now self.old message.now result self.new }
+        ensures clock { self.new.clock ≡ self.old.clock }
+        ensures terms { KeepsTerms self.old self.new }
+    {
+        match &message.body {
+            Body::Ask(index) => self.list(message, *index, now),
+            Body::Allocate(id, length) => self.allocate(from, message, *id, *length, now),
+            Body::Write(id, offset, bytes) => {
+                self.write(from, message, *id, *offset, bytes.as_slice(), now)
+            }
+            Body::Close(id) => self.close(from, message, *id, now),
+            Body::Abort(id) => self.abort(from, message, *id, now),
+            Body::Read(id, offset, length) => self.read(message, *id, *offset, *length, now),
+            _ => Ok(None),
+        }
+    }
+
+    /// The time. Buckets that were not touched for 600 seconds are dropped.
+    pub fn tick(&mut self, now: u64)
+        ensures { Ticks self.old now self.new }
+    {
+        let now = self.later(now);
+        self.clock = now;
+        self.buckets
+            .retain(|bucket| now.saturating_sub(bucket.touched) < PATIENCE);
+    }
+
+    /// A restart forgets the open buckets.
+    pub fn restart(&mut self)
+        ensures { RestartsTo S.restart_gives self.old self.new }
+    {
+        self.store.restart();
+        self.buckets.clear();
+    }
+}
+
+impl Server<MemoryStore> {
+    /// The store's next call that can fail does.
+    pub fn fail_store(&mut self)
+        ensures { self.new ≡ record { store = record { shelf = self.old.store.shelf; failures = self.old.store.failures; failing = true }; buckets = self.old.buckets; clock = self.old.clock; capacity = self.old.capacity; readonly = self.old.readonly } }
+    {
+        self.store.fail_next();
+    }
+}
