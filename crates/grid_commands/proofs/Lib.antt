@@ -1,2 +1,3 @@
-pub mod OneSegment
-pub mod GoodShares
+mod SmallDecimal
+mod Dots
+mod Numbered

@@ -1,4 +1,3 @@
-pub mod Geometry
-pub mod Encoding
-pub mod FileOf
-pub mod OneSegment
+pub mod Fault
+pub mod CapLines
+pub mod ShareName

@@ -1,38 +1,69 @@
-// Why a command ended without its result: each fault has a number, a name and an exit status.
+// Why a command ended without its result: each fault has a number, a text and an exit status.
+
+ghost use Rattle.std.specs.Prelude.{◌≡◌, Some};
+ghost use Rattle.grid_commands.specs.Fault.{fault_number, fault_status, fault_text};
 
 use crate::folders::is_memory;
 use cap_text::CapError;
+use file_encoding::{EncodeError, ReadError};
 use std::alloc::{AllocError, AllocFailed, Global};
-use std::io;
-use thiserror::Error;
+use std::{fmt, io};
 
-/// A fault, shown as its number and name.
-#[derive(Debug, Drop, Error)]
+/// A fault, shown as its number, its name and what belongs to it.
+#[derive(Debug, Drop)]
 pub(crate) enum Fault {
-    #[error("1 OutOfMemory")]
     OutOfMemory,
-    /// A number, a secret or a file's size is outside its range.
-    #[error("2 BadParameters")]
+    /// A number or the secret is outside its range.
     BadParameters,
-    /// The cap is refused.
-    #[error("{number} {name:?}")]
-    Cap { number: u8, name: CapError },
-    /// No share that is there passes its checks.
-    #[error("71 NotEnoughShares")]
+    /// The text is no cap.
+    Cap(CapError),
+    /// The file has too many bytes.
+    TooLarge,
+    /// The file has too many segments of the size that was asked for.
+    TooManySegments,
+    /// Fewer servers than were wanted hold a share of their own.
+    Unhappy { reached: u16, wanted: u16 },
+    /// Fewer shares pass their checks than are needed.
     NotEnoughShares,
-    /// The shares pass their checks, and yet are not those of the cap's file.
-    #[error("72 Inconsistent")]
+    /// The shares pass their checks, and yet are not those of one file.
     Inconsistent,
     /// A file or a folder could not be read or written.
-    #[error("90 FileFault {0}")]
     File(String),
+    /// The cap has no key, and the command needs one.
+    NeedsReadCap,
 }
 
 impl Fault {
-    /// The exit status.
-    pub(crate) fn status(&self) -> u8 {
+    /// The number of the fault.
+    pub(crate) fn number(&self) -> u8
+        ensures { result ≡ fault_number self.now }
+    {
         match self {
-            Fault::BadParameters | Fault::Cap { .. } => 3,
+            Fault::OutOfMemory => 1,
+            Fault::BadParameters => 2,
+            Fault::Cap(error) => error.number(),
+            Fault::TooLarge => 30,
+            Fault::TooManySegments => 31,
+            Fault::Unhappy { .. } => 70,
+            Fault::NotEnoughShares => 71,
+            Fault::Inconsistent => 72,
+            Fault::File(_) => 90,
+            Fault::NeedsReadCap => 94,
+        }
+    }
+
+    /// The exit status: 3 for refused input, 4 for an unhappy upload, 5 for too few shares, 6 for inconsistent ones, and 7 for memory,
+    /// a file or a folder.
+    pub(crate) fn status(&self) -> u8
+        ensures { result ≡ fault_status self.now }
+    {
+        match self {
+            Fault::BadParameters
+            | Fault::Cap(_)
+            | Fault::TooLarge
+            | Fault::TooManySegments
+            | Fault::NeedsReadCap => 3,
+            Fault::Unhappy { .. } => 4,
             Fault::NotEnoughShares => 5,
             Fault::Inconsistent => 6,
             Fault::OutOfMemory | Fault::File(_) => 7,
@@ -51,14 +82,54 @@ impl Fault {
     }
 }
 
+impl fmt::Display for Fault {
+    ghost output = { λ fault. Some (fault_text fault) };
+
+    fn fmt<W: fmt::Write>(&self, f: &mut fmt::Formatter<W>) -> fmt::Result {
+        let number = self.number();
+        match self {
+            Fault::OutOfMemory => write!(f, "{number} OutOfMemory"),
+            Fault::BadParameters => write!(f, "{number} BadParameters"),
+            Fault::Cap(error) => write!(f, "{number} {error}"),
+            Fault::TooLarge => write!(f, "{number} TooLarge"),
+            Fault::TooManySegments => write!(f, "{number} TooManySegments"),
+            Fault::Unhappy { reached, wanted } => {
+                write!(f, "{number} Unhappy reached {reached} wanted {wanted}")
+            }
+            Fault::NotEnoughShares => write!(f, "{number} NotEnoughShares"),
+            Fault::Inconsistent => write!(f, "{number} Inconsistent"),
+            Fault::File(path) => write!(f, "{number} FileFault {path}"),
+            Fault::NeedsReadCap => write!(f, "{number} NeedsReadCap"),
+        }
+    }
+}
+
 impl From<CapError> for Fault {
     fn from(error: CapError) -> Fault {
         match error {
             CapError::OutOfMemory => Fault::OutOfMemory,
-            _ => Fault::Cap {
-                number: error.number(),
-                name: error,
-            },
+            _ => Fault::Cap(error),
+        }
+    }
+}
+
+impl From<EncodeError> for Fault {
+    fn from(error: EncodeError) -> Fault {
+        match error {
+            EncodeError::OutOfMemory => Fault::OutOfMemory,
+            EncodeError::BadParameters => Fault::BadParameters,
+            EncodeError::TooLarge => Fault::TooLarge,
+            EncodeError::TooManySegments => Fault::TooManySegments,
+        }
+    }
+}
+
+impl From<ReadError> for Fault {
+    fn from(error: ReadError) -> Fault {
+        match error {
+            ReadError::OutOfMemory => Fault::OutOfMemory,
+            ReadError::NotEnoughShares => Fault::NotEnoughShares,
+            ReadError::Inconsistent => Fault::Inconsistent,
         }
     }
 }

@@ -1,74 +1,79 @@
 // `grid get`: the file of a cap, from the shares that the servers hold.
 
-ghost use Rattle.std.specs.Prelude.{IfOk};
-ghost use Rattle.grid_commands.specs.OneSegment.{IsOneOfOne};
-
-use crate::encoding::MAX_SEGMENT_SIZE;
 use crate::fault::Fault;
-use crate::folders::{MAX_SERVERS, at_path, is_memory, server_folder, share_paths};
-use crate::reading::{ReadError, read_file};
+use crate::folders::{MAX_SERVERS, at_path, read_file, server_folder, share_files};
 use crate::words::GetWords;
-use cap_text::{Cap, CapError, ReadCap};
+use cap_text::{Cap, ReadCap, to_base32};
+use file_encoding::read_from;
+use std::alloc::Global;
 use std::fs;
 use std::rt::Files;
 use tagged_hash::storage_index;
 
-/// Reads the file of a cap: the first share that passes its checks decides, in the order of the servers.
+// A share as a server holds it: its number by its name, and its bytes, whatever they are.
+#[derive(Drop)]
+struct HeldShare {
+    number: u16,
+    bytes: Vec<u8>,
+}
+
+/// Reads the file of a cap: from the cap itself where it holds the file, else from the shares of all servers.
 pub(crate) fn get<R>(rt: &R, words: &GetWords) -> Result<Vec<u8>, Fault>
 where
     R: Files + AllocGlobal + Clone + Drop,
 {
-    let alloc = rt.alloc();
-    let cap = read_cap(words.cap)?;
-    at_path(alloc, fs::read_dir(rt, words.grid), words.grid)?;
-    let index = storage_index(cap.key());
-    for server in 0..MAX_SERVERS {
-        let folder = server_folder(alloc, words.grid, server)?;
-        if let Some(file) = get_from(rt, folder.as_str(), &cap, &index)? {
-            return Ok(file);
+    match Cap::parse(words.cap.as_bytes())? {
+        Cap::Chk(cap) => {
+            let shares = all_shares(rt, words.grid, &cap)?;
+            read_shares(rt.alloc(), &cap, &shares)
         }
+        Cap::Verify(_) => Err(Fault::NeedsReadCap),
+        Cap::Lit(cap) => Ok(Vec::from_slice(rt.alloc(), cap.data())?),
     }
-    Err(Fault::NotEnoughShares)
 }
 
-// The cap of a file of one share, of one segment at the most.
-fn read_cap(text: &str) -> Result<ReadCap, Fault>
-    ensures { IfOk result IsOneOfOne }
-{
-    let Cap::Chk(cap) = Cap::parse(text.as_bytes())? else {
-        return Err(Fault::from(CapError::UnknownKind));
-    };
-    if cap.k() != 1 || cap.n() != 1 || cap.size() > u64::from(MAX_SEGMENT_SIZE) {
-        return Err(Fault::BadParameters);
+// The file of a cap, from these shares.
+fn read_shares(alloc: Global, cap: &ReadCap, shares: &[HeldShare]) -> Result<Vec<u8>, Fault> {
+    let mut strings = Vec::with_capacity(alloc, shares.len())?;
+    for share in shares {
+        strings.push((share.number, share.bytes.as_slice()))?;
     }
-    Ok(cap)
+    Ok(read_from(alloc, cap, &strings)?)
 }
 
-// The file, where a share in a server's folder passes its checks.
-fn get_from<R>(
-    rt: &R,
-    folder: &str,
-    cap: &ReadCap,
-    index: &[u8; 16],
-) -> Result<Option<Vec<u8>>, Fault>
+// All shares of a cap's file that can be read: in the order of the servers, and at one server in the order of their numbers.
+fn all_shares<R>(rt: &R, grid: &str, cap: &ReadCap) -> Result<Vec<HeldShare>, Fault>
 where
     R: Files + AllocGlobal + Clone + Drop,
-    requires { IsOneOfOne cap.now }
 {
     let alloc = rt.alloc();
-    for path in share_paths(rt, folder, index, 0)? {
-        let share = match fs::read(rt, path.as_str()) {
-            Ok(share) => share,
-            Err(error) if is_memory(&error) => return Err(Fault::OutOfMemory),
-            Err(_) => continue,
-        };
-        match read_file(alloc, cap, &share) {
-            Ok(file) => return Ok(Some(file)),
-            Err(ReadError::NotEnoughShares) => {}
-            Err(ReadError::Inconsistent) => return Err(Fault::Inconsistent),
-            Err(ReadError::ManySegments) => return Err(Fault::BadParameters),
-            Err(ReadError::OutOfMemory) => return Err(Fault::OutOfMemory),
+    at_path(alloc, fs::read_dir(rt, grid), grid)?;
+    let index = to_base32(alloc, &storage_index(cap.key()))?;
+    let mut shares = Vec::new(alloc);
+    for server in 0..MAX_SERVERS {
+        let folder = server_folder(alloc, grid, server)?;
+        push_shares(rt, folder.as_str(), index.as_str(), &mut shares)?;
+    }
+    Ok(shares)
+}
+
+// Adds the shares of a storage index that a server's folder holds.
+fn push_shares<R>(
+    rt: &R,
+    folder: &str,
+    index: &str,
+    shares: &mut Vec<HeldShare>,
+) -> Result<(), Fault>
+where
+    R: Files + AllocGlobal + Clone + Drop,
+{
+    for file in share_files(rt, folder, index)? {
+        if let Some(bytes) = read_file(rt, folder, file.name.as_str())? {
+            shares.push(HeldShare {
+                number: u16::from(file.number),
+                bytes,
+            })?;
         }
     }
-    Ok(None)
+    Ok(())
 }

@@ -1,15 +1,16 @@
 //! The commands of `grid`, which keeps files on a grid of servers that need not be trusted.
 //!
-//! `grid` takes the words of the command line and two writers, and gives the exit status. The parts that encode a file and read it
-//! back are proved against the definition of a file's encoding in `specs/`; what files and folders hold is their premise.
+//! `grid` takes the words of the command line and two writers, and gives the exit status. Files are encoded and read back by
+//! `file_encoding`; what stands here is which words there are, where shares lie in folders, and how faults are told.
 #![tactic(auto)]
 
-mod encoding;
+mod describe;
 mod fault;
 mod folders;
 mod get;
+mod names;
+mod placing;
 mod put;
-mod reading;
 mod words;
 
 use clap::error::ErrorKind;
@@ -72,6 +73,7 @@ where
         Err(error) => Err(Failure::Words(error)),
         Ok(Request::Put(words)) => Ok(put::put(rt, &words)?),
         Ok(Request::Get(words)) => Ok(get::get(rt, &words)?),
+        Ok(Request::Describe(text)) => Ok(describe::describe(rt.alloc(), text)?),
     }
 }
 

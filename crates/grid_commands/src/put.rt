@@ -1,53 +1,96 @@
-// `grid put`: a file becomes a share on a server, and a cap.
+// `grid put`: a file becomes shares on servers, and a cap.
 
-ghost use Rattle.std.specs.Prelude.{◌≤◌, IfOk};
+ghost use Rattle.std.specs.Prelude.{◌≤◌, ◌<◌, length, IfOk};
 
-use crate::encoding::{MAX_SEGMENT_SIZE, encode};
 use crate::fault::Fault;
-use crate::folders::{at_path, server_folder, write_share};
+use crate::folders::{MAX_SERVERS, at_path, make_folders, server_folder, write_share};
+use crate::placing::{happiness, server_of};
 use crate::words::PutWords;
+use cap_text::{Cap, ReadCap};
+use file_encoding::{Encoded, Params, Share, encode_all};
 use std::fs;
 use std::rt::Files;
 use tagged_hash::storage_index;
 
-/// The least file that has shares, in bytes.
-const MIN_FILE_SIZE: usize = 56;
-
 /// The greatest convergence secret, in bytes.
 const MAX_SECRET_SIZE: usize = 64;
 
-/// Stores a file, and gives the lines with its cap and its happiness.
+/// Stores a file, and gives the lines with its cap and its happiness. The cap of a small file holds it, and no server is needed.
 pub(crate) fn put<R>(rt: &R, words: &PutWords) -> Result<Vec<u8>, Fault>
 where
     R: Files + AllocGlobal + Clone + Drop,
 {
-    let alloc = rt.alloc();
-    let max_segment = max_segment(words)?;
+    let params = Params::new(words.needed, words.happy, words.total, words.max_segment)?;
+    let servers = server_count(words.servers)?;
     if words.secret.len() > MAX_SECRET_SIZE {
         return Err(Fault::BadParameters);
     }
-    let file = at_path(alloc, fs::read(rt, words.file), words.file)?;
-    if file.len() < MIN_FILE_SIZE || file.len() > max_segment as usize {
-        return Err(Fault::BadParameters);
+    let Encoded { cap, shares } = encode_file(rt, words, &params)?;
+    match cap {
+        Cap::Chk(cap) => {
+            write_shares(rt, words.grid, servers, &cap, &shares)?;
+            cap_and_happiness(rt, &cap, &params, servers)
+        }
+        cap => Ok(format!(in rt.alloc(); "{cap}\n")?.into_bytes()),
     }
-    let encoded = encode(alloc, &file, words.secret.as_bytes(), max_segment)?;
-    let folder = server_folder(alloc, words.grid, 0)?;
-    let index = storage_index(encoded.cap.key());
-    write_share(rt, folder.as_str(), &index, 0, &encoded.share)?;
-    let cap = encoded.cap;
-    Ok(format!(in alloc; "{cap}\nhappiness 1\n")?.into_bytes())
 }
 
-// The greatest segment, where the numbers are of one share of one on one server.
-fn max_segment(words: &PutWords) -> Result<u32, Fault>
-    ensures { IfOk result (λ max. max ≤ MAX_SEGMENT_SIZE) }
+// The number of servers, which is 1 to 256.
+fn server_count(servers: u64) -> Result<u16, Fault>
+    ensures { IfOk result (λ count. (0 < count) × (count ≤ MAX_SERVERS)) }
 {
-    let alone = [words.needed, words.happy, words.total, words.servers];
-    if alone != [1; 4]
-        || words.max_segment == 0
-        || words.max_segment > u64::from(MAX_SEGMENT_SIZE)
-    {
+    if servers == 0 || servers > u64::from(MAX_SERVERS) {
         return Err(Fault::BadParameters);
     }
-    Ok(words.max_segment as u32)
+    Ok(servers as u16)
+}
+
+// Reads the file and encodes it. Its bytes are let go before the shares are written.
+fn encode_file<R>(rt: &R, words: &PutWords, params: &Params) -> Result<Encoded, Fault>
+where
+    R: Files + AllocGlobal + Clone + Drop,
+    requires { length words.now.secret.now ≤ 64 }
+{
+    let alloc = rt.alloc();
+    let file = at_path(alloc, fs::read(rt, words.file), words.file)?;
+    Ok(encode_all(alloc, &file, words.secret.as_bytes(), params)?)
+}
+
+// Writes each share into the folder of its server.
+fn write_shares<R>(
+    rt: &R,
+    grid: &str,
+    servers: u16,
+    cap: &ReadCap,
+    shares: &[Share],
+) -> Result<(), Fault>
+where
+    R: Files + AllocGlobal + Clone + Drop,
+    requires { 0 < servers }
+{
+    make_folders(rt, grid, servers)?;
+    let index = storage_index(cap.key());
+    for (number, share) in shares.iter().enumerate() {
+        let folder = server_folder(rt.alloc(), grid, server_of(number, servers))?;
+        write_share(rt, folder.as_str(), &index, number, share.as_slice())?;
+    }
+    Ok(())
+}
+
+// The lines with the cap and the happiness, where it is as great as was wanted.
+fn cap_and_happiness<R>(
+    rt: &R,
+    cap: &ReadCap,
+    params: &Params,
+    servers: u16,
+) -> Result<Vec<u8>, Fault>
+where
+    R: Files + AllocGlobal + Clone + Drop,
+{
+    let reached = happiness(params.total(), servers);
+    let wanted = params.happy();
+    if reached < wanted {
+        return Err(Fault::Unhappy { reached, wanted });
+    }
+    Ok(format!(in rt.alloc(); "{cap}\nhappiness {reached}\n")?.into_bytes())
 }

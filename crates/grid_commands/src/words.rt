@@ -9,6 +9,8 @@ use std::convert::AsStr;
 pub(crate) enum Request<'a> {
     Put(PutWords<'a>),
     Get(GetWords<'a>),
+    /// `grid cap CAP`, with the cap's text.
+    Describe(&'a str),
 }
 
 /// `grid put FILE --grid DIR ..`: numbers as the user wrote them, in no range yet.
@@ -40,9 +42,10 @@ pub(crate) fn read_words<'a, S: AsStr>(
     let matches = command.try_get_matches_from(words)?;
     Ok(match matches.subcommand() {
         Some(("put", put)) => Request::Put(put_words(put)),
+        Some(("get", get)) => Request::Get(get_words(get)),
         // A command is required, and this is the only other one.
-        Some((_, get)) => Request::Get(get_words(get)),
-        None => Request::Get(get_words(&matches)),
+        Some((_, cap)) => Request::Describe(text_of(cap, "CAP")),
+        None => Request::Describe(text_of(&matches, "CAP")),
     })
 }
 
@@ -55,7 +58,8 @@ fn grid_command<'a>(alloc: Global) -> Result<Command<'a>, AllocError> {
         .after_help(STATUSES)
         .subcommand_required(true)
         .subcommand(put_command(alloc)?)?
-        .subcommand(get_command(alloc)?)
+        .subcommand(get_command(alloc)?)?
+        .subcommand(cap_command(alloc)?)
 }
 
 const STATUSES: &str =
@@ -65,34 +69,54 @@ const STATUSES: &str =
 fn put_command<'a>(alloc: Global) -> Result<Command<'a>, AllocError> {
     Command::new(alloc, "put")
         .about(
-            "Stores a file and prints its cap, which alone gives it back, and how many servers hold shares.",
+            "Stores a file and prints its cap, which gives it back, and how many servers hold shares of their own.",
         )
+        .after_help(STATUSES)
         .arg(required(alloc, "FILE", "The file to store"))?
         .arg(grid_folder(alloc))?
-        .arg(number(alloc, "k", "3", "How many shares give the file back"))?
+        .arg(number(
+            alloc,
+            "k",
+            "3",
+            "How many shares give the file back, 1 to n",
+        ))?
         .arg(number(
             alloc,
             "happy",
             "7",
-            "How many servers must hold a share of their own",
+            "How many servers must hold a share of their own, 1 to n",
         ))?
-        .arg(number(alloc, "n", "10", "How many shares are made"))?
-        .arg(number(alloc, "segment", "131072", "The greatest segment, in bytes"))?
-        .arg(number(alloc, "servers", "10", "How many server folders are used"))?
-        .arg(
-            Arg::new(alloc, "secret")
-                .long("secret")
-                .value_name("TEXT")
-                .default_value("")
-                .help("A secret that the key depends on, of at most 64 bytes"),
-        )
+        .arg(number(alloc, "n", "10", "How many shares are made, 1 to 256"))?
+        .arg(number(
+            alloc,
+            "segment",
+            "131072",
+            "The greatest segment in bytes, 1 to 1048576",
+        ))?
+        .arg(number(
+            alloc,
+            "servers",
+            "10",
+            "How many server folders are used, 1 to 256",
+        ))?
+        .arg(secret(alloc))
 }
 
 fn get_command<'a>(alloc: Global) -> Result<Command<'a>, AllocError> {
     Command::new(alloc, "get")
         .about("Writes the file of a cap to standard output.")
+        .after_help(STATUSES)
         .arg(required(alloc, "CAP", "The cap that `put` printed"))?
         .arg(grid_folder(alloc))
+}
+
+fn cap_command<'a>(alloc: Global) -> Result<Command<'a>, AllocError> {
+    Command::new(alloc, "cap")
+        .about(
+            "Prints what a cap says: its kind, its numbers, and the verify cap that checks without reading.",
+        )
+        .after_help(STATUSES)
+        .arg(required(alloc, "CAP", "The cap"))
 }
 
 fn required<'a>(alloc: Global, name: &'a str, help: &'a str) -> Arg<'a> {
@@ -105,6 +129,14 @@ fn grid_folder<'a>(alloc: Global) -> Arg<'a> {
         .value_name("DIR")
         .required(true)
         .help("The folder of the grid, which holds a folder for each server")
+}
+
+fn secret<'a>(alloc: Global) -> Arg<'a> {
+    Arg::new(alloc, "secret")
+        .long("secret")
+        .value_name("TEXT")
+        .default_value("")
+        .help("A secret that the key depends on, of at most 64 bytes")
 }
 
 fn number<'a>(alloc: Global, name: &'a str, default: &'a str, help: &'a str) -> Arg<'a> {

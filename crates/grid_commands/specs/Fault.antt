@@ -1,0 +1,49 @@
+-- The numbers, the exit statuses and the texts of the faults.
+use Rattle.std.specs.Prelude.{ℕ, List, ◌++◌, codes, decimal}
+use Rattle.std.specs.String.{string_bytes}
+use Rattle.cap_text.specs.CapError.{number_of, name_of}
+use Rattle.grid_commands.specs.declared.fault.Fault.{Fault}
+use Rattle.grid_commands.specs.declared.fault.Fault.TheVariants.{OutOfMemory, BadParameters, Cap, TooLarge, TooManySegments, Unhappy, NotEnoughShares, Inconsistent, File, NeedsReadCap}
+
+-- the number of a fault
+abbrev pub fault_number : Fault → ℕ
+fault_number OutOfMemory = 1
+fault_number BadParameters = 2
+fault_number (Cap error) = number_of error
+fault_number TooLarge = 30
+fault_number TooManySegments = 31
+fault_number (Unhappy _ _) = 70
+fault_number NotEnoughShares = 71
+fault_number Inconsistent = 72
+fault_number (File _) = 90
+fault_number NeedsReadCap = 94
+
+-- the exit status that it gives
+abbrev pub fault_status : Fault → ℕ
+fault_status OutOfMemory = 7
+fault_status BadParameters = 3
+fault_status (Cap _) = 3
+fault_status TooLarge = 3
+fault_status TooManySegments = 3
+fault_status (Unhappy _ _) = 4
+fault_status NotEnoughShares = 5
+fault_status Inconsistent = 6
+fault_status (File _) = 7
+fault_status NeedsReadCap = 3
+
+-- its name, and what belongs to it
+abbrev pub fault_name : Fault → List ℕ
+fault_name OutOfMemory = codes "OutOfMemory"
+fault_name BadParameters = codes "BadParameters"
+fault_name (Cap error) = name_of error
+fault_name TooLarge = codes "TooLarge"
+fault_name TooManySegments = codes "TooManySegments"
+fault_name (Unhappy reached wanted) = codes "Unhappy reached " ++ (decimal reached ++ (codes " wanted " ++ decimal wanted))
+fault_name NotEnoughShares = codes "NotEnoughShares"
+fault_name Inconsistent = codes "Inconsistent"
+fault_name (File path) = codes "FileFault " ++ string_bytes path
+fault_name NeedsReadCap = codes "NeedsReadCap"
+
+-- the number and the name
+abbrev pub fault_text : Fault → List ℕ
+fault_text fault = decimal (fault_number fault) ++ (codes " " ++ fault_name fault)
