@@ -6,6 +6,10 @@ mod aes_ctr_tests;
 #[cfg(test)]
 mod cap_text_tests;
 #[cfg(test)]
+mod faulty_io_tests;
+#[cfg(test)]
+mod file_encoding_tests;
+#[cfg(test)]
 mod frames_tests;
 #[cfg(test)]
 mod gf256_tests;
@@ -18,8 +22,18 @@ mod placement_tests;
 #[cfg(test)]
 mod requests_tests;
 #[cfg(test)]
+mod server_core_tests;
+#[cfg(test)]
+mod sha256_tests;
+#[cfg(test)]
+mod share_layout_tests;
+#[cfg(test)]
+mod share_store_tests;
+#[cfg(test)]
 mod tagged_hash_tests;
 #[cfg(test)]
 mod ueb_tests;
+#[cfg(test)]
+mod verify_tests;
 #[cfg(test)]
 mod zfec_code_tests;

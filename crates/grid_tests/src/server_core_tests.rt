@@ -1,0 +1,362 @@
+//! The server over a store in memory, against the lines of its table.
+
+use server_core::error::ServerFault;
+use server_core::server::Server;
+use share_store::memory::MemoryStore;
+use std::alloc::Global;
+use wire::message::{Body, Digest, Message, ReadLength, ShareId, ShareLength, WriteData};
+
+// The hash of `0123456789` under the tag of whole shares, by a program in Python.
+const DIGEST: Digest =
+    *b"\x9b\x43\x50\xa4\xfb\x28\x39\x4c\x37\xde\xae\xa3\xb5\x02\x95\x7b\x00\x3f\xa6\x5a\x79\x23\x47\x14\x6d\xf8\xe9\x4f\x74\xd2\x43\x7d";
+
+// What comes to the server: a request about a share of the file whose storage index is zeros, or something else.
+#[derive(Clone, Copy)]
+enum Event {
+    Ask,
+    Allocate(u8, u64),
+    Write(u8, u64, &'static [u8]),
+    Close(u8),
+    Abort(u8),
+    Read(u8, u64, u32),
+    Granted,
+    Tick,
+    Restart,
+    StoreFails,
+}
+
+// What the server says.
+#[derive(Clone, Copy, PartialEq, Eq)]
+enum Said {
+    Nothing,
+    Fault(u8),
+    Have(bool, usize),
+    Granted,
+    Already(Digest),
+    Busy,
+    Full,
+    Wrote(u64),
+    WrongOffset(u64),
+    Closed(Digest),
+    NotComplete(u64),
+    Data(usize),
+    NoShare,
+    Request,
+}
+
+// A client's node and session.
+type Client = (u16, u64);
+
+const FIRST: Client = (1, 5);
+
+const SECOND: Client = (2, 5);
+
+const OTHER_SESSION: Client = (1, 6);
+
+// A time, a client, what comes, and what the server says to it.
+type Row = (u64, Client, Event, Said);
+
+fn id(share: u8) -> ShareId {
+    ShareId {
+        index: [0; 16],
+        share,
+    }
+}
+
+fn body(alloc: Global, event: Event) -> Option<Body> {
+    Some(match event {
+        Event::Ask => Body::Ask([0; 16]),
+        Event::Allocate(share, length) => Body::Allocate(id(share), ShareLength::new(length)?),
+        Event::Write(share, offset, bytes) => {
+            let bytes = Vec::from_slice(alloc, bytes).ok()?;
+            Body::Write(id(share), offset, WriteData::from_vec(bytes)?)
+        }
+        Event::Close(share) => Body::Close(id(share)),
+        Event::Abort(share) => Body::Abort(id(share)),
+        Event::Read(share, offset, length) => {
+            Body::Read(id(share), offset, ReadLength::new(length)?)
+        }
+        _ => Body::Granted,
+    })
+}
+
+fn heard(answer: &Body) -> Said {
+    match answer {
+        Body::Have(readonly, held) => Said::Have(*readonly, held.as_slice().len()),
+        Body::Granted => Said::Granted,
+        Body::Already(digest) => Said::Already(*digest),
+        Body::Busy => Said::Busy,
+        Body::Full => Said::Full,
+        Body::Wrote(next) => Said::Wrote(*next),
+        Body::WrongOffset(count) => Said::WrongOffset(*count),
+        Body::Closed(digest) => Said::Closed(*digest),
+        Body::NotComplete(count) => Said::NotComplete(*count),
+        Body::Data(bytes) => Said::Data(bytes.as_slice().len()),
+        Body::NoShare => Said::NoShare,
+        _ => Said::Request,
+    }
+}
+
+// What the server answers, which is to repeat the request's session and number.
+fn send(
+    alloc: Global,
+    server: &mut Server<MemoryStore>,
+    client: Client,
+    event: Event,
+    now: u64,
+) -> Said {
+    let Some(body) = body(alloc, event) else {
+        return Said::Fault(ServerFault::OutOfMemory.number());
+    };
+    let request = Message {
+        session: client.1,
+        number: 3,
+        body,
+    };
+    match server.on_message(client.0, &request, now) {
+        Ok(None) => Said::Nothing,
+        Ok(Some(answer)) if answer.session == client.1 && answer.number == 3 => heard(&answer.body),
+        Ok(Some(_)) => Said::Request,
+        Err(fault) => Said::Fault(fault.number()),
+    }
+}
+
+fn happens(alloc: Global, server: &mut Server<MemoryStore>, row: &Row) -> Said {
+    let (now, client, event, _) = *row;
+    match event {
+        Event::Tick => server.tick(now),
+        Event::Restart => server.restart(),
+        Event::StoreFails => server.fail_store(),
+        _ => return send(alloc, server, client, event, now),
+    }
+    Said::Nothing
+}
+
+// How many rows in turn go as they are to, up to the first that does not.
+fn right_rows(alloc: Global, server: &mut Server<MemoryStore>, rows: &[Row]) -> usize {
+    for (i, row) in rows.iter().enumerate() {
+        if happens(alloc, server, row) != row.3 {
+            return i;
+        }
+    }
+    rows.len()
+}
+
+fn server(alloc: Global, capacity: u64, readonly: bool) -> Server<MemoryStore> {
+    Server::start(alloc, MemoryStore::new(alloc), capacity, readonly)
+}
+
+const ONE_BUCKET: [Row; 28] = [
+    (0, FIRST, Event::Allocate(3, 10), Said::Granted),
+    (0, FIRST, Event::Write(3, 0, b"0123"), Said::Wrote(4)),
+    (0, FIRST, Event::Write(3, 0, b"0123"), Said::WrongOffset(4)),
+    (0, FIRST, Event::Close(3), Said::NotComplete(4)),
+    (
+        0,
+        FIRST,
+        Event::Write(3, 4, b"456789!"),
+        Said::WrongOffset(4),
+    ),
+    (0, FIRST, Event::Allocate(3, 10), Said::Granted),
+    (0, FIRST, Event::Write(3, 4, b"456789"), Said::Wrote(10)),
+    (0, FIRST, Event::Write(3, 10, b"!"), Said::WrongOffset(10)),
+    (0, FIRST, Event::Ask, Said::Have(false, 0)),
+    (0, FIRST, Event::Close(3), Said::Closed(DIGEST)),
+    (0, FIRST, Event::Close(3), Said::Closed(DIGEST)),
+    (0, FIRST, Event::Write(3, 0, b"0123"), Said::Already(DIGEST)),
+    (0, FIRST, Event::Allocate(3, 10), Said::Already(DIGEST)),
+    (0, SECOND, Event::Read(3, 8, 5), Said::Data(2)),
+    (0, SECOND, Event::Read(3, 10, 1), Said::Data(0)),
+    (0, SECOND, Event::Read(3, 11, 1), Said::Data(0)),
+    (0, SECOND, Event::Read(4, 0, 1), Said::NoShare),
+    (0, SECOND, Event::Granted, Said::Nothing),
+    (0, SECOND, Event::Restart, Said::Nothing),
+    (0, SECOND, Event::Read(3, 8, 5), Said::Data(2)),
+    (0, SECOND, Event::Read(3, 10, 1), Said::Data(0)),
+    (0, SECOND, Event::Read(3, 11, 1), Said::Data(0)),
+    // `Close` again, late and by others
+    (700, FIRST, Event::Tick, Said::Nothing),
+    (700, FIRST, Event::Close(3), Said::Closed(DIGEST)),
+    (9, OTHER_SESSION, Event::Close(3), Said::Closed(DIGEST)),
+    (9, SECOND, Event::Close(3), Said::Closed(DIGEST)),
+    (9, SECOND, Event::Abort(3), Said::NoShare),
+    (9, SECOND, Event::Ask, Said::Have(false, 1)),
+];
+
+// The bytes that a server reads of share 3, from 8 on.
+fn end_of_share(server: &mut Server<MemoryStore>) -> Option<[u8; 2]> {
+    let request = Message {
+        session: 7,
+        number: 1,
+        body: Body::Read(id(3), 8, ReadLength::new(5)?),
+    };
+    let Ok(Some(answer)) = server.on_message(9, &request, 0) else {
+        return None;
+    };
+    let Body::Data(bytes) = answer.body else {
+        return None;
+    };
+    match bytes.as_slice() {
+        [first, second] => Some([*first, *second]),
+        _ => None,
+    }
+}
+
+#[test]
+fn one_bucket(rt: HostRuntime) {
+    let mut server = server(rt.alloc(), 100, false);
+    assert_eq!(rt; right_rows(rt.alloc(), &mut server, &ONE_BUCKET), 28);
+    assert_eq!(rt; end_of_share(&mut server), Some(*b"89"));
+}
+
+const CAPACITY: [Row; 9] = [
+    (0, FIRST, Event::Allocate(0, 10), Said::Granted),
+    (0, FIRST, Event::Write(0, 0, b"0123456789"), Said::Wrote(10)),
+    (0, FIRST, Event::Close(0), Said::Closed(DIGEST)),
+    (0, FIRST, Event::Allocate(1, 8), Said::Granted),
+    (0, FIRST, Event::Allocate(2, 3), Said::Full),
+    (0, FIRST, Event::Allocate(2, 2), Said::Granted),
+    (0, FIRST, Event::Allocate(4, 1), Said::Full),
+    (0, FIRST, Event::Abort(1), Said::NoShare),
+    (0, FIRST, Event::Allocate(4, 8), Said::Granted),
+];
+
+const READONLY: [Row; 2] = [
+    (0, FIRST, Event::Allocate(0, 1), Said::Full),
+    (0, FIRST, Event::Ask, Said::Have(true, 0)),
+];
+
+#[test]
+fn capacity(rt: HostRuntime) {
+    let mut server = server(rt.alloc(), 20, false);
+    assert_eq!(rt; right_rows(rt.alloc(), &mut server, &CAPACITY), 9);
+}
+
+#[test]
+fn takes_no_shares(rt: HostRuntime) {
+    let mut server = server(rt.alloc(), 100, true);
+    assert_eq!(rt; right_rows(rt.alloc(), &mut server, &READONLY), 2);
+}
+
+fn is_granted(server: &mut Server<MemoryStore>, file: u8, share: u8) -> bool {
+    let Some(length) = ShareLength::new(1) else {
+        return false;
+    };
+    let id = ShareId {
+        index: [file; 16],
+        share,
+    };
+    let request = Message {
+        session: 1,
+        number: 1,
+        body: Body::Allocate(id, length),
+    };
+    let Ok(Some(answer)) = server.on_message(1, &request, 0) else {
+        return false;
+    };
+    matches!(answer.body, Body::Granted)
+}
+
+fn are_granted(server: &mut Server<MemoryStore>, files: u8) -> bool {
+    for file in 0..files {
+        for share in 0..=255 {
+            if !is_granted(server, file, share) {
+                return false;
+            }
+        }
+    }
+    true
+}
+
+#[test]
+fn most_buckets(rt: HostRuntime) {
+    let mut server = server(rt.alloc(), 5000, false);
+    assert!(rt; are_granted(&mut server, 4));
+    assert!(rt; !is_granted(&mut server, 4, 0));
+    server.tick(600);
+    assert!(rt; is_granted(&mut server, 4, 0));
+}
+
+// A bucket is touched by writes, by wrong offsets, by a close that comes too early and by its client's `Allocate`.
+const OVER_TIME: [Row; 20] = [
+    (0, FIRST, Event::Allocate(0, 8), Said::Granted),
+    (0, SECOND, Event::Allocate(0, 8), Said::Busy),
+    (599, SECOND, Event::Tick, Said::Nothing),
+    (599, SECOND, Event::Allocate(0, 8), Said::Busy),
+    (600, SECOND, Event::Tick, Said::Nothing),
+    (600, SECOND, Event::Allocate(0, 8), Said::Granted),
+    (3, FIRST, Event::Tick, Said::Nothing),
+    (3, FIRST, Event::Allocate(0, 8), Said::Busy),
+    (1000, SECOND, Event::Write(0, 0, b"0"), Said::Wrote(1)),
+    (1500, SECOND, Event::Tick, Said::Nothing),
+    (1500, SECOND, Event::Write(0, 0, b"0"), Said::WrongOffset(1)),
+    (2000, SECOND, Event::Tick, Said::Nothing),
+    (2000, SECOND, Event::Close(0), Said::NotComplete(1)),
+    (2500, SECOND, Event::Tick, Said::Nothing),
+    (2500, SECOND, Event::Allocate(0, 8), Said::Granted),
+    (3099, FIRST, Event::Tick, Said::Nothing),
+    (3099, FIRST, Event::Allocate(0, 8), Said::Busy),
+    (3100, FIRST, Event::Tick, Said::Nothing),
+    (3100, SECOND, Event::Write(0, 1, b"1"), Said::NoShare),
+    (3100, FIRST, Event::Allocate(0, 8), Said::Granted),
+];
+
+#[test]
+fn dropped_after_600_seconds(rt: HostRuntime) {
+    let mut server = server(rt.alloc(), 100, false);
+    assert_eq!(rt; right_rows(rt.alloc(), &mut server, &OVER_TIME), 20);
+}
+
+const ANOTHERS: [Row; 13] = [
+    (0, FIRST, Event::Allocate(0, 10), Said::Granted),
+    (0, SECOND, Event::Allocate(0, 10), Said::Busy),
+    (0, SECOND, Event::Write(0, 0, b"0123456789"), Said::NoShare),
+    (0, SECOND, Event::Close(0), Said::NoShare),
+    (0, SECOND, Event::Abort(0), Said::NoShare),
+    (0, OTHER_SESSION, Event::Allocate(0, 10), Said::Busy),
+    (
+        0,
+        OTHER_SESSION,
+        Event::Write(0, 0, b"0123456789"),
+        Said::NoShare,
+    ),
+    (0, OTHER_SESSION, Event::Close(0), Said::NoShare),
+    (0, OTHER_SESSION, Event::Abort(0), Said::NoShare),
+    (0, FIRST, Event::Allocate(0, 9), Said::Busy),
+    (0, FIRST, Event::Write(0, 0, b"0123456789"), Said::Wrote(10)),
+    (0, FIRST, Event::Restart, Said::Nothing),
+    (0, FIRST, Event::Close(0), Said::NoShare),
+];
+
+#[test]
+fn another_clients_bucket(rt: HostRuntime) {
+    let mut server = server(rt.alloc(), 100, false);
+    assert_eq!(rt; right_rows(rt.alloc(), &mut server, &ANOTHERS), 13);
+}
+
+const FAILING: [Row; 18] = [
+    (0, FIRST, Event::StoreFails, Said::Nothing),
+    (0, FIRST, Event::Ask, Said::Fault(60)),
+    (0, FIRST, Event::Ask, Said::Have(false, 0)),
+    (0, FIRST, Event::Allocate(3, 10), Said::Granted),
+    (0, FIRST, Event::StoreFails, Said::Nothing),
+    (0, FIRST, Event::Write(3, 0, b"0123456789"), Said::Fault(60)),
+    (0, FIRST, Event::Write(3, 0, b"0123456789"), Said::NoShare),
+    (0, FIRST, Event::Allocate(3, 10), Said::Granted),
+    (0, FIRST, Event::Write(3, 0, b"0123456789"), Said::Wrote(10)),
+    (0, FIRST, Event::StoreFails, Said::Nothing),
+    (0, FIRST, Event::Close(3), Said::Fault(60)),
+    (0, FIRST, Event::Close(3), Said::NoShare),
+    (0, FIRST, Event::Allocate(3, 10), Said::Granted),
+    (0, FIRST, Event::Write(3, 0, b"0123456789"), Said::Wrote(10)),
+    (0, FIRST, Event::Close(3), Said::Closed(DIGEST)),
+    (0, FIRST, Event::StoreFails, Said::Nothing),
+    (0, FIRST, Event::Read(3, 0, 10), Said::Fault(60)),
+    (0, FIRST, Event::Read(3, 0, 10), Said::Data(10)),
+];
+
+#[test]
+fn failing_store(rt: HostRuntime) {
+    let mut server = server(rt.alloc(), 100, false);
+    assert_eq!(rt; right_rows(rt.alloc(), &mut server, &FAILING), 18);
+}
