@@ -1,0 +1,19 @@
+#!/bin/sh
+# Proves and runs the benchmark of whole files, in a folder of its own. The sources end in .txt, so that they are no part of the crates.
+set -e
+here=$(cd "$(dirname "$0")" && pwd)
+crates=$(cd "$here/../../crates" && pwd)
+work=$(mktemp -d)
+trap 'rm -rf "$work"' EXIT
+for name in tagged_hash aes_ctr gf256 zfec_code merkle cap_text ueb share_layout file_encoding; do
+    mkdir -p "$work/crates/$name"
+    (cd "$crates/$name" && tar cf - --exclude=./out .) | tar xf - -C "$work/crates/$name"
+    grep "^$name:" "$here/../../crates.txt" >> "$work/crates.txt"
+done
+bench=$work/crates/bench
+mkdir -p "$bench/src"
+for name in main timing; do cp "$here/$name.rt.txt" "$bench/src/$name.rt"; done
+echo 'bench: tagged_hash cap_text file_encoding sha2' >> "$work/crates.txt"
+(cd "$work" && git init -q .)
+cd "$bench"
+rt run
