@@ -1,7 +1,7 @@
 // Whole files, beside values that two programs computed which share no code with these crates: the caps, the lengths of the shares and
 // the digests of the shares, in hexadecimal.
 
-use cap_text::{Cap, ReadCap};
+use cap_text::{Cap, CapError, ReadCap};
 use file_encoding::{
     EncodeError, Encoded, Params, ReadError, Share, ShareFault, encode_all, read_from, verify_share,
 };
@@ -192,11 +192,11 @@ fn three_of_ten(alloc: Global) -> Result<Vec<Share>, EncodeError> {
 }
 
 // The cap of that file.
-fn three_of_ten_cap() -> Option<ReadCap> {
-    match Cap::parse(CAPS[1].as_bytes()) {
-        Ok(Cap::Chk(cap)) => Some(cap),
-        _ => None,
-    }
+fn three_of_ten_cap() -> Result<ReadCap, CapError> {
+    let Cap::Chk(cap) = Cap::parse(CAPS[1].as_bytes())? else {
+        return Err(CapError::UnknownKind);
+    };
+    Ok(cap)
 }
 
 #[test]
@@ -211,7 +211,7 @@ fn shares_begin_with_their_header(rt: HostRuntime) -> Result<(), Fail> {
 
 // The first fault of the bytes as this share of that file.
 fn fault_of(number: u16, share: &[u8]) -> Option<ShareFault> {
-    verify_share(&three_of_ten_cap()?.to_verify(), number, share).err()
+    verify_share(&three_of_ten_cap().ok()?.to_verify(), number, share).err()
 }
 
 // The section that lacks bytes, where a share of that file is cut to so many.
@@ -257,7 +257,7 @@ fn gives_with_three(
     len: usize,
     file: &[u8],
 ) -> Result<bool, ReadError> {
-    let Some(cap) = three_of_ten_cap() else {
+    let Ok(cap) = three_of_ten_cap() else {
         return Ok(false);
     };
     let strings = [
@@ -311,7 +311,7 @@ fn flip(bytes: &mut [u8], at: usize) {
 fn equal_numbers_count_once(rt: HostRuntime) -> Result<(), Fail> {
     let alloc = rt.alloc();
     let shares = three_of_ten(alloc)?;
-    let Some(cap) = three_of_ten_cap() else {
+    let Ok(cap) = three_of_ten_cap() else {
         assert!(rt; false);
         return Ok(());
     };
@@ -332,6 +332,12 @@ fn is_refused(file: Result<Vec<u8>, ReadError>, wanted: ReadError) -> bool {
     }
 }
 
+// Appends a hash behind its node's number.
+fn push_numbered(share: &mut Vec<u8>, number: u16, hash: &[u8; 32]) -> Result<(), AllocError> {
+    share.extend_from_slice(&number.to_be_bytes())?;
+    share.extend_from_slice(hash)
+}
+
 // A valid extension block over blocks that are no code word: at one of two both blocks would have to be the same.
 fn share_of_two(
     alloc: Global,
@@ -347,21 +353,14 @@ fn share_of_two(
     let segment_hash = tagged(Tag::CiphertextSegment, &[7; 56]);
     let own = &block_hashes[number % 2];
     let size = (extension_block.len() % 5000) as u32;
-    let parts: [&[u8]; 10] = [
-        block,
-        &[0; 32],
-        &segment_hash,
-        own,
-        &[0, 1],
-        &block_hashes[0],
-        &[0, 2],
-        &block_hashes[1],
-        &size.to_be_bytes(),
-        extension_block,
-    ];
-    for part in parts {
-        share.extend_from_slice(part)?;
-    }
+    share.extend_from_slice(block)?;
+    share.extend_from_slice(&[0; 32])?;
+    share.extend_from_slice(&segment_hash)?;
+    share.extend_from_slice(own)?;
+    push_numbered(&mut share, 1, &block_hashes[0])?;
+    push_numbered(&mut share, 2, &block_hashes[1])?;
+    share.extend_from_slice(&size.to_be_bytes())?;
+    share.extend_from_slice(extension_block)?;
     Ok(Share::from_vec(share))
 }
 
