@@ -1,4 +1,12 @@
 pub mod ColumnLemmas
-pub mod TableLemmas
 pub mod KeyLemmas
 pub mod StreamLemmas
+pub mod Circuits
+pub mod Bytes
+pub mod SubstitutionLemmas
+pub mod RoundLemmas
+pub mod Mixing
+pub mod SliceLemmas
+pub mod TransposeLemmas
+pub mod SpreadLemmas
+pub mod CounterLemmas

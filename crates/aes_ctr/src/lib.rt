@@ -2,41 +2,46 @@
 //!
 //! The key stream is the encrypted counters 0, 1, 2, .., each a block of 16 bytes, high byte first;
 //! so any part of a text can be encrypted or decrypted alone, by its place in the text. No call takes
-//! memory. Nothing is claimed of the time that a call takes: the tables are read at places that
-//! depend on the key and the text.
+//! memory.
+//!
+//! Eight blocks are encrypted at once, cut into slices of one bit of each byte, by exclusive ors, ands and moves
+//! of whole vectors alone: no look-up and no branch depends on the key or the text. That is how the code is written,
+//! and nothing is proved of the time that a call takes.
 #![tactic(auto)]
 
-ghost use Rattle.std.specs.Prelude.{◌≡◌, ◌+◌, ◌%◌, ◌<◌, ◌≤◌, ◌^◌, ℕ, List, length, map, slice_index};
-ghost use Rattle.std.specs.Int.{w128, to_be_bytes};
-ghost use Rattle.aes_ctr.specs.Aes.{encrypted, key_words, round_key, rounds, xor_bytes};
-ghost use Rattle.aes_ctr.specs.Columns.{block_bytes, column_bytes};
-ghost use Rattle.aes_ctr.specs.CounterMode.{xored_from};
+ghost use Rattle.std.specs.Prelude.{◌≡◌, ◌+◌, ◌*◌, ◌%◌, ◌<◌, ◌≤◌, ◌^◌, ℕ, List, [], length, slice_index, slice_index_or};
+ghost use Rattle.std.specs.Simd.Lanes.{put_chunk};
+ghost use Rattle.aes_ctr.specs.Aes.{AreKeys, encrypted, round_key, rounds, xor_bytes};
+ghost use Rattle.aes_ctr.specs.CounterMode.{stream_byte, xored_from};
+ghost use Rattle.aes_ctr.specs.Slices.{AreSlices, block_in};
 
-use columns::{Columns, add_key, bytes_of, columns_of, last_round, round};
-use key::expanded;
+use key::{RoundKey, round_keys};
+use rounds::{add, last_round, round};
+use slices::{Slices, blocks, counters, repeated};
 use std::marker::Model;
+use std::simd::prelude::*;
 
-mod columns;
 mod key;
-mod tables;
+mod rounds;
+mod slices;
+mod substitution;
 
-// How many bytes a block has.
-const BLOCK_LEN: usize = 16;
+// How many bytes of the key stream are made at once: eight blocks of 16.
+const STREAM_LEN: usize = 128;
 
 /// AES-128 under one key, which contracts see as its 16 bytes.
 #[derive(Drop)]
 pub struct Aes128 {
-    // The 44 words of the expanded key, the four of the key itself first.
-    words: [u32; 44],
+    // The keys of the eleven rounds. The first is the key itself.
+    keys: [RoundKey; 11],
 }
 
 impl Model for Aes128 {
     ghost Value = { List ℕ };
 
-    ghost view = { λ a. block_bytes a.words };
+    ghost view = { λ a. slice_index_or a.keys 0 [] };
 
-    ghost invariant = { λ a. (length a.words ≡ 44)
-        × (map column_bytes a.words ≡ key_words (block_bytes a.words) 40) };
+    ghost invariant = { λ a. AreKeys (slice_index_or a.keys 0 []) a.keys };
 }
 
 impl Aes128 {
@@ -45,7 +50,7 @@ impl Aes128 {
         ensures { result ≡ key.now }
     {
         Aes128 {
-            words: expanded(key),
+            keys: round_keys(key),
         }
     }
 
@@ -53,7 +58,9 @@ impl Aes128 {
     pub fn encrypt_block(&self, block: &[u8; 16]) -> [u8; 16]
         ensures { result ≡ encrypted self.now block.now }
     {
-        bytes_of(self.encrypt(columns_of(block)))
+        let slices = self.encrypt(repeated(u8x16::from_array(*block)));
+        let [first, _, _, _, _, _, _, _] = blocks(slices);
+        first.to_array()
     }
 
     /// Xors `text` with the key stream from its byte `offset` on: this encrypts, and decrypts, the
@@ -66,58 +73,60 @@ impl Aes128 {
         let mut done = 0;
         while done < len {
             let place = offset + done as u64;
-            let skip = (place % 16) as usize;
-            let count = (BLOCK_LEN - skip).min(len - done);
-            self.xor_within_block(place, &mut text[done..done + count]);
+            let skip = (place % 128) as usize;
+            let count = (STREAM_LEN - skip).min(len - done);
+            self.xor_within(place, &mut text[done..done + count]);
             done += count;
         }
     }
 
-    // Adds the key stream from `place` on to `part`, which lies within one block of the stream.
-    fn xor_within_block(&self, place: u64, part: &mut [u8])
-        requires { place % 16 + length part.old ≤ 16 }
+    // Adds the key stream from `place` on to `part`, which lies within one piece of the stream.
+    fn xor_within(&self, place: u64, part: &mut [u8])
+        requires { place % 128 + length part.old ≤ 128 }
         ensures { part.new ≡ xored_from self.now place part.old }
     {
-        let skip = (place % 16) as usize;
+        let skip = (place % 128) as usize;
         let len = part.len();
-        let stream = self.stream_block(place / 16);
+        let stream = self.stream(place / 128);
         add_bytes(part, &stream[skip..skip + len]);
     }
 
-    // Block `index` of the key stream.
-    fn stream_block(&self, index: u64) -> [u8; 16]
-        ensures { result ≡ encrypted self.now (to_be_bytes w128 index) }
+    // Piece `index` of the key stream, of eight blocks.
+    fn stream(&self, index: u64) -> [u8; 128]
+        requires { index < 2 ^ 57 }
+        ensures { (k : ℕ) → k < 128 → slice_index result k ≡ stream_byte self.now (128 * index + k) }
     {
-        let high = (index >> 32) as u32;
-        let low = (index & 0xffff_ffff) as u32;
-        bytes_of(self.encrypt([0, 0, high, low]))
+        let blocks = blocks(self.encrypt(counters(8 * index)));
+        let mut bytes = [0; 128];
+        for j in 0..8 {
+            put_block(&mut bytes, 16 * j, blocks[j]);
+        }
+        bytes
     }
 
-    // The block encrypted, as columns.
-    fn encrypt(&self, block: Columns) -> Columns
-        ensures { block_bytes result ≡ encrypted self.now (block_bytes block) }
+    // Eight blocks encrypted.
+    #[inline(always)]
+    fn encrypt(&self, blocks: Slices) -> Slices
+        requires { AreSlices blocks }
+        ensures slices { AreSlices result }
+        ensures blocks { (j : ℕ) → j < 8 → block_in result j ≡ encrypted self.now (block_in blocks j) }
     {
-        let mut state = add_key(block, self.round_key(0));
+        let mut state = add(blocks, self.keys[0].slices());
         'rounds: for r in 1..10 {
-            let next = round(state, self.round_key(r));
+            let next = round(state, self.keys[r].slices());
             state = next;
         }
-        last_round(state, self.round_key(10))
+        last_round(state, self.keys[10].slices())
     }
+}
 
-    // The key of round `r`, from 0 to 10.
-    #[inline(always)]
-    fn round_key(&self, r: usize) -> Columns
-        requires { r < 11 }
-        ensures { block_bytes result ≡ round_key self.now r }
-    {
-        [
-            self.words[4 * r],
-            self.words[4 * r + 1],
-            self.words[4 * r + 2],
-            self.words[4 * r + 3],
-        ]
-    }
+// Writes a block over the bytes from `at` on.
+#[inline(always)]
+fn put_block(bytes: &mut [u8], at: usize, block: u8x16)
+    requires { at + 16 ≤ length bytes.old }
+    ensures { bytes.new ≡ put_chunk at bytes.old block }
+{
+    block.copy_to_slice(&mut bytes[at..]);
 }
 
 // Adds `stream` to `text`, byte by byte.

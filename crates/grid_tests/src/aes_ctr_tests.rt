@@ -1,6 +1,7 @@
 // The cipher against published values, and against OpenSSL far into the key stream.
 
 use aes_ctr::Aes128;
+use sha2::{Digest, Sha256};
 
 const RISING: [u8; 16] = [0, 1, 2, 3, 4, 5, 6, 7, 8, 9, 10, 11, 12, 13, 14, 15];
 
@@ -47,7 +48,7 @@ fn encrypts_published_blocks(rt: HostRuntime) {
         ),
     ];
     for (key, block, encrypted) in rows {
-        assert_eq!(rt; Aes128::new(&key).encrypt_block(&block), encrypted);
+        assert!(rt; Aes128::new(&key).encrypt_block(&block) == encrypted);
     }
 }
 
@@ -71,9 +72,8 @@ fn adds_the_stream_from_each_place(rt: HostRuntime) {
     ] {
         let mut text = [0u8; 32];
         aes.xor_at(start as u64, &mut text[..end - start]);
-        assert_eq!(rt;
-            &text[..end - start],
-            &ZERO_KEY_STREAM[start..end],
+        assert!(rt;
+            &text[..end - start] == &ZERO_KEY_STREAM[start..end],
             "from {start} to {end}"
         );
     }
@@ -87,12 +87,30 @@ fn counts_beyond_four_bytes(rt: HostRuntime) {
     let stream = [
         0x5b, 0xa5, 0xd6, 0x01, 0x78, 0xcc, 0x6a, 0x2f, 0x19, 0x97, 0x66, 0xff, 0x78,
     ];
-    assert_eq!(rt; text, stream);
+    assert!(rt; text == stream);
     let mut last = [0u8; 19];
     aes.xor_at(u64::MAX - 19, &mut last);
     let stream = [
         0x0b, 0x3b, 0x83, 0x55, 0xc5, 0x3f, 0xa1, 0x9d, 0x85, 0xa9, 0x6b, 0x77, 0xa8, 0xa9, 0x6b,
         0xab, 0xe7, 0xcd, 0xe1,
     ];
-    assert_eq!(rt; last, stream);
+    assert!(rt; last == stream);
+}
+
+// The first thousand bytes of the key stream of the rising key, by Python's `cryptography`: their SHA-256.
+const THOUSAND_DIGEST: [u8; 32] = [
+    0xab, 0x16, 0x46, 0x2b, 0x38, 0x7f, 0xbf, 0xa4, 0x53, 0xa8, 0x5b, 0x28, 0xb6, 0xf3, 0x89, 0x26,
+    0xa6, 0xfa, 0xa2, 0xb9, 0xbc, 0x4b, 0xb1, 0x27, 0xa8, 0x4f, 0x89, 0x4f, 0xb2, 0x9f, 0xc0, 0x0c,
+];
+
+// A text longer than what is encrypted at once, whole and in two parts.
+#[test]
+fn long_texts_go_on_where_they_were_cut(rt: HostRuntime) {
+    let aes = Aes128::new(&RISING);
+    for cut in [0, 1, 127, 128, 129, 255, 256, 500, 1000] {
+        let mut text = [0u8; 1000];
+        aes.xor_at(0, &mut text[..cut]);
+        aes.xor_at(cut as u64, &mut text[cut..]);
+        assert!(rt; Sha256::digest(&text) == THOUSAND_DIGEST, "cut at {cut}");
+    }
 }

@@ -1,0 +1,120 @@
+-- MixColumns by doubling: twice the sum of a byte and the one below it, with the other three bytes of the column added.
+use Rattle.std.proofs.Common.{◌≡◌, ℕ, zero, suc, ◌+◌, ◌*◌, ◌/◌, ◌^◌, ◌<◌, List, [], ◌∷◌, map, get_or, bit_xor, refl, sym, ap, ap₂, ◌∙◌, arith, zero-add}
+use Rattle.std.specs.List.{range_with_len}
+use Rattle.std.proofs.lemmas.List.FromFn.{get_or-map-range_with_len}
+use Rattle.std.proofs.lemmas.Nat.{xor_block, xor_comm, xor_lt, xor_shr}
+use lib.Bits.{xor_assoc, xor_zero_r}
+use Rattle.aes_ctr.specs.Aes.{mix_columns, xor_bytes}
+use Rattle.aes_ctr.specs.Byte.{product, times_x}
+use Rattle.aes_ctr.specs.Slices.{turned_columns}
+
+-- ---- times x is additive
+
+abbrev carried : ℕ → ℕ
+carried b = bit_xor (2 * b) (b / 128 * 0x11b)
+
+carried_tried : map times_x (range_with_len 0 256) ≡ map carried (range_with_len 0 256)
+carried_tried = refl
+
+carried_is : (b : ℕ) → b < 256 → times_x b ≡ carried b
+carried_is b below =
+    sym (get_or-map-range_with_len times_x 0 256 b b 0 below (zero-add b)) ∙ ap (λ (t : List ℕ). get_or t b 0) carried_tried
+    ∙ get_or-map-range_with_len carried 0 256 b b 0 below (zero-add b)
+
+twice : (a b : ℕ) → 2 * bit_xor a b ≡ bit_xor (2 * a) (2 * b)
+twice a b =
+    let left : a * 2 ^ 1 + 0 ≡ 2 * a = omega arith in
+    let right : b * 2 ^ 1 + 0 ≡ 2 * b = omega arith in
+    let apart : bit_xor (a * 2 ^ 1 + 0) (b * 2 ^ 1 + 0) ≡ bit_xor a b * 2 ^ 1 + 0 = xor_block 1 a b 0 0 (omega arith) (omega arith) in
+    let whole : 2 * bit_xor a b ≡ bit_xor a b * 2 ^ 1 + 0 = omega arith in
+    whole ∙ sym apart ∙ ap₂ bit_xor left right
+
+times_283 : (h k : ℕ) → h < 2 → k < 2 → bit_xor h k * 0x11b ≡ bit_xor (h * 0x11b) (k * 0x11b)
+times_283 zero zero p q = refl
+times_283 zero (suc zero) p q = refl
+times_283 (suc zero) zero p q = refl
+times_283 (suc zero) (suc zero) p q = refl
+times_283 (suc (suc h)) k p q = absurd (omega arith)
+times_283 zero (suc (suc k)) p q = absurd (omega arith)
+times_283 (suc zero) (suc (suc k)) p q = absurd (omega arith)
+
+-- four sums in another order
+crossed : (a b c d : ℕ) → bit_xor (bit_xor a b) (bit_xor c d) ≡ bit_xor (bit_xor a c) (bit_xor b d)
+crossed a b c d =
+    xor_assoc a b (bit_xor c d) ∙ ap (bit_xor a) (sym (xor_assoc b c d) ∙ ap (λ x. bit_xor x d) (xor_comm b c) ∙ xor_assoc c b d)
+    ∙ sym (xor_assoc a c (bit_xor b d))
+
+times_x-xor : (a b : ℕ) → a < 256 → b < 256 → times_x (bit_xor a b) ≡ bit_xor (times_x a) (times_x b)
+times_x-xor a b small_a small_b =
+    carried_is (bit_xor a b) (xor_lt 8 a b small_a small_b)
+    ∙ ap₂ bit_xor (twice a b) (ap (λ x. x * 0x11b) (xor_shr a b 7) ∙ times_283 (a / 128) (b / 128) (omega arith) (omega arith))
+    ∙ crossed (2 * a) (2 * b) (a / 128 * 0x11b) (b / 128 * 0x11b)
+    ∙ ap₂ bit_xor (sym (carried_is a small_a)) (sym (carried_is b small_b))
+
+-- ---- one byte of a mixed column
+
+product-2 : (a : ℕ) → product 2 a ≡ times_x a
+unfolding product
+product-2 a = xor_zero_r (times_x a)
+
+product-3 : (a : ℕ) → product 3 a ≡ bit_xor a (times_x a)
+unfolding product
+product-3 a = ap (bit_xor a) (xor_zero_r (times_x a))
+
+-- the first byte of the column a, b, c, d
+mixed_byte : (a b c d : ℕ) → a < 256 → b < 256
+    → bit_xor (bit_xor (times_x (bit_xor a b)) b) (bit_xor c d) ≡ bit_xor (bit_xor (bit_xor (product 2 a) (product 3 b)) c) d
+mixed_byte a b c d small_a small_b =
+    ap (λ x. bit_xor (bit_xor x b) (bit_xor c d)) (times_x-xor a b small_a small_b)
+    ∙ sym (xor_assoc (bit_xor (bit_xor (times_x a) (times_x b)) b) c d)
+    ∙ ap (λ x. bit_xor (bit_xor x c) d)
+    (xor_assoc (times_x a) (times_x b) b ∙ ap₂ bit_xor (sym (product-2 a)) (xor_comm (times_x b) b ∙ sym (product-3 b)))
+
+-- the other bytes, as they stand in the matrix
+second_byte : (a b c d : ℕ) → b < 256 → c < 256
+    → bit_xor (bit_xor (times_x (bit_xor b c)) c) (bit_xor d a) ≡ bit_xor (bit_xor (bit_xor a (product 2 b)) (product 3 c)) d
+second_byte a b c d small_b small_c =
+    mixed_byte b c d a small_b small_c ∙ xor_comm (bit_xor (bit_xor (product 2 b) (product 3 c)) d) a
+    ∙ sym (xor_assoc a (bit_xor (product 2 b) (product 3 c)) d) ∙ ap (λ x. bit_xor x d) (sym (xor_assoc a (product 2 b) (product 3 c)))
+
+third_byte : (a b c d : ℕ) → c < 256 → d < 256
+    → bit_xor (bit_xor (times_x (bit_xor c d)) d) (bit_xor a b) ≡ bit_xor (bit_xor (bit_xor a b) (product 2 c)) (product 3 d)
+third_byte a b c d small_c small_d =
+    mixed_byte c d a b small_c small_d ∙ xor_assoc (bit_xor (product 2 c) (product 3 d)) a b
+    ∙ xor_comm (bit_xor (product 2 c) (product 3 d)) (bit_xor a b) ∙ sym (xor_assoc (bit_xor a b) (product 2 c) (product 3 d))
+
+fourth_byte : (a b c d : ℕ) → d < 256 → a < 256
+    → bit_xor (bit_xor (times_x (bit_xor d a)) a) (bit_xor b c) ≡ bit_xor (bit_xor (bit_xor (product 3 a) b) c) (product 2 d)
+fourth_byte a b c d small_d small_a =
+    mixed_byte d a b c small_d small_a ∙ ap (λ x. bit_xor x c) (xor_assoc (product 2 d) (product 3 a) b)
+    ∙ xor_assoc (product 2 d) (bit_xor (product 3 a) b) c ∙ xor_comm (product 2 d) (bit_xor (bit_xor (product 3 a) b) c)
+
+-- ---- whole blocks
+
+module _ (f : ℕ → ℕ) (small : (p : ℕ) → f p < 256) where
+  abbrev block : List ℕ
+  block = map f (range_with_len 0 16)
+
+  abbrev sums : List ℕ
+  sums = xor_bytes block (turned_columns block)
+
+  row_0 : (p : ℕ) → bit_xor (bit_xor (times_x (bit_xor (f p) (f (p + 1)))) (f (p + 1))) (bit_xor (f (p + 2)) (f (p + 3)))
+      ≡ bit_xor (bit_xor (bit_xor (product 2 (f p)) (product 3 (f (p + 1)))) (f (p + 2))) (f (p + 3))
+  row_0 p = mixed_byte (f p) (f (p + 1)) (f (p + 2)) (f (p + 3)) (small p) (small (p + 1))
+
+  row_1 : (p : ℕ) → bit_xor (bit_xor (times_x (bit_xor (f (p + 1)) (f (p + 2)))) (f (p + 2))) (bit_xor (f (p + 3)) (f p))
+      ≡ bit_xor (bit_xor (bit_xor (f p) (product 2 (f (p + 1)))) (product 3 (f (p + 2)))) (f (p + 3))
+  row_1 p = second_byte (f p) (f (p + 1)) (f (p + 2)) (f (p + 3)) (small (p + 1)) (small (p + 2))
+
+  row_2 : (p : ℕ) → bit_xor (bit_xor (times_x (bit_xor (f (p + 2)) (f (p + 3)))) (f (p + 3))) (bit_xor (f p) (f (p + 1)))
+      ≡ bit_xor (bit_xor (bit_xor (f p) (f (p + 1))) (product 2 (f (p + 2)))) (product 3 (f (p + 3)))
+  row_2 p = third_byte (f p) (f (p + 1)) (f (p + 2)) (f (p + 3)) (small (p + 2)) (small (p + 3))
+
+  row_3 : (p : ℕ) → bit_xor (bit_xor (times_x (bit_xor (f (p + 3)) (f p))) (f p)) (bit_xor (f (p + 1)) (f (p + 2)))
+      ≡ bit_xor (bit_xor (bit_xor (product 3 (f p)) (f (p + 1))) (f (p + 2))) (product 2 (f (p + 3)))
+  row_3 p = fourth_byte (f p) (f (p + 1)) (f (p + 2)) (f (p + 3)) (small (p + 3)) (small p)
+
+  pub mixed_columns : xor_bytes (xor_bytes (map times_x sums) (turned_columns block)) (turned_columns (turned_columns sums)) ≡ mix_columns block
+  mixed_columns =
+      λ i. row_0 0 i ∷ row_1 0 i ∷ row_2 0 i ∷ row_3 0 i ∷ row_0 4 i ∷ row_1 4 i ∷ row_2 4 i ∷ row_3 4 i
+      ∷ row_0 8 i ∷ row_1 8 i ∷ row_2 8 i ∷ row_3 8 i ∷ row_0 12 i ∷ row_1 12 i ∷ row_2 12 i ∷ row_3 12 i ∷ []

@@ -1,0 +1,128 @@
+-- The steps of a round, on eight blocks side by side.
+use Rattle.std.proofs.Common.{◌≡◌, ℕ, zero, suc, ◌+◌, ◌*◌, ◌%◌, ◌^◌, ◌<◌, T, List, [], ◌∷◌, length, map, get_or, bit_xor, refl, sym, ap, ap₂, subst, ◌∙◌, arith, zero-add}
+use Rattle.std.specs.Int.{bit_at}
+use Rattle.std.specs.List.{AllByRecursion, range_with_len}
+use Rattle.std.specs.Simd.Lanes.{zip2}
+use Rattle.std.proofs.lemmas.List.{length-map}
+use Rattle.std.proofs.lemmas.List.FromFn.{get_or-map-range_with_len}
+use Rattle.std.proofs.lemmas.List.Elements.{All-nil, recursion_from_All}
+use Rattle.std.proofs.lemmas.Nat.{xor_block}
+use Rattle.std.proofs.lemmas.Nat.Bits.{bit_at_xor}
+use Rattle.std.proofs.lemmas.Simd.{get_or-zip2, length-zip2, map-map, zip2-map}
+use Rattle.aes_ctr.specs.Aes.{xor_bytes}
+use Rattle.aes_ctr.specs.Byte.{times_x}
+use Rattle.aes_ctr.specs.Circuit.{Gate, wire, sum, bit_of, slice_of}
+use Rattle.aes_ctr.specs.Slices.{AreSlices, bits_in, block_in, number_of}
+use Rattle.aes_ctr.proofs.Bytes.{bits_of, bits_small, boxed_block, same_below}
+use Rattle.aes_ctr.proofs.Circuits.{Is16, all_read, gates_bits, gates_size}
+
+-- eight slices, each named
+pub named : (slices : List (List ℕ)) → length slices ≡ 8
+    → slices ≡ get_or slices 0 [] ∷ get_or slices 1 [] ∷ get_or slices 2 [] ∷ get_or slices 3 [] ∷ get_or slices 4 [] ∷ get_or slices 5 [] ∷ get_or slices 6 [] ∷ get_or slices 7 [] ∷ []
+named (a ∷ b ∷ c ∷ d ∷ e ∷ f ∷ g ∷ h ∷ []) size = refl
+named [] size = absurd (omega arith)
+named (a ∷ []) size = absurd (omega arith)
+named (a ∷ b ∷ []) size = absurd (omega arith)
+named (a ∷ b ∷ c ∷ []) size = absurd (omega arith)
+named (a ∷ b ∷ c ∷ d ∷ []) size = absurd (omega arith)
+named (a ∷ b ∷ c ∷ d ∷ e ∷ []) size = absurd (omega arith)
+named (a ∷ b ∷ c ∷ d ∷ e ∷ f ∷ []) size = absurd (omega arith)
+named (a ∷ b ∷ c ∷ d ∷ e ∷ f ∷ g ∷ []) size = absurd (omega arith)
+named (a ∷ b ∷ c ∷ d ∷ e ∷ f ∷ g ∷ h ∷ i ∷ rest) size = absurd (omega arith)
+
+-- ---- bytes that change places
+
+module _ (f : ℕ → ℕ) (inside : (p : ℕ) → p < 16 → f p < 16) where
+  abbrev pub moved : List ℕ → List ℕ
+  moved s = map (λ i. get_or s (f i) 0) (range_with_len 0 16)
+
+  pub moved_block : (slices : List (List ℕ)) (j : ℕ) → block_in (map moved slices) j ≡ moved (block_in slices j)
+  moved_block slices j = same_below (λ p. number_of (bits_in (map moved slices) j p)) (λ p. get_or (block_in slices j) (f p) 0) 16 (λ p lt.
+      ap number_of (map-map (λ (s : List ℕ). bit_at (get_or s p 0) j) moved slices ∙ bits slices p lt)
+      ∙ sym (get_or-map-range_with_len (λ q. number_of (bits_in slices j q)) 0 16 (f p) (f p) 0 (inside p lt) (zero-add (f p))))
+    where
+      bits : (slices : List (List ℕ)) (p : ℕ) → p < 16 → map (λ (s : List ℕ). bit_at (get_or (moved s) p 0) j) slices ≡ bits_in slices j (f p)
+      bits [] p lt = refl
+      bits (s ∷ rest) p lt =
+          ap₂ (λ (x : ℕ) (xs : List ℕ). x ∷ xs) (ap (λ x. bit_at x j) (get_or-map-range_with_len (λ i. get_or s (f i) 0) 0 16 p p 0 lt (zero-add p))) (bits rest p lt)
+
+-- ---- sums
+
+digit_xor : (x y : ℕ) → x < 2 → y < 2 → bit_xor x y ≡ (x + y) % 2
+digit_xor zero zero h k = refl
+digit_xor zero (suc zero) h k = refl
+digit_xor (suc zero) zero h k = refl
+digit_xor (suc zero) (suc zero) h k = refl
+digit_xor (suc (suc x)) y h k = absurd (omega arith)
+digit_xor zero (suc (suc y)) h k = absurd (omega arith)
+digit_xor (suc zero) (suc (suc y)) h k = absurd (omega arith)
+
+number_xor : (xs ys : List ℕ) → length xs ≡ length ys → AllByRecursion (λ b. b < 2) xs → AllByRecursion (λ b. b < 2) ys
+    → number_of (zip2 (λ (x y : ℕ). (x + y) % 2) xs ys) ≡ bit_xor (number_of xs) (number_of ys)
+number_xor [] [] size small_x small_y = refl
+number_xor [] (y ∷ ys) size small_x small_y = absurd (omega arith)
+number_xor (x ∷ xs) [] size small_x small_y = absurd (omega arith)
+number_xor (x ∷ xs) (y ∷ ys) size small_x small_y =
+    let m : ℕ = number_of xs in
+    let n : ℕ = number_of ys in
+    let rest : number_of (zip2 (λ (x y : ℕ). (x + y) % 2) xs ys) ≡ bit_xor m n = number_xor xs ys (omega arith) small_x.1 small_y.1 in
+    let low : bit_xor x y ≡ (x + y) % 2 = digit_xor x y small_x.0 small_y.0 in
+    let left : m * 2 ^ 1 + x ≡ x + 2 * m = omega arith in
+    let right : n * 2 ^ 1 + y ≡ y + 2 * n = omega arith in
+    let apart : bit_xor (m * 2 ^ 1 + x) (n * 2 ^ 1 + y) ≡ bit_xor m n * 2 ^ 1 + bit_xor x y = xor_block 1 m n x y small_x.0 small_y.0 in
+    let sum : (x + y) % 2 + 2 * number_of (zip2 (λ (x y : ℕ). (x + y) % 2) xs ys) ≡ bit_xor m n * 2 ^ 1 + bit_xor x y = omega arith in
+    sum ∙ sym apart ∙ ap₂ bit_xor left right
+
+bits_sum : (a b : List (List ℕ)) (j p : ℕ) → p < 16 → AllByRecursion Is16 a → AllByRecursion Is16 b
+    → bits_in (zip2 (zip2 bit_xor) a b) j p ≡ zip2 (λ (x y : ℕ). (x + y) % 2) (bits_in a j p) (bits_in b j p)
+bits_sum [] b j p lt size_a size_b = refl
+bits_sum (x ∷ a) [] j p lt size_a size_b = refl
+bits_sum (x ∷ a) (y ∷ b) j p lt size_a size_b =
+    let long_x : length x ≡ 16 = size_a.0 in
+    let long_y : length y ≡ 16 = size_b.0 in
+    ap₂ (λ (h : ℕ) (t : List ℕ). h ∷ t)
+    (ap (λ n. bit_at n j) (get_or-zip2 bit_xor x y p 0 0 0 (omega arith) (omega arith)) ∙ bit_at_xor (get_or x p 0) (get_or y p 0) j)
+    (bits_sum a b j p lt size_a.1 size_b.1)
+
+module _ (a b : List (List ℕ)) (is_a : AreSlices a) (is_b : AreSlices b) where
+  pub sum_slices : AreSlices (zip2 (zip2 bit_xor) a b)
+  sum_slices = record {
+    eight = size ∙ is_a.eight;
+    each = λ k d below.
+        let in_a : k < length a = omega (arith, size) in
+        let in_b : k < length b = omega (arith, size, is_a.eight, is_b.eight) in
+        ap length (get_or-zip2 (zip2 bit_xor) a b k [] [] d in_a in_b)
+        ∙ length-zip2 bit_xor (get_or a k []) (get_or b k []) (is_a.each k [] in_a ∙ sym (is_b.each k [] in_b)) ∙ is_a.each k [] in_a;
+  }
+    where
+      size : length (zip2 (zip2 bit_xor) a b) ≡ length a
+      size = length-zip2 (zip2 bit_xor) a b (is_a.eight ∙ sym is_b.eight)
+
+  pub sum_block : (j : ℕ) → block_in (zip2 (zip2 bit_xor) a b) j ≡ xor_bytes (block_in a j) (block_in b j)
+  sum_block j =
+      same_below (λ p. number_of (bits_in (zip2 (zip2 bit_xor) a b) j p)) (λ p. bit_xor (number_of (bits_in a j p)) (number_of (bits_in b j p))) 16 (λ p lt.
+      ap number_of (bits_sum a b j p lt (recursion_from_All Is16 a is_a.each) (recursion_from_All Is16 b is_b.each))
+      ∙ number_xor (bits_in a j p) (bits_in b j p) (length-map a (λ (s : List ℕ). bit_at (get_or s p 0) j) ∙ is_a.eight ∙ sym (length-map b (λ (s : List ℕ). bit_at (get_or s p 0) j) ∙ is_b.eight))
+      (recursion_from_All (λ b. b < 2) (bits_in a j p) (bits_small a j p)) (recursion_from_All (λ b. b < 2) (bits_in b j p) (bits_small b j p)))
+      ∙ sym (zip2-map bit_xor (λ p. number_of (bits_in a j p)) (λ p. number_of (bits_in b j p)) (range_with_len 0 16))
+
+-- ---- times x
+
+abbrev pub doubled_gates : List Gate
+doubled_gates =
+    wire 7 ∷ sum (wire 0) (wire 7) ∷ wire 1 ∷ sum (wire 2) (wire 7) ∷ sum (wire 3) (wire 7) ∷ wire 4 ∷ wire 5 ∷ wire 6 ∷ []
+
+tried : map (λ b. number_of (map (bit_of (bits_of b) []) doubled_gates)) (range_with_len 0 256) ≡ map times_x (range_with_len 0 256)
+tried = refl
+
+module _ (slices : List (List ℕ)) (is : AreSlices slices) where
+  there : T (all_read (length slices) 0 doubled_gates)
+  there = subst (λ n. T (all_read n 0 doubled_gates)) (sym is.eight) tt
+
+  pub doubled_slices : AreSlices (map (slice_of slices []) doubled_gates)
+  doubled_slices = record { eight = refl; each = gates_size slices [] is.each (All-nil Is16) doubled_gates there }
+
+  pub doubled_block : (j : ℕ) → j < 8 → block_in (map (slice_of slices []) doubled_gates) j ≡ map times_x (block_in slices j)
+  doubled_block j bit =
+      boxed_block times_x (λ bits. map (bit_of bits []) doubled_gates) tried slices (map (slice_of slices []) doubled_gates) j is.eight
+      (λ p place. gates_bits slices [] is.each (All-nil Is16) j p bit place doubled_gates there)

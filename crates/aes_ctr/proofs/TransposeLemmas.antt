@@ -1,0 +1,143 @@
+-- Eight slices after three exchanges: the bits, transposed.
+use Rattle.std.proofs.Common.{◌≡◌, ℕ, zero, suc, ◌+◌, ◌-◌, ◌*◌, ◌/◌, ◌%◌, ◌^◌, ◌<◌, ◌==◌, if◌then◌else◌, List, [], ◌∷◌, length, get_or, map, refl, sym, ap, ◌∙◌, arith, zero-add, div-one, ext_get_or, pow-suc}
+use Rattle.std.specs.Int.{bit_at}
+use Rattle.std.specs.List.{range_with_len}
+use Rattle.std.proofs.lemmas.List.FromFn.{get_or-map-range_with_len}
+use Rattle.std.proofs.lemmas.List.{get_or-map, length-map}
+use Rattle.std.proofs.lemmas.Nat.Bits.{bit_at_lowest, bit_at-suc}
+use Rattle.aes_ctr.specs.Slices.{AreSlices, number_of, bits_in, block_in}
+use Rattle.aes_ctr.proofs.SliceLemmas.{by_bit}
+
+-- bit b of byte p of slice i
+abbrev pub bit_in : List (List ℕ) → ℕ → ℕ → ℕ → ℕ
+bit_in slices p i b = bit_at (get_or (get_or slices i []) p 0) b
+
+-- where bit b of slice i comes from in an exchange of groups of s bits
+abbrev pub slice_before : ℕ → ℕ → ℕ → ℕ
+slice_before s i b = i - s * (i / s % 2) + s * (b / s % 2)
+
+-- bit b of byte p of the first and of the second of two slices after an exchange
+abbrev pub firsts : ℕ → ℕ → List ℕ → List ℕ → ℕ → ℕ
+firsts s p low high b = if b / s % 2 == 0 then bit_at (get_or low p 0) b else bit_at (get_or high p 0) (b - s)
+
+abbrev pub seconds : ℕ → ℕ → List ℕ → List ℕ → ℕ → ℕ
+seconds s p low high b = if b / s % 2 == 0 then bit_at (get_or low p 0) (b + s) else bit_at (get_or high p 0) b
+
+pub record Exchanged (s p : ℕ) (low high first second : List ℕ) : Type 0 where
+  pub firsts_are : (b : ℕ) → b < 8 → bit_at (get_or first p 0) b ≡ firsts s p low high b
+  pub seconds_are : (b : ℕ) → b < 8 → bit_at (get_or second p 0) b ≡ seconds s p low high b
+
+-- groups of one bit
+pub of_single_bits : (p : ℕ) (low high first second : List ℕ)
+    → ((b : ℕ) → b < 8 → bit_at (get_or first p 0) b ≡ (if b % 2 == 0 then bit_at (get_or low p 0) b else bit_at (get_or high p 0) (b - 1)))
+    → ((b : ℕ) → b < 8 → bit_at (get_or second p 0) b ≡ (if b % 2 == 0 then bit_at (get_or low p 0) (b + 1) else bit_at (get_or high p 0) b))
+    → Exchanged 1 p low high first second
+of_single_bits p low high first second firsts_are seconds_are = record {
+  firsts_are = λ b within.
+      firsts_are b within ∙ ap (λ (n : ℕ). if n % 2 == 0 then bit_at (get_or low p 0) b else bit_at (get_or high p 0) (b - 1)) (sym (div-one b));
+  seconds_are = λ b within.
+      seconds_are b within ∙ ap (λ (n : ℕ). if n % 2 == 0 then bit_at (get_or low p 0) (b + 1) else bit_at (get_or high p 0) b) (sym (div-one b));
+}
+
+-- those of all eight slices
+abbrev pub Stage : ℕ → ℕ → List (List ℕ) → List (List ℕ) → Type 0
+Stage s p old new = (i b : ℕ) → i < 8 → b < 8 → bit_in new p i b ≡ bit_in old p (slice_before s i b) (slice_before s b i)
+
+abbrev pub eight : List ℕ → List ℕ → List ℕ → List ℕ → List ℕ → List ℕ → List ℕ → List ℕ → List (List ℕ)
+eight a b c d e f g h = a ∷ b ∷ c ∷ d ∷ e ∷ f ∷ g ∷ h ∷ []
+
+-- one slice of them, by its eight bits
+row : (s p i : ℕ) (old : List (List ℕ)) (made : ℕ → ℕ) (slice : List ℕ)
+    → map made (range_with_len 0 8) ≡ map (λ b. bit_in old p (slice_before s i b) (slice_before s b i)) (range_with_len 0 8)
+    → ((b : ℕ) → b < 8 → bit_at (get_or slice p 0) b ≡ made b)
+    → (b : ℕ) → b < 8 → bit_at (get_or slice p 0) b ≡ bit_in old p (slice_before s i b) (slice_before s b i)
+row s p i old made slice same is b within =
+    is b within ∙ sym (get_or-map-range_with_len made 0 8 b b 0 within (zero-add b)) ∙ ap (λ (l : List ℕ). get_or l b 0) same
+    ∙ get_or-map-range_with_len (λ b. bit_in old p (slice_before s i b) (slice_before s b i)) 0 8 b b 0 within (zero-add b)
+
+module _ (p : ℕ) (a0 a1 a2 a3 a4 a5 a6 a7 c0 c1 c2 c3 c4 c5 c6 c7 : List ℕ) where
+  pub stage_1 : Exchanged 1 p a0 a1 c0 c1 → Exchanged 1 p a2 a3 c2 c3 → Exchanged 1 p a4 a5 c4 c5 → Exchanged 1 p a6 a7 c6 c7
+      → Stage 1 p (eight a0 a1 a2 a3 a4 a5 a6 a7) (eight c0 c1 c2 c3 c4 c5 c6 c7)
+  stage_1 e01 e23 e45 e67 i b below within =
+      let old = eight a0 a1 a2 a3 a4 a5 a6 a7 in
+      by_bit (λ i. bit_in (eight c0 c1 c2 c3 c4 c5 c6 c7) p i b ≡ bit_in old p (slice_before 1 i b) (slice_before 1 b i))
+      (row 1 p 0 old (firsts 1 p a0 a1) c0 refl e01.firsts_are b within)
+      (row 1 p 1 old (seconds 1 p a0 a1) c1 refl e01.seconds_are b within)
+      (row 1 p 2 old (firsts 1 p a2 a3) c2 refl e23.firsts_are b within)
+      (row 1 p 3 old (seconds 1 p a2 a3) c3 refl e23.seconds_are b within)
+      (row 1 p 4 old (firsts 1 p a4 a5) c4 refl e45.firsts_are b within)
+      (row 1 p 5 old (seconds 1 p a4 a5) c5 refl e45.seconds_are b within)
+      (row 1 p 6 old (firsts 1 p a6 a7) c6 refl e67.firsts_are b within)
+      (row 1 p 7 old (seconds 1 p a6 a7) c7 refl e67.seconds_are b within)
+      i below
+
+  pub stage_2 : Exchanged 2 p a0 a2 c0 c2 → Exchanged 2 p a1 a3 c1 c3 → Exchanged 2 p a4 a6 c4 c6 → Exchanged 2 p a5 a7 c5 c7
+      → Stage 2 p (eight a0 a1 a2 a3 a4 a5 a6 a7) (eight c0 c1 c2 c3 c4 c5 c6 c7)
+  stage_2 e02 e13 e46 e57 i b below within =
+      let old = eight a0 a1 a2 a3 a4 a5 a6 a7 in
+      by_bit (λ i. bit_in (eight c0 c1 c2 c3 c4 c5 c6 c7) p i b ≡ bit_in old p (slice_before 2 i b) (slice_before 2 b i))
+      (row 2 p 0 old (firsts 2 p a0 a2) c0 refl e02.firsts_are b within)
+      (row 2 p 1 old (firsts 2 p a1 a3) c1 refl e13.firsts_are b within)
+      (row 2 p 2 old (seconds 2 p a0 a2) c2 refl e02.seconds_are b within)
+      (row 2 p 3 old (seconds 2 p a1 a3) c3 refl e13.seconds_are b within)
+      (row 2 p 4 old (firsts 2 p a4 a6) c4 refl e46.firsts_are b within)
+      (row 2 p 5 old (firsts 2 p a5 a7) c5 refl e57.firsts_are b within)
+      (row 2 p 6 old (seconds 2 p a4 a6) c6 refl e46.seconds_are b within)
+      (row 2 p 7 old (seconds 2 p a5 a7) c7 refl e57.seconds_are b within)
+      i below
+
+  pub stage_4 : Exchanged 4 p a0 a4 c0 c4 → Exchanged 4 p a1 a5 c1 c5 → Exchanged 4 p a2 a6 c2 c6 → Exchanged 4 p a3 a7 c3 c7
+      → Stage 4 p (eight a0 a1 a2 a3 a4 a5 a6 a7) (eight c0 c1 c2 c3 c4 c5 c6 c7)
+  stage_4 e04 e15 e26 e37 i b below within =
+      let old = eight a0 a1 a2 a3 a4 a5 a6 a7 in
+      by_bit (λ i. bit_in (eight c0 c1 c2 c3 c4 c5 c6 c7) p i b ≡ bit_in old p (slice_before 4 i b) (slice_before 4 b i))
+      (row 4 p 0 old (firsts 4 p a0 a4) c0 refl e04.firsts_are b within)
+      (row 4 p 1 old (firsts 4 p a1 a5) c1 refl e15.firsts_are b within)
+      (row 4 p 2 old (firsts 4 p a2 a6) c2 refl e26.firsts_are b within)
+      (row 4 p 3 old (firsts 4 p a3 a7) c3 refl e37.firsts_are b within)
+      (row 4 p 4 old (seconds 4 p a0 a4) c4 refl e04.seconds_are b within)
+      (row 4 p 5 old (seconds 4 p a1 a5) c5 refl e15.seconds_are b within)
+      (row 4 p 6 old (seconds 4 p a2 a6) c6 refl e26.seconds_are b within)
+      (row 4 p 7 old (seconds 4 p a3 a7) c7 refl e37.seconds_are b within)
+      i below
+
+-- three exchanges, of single bits, of pairs and of groups of four, are the transposition
+pub transposed : (p : ℕ) (s0 s1 s2 s3 : List (List ℕ)) → Stage 1 p s0 s1 → Stage 2 p s1 s2 → Stage 4 p s2 s3
+    → (i b : ℕ) → i < 8 → b < 8 → bit_in s3 p i b ≡ bit_in s0 p b i
+transposed p s0 s1 s2 s3 one two four i b below within =
+    let i1 = slice_before 4 i b in
+    let b1 = slice_before 4 b i in
+    let i2 = slice_before 2 i1 b1 in
+    let b2 = slice_before 2 b1 i1 in
+    let same_i : slice_before 1 i2 b2 ≡ b = omega arith in
+    let same_b : slice_before 1 b2 i2 ≡ i = omega arith in
+    four i b below within ∙ two i1 b1 (omega arith) (omega arith) ∙ one i2 b2 (omega arith) (omega arith) ∙ (λ k. bit_in s0 p (same_i k) (same_b k))
+
+-- the number of a byte's bits is the byte
+pub number_of-bits : (n x : ℕ) (bits : List ℕ) → length bits ≡ n → x < 2 ^ n → ((i : ℕ) → i < n → get_or bits i 0 ≡ bit_at x i) → number_of bits ≡ x
+number_of-bits zero x [] long fits are = omega arith
+number_of-bits zero x (b ∷ bits) long fits are = absurd (omega arith)
+number_of-bits (suc n) x [] long fits are = absurd (omega arith)
+number_of-bits (suc n) x (b ∷ bits) long fits are =
+    let low : b ≡ x % 2 = are 0 (omega arith) ∙ bit_at_lowest x in
+    let high : number_of bits ≡ x / 2 = number_of-bits n (x / 2) bits (omega arith) (omega (arith, pow-suc 2 n)) (λ i below. are (suc i) (omega arith) ∙ bit_at-suc x i) in
+    omega arith
+
+-- a vector of bytes with the bits of block j is the block
+pub is_block : (slices : List (List ℕ)) (block : List ℕ) (j : ℕ) → length slices ≡ 8 → length block ≡ 16 → ((p : ℕ) → p < 16 → get_or block p 0 < 256)
+    → ((p i : ℕ) → p < 16 → i < 8 → bit_at (get_or block p 0) i ≡ bit_in slices p i j) → block ≡ block_in slices j
+is_block slices block j count long bytes bits =
+    ext_get_or 0 block (block_in slices j) long
+    (λ p below.
+    let within : p < 16 = omega arith in
+    sym (number_of-bits 8 (get_or block p 0) (bits_in slices j p) (length-map slices (λ (slice : List ℕ). bit_at (get_or slice p 0) j) ∙ count) (bytes p within)
+    (λ i low. get_or-map (λ (slice : List ℕ). bit_at (get_or slice p 0) j) slices i [] 0 (omega arith) ∙ sym (bits p i within low)))
+    ∙ sym (get_or-map-range_with_len (λ (q : ℕ). number_of (bits_in slices j q)) 0 16 p p 0 within (zero-add p)))
+
+-- eight vectors that are whole
+pub are_slices : (a b c d e f g h : List ℕ) → length a ≡ 16 → length b ≡ 16 → length c ≡ 16 → length d ≡ 16
+    → length e ≡ 16 → length f ≡ 16 → length g ≡ 16 → length h ≡ 16 → AreSlices (eight a b c d e f g h)
+are_slices a b c d e f g h la lb lc ld le lf lg lh = record {
+  eight = refl;
+  each = λ k other below. by_bit (λ k. length (get_or (eight a b c d e f g h) k other) ≡ 16) la lb lc ld le lf lg lh k below;
+}

@@ -1,0 +1,10 @@
+use Rattle.std.proofs.Common.{ap, ◌∙◌}
+use Rattle.aes_ctr.specs.Aes.{last_round, shift_rows, xor_bytes}
+use Rattle.aes_ctr.specs.Slices.{block_in}
+use Rattle.aes_ctr.proofs.rounds.last_round.Goals as goal
+
+pub returns-clause-blocks : goal.returns-clause-blocks
+unfolding last_round
+returns-clause-blocks c j bit =
+    c.add.ensures.blocks j
+    ∙ ap (λ s. xor_bytes s (block_in c.args.key j)) (c.shifted.ensures.blocks j ∙ ap shift_rows (c.substituted.ensures.blocks j bit))

@@ -1,0 +1,26 @@
+-- Eight blocks side by side, as the code keeps them: eight slices of 16 bytes. Slice i holds bit i of each byte of the blocks, that of
+-- byte p of block j as bit j of its own byte p.
+use Rattle.std.specs.Prelude.{◌≡◌, ℕ, ◌+◌, ◌*◌, ◌/◌, ◌%◌, List, [], ◌∷◌, All, length, map, slice_index}
+use Rattle.std.specs.Int.{bit_at}
+use Rattle.std.specs.List.{range_with_len}
+
+pub record AreSlices (slices : List (List ℕ)) : Type 0 where
+  pub eight : length slices ≡ 8
+  pub each : All (λ (slice : List ℕ). length slice ≡ 16) slices
+
+-- the number of these bits, the lowest first
+abbrev pub number_of : List ℕ → ℕ
+number_of [] = 0
+number_of (bit ∷ bits) = bit + 2 * number_of bits
+
+-- the bits of byte p of block j, one from each slice
+abbrev pub bits_in : List (List ℕ) → ℕ → ℕ → List ℕ
+bits_in slices j p = map (λ (slice : List ℕ). bit_at (slice_index slice p) j) slices
+
+-- block j
+abbrev pub block_in : List (List ℕ) → ℕ → List ℕ
+block_in slices j = map (λ (p : ℕ). number_of (bits_in slices j p)) (range_with_len 0 16)
+
+-- each column of a block turned up by one row
+abbrev pub turned_columns : List ℕ → List ℕ
+turned_columns block = map (λ (p : ℕ). slice_index block (4 * (p / 4) + (p + 1) % 4)) (range_with_len 0 16)
