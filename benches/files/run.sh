@@ -5,7 +5,7 @@ here=$(cd "$(dirname "$0")" && pwd)
 crates=$(cd "$here/../../crates" && pwd)
 work=$(mktemp -d)
 trap 'rm -rf "$work"' EXIT
-for name in tagged_hash aes_ctr gf256 zfec_code merkle cap_text ueb share_layout file_encoding; do
+for name in tagged_hash aes_ctr gf256 zfec_code merkle cap_text ueb share_layout share_verify file_encoding; do
     mkdir -p "$work/crates/$name"
     (cd "$crates/$name" && tar cf - --exclude=./out .) | tar xf - -C "$work/crates/$name"
     grep "^$name:" "$here/../../crates.txt" >> "$work/crates.txt"

@@ -1,11 +1,3 @@
-pub mod HeightBound
-pub mod ChunkLemmas
-pub mod TreeSectionLemmas
-pub mod SectionLemmas
-pub mod ShareHashLemmas
-pub mod UebFaults
-pub mod GeometryOfUeb
-pub mod FirstFault
 pub mod OwnBlocks
 pub mod OwnHashes
 pub mod OwnShares

@@ -3,9 +3,11 @@ use Rattle.std.proofs.Common.{◌≡◌, ℕ, ◌+◌, ◌<◌, ◌≤◌, List,
 use Rattle.std.proofs.lemmas.List.{get_or-map, get_or_append_left, get_or_at, length-append, length-map, map-append}
 use Rattle.std.proofs.lemmas.Bool.{cases_lt}
 use Rattle.cap_text.specs.Cap.{VerifyCapValue}
-use Rattle.file_encoding.specs.Reading.{AreLowest, AreRising, IsFirstSound, IsSoundAt, IsTaken, NoneSound, TakenShare, numbers_of}
+use Rattle.zfec_code.specs.Rows.{AreDistinct}
+use Rattle.share_verify.specs.Verify.{IsSoundShare}
+use Rattle.file_encoding.specs.Reading.{AreLowest, AreRising, IsAmong, IsFirstSound, IsSoundAt, IsTaken, LacksShares, NoneSound, TakenShare, Takes, numbers_of}
+use Rattle.file_encoding.proofs.Pigeonhole.{no_more}
 use Rattle.file_encoding.specs.LowestShares.{AreLowestAt}
-use Rattle.file_encoding.specs.Verify.{IsSoundShare}
 
 -- what stands at a place among the strings with their numbers
 pub at_place : (cap : VerifyCapValue) (shares : List (ℕ × Bor (List ℕ))) (number place : ℕ) (d : ℕ × Bor (List ℕ)) → place < length shares
@@ -141,3 +143,53 @@ none_yet cap numbers strings = record {
   };
   at = refl;
 }
+
+-- the numbers of the shares that are taken are different
+pub rising_distinct : (numbers : List ℕ) → AreRising numbers → AreDistinct numbers
+rising_distinct numbers rising i j under over same =
+    elim (cases_lt i j) [
+      | inl less ↦ (let up = rising i j less over in absurd (omega (arith, up, same)))
+      | inr more ↦ elim (cases_lt j i) [
+        | inl less ↦ (let up = rising j i less under in absurd (omega (arith, up, same)))
+        | inr equal ↦ omega (arith, more, equal)
+      ]
+    ]
+
+-- where fewer numbers pass than are needed, there are not enough to take
+module _ (cap : VerifyCapValue) (numbers : List ℕ) (strings : List (List ℕ)) (taken : List TakenShare)
+    (lacks : LacksShares cap numbers strings) (takes : Takes cap numbers strings taken) where
+  passing : (any : TakenShare) → All (λ n. IsAmong n (numbers_of lacks.taken)) (numbers_of taken)
+  passing any k d inside =
+      let number : TakenShare → ℕ = λ t. t.number in
+      let here : k < length taken = let count = length-map taken number in omega (arith, inside, count) in
+      let t : TakenShare = get_or taken k any in
+      let is : get_or (numbers_of taken) k d ≡ t.number = get_or-map number taken k any d here in
+      let passes = (takes.lowest.each k any here).first in
+      let among : IsAmong t.number (numbers_of lacks.taken) =
+      elim (lacks.lowest.others t.number (takes.lowest.low k any here)) [
+        | inl there ↦ there
+        | inr (inl none) ↦ absurd (none t.place passes.inside passes.passes)
+        | inr (inr full) ↦ absurd (let few = lacks.few in omega (arith, few, full.0))
+      ] in
+      subst (λ n. IsAmong n (numbers_of lacks.taken)) (sym is) among
+
+  too_few : TakenShare → ⊥
+  too_few any =
+      let most = no_more (numbers_of taken) (numbers_of lacks.taken) (rising_distinct (numbers_of taken) takes.lowest.rising) (passing any) in
+      let count = length-map taken (λ (t : TakenShare). t.number) in
+      let held = length-map lacks.taken (λ (t : TakenShare). t.number) in
+      let few = lacks.few in
+      omega (arith, most, count, held, few, takes.enough)
+
+lacks_or_takes : (cap : VerifyCapValue) (numbers : List ℕ) (strings : List (List ℕ)) (taken : List TakenShare)
+    → LacksShares cap numbers strings → Takes cap numbers strings taken → ⊥
+lacks_or_takes cap numbers strings [] lacks takes = let few = lacks.few in omega (arith, few, takes.enough)
+lacks_or_takes cap numbers strings (t ∷ ts) lacks takes = too_few cap numbers strings (t ∷ ts) lacks takes t
+
+-- so where a reader finds places enough
+pub enough_places : (cap : VerifyCapValue) (numbers : List ℕ) (strings : List (List ℕ)) (places : List ℕ)
+    → AreLowestAt cap numbers strings cap.total places → cap.needed ≤ length places → ¬ LacksShares cap numbers strings
+enough_places cap numbers strings places are enough lacks =
+    let count : length places ≡ length are.taken = ap length are.at ∙ length-map are.taken (λ (t : TakenShare). t.place) in
+    let most = are.lowest.few in
+    lacks_or_takes cap numbers strings are.taken lacks record { lowest = are.lowest; enough = omega (arith, enough, count, most) }

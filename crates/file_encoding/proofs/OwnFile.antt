@@ -10,12 +10,12 @@ use Rattle.share_layout.proofs.ShareLemmas.{located_tail, one_reading}
 use Rattle.share_layout.specs.Geometry.{Geometry}
 use Rattle.share_layout.specs.Places.{LocatesUeb}
 use Rattle.share_layout.specs.Share.{IsShare, Sections}
+use Rattle.share_verify.specs.CapBlock.{IsUebFor, geometry_by}
+use Rattle.share_verify.specs.Verify.{IsSound}
 use Rattle.file_encoding.specs.Encoding.{ciphertext_encoding, extension_block_contents, segments_of}
-use Rattle.file_encoding.specs.FileOf.{geometry_by}
 use Rattle.file_encoding.specs.Laws.{sections_of}
 use Rattle.file_encoding.specs.OwnFile.{AreEnoughOwn, AreOwnShares}
 use Rattle.file_encoding.specs.Reading.{IsAmong, IsTaken, LacksShares, TakenShare, numbers_of}
-use Rattle.file_encoding.specs.Verify.{IsSound, IsUebFor}
 use Rattle.file_encoding.proofs.OwnShares.{ciphertext_shares_pass}
 use Rattle.file_encoding.proofs.Pigeonhole.{no_more}
 

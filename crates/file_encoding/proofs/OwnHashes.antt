@@ -10,20 +10,20 @@ use Rattle.std.proofs.lemmas.List.FromFn.{get_or-map-range_with_len}
 use Rattle.std.proofs.lemmas.Nat.{from_be_bytes-to_be_bytes_2, pow_pos, shr_below}
 use Rattle.std.proofs.lemmas.Slice.Eq.{bytes_eq-Decides}
 use Rattle.std.proofs.Math.Nat.{pow-le-pow_right}
-use Rattle.merkle.proofs.HeightLemmas.{height_room}
+use Rattle.merkle.proofs.HeightLemmas.{height_below, height_room}
 use Rattle.merkle.proofs.PathLemmas.{sibling_below, siblings_of-lead}
 use Rattle.merkle.proofs.TreeLemmas.{length-tree_nodes, node-leaf, padded_to-leaf, tree_nodes_node}
 use Rattle.merkle.specs.Path.{siblings_of}
 use Rattle.merkle.specs.Tree.{height, needed_numbers, node_number, padded, sibling, tree_nodes, tree_root}
 use Rattle.share_layout.proofs.NumberLemmas.{length-needed_numbers, needed_above, needed_left, needed_right}
 use Rattle.share_layout.specs.Share.{CarriesNumbers}
-use Rattle.file_encoding.specs.Encoding.{joined, share_hashes}
-use Rattle.file_encoding.specs.ShareHashes.{LeadsByEntries, carried_hash, entries_in, sibling_number}
-use Rattle.file_encoding.specs.TreeSection.{AreHashes}
-use Rattle.file_encoding.proofs.ChunkLemmas.{first_chunks-joined, length-joined}
-use Rattle.file_encoding.proofs.SectionLemmas.{tree_nodes_are_hashes}
-use Rattle.file_encoding.proofs.TreeSectionLemmas.{next_power, node_below}
-use Rattle.file_encoding.proofs.HeightBound.{height_most}
+use Rattle.share_verify.specs.Pieces.{joined}
+use Rattle.share_verify.specs.ShareHashes.{LeadsByEntries, carried_hash, entries_in, sibling_number}
+use Rattle.share_verify.specs.TreeSection.{AreHashes}
+use Rattle.share_verify.proofs.ChunkLemmas.{first_chunks-joined, length-joined}
+use Rattle.share_verify.proofs.SectionLemmas.{tree_nodes_are_hashes}
+use Rattle.share_verify.proofs.TreeSectionLemmas.{next_power, node_below}
+use Rattle.file_encoding.specs.Encoding.{share_hashes}
 
 -- a test passes or fails
 bool_cases : (b : Bool) → (b ≡ true) ⊎ (b ≡ false)
@@ -186,7 +186,7 @@ module _ (leaves : List (List ℕ)) (leaf : ℕ) (hashes : AreHashes leaves) (in
       let m : ℕ = height (length leaves) in
       let numbers : List ℕ = needed_numbers m leaf in
       let f : ℕ → List ℕ = λ n. get_or (tree_nodes leaves) n [] in
-      let width = pow-le-pow_right {n = 2} (omega arith) {i = m} {j = 8} (height_most (length leaves) 8 few) in
+      let width = pow-le-pow_right {n = 2} (omega arith) {i = m} {j = 8} (height_below (length leaves) 8 few) in
       let within : leaf < 2 ^ m = omega (arith, height_room (length leaves)) in
       let small : (k : ℕ) → k < length numbers → get_or numbers k 0 < 2 ^ 16 = λ k below. omega (arith, needed_below m leaf k within below, width) in
       let found : (n : ℕ) → Stands numbers n → carried_hash (entries_in (share_hashes leaves leaf)) n ≡ Some (f n) =

@@ -11,18 +11,19 @@ use Rattle.aes_ctr.proofs.StreamLemmas.{length-xored_from}
 use Rattle.ueb.specs.Shape.{Contents, IsShape}
 use Rattle.share_layout.specs.Geometry.{Geometry, geometry_of, segment_count}
 use Rattle.share_layout.specs.Share.{Sections}
-use Rattle.file_encoding.specs.Encoding.{blocks_of, ciphertext_encoding, encoding_of, joined, segment_hashes, segments_of}
-use Rattle.file_encoding.specs.FileOf.{geometry_by}
+use Rattle.share_verify.specs.Pieces.{joined}
+use Rattle.share_verify.specs.CapBlock.{geometry_by}
+use Rattle.share_verify.specs.TreeSection.{HoldsTree}
+use Rattle.share_verify.proofs.SectionLemmas.{hashes_in_tree, leaves_among_tree}
+use Rattle.file_encoding.specs.Encoding.{blocks_of, ciphertext_encoding, encoding_of, segment_hashes, segments_of}
 use Rattle.file_encoding.specs.OwnFile.{AreOwnShares, OwnSharesGiveTheFile}
 use Rattle.file_encoding.specs.Reading.{Agree, AreInconsistent, Decodes, IsDecoded, IsReadFrom, IsTaken, TakenShare, block_at, blocks_in, numbers_of, segment_at, disagree, wrong_segment}
-use Rattle.file_encoding.specs.TreeSection.{HoldsTree}
 use Rattle.file_encoding.proofs.Bytes.{AreBytes, bytes-xored, xored-xored}
 use Rattle.file_encoding.proofs.KeyBytes.{bytes-key}
 use Rattle.file_encoding.proofs.OwnFile.{contents, needed_is, sections, suffices, taken_is, verify_cap}
 use Rattle.file_encoding.proofs.OwnSegments.{decoded_is, piece_at, same_text}
 use Rattle.file_encoding.proofs.OwnShares.{mapped_are_hashes}
 use Rattle.file_encoding.proofs.Pieces.{length-pieces}
-use Rattle.file_encoding.proofs.SectionLemmas.{hashes_in_tree, leaves_among_tree}
 
 key_is : (g : Geometry) (key ciphertext : List ℕ) → (ciphertext_encoding g key ciphertext).cap.key ≡ key
 unfolding ciphertext_encoding

@@ -11,11 +11,12 @@ use Rattle.zfec_code.proofs.Formula.{share_value-is}
 use Rattle.zfec_code.specs.Shares.{AreSharesOf, IsShareOf, IsShareValue}
 use Rattle.zfec_code.specs.ShareValue.{share_block, share_value}
 use Rattle.share_layout.specs.Geometry.{Geometry, block_size, segment_count}
+use Rattle.share_verify.specs.Pieces.{joined, pieces}
+use Rattle.share_verify.proofs.ChunkLemmas.{get_or-first_chunks, pieces_are_chunks}
 use Rattle.file_encoding.specs.Decoding.{DecodesPadded, block_length}
-use Rattle.file_encoding.specs.Encoding.{block_of, blocks_of, joined, padded_segment, pieces, segments_of}
+use Rattle.file_encoding.specs.Encoding.{block_of, blocks_of, padded_segment, segments_of}
 use Rattle.file_encoding.specs.Reading.{block_at, segment_at, segment_length}
 use Rattle.file_encoding.proofs.Bytes.{AreBytes, bytes-append, bytes-drop, bytes-take, bytes-zeros}
-use Rattle.file_encoding.proofs.ChunkLemmas.{get_or-first_chunks, pieces_are_chunks}
 use Rattle.file_encoding.proofs.Decode.{length-block_at}
 use Rattle.file_encoding.proofs.OwnShares.{blocks_are_joined}
 use Rattle.file_encoding.proofs.Padding.{padded-whole}

@@ -17,22 +17,23 @@ use Rattle.ueb.specs.Block.{IsUeb, ueb_text}
 use Rattle.ueb.specs.Shape.{AreContents, Contents, IsShape}
 use Rattle.share_layout.specs.Geometry.{Geometry, block_size, geometry_of, segment_count, share_data_size, tree_size}
 use Rattle.share_layout.specs.Share.{CarriesNumbers, HaveLengths, IsShare, Sections, share_bytes}
-use Rattle.file_encoding.specs.Encoding.{block_hashes, block_of, blocks_of, ciphertext_encoding, encoding_of, extension_block_contents, joined, pieces, segment_hashes, segments_of, share_hashes, share_leaves, share_of}
-use Rattle.file_encoding.specs.Laws.{CiphertextSharesPass, FileSharesPass, sections_of}
-use Rattle.file_encoding.specs.ShareHashes.{LeadsByEntries, entries_in}
-use Rattle.file_encoding.specs.TreeSection.{AreHashes, HoldsTree, root_in}
-use Rattle.file_encoding.specs.Verify.{AreSound, IsSound}
 use Rattle.aes_ctr.specs.CounterMode.{xored}
 use Rattle.aes_ctr.proofs.StreamLemmas.{length-xored_from}
 use Rattle.tagged_hash.specs.ConvergentKey.{convergent_key_of}
 use Rattle.share_layout.proofs.LawLemmas.{locates_own}
 use Rattle.share_layout.proofs.NumberLemmas.{length-needed_numbers}
-use Rattle.file_encoding.proofs.GeometryOfUeb.{is_geometry}
+use Rattle.share_verify.specs.Pieces.{block_hashes, joined, pieces}
+use Rattle.share_verify.specs.ShareHashes.{LeadsByEntries, entries_in}
+use Rattle.share_verify.specs.TreeSection.{AreHashes, HoldsTree, root_in}
+use Rattle.share_verify.specs.Verify.{AreSound, IsSound}
+use Rattle.share_verify.proofs.GeometryOfUeb.{is_geometry}
+use Rattle.share_verify.proofs.ChunkLemmas.{length-first_chunks, length-joined, pieces_are_chunks}
+use Rattle.share_verify.proofs.SectionLemmas.{root_of_tree, tree_nodes_are_hashes}
+use Rattle.share_verify.proofs.TreeSectionLemmas.{next_power}
+use Rattle.file_encoding.specs.Encoding.{block_of, blocks_of, ciphertext_encoding, encoding_of, extension_block_contents, segment_hashes, segments_of, share_hashes, share_leaves, share_of}
+use Rattle.file_encoding.specs.Laws.{CiphertextSharesPass, FileSharesPass, sections_of}
 use Rattle.file_encoding.proofs.OwnBlocks.{are_cut}
 use Rattle.file_encoding.proofs.OwnHashes.{entries_carry, length-entries, needed_hashes, own_hashes_lead}
-use Rattle.file_encoding.proofs.ChunkLemmas.{length-first_chunks, length-joined, pieces_are_chunks}
-use Rattle.file_encoding.proofs.SectionLemmas.{root_of_tree, tree_nodes_are_hashes}
-use Rattle.file_encoding.proofs.TreeSectionLemmas.{next_power}
 
 -- a list of hashes
 pub mapped_are_hashes : {X : Type 0} (f : X → List ℕ) → ((x : X) → length (f x) ≡ 32) → (xs : List X) → AreHashes (map f xs)

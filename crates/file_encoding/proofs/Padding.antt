@@ -7,7 +7,8 @@ use Rattle.std.proofs.lemmas.Nat.Gcd.{le_of_dvd, mod-eq-zero_of_dvd}
 use Rattle.std.specs.Int.{◌∣◌}
 use Rattle.std.proofs.lemmas.Bool.{cases_lt}
 use Rattle.ueb.specs.Shape.{rounded_up}
-use Rattle.file_encoding.specs.Encoding.{padded_segment, pieces}
+use Rattle.share_verify.specs.Pieces.{pieces}
+use Rattle.file_encoding.specs.Encoding.{padded_segment}
 
 -- multiples of k less than k apart are one
 multiples_apart : (k a b : ℕ) → k ∣ a → k ∣ b → a < b → b < a + k → ⊥

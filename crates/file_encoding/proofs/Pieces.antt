@@ -5,7 +5,7 @@ use Rattle.std.proofs.Math.Nat.{dvd-sub, dvd-mul_left_of_dvd}
 use Rattle.std.proofs.lemmas.Nat.Gcd.{dvd_of_mod-eq-zero, mod-eq-zero_of_dvd}
 use Rattle.std.specs.Int.{◌∣◌}
 use Rattle.std.proofs.lemmas.Bool.{cases_lt}
-use Rattle.file_encoding.specs.Encoding.{pieces}
+use Rattle.share_verify.specs.Pieces.{pieces}
 
 -- the pieces from one on are this one, and those from the next one on
 pub pieces-from : (count size number : ℕ) (text : List ℕ) → number < count

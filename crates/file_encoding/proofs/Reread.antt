@@ -12,14 +12,16 @@ use Rattle.std.specs.Result.{IfOk}
 use Rattle.aes_ctr.specs.CounterMode.{xored}
 use Rattle.tagged_hash.specs.TaggedHash.{tagged_hash}
 use Rattle.tagged_hash.specs.declared.tag.Tag.TheVariants.{CiphertextSegment}
-use Rattle.file_encoding.specs.Encoding.{pieces, segment_hashes}
-use Rattle.file_encoding.proofs.Pieces.{get_or-pieces, length-pieces}
 use Rattle.merkle.specs.Tree.{leaves_among, tree_root}
-use Rattle.file_encoding.specs.TreeSection.{hashes_in}
-use Rattle.file_encoding.specs.Verify.{IsSound}
-use Rattle.file_encoding.proofs.SectionLemmas.{leaves_in_tree}
+use Rattle.share_verify.specs.Pieces.{pieces}
+use Rattle.share_verify.specs.TreeSection.{hashes_in}
+use Rattle.share_verify.specs.Verify.{IsSound}
+use Rattle.share_verify.proofs.SectionLemmas.{leaves_in_tree}
+use Rattle.share_verify.specs.CapBlock.{IsUebFor, geometry_by}
+use Rattle.file_encoding.specs.Encoding.{segment_hashes}
+use Rattle.file_encoding.proofs.LowestShares.{rising_distinct}
+use Rattle.file_encoding.proofs.Pieces.{get_or-pieces, length-pieces}
 use Rattle.file_encoding.specs.Decoding.{AreBlocks}
-use Rattle.file_encoding.specs.FileOf.{IsUebFor, geometry_by}
 use Rattle.file_encoding.specs.LowestShares.{GivesCiphertext, HaveBlocks}
 use Rattle.file_encoding.specs.Reading.{Agree, AreLeaves, Disagree, IsReadFrom, IsTaken, TakenShare, Takes, blocks_in, numbers_of, places_of}
 
@@ -159,14 +161,7 @@ module _ (cap : VerifyCapValue) (numbers : List ℕ) (strings : List (List ℕ))
               let low = takes.lowest.low k any here in
               let is : get_or (numbers_of taken) k d ≡ (get_or taken k any).number = get_or-map (λ (t : TakenShare). t.number) taken k any d here in
               omega (arith, low, is, ueb.total);
-          distinct = λ i j under over same.
-              elim (cases_lt i j) [
-                | inl less ↦ (let up = takes.lowest.rising i j less over in absurd (omega (arith, up, same)))
-                | inr more ↦ elim (cases_lt j i) [
-                  | inl less ↦ (let up = takes.lowest.rising j i less under in absurd (omega (arith, up, same)))
-                  | inr equal ↦ omega (arith, more, equal)
-                ]
-              ];
+          distinct = rising_distinct (numbers_of taken) takes.lowest.rising;
           whole = λ k d inside.
               let here : k < length taken = omega (arith, inside, cut) in
               ap length (get_or-map (λ (t : TakenShare). t.sections.blocks) taken k any d here) ∙ (is_share k any here).lengths.blocks;

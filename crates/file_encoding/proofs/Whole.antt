@@ -17,7 +17,8 @@ use Rattle.cap_text.specs.Cap.{ReadCapValue}
 use Rattle.ueb.specs.Block.{ueb_text}
 use Rattle.share_layout.specs.Geometry.{Geometry, IsGeometry, geometry_of, hashes_size, segment_count, tree_size}
 use Rattle.share_layout.specs.Share.{header, header_numbers}
-use Rattle.file_encoding.specs.Encoding.{block_hashes, blocks_of, Parameters, ciphertext_encoding, encoding_of, extension_block_contents, joined, padded_segment, pieces, segment_hashes, segments_of, share_hashes, share_leaves, share_of}
+use Rattle.share_verify.specs.Pieces.{block_hashes, joined, pieces}
+use Rattle.file_encoding.specs.Encoding.{blocks_of, Parameters, ciphertext_encoding, encoding_of, extension_block_contents, padded_segment, segment_hashes, segments_of, share_hashes, share_leaves, share_of}
 use Rattle.file_encoding.specs.Blocks.{padded_block, padded_blocks, share_beginning, share_end}
 use Rattle.file_encoding.proofs.Numbers.{double}
 use Rattle.file_encoding.proofs.Padding.{pieces-padded}

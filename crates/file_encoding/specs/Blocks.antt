@@ -4,7 +4,8 @@ use Rattle.std.specs.Int.{w16, w32, to_be_bytes}
 use Rattle.std.specs.List.{flat_map}
 use Rattle.merkle.specs.Tree.{tree_nodes}
 use Rattle.zfec_code.specs.ShareValue.{share_block}
-use Rattle.file_encoding.specs.Encoding.{block_hashes, joined, pieces, share_hashes}
+use Rattle.share_verify.specs.Pieces.{block_hashes, joined, pieces}
+use Rattle.file_encoding.specs.Encoding.{share_hashes}
 
 -- the block of share i of a segment that is padded already
 abbrev pub padded_block : ℕ → ℕ → List ℕ → List ℕ

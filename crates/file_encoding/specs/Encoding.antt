@@ -1,30 +1,26 @@
 -- The encoding of a file: its key, its ciphertext, the blocks and hash trees of its shares, its extension block and its cap.
 -- Whole lists, for every k, N and number of segments.
-use Rattle.std.specs.Prelude.{ℕ, zero, suc, ◌-◌, ◌/◌, List, [], ◌∷◌, ◌++◌, length, take, drop, map, replicate, slice_index_or}
+use Rattle.std.specs.Prelude.{ℕ, ◌-◌, ◌/◌, List, [], ◌++◌, length, map, replicate, slice_index_or}
 use Rattle.std.specs.Int.{w16, w32, to_be_bytes}
 use Rattle.std.specs.List.{flat_map, range_with_len}
 use Rattle.aes_ctr.specs.CounterMode.{xored}
 use Rattle.merkle.specs.Tree.{height, needed_numbers, tree_nodes, tree_root}
 use Rattle.tagged_hash.specs.ConvergentKey.{convergent_key_of}
 use Rattle.tagged_hash.specs.TaggedHash.{tagged_hash}
-use Rattle.tagged_hash.specs.declared.tag.Tag.TheVariants.{Block, Ciphertext, CiphertextSegment, ExtensionBlock, WholeShare}
+use Rattle.tagged_hash.specs.declared.tag.Tag.TheVariants.{Ciphertext, CiphertextSegment, ExtensionBlock, WholeShare}
 use Rattle.zfec_code.specs.ShareValue.{share_block}
 use Rattle.cap_text.specs.Cap.{ReadCapValue}
 use Rattle.ueb.specs.Shape.{Contents, rounded_up}
 use Rattle.ueb.specs.Block.{ueb_text}
 use Rattle.share_layout.specs.Geometry.{Geometry, geometry_of, segment_count, tree_size}
 use Rattle.share_layout.specs.Share.{header, header_numbers}
+use Rattle.share_verify.specs.Pieces.{block_hashes, joined, pieces}
 
 -- how a file is to be encoded: k of N shares, and the greatest length of a segment
 pub record Parameters : Type 0 where
   pub needed : ℕ
   pub total : ℕ
   pub max_segment : ℕ
-
--- so many pieces of this length, the last perhaps shorter
-abbrev pub pieces : ℕ → ℕ → List ℕ → List (List ℕ)
-pieces zero size text = []
-pieces (suc n) size text = take size text ∷ pieces n size (drop size text)
 
 -- the segments of a text
 abbrev pub segments_of : Geometry → List ℕ → List (List ℕ)
@@ -46,18 +42,10 @@ blocks_of k i segments = map (block_of k i) segments
 abbrev pub segment_hashes : List (List ℕ) → List (List ℕ)
 segment_hashes segments = map (tagged_hash CiphertextSegment) segments
 
--- the leaves of a share's block tree
-abbrev pub block_hashes : List (List ℕ) → List (List ℕ)
-block_hashes blocks = map (tagged_hash Block) blocks
-
 -- the leaves of the share tree: the roots of the shares' block trees
 abbrev pub share_leaves : Geometry → List (List ℕ) → List (List ℕ)
 share_leaves g segments =
     map (λ i. tree_root (block_hashes (blocks_of g.needed i segments))) (range_with_len 0 g.total)
-
--- a list of hashes, one after another
-abbrev pub joined : List (List ℕ) → List ℕ
-joined hashes = flat_map (λ h. h) hashes
 
 -- the hashes that share i carries of the share tree, each after its node's number in two bytes
 abbrev pub share_hashes : List (List ℕ) → ℕ → List ℕ

@@ -6,8 +6,9 @@ use Rattle.ueb.specs.Block.{ueb_text}
 use Rattle.ueb.specs.Shape.{IsShape}
 use Rattle.share_layout.specs.Geometry.{Geometry, geometry_of, tree_size}
 use Rattle.share_layout.specs.Share.{Sections}
-use Rattle.file_encoding.specs.Encoding.{Parameters, block_hashes, blocks_of, ciphertext_encoding, encoding_of, extension_block_contents, joined, segment_hashes, segments_of, share_hashes, share_leaves}
-use Rattle.file_encoding.specs.Verify.{IsSound, IsSoundShare}
+use Rattle.share_verify.specs.Pieces.{block_hashes, joined}
+use Rattle.share_verify.specs.Verify.{IsSound, IsSoundShare}
+use Rattle.file_encoding.specs.Encoding.{Parameters, blocks_of, ciphertext_encoding, encoding_of, extension_block_contents, segment_hashes, segments_of, share_hashes, share_leaves}
 
 -- the sections of share i
 abbrev pub sections_of : Geometry → List (List ℕ) → List ℕ → ℕ → Sections

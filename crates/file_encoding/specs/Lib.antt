@@ -4,12 +4,14 @@ pub mod Encoding
 pub mod FileOf
 pub mod Params
 pub mod Blocks
-pub mod TreeSection
-pub mod ShareHashes
-pub mod Verify
 pub mod Laws
 pub mod Decoding
 pub mod Reading
 pub mod LowestShares
 pub mod OwnFile
 pub mod Parts
+pub use Rattle.share_verify.specs.CapBlock
+pub use Rattle.share_verify.specs.Pieces
+pub use Rattle.share_verify.specs.ShareHashes
+pub use Rattle.share_verify.specs.TreeSection
+pub use Rattle.share_verify.specs.Verify

@@ -1,13 +1,11 @@
 -- Words of the clauses that select shares and read them.
-use Rattle.std.specs.Prelude.{◌≡◌, ℕ, ◌<◌, List, [], length, map, slice_index, slice_index_or, Option, Some, None}
+use Rattle.std.specs.Prelude.{◌≡◌, ℕ, ◌<◌, List, [], length, map, slice_index, slice_index_or}
 use Rattle.cap_text.specs.Cap.{VerifyCapValue}
 use Rattle.merkle.specs.Tree.{tree_root}
 use Rattle.ueb.specs.Shape.{Contents}
 use Rattle.share_layout.specs.Geometry.{Geometry, segment_count}
-use Rattle.share_layout.specs.Reading.{sections_in}
 use Rattle.share_layout.specs.Share.{IsShare, Sections}
-use Rattle.file_encoding.specs.FileOf.{IsUebFor, geometry_by}
-use Rattle.file_encoding.specs.declared.verify.SoundShare.{SoundShare}
+use Rattle.share_verify.specs.CapBlock.{IsUebFor, geometry_by}
 use Rattle.file_encoding.specs.Reading.{Agree, AreLeaves, AreLowest, IsDecoded, TakenShare, Takes, blocks_in, numbers_of, places_of}
 
 -- at these places stand the lowest shares below a number
@@ -42,8 +40,3 @@ pub record GivesCiphertext (cap : VerifyCapValue) (numbers : List ℕ) (strings 
   pub count : length leaves ≡ segment_count (geometry_by u)
   pub root : tree_root leaves ≡ u.crypttext_root_hash
   pub decoded : IsDecoded (geometry_by u) (numbers_of taken) (blocks_in taken) leaves ciphertext
-
--- this is what was read of a share
-abbrev pub IsReadAs : Contents → Sections → Option SoundShare → Type 0
-IsReadAs u s None = ⊥
-IsReadAs u s (Some found) = (found.ueb ≡ u) × (sections_in found.view ≡ s)

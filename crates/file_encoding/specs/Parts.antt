@@ -9,8 +9,8 @@ use Rattle.cap_text.specs.Cap.{VerifyCapValue, verify_cap_of}
 use Rattle.ueb.specs.Block.{ueb_text}
 use Rattle.ueb.specs.Shape.{Contents, IsShape}
 use Rattle.share_layout.specs.Geometry.{Geometry, geometry_of, segment_count}
+use Rattle.share_verify.specs.CapBlock.{IsUebFor, geometry_by}
 use Rattle.file_encoding.specs.Encoding.{Parameters, ciphertext_encoding, encoding_of, extension_block_contents, segment_hashes, segments_of}
-use Rattle.file_encoding.specs.FileOf.{IsUebFor, geometry_by}
 use Rattle.file_encoding.specs.Reading.{segment_length}
 
 -- This is the segment with this number of the cap's file, and the cap proves it: the extension block is the cap's, and by these siblings

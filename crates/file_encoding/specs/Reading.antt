@@ -6,10 +6,11 @@ use Rattle.cap_text.specs.Cap.{ReadCapValue, VerifyCapValue, verify_cap_of}
 use Rattle.ueb.specs.Shape.{Contents}
 use Rattle.share_layout.specs.Geometry.{Geometry, block_size, segment_count}
 use Rattle.share_layout.specs.Share.{Sections}
+use Rattle.share_verify.specs.CapBlock.{geometry_by}
+use Rattle.share_verify.specs.TreeSection.{HoldsTree}
+use Rattle.share_verify.specs.Verify.{IsSound, IsSoundShare}
 use Rattle.file_encoding.specs.Decoding.{DecodesPadded, block_length}
-use Rattle.file_encoding.specs.FileOf.{IsFileOf, geometry_by}
-use Rattle.file_encoding.specs.TreeSection.{HoldsTree}
-use Rattle.file_encoding.specs.Verify.{IsSound, IsSoundShare}
+use Rattle.file_encoding.specs.FileOf.{IsFileOf}
 
 -- a share that a reader takes: where it stands among the strings, its number, and what it says
 pub record TakenShare : Type 0 where

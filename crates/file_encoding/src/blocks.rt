@@ -5,7 +5,8 @@ ghost use Rattle.tagged_hash.specs.TaggedHash.{tagged_hash};
 ghost use Rattle.tagged_hash.specs.declared.tag.Tag.TheVariants.{Block, CiphertextSegment};
 ghost use Rattle.zfec_code.specs.ShareValue.{share_block};
 ghost use Rattle.zfec_code.specs.Shares.{IsShareOf};
-ghost use Rattle.file_encoding.specs.Encoding.{block_hashes, joined, pieces, segment_hashes};
+ghost use Rattle.share_verify.specs.Pieces.{block_hashes, joined, pieces};
+ghost use Rattle.file_encoding.specs.Encoding.{segment_hashes};
 ghost use Rattle.file_encoding.specs.Blocks.{padded_block, padded_blocks};
 
 use std::alloc::{AllocError, Global};

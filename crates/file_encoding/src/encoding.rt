@@ -11,7 +11,8 @@ ghost use Rattle.ueb.specs.declared.limits.TheConstants.{MAX_FILE_SIZE, MAX_LENG
 ghost use Rattle.ueb.specs.Block.{ueb_text};
 ghost use Rattle.share_layout.specs.Geometry.{HasGeometry, geometry_of, hashes_size, segment_count};
 ghost use Rattle.share_layout.specs.Share.{header, header_numbers};
-ghost use Rattle.file_encoding.specs.Encoding.{block_hashes, ciphertext_encoding, encoding_of, padded_segment, segment_hashes, segments_of, share_hashes};
+ghost use Rattle.share_verify.specs.Pieces.{block_hashes};
+ghost use Rattle.file_encoding.specs.Encoding.{ciphertext_encoding, encoding_of, padded_segment, segment_hashes, segments_of, share_hashes};
 ghost use Rattle.file_encoding.specs.Blocks.{padded_blocks, share_beginning, share_end};
 ghost use Rattle.file_encoding.specs.Params.{HasTooManySegments, IsEncodable, parameters_of};
 

@@ -11,7 +11,6 @@ mod reading;
 mod selection;
 mod share;
 mod shares;
-mod verify;
 
 pub use encoding::{Encoded, encode_all};
 pub use error::EncodeError;
@@ -22,4 +21,4 @@ pub use laws::{
 pub use params::{MAX_CHOSEN_SEGMENT_SIZE, Params};
 pub use reading::{ReadError, read_from};
 pub use share::Share;
-pub use verify::{ShareFault, verify_share};
+pub use share_verify::{ShareFault, verify_share};

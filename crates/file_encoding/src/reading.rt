@@ -1,24 +1,20 @@
 // Files, read back from shares.
 
-ghost use Rattle.std.specs.Prelude.{◌≡◌, ◌<◌, ◌⊎◌, ℕ, List, [], All, length, map, slice_index, slice_index_or, false, IfOk, IfErr, IfSome, IsErrOf, IsTrue};
+ghost use Rattle.std.specs.Prelude.{◌≡◌, ◌<◌, ◌⊎◌, ℕ, List, [], All, length, map, slice_index, slice_index_or, false, IfOk, IfErr, IsErrAnd, IsErrOf, IsTrue};
 ghost use Rattle.aes_ctr.specs.CounterMode.{xored};
 ghost use Rattle.cap_text.specs.Cap.{verify_cap_of};
-ghost use Rattle.ueb.specs.Shape.{Contents};
 ghost use Rattle.share_layout.specs.Places.{LocatesUeb};
-ghost use Rattle.share_layout.specs.Reading.{sections_in};
 ghost use Rattle.share_layout.specs.Share.{IsShare, Sections};
-ghost use Rattle.file_encoding.specs.FileOf.{IsUebFor, geometry_by};
-ghost use Rattle.file_encoding.specs.LowestShares.{GivesCiphertext, IsReadAs, HaveBlocks, TakesAt};
+ghost use Rattle.file_encoding.specs.LowestShares.{GivesCiphertext, HaveBlocks, TakesAt};
 ghost use Rattle.file_encoding.specs.Reading.{AreInconsistent, IsReadFrom, LacksShares};
-ghost use Rattle.file_encoding.specs.Verify.{IsSound};
 ghost use Rattle.file_encoding.specs.ReadError.{read_refusal_number};
 
 use crate::decoding::decode_all;
 use crate::selection::take_lowest;
-use crate::verify::{SoundShare, geometry_of, leaves_in, locate, read_ueb, read_view};
 use aes_ctr::Aes128;
 use cap_text::{ReadCap, VerifyCap};
-use share_layout::Geometry;
+use share_layout::{Geometry, ShareView, locate_ueb};
+use share_verify::{leaves_in, read_share};
 use std::alloc::{AllocError, AllocFailed, Global};
 
 /// Why shares do not give their file.
@@ -68,7 +64,7 @@ impl<T: Drop> From<AllocFailed<T>> for ReadError {
 /// The file of a cap, from shares that come with their numbers, each in the string that it is said to be.
 ///
 /// Taken are the lowest numbers that pass `verify_share`, as many as are needed, and of each the first string that passes. Refuses
-/// `NotEnoughShares` where fewer pass, and `Inconsistent` where two of the strings that are taken differ in their extension blocks, or a
+/// `NotEnoughShares` exactly where fewer pass, and `Inconsistent` where two of the strings that are taken differ in their extension blocks, or a
 /// segment that they decode to has not the hash of its leaf in the ciphertext tree of the lowest.
 pub fn read_from(
     alloc: Global,
@@ -77,6 +73,9 @@ pub fn read_from(
 ) -> Result<Vec<u8>, ReadError>
     ensures file { IfOk result (λ file. IsReadFrom cap.now (map (λ s. s.0) shares.now) (map (λ s. s.1.now) shares.now) file.items) }
     ensures not_enough { IsErrOf result ReadError.NotEnoughShares → LacksShares (verify_cap_of cap.now) (map (λ s. s.0) shares.now) (map (λ s. s.1.now) shares.now) }
+    // Of too few shares nothing else comes, but where no memory is left.
+    ensures lacking { LacksShares (verify_cap_of cap.now) (map (λ s. s.0) shares.now) (map (λ s. s.1.now) shares.now)
+        → IsErrAnd result (λ e. (e ≡ ReadError.NotEnoughShares) ⊎ (e ≡ ReadError.OutOfMemory)) }
     ensures inconsistent { IsErrOf result ReadError.Inconsistent → AreInconsistent (verify_cap_of cap.now) (map (λ s. s.0) shares.now) (map (λ s. s.1.now) shares.now) }
 {
     let verify_cap = cap.to_verify();
@@ -113,7 +112,7 @@ fn read_ciphertext(
     ensures no_other { IfErr result (λ e. (e ≡ ReadError.OutOfMemory) ⊎ (e ≡ ReadError.Inconsistent)) }
 {
     let (number, string) = shares[places[0]];
-    let Some(first) = read_parts(cap, number, string) else {
+    let Ok(first) = read_share(cap, number, string) else {
         unreachable!();
     };
     let view = first.view;
@@ -123,32 +122,6 @@ fn read_ciphertext(
     let blocks = all_blocks(alloc, shares, places, &first.geometry)?;
     let leaves = leaves_in(view.ciphertext_tree, first.geometry.segment_count());
     decode_all(alloc, &first.geometry, &blocks, leaves)
-}
-
-// What is read of a share, where it passes every check. It is not checked again.
-fn read_parts<'a>(cap: &VerifyCap, number: u16, share: &'a [u8]) -> Option<SoundShare<'a>>
-    ensures complete { (u : Contents) (s : Sections) → IsSound cap.now number share.now u s → IsReadAs u s result }
-    ensures geometry { IfSome result (λ found. found.geometry ≡ geometry_by found.ueb) }
-    ensures one_ueb { IfSome result (λ found. (u : Contents) → IsUebFor cap.now (sections_in found.view).extension_block u → found.ueb ≡ u) }
-{
-    let extension_block = match locate(share) {
-        Ok(extension_block) => extension_block,
-        Err(_) => return None,
-    };
-    let ueb = match read_ueb(cap, extension_block) {
-        Ok(ueb) => ueb,
-        Err(_) => return None,
-    };
-    let geometry = geometry_of(&ueb);
-    let view = match read_view(share, number, &geometry) {
-        Ok(view) => view,
-        Err(_) => return None,
-    };
-    Some(SoundShare {
-        ueb,
-        geometry,
-        view,
-    })
 }
 
 // Whether the shares at these places have this extension block.
@@ -173,7 +146,7 @@ fn has_block(share: &[u8], extension_block: &[u8]) -> bool
     ensures yes { IsTrue result → (block : List ℕ) → LocatesUeb share.now block → extension_block.now ≡ block }
     ensures no { result ≡ false → ¬ LocatesUeb share.now extension_block.now }
 {
-    match locate(share) {
+    match locate_ueb(share) {
         Ok(other) => other == extension_block,
         Err(_) => false,
     }
@@ -205,7 +178,7 @@ fn share_blocks<'a>(share: &'a [u8], number: u16, geometry: &Geometry) -> &'a [u
     requires { (s : Sections) × IsShare geometry.now number share.now s }
     ensures { (s : Sections) → IsShare geometry.now number share.now s → result.now ≡ s.blocks }
 {
-    let Ok(view) = read_view(share, number, geometry) else {
+    let Ok(view) = ShareView::read(share, number, geometry) else {
         unreachable!();
     };
     view.blocks

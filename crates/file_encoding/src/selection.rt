@@ -1,12 +1,12 @@
 // Which shares a reader takes: of the lowest numbers that pass every check, the first string each.
 
 ghost use Rattle.std.specs.Prelude.{◌≡◌, ◌≤◌, ◌<◌, ◌+◌, ℕ, List, length, map, IfOk, OnOk, IfSome, IsNone, IsTrue, ◌↔◌};
+ghost use Rattle.share_verify.specs.Verify.{IsSoundShare};
 ghost use Rattle.file_encoding.specs.Reading.{IsFirstSound, IsSoundAt, NoneSound};
 ghost use Rattle.file_encoding.specs.LowestShares.{AreLowestAt};
-ghost use Rattle.file_encoding.specs.Verify.{IsSoundShare};
 
-use crate::verify::verify_share;
 use cap_text::VerifyCap;
+use share_verify::verify_share;
 use std::alloc::{AllocError, Global};
 
 /// Where the shares of the lowest numbers that pass every check stand among the strings: as many as are needed, or as there are. Of the

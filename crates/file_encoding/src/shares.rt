@@ -3,7 +3,8 @@
 ghost use Rattle.std.specs.Prelude.{◌≡◌, ◌≤◌, ◌<◌, ◌+◌, ◌-◌, ◌*◌, ◌/◌, ◌%◌, ◌^◌, ◌++◌, ℕ, List, [], length, slice_index_or, take, drop, map, IfOk, OnOk, replicate, All};
 ghost use Rattle.merkle.specs.Tree.{height, needed_numbers, tree_nodes, tree_root};
 ghost use Rattle.std.specs.List.{range_with_len};
-ghost use Rattle.file_encoding.specs.Encoding.{block_hashes, share_hashes};
+ghost use Rattle.share_verify.specs.Pieces.{block_hashes};
+ghost use Rattle.file_encoding.specs.Encoding.{share_hashes};
 ghost use Rattle.file_encoding.specs.Blocks.{numbered, padded_blocks, share_beginning, share_end};
 
 use crate::blocks::{Segments, push_hashes};

@@ -9,4 +9,4 @@ mod path;
 mod tree;
 
 pub use path::{check_path, siblings_lead};
-pub use tree::{Tree, TreeError};
+pub use tree::{Tree, TreeError, height};

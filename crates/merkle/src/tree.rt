@@ -136,8 +136,8 @@ impl Tree {
     }
 }
 
-// How often `n` leaves can be halved.
-pub(crate) fn height(n: u32) -> u32
+/// How often `n` leaves can be halved: the height of the tree over them.
+pub fn height(n: u32) -> u32
     ensures value { result ≡ height n }
     ensures short { result ≤ 32 }
     ensures room { n ≤ 2 ^ result }

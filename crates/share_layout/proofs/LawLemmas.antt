@@ -11,7 +11,7 @@ use Rattle.share_layout.specs.Geometry.{Geometry, hashes_size, segment_count, sh
 use Rattle.share_layout.specs.Share.{header, header_numbers, HaveLengths, IsShare, Sections, share_bytes}
 use Rattle.share_layout.specs.Places.{AreRising, EndsWith, LocatesUeb, number_at, places_in, places_of}
 use Rattle.share_layout.specs.declared.places.Places.{Places}
-use Rattle.share_layout.proofs.HeightLemmas.{height_below}
+use Rattle.merkle.proofs.HeightLemmas.{height_below}
 use Rattle.share_layout.proofs.ShareLemmas.{parts_of, share_whole}
 
 -- something is left of something

@@ -1,4 +1,3 @@
-pub mod HeightLemmas
 pub mod NumberLemmas
 pub mod GeometryLemmas
 pub mod ListLemmas

@@ -7,7 +7,7 @@ ghost use Rattle.share_layout.specs.Geometry.{GivesItself};
 ghost use Rattle.share_layout.specs.Share.{header};
 
 use crate::error::LayoutError;
-use crate::tree::height;
+use merkle::height;
 use std::marker::Model;
 use ueb::{MAX_FILE_SIZE, MAX_SEGMENT_SIZE, MAX_SEGMENTS, MAX_SHARES};
 

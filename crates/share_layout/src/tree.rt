@@ -1,23 +1,9 @@
-//! Sizes and node numbers of trees.
+//! Node numbers of trees.
 
 ghost use Rattle.std.specs.Prelude.{◌≡◌, ◌+◌, ◌*◌, ◌^◌, ◌<◌, ◌≤◌, ◌↔◌, ℕ, length, slice_index, take, IsTrue};
 ghost use Rattle.std.specs.Int.{w16, to_be_bytes};
-ghost use Rattle.merkle.specs.Tree.{height, needed_numbers, sibling};
+ghost use Rattle.merkle.specs.Tree.{needed_numbers, sibling};
 ghost use Rattle.share_layout.specs.Share.{CarriesNumbers};
-
-/// How often `n` leaves can be halved.
-pub(crate) fn height(n: u32) -> u32
-    ensures value { result ≡ height n }
-    ensures room { n ≤ 2 ^ result }
-    ensures least { (k : ℕ) → k < result → 2 ^ k < n }
-{
-    for m in 0..32 {
-        if u64::from(n) <= 1u64 << m {
-            return m;
-        }
-    }
-    32
-}
 
 // The place of the other child of one parent.
 fn sibling(place: u16) -> u16

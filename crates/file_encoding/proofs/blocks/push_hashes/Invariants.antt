@@ -1,5 +1,5 @@
 use Rattle.std.proofs.Common.{◌≡◌, ◌++◌, take}
-use Rattle.file_encoding.specs.Encoding.{joined}
+use Rattle.share_verify.specs.Pieces.{joined}
 use Rattle.file_encoding.proofs.blocks.push_hashes.Given as goal
 
 abbrev pub invariant-loop-hash : goal.invariant-loop-hash

@@ -8,7 +8,8 @@ use Rattle.tagged_hash.specs.declared.tag.Tag.TheVariants.{Ciphertext, Extension
 use Rattle.ueb.specs.Block.{ueb_text}
 use Rattle.share_layout.specs.Geometry.{Geometry, hashes_size, segment_count}
 use Rattle.share_layout.specs.Share.{header, header_numbers}
-use Rattle.file_encoding.specs.Encoding.{block_hashes, extension_block_contents, padded_segment, segment_hashes, segments_of, share_leaves}
+use Rattle.share_verify.specs.Pieces.{block_hashes}
+use Rattle.file_encoding.specs.Encoding.{extension_block_contents, padded_segment, segment_hashes, segments_of, share_leaves}
 use Rattle.file_encoding.specs.Blocks.{padded_blocks, share_beginning, share_end}
 use Rattle.file_encoding.proofs.Padding.{padded-whole}
 use Rattle.file_encoding.proofs.Whole.{cap_is, roots_are, shares_are}

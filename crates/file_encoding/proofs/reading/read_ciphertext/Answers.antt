@@ -3,8 +3,8 @@ use Rattle.merkle.specs.Tree.{height, tree_root}
 use Rattle.share_layout.specs.Geometry.{Geometry, segment_count, tree_size}
 use Rattle.share_layout.specs.Share.{IsShare, Sections}
 use Rattle.ueb.specs.Shape.{Contents}
+use Rattle.share_verify.specs.CapBlock.{geometry_by}
 use Rattle.file_encoding.specs.Decoding.{AreBlocks}
-use Rattle.file_encoding.specs.FileOf.{geometry_by}
 use Rattle.file_encoding.specs.LowestShares.{HaveBlocks}
 use Rattle.file_encoding.specs.Reading.{AreLeaves, HasWrongSegment, IsDecoded, blocks_in, disagree as shares_disagree, numbers_of, wrong_segment}
 use Rattle.file_encoding.proofs.Reread.{are_blocks, are_leaves, blocks_are_own, disagree, inside_shares, lowest, lowest_sound, numbers_are, ok_map, own_ueb, readable, taken_some, they_agree, tree_leaves, tree_long}
@@ -20,7 +20,7 @@ pub unreachable-requires : goal.unreachable-requires
 unreachable-requires c =
     let t = lowest c.args.cap.now c.args.shares.now c.requires.takes.taken c.requires.takes.takes c.args.places.now c.requires.takes.at c.requires.some (0, record { ref_ptr = (0, 0); now = [] }) in
     c.in_default.ensures.complete t.contents t.sections
-    (lowest_sound c.args.cap.now c.args.shares.now c.requires.takes.taken c.requires.takes.takes c.args.places.now c.requires.takes.at c.requires.some (0, record { ref_ptr = (0, 0); now = [] }))
+    (lowest_sound c.args.cap.now c.args.shares.now c.requires.takes.taken c.requires.takes.takes c.args.places.now c.requires.takes.at c.requires.some (0, record { ref_ptr = (0, 0); now = [] })).reads
 
 pub agree-requires : goal.agree-requires
 agree-requires c = λ k d inside. inside_shares c.args.cap.now c.args.shares.now c.requires.takes.taken c.requires.takes.takes c.args.places.now c.requires.takes.at k d inside
@@ -31,63 +31,63 @@ all_blocks-requires-clause-inside c = λ k d inside. inside_shares c.args.cap.no
 pub returns-then-not-agree-clause-inconsistent : goal.returns-then-not-agree-clause-inconsistent
 returns-then-not-agree-clause-inconsistent c = λ _.
     let t = lowest c.args.cap.now c.args.shares.now c.requires.takes.taken c.requires.takes.takes c.args.places.now c.requires.takes.at c.requires.some (0, record { ref_ptr = (0, 0); now = [] }) in
-    let same = c.in-Some.ensures.complete t.contents t.sections
-    (lowest_sound c.args.cap.now c.args.shares.now c.requires.takes.taken c.requires.takes.takes c.args.places.now c.requires.takes.at c.requires.some (0, record { ref_ptr = (0, 0); now = [] })) in
+    let same = c.in-Ok.ensures.complete t.contents t.sections
+    (lowest_sound c.args.cap.now c.args.shares.now c.requires.takes.taken c.requires.takes.takes c.args.places.now c.requires.takes.at c.requires.some (0, record { ref_ptr = (0, 0); now = [] })).reads in
     let no = c.agree.ensures.no c.if-not-agree.true in
     shares_disagree c.requires.takes.taken c.requires.takes.takes
     (disagree c.args.cap.now c.args.shares.now c.requires.takes.taken c.requires.takes.takes c.args.places.now c.requires.takes.at c.requires.some (0, record { ref_ptr = (0, 0); now = [] })
-    c.in-Some.first.view.extension_block.now no.0 no.1 (ap (λ (s : Sections). s.extension_block) same.1) no.2)
+    c.in-Ok.first.view.extension_block.now no.0 no.1 (ap (λ (s : Sections). s.extension_block) same.1) no.2)
 
 pub all_blocks-requires-clause-readable : goal.all_blocks-requires-clause-readable
 all_blocks-requires-clause-readable c = λ m below.
     let one = readable c.args.cap.now (map (λ s. s.0) c.args.shares.now) (map (λ s. s.1.now) c.args.shares.now) c.requires.takes.taken c.requires.takes.takes
-    c.args.places.now c.requires.takes.at c.in-Some.first.view.extension_block.now c.in-Some.first.ueb (c.agree.ensures.yes c.if-not-agree.false) c.in-Some.ensures.one_ueb m below in (
+    c.args.places.now c.requires.takes.at c.in-Ok.first.view.extension_block.now c.in-Ok.first.ueb (c.agree.ensures.yes c.if-not-agree.false) c.in-Ok.ensures.one_ueb m below in (
       one.0,
       subst (λ (g : Geometry). IsShare g (get_or (map (λ s. s.0) c.args.shares.now) (get_or c.args.places.now m 0) 0)
-          (get_or (map (λ s. s.1.now) c.args.shares.now) (get_or c.args.places.now m 0) []) one.0) (sym c.in-Some.ensures.geometry) one.1,
+          (get_or (map (λ s. s.1.now) c.args.shares.now) (get_or c.args.places.now m 0) []) one.0) (sym c.in-Ok.ensures.geometry) one.1,
     )
 
 pub leaves_in-leaves-requires : goal.leaves_in-leaves-requires
 leaves_in-leaves-requires c =
     let t = lowest c.args.cap.now c.args.shares.now c.requires.takes.taken c.requires.takes.takes c.args.places.now c.requires.takes.at c.requires.some (0, record { ref_ptr = (0, 0); now = [] }) in
-    let same = c.in-Some.ensures.complete t.contents t.sections
-    (lowest_sound c.args.cap.now c.args.shares.now c.requires.takes.taken c.requires.takes.takes c.args.places.now c.requires.takes.at c.requires.some (0, record { ref_ptr = (0, 0); now = [] })) in
+    let same = c.in-Ok.ensures.complete t.contents t.sections
+    (lowest_sound c.args.cap.now c.args.shares.now c.requires.takes.taken c.requires.takes.takes c.args.places.now c.requires.takes.at c.requires.some (0, record { ref_ptr = (0, 0); now = [] })).reads in
     ap (λ (s : Sections). length s.ciphertext_tree) same.1
     ∙ tree_long c.args.cap.now c.args.shares.now c.requires.takes.taken c.requires.takes.takes c.args.places.now c.requires.takes.at c.requires.some (0, record { ref_ptr = (0, 0); now = [] })
     ∙ ap (λ (u : Contents). tree_size (geometry_by u)) (sym same.0)
-    ∙ ap tree_size (sym c.in-Some.ensures.geometry)
+    ∙ ap tree_size (sym c.in-Ok.ensures.geometry)
     ∙ ap (λ (n : ℕ). (2 * 2 ^ height n - 1) * 32) (sym c.segment_count.ensures.value)
 
 pub decode_all-requires-clause-blocks : goal.decode_all-requires-clause-blocks
 decode_all-requires-clause-blocks c =
-    let have : HaveBlocks (geometry_by c.in-Some.first.ueb) (map (λ s. s.0) c.args.shares.now) (map (λ s. s.1.now) c.args.shares.now) c.args.places.now
+    let have : HaveBlocks (geometry_by c.in-Ok.first.ueb) (map (λ s. s.0) c.args.shares.now) (map (λ s. s.1.now) c.args.shares.now) c.args.places.now
     (map (λ s. s.0) c.deref.result.now) (map (λ s. s.1.now) c.deref.result.now) =
     subst (λ (T : Type 0). T)
-    (λ i. HaveBlocks (c.in-Some.ensures.geometry i) (map (λ s. s.0) c.args.shares.now) (map (λ s. s.1.now) c.args.shares.now) c.args.places.now
+    (λ i. HaveBlocks (c.in-Ok.ensures.geometry i) (map (λ s. s.0) c.args.shares.now) (map (λ s. s.1.now) c.args.shares.now) c.args.places.now
     (map (λ s. s.0) (sym c.deref.ensures.value i)) (map (λ s. s.1.now) (sym c.deref.ensures.value i))) c.in_ok-blocks.ensures in
-    subst (λ (g : Geometry). AreBlocks g (map (λ s. s.0) c.deref.result.now) (map (λ s. s.1.now) c.deref.result.now)) (sym c.in-Some.ensures.geometry)
+    subst (λ (g : Geometry). AreBlocks g (map (λ s. s.0) c.deref.result.now) (map (λ s. s.1.now) c.deref.result.now)) (sym c.in-Ok.ensures.geometry)
     (are_blocks c.args.cap.now (map (λ s. s.0) c.args.shares.now) (map (λ s. s.1.now) c.args.shares.now) c.requires.takes.taken c.requires.takes.takes
-    c.args.places.now c.requires.takes.at c.in-Some.first.view.extension_block.now c.in-Some.first.ueb (c.agree.ensures.yes c.if-not-agree.false) c.in-Some.ensures.one_ueb
+    c.args.places.now c.requires.takes.at c.in-Ok.first.view.extension_block.now c.in-Ok.first.ueb (c.agree.ensures.yes c.if-not-agree.false) c.in-Ok.ensures.one_ueb
     (map (λ s. s.0) c.deref.result.now) (map (λ s. s.1.now) c.deref.result.now) have
     (taken_some c.args.cap.now c.args.shares.now c.requires.takes.taken c.requires.takes.takes c.args.places.now c.requires.takes.at c.requires.some))
 
-have_blocks : (c : goal.After-drop-blocks) → HaveBlocks (geometry_by c.in-Some.first.ueb) (map (λ s. s.0) c.args.shares.now) (map (λ s. s.1.now) c.args.shares.now) c.args.places.now
+have_blocks : (c : goal.After-drop-blocks) → HaveBlocks (geometry_by c.in-Ok.first.ueb) (map (λ s. s.0) c.args.shares.now) (map (λ s. s.1.now) c.args.shares.now) c.args.places.now
     (map (λ s. s.0) c.deref.result.now) (map (λ s. s.1.now) c.deref.result.now)
 have_blocks c =
     subst (λ (T : Type 0). T)
-    (λ i. HaveBlocks (c.in-Some.ensures.geometry i) (map (λ s. s.0) c.args.shares.now) (map (λ s. s.1.now) c.args.shares.now) c.args.places.now
+    (λ i. HaveBlocks (c.in-Ok.ensures.geometry i) (map (λ s. s.0) c.args.shares.now) (map (λ s. s.1.now) c.args.shares.now) c.args.places.now
     (map (λ s. s.0) (sym c.deref.ensures.value i)) (map (λ s. s.1.now) (sym c.deref.ensures.value i))) c.in_ok-blocks.ensures
 
 numbers_same : (c : goal.After-drop-blocks) → map (λ s. s.0) c.deref.result.now ≡ numbers_of c.requires.takes.taken
 numbers_same c =
     numbers_are c.args.cap.now (map (λ s. s.0) c.args.shares.now) (map (λ s. s.1.now) c.args.shares.now) c.requires.takes.taken c.requires.takes.takes
-    c.args.places.now c.requires.takes.at c.in-Some.first.view.extension_block.now c.in-Some.first.ueb (c.agree.ensures.yes c.if-not-agree.false) c.in-Some.ensures.one_ueb
+    c.args.places.now c.requires.takes.at c.in-Ok.first.view.extension_block.now c.in-Ok.first.ueb (c.agree.ensures.yes c.if-not-agree.false) c.in-Ok.ensures.one_ueb
     (map (λ s. s.0) c.deref.result.now) (map (λ s. s.1.now) c.deref.result.now) (have_blocks c)
 
 blocks_same : (c : goal.After-drop-blocks) → map (λ s. s.1.now) c.deref.result.now ≡ blocks_in c.requires.takes.taken
 blocks_same c =
     blocks_are_own c.args.cap.now (map (λ s. s.0) c.args.shares.now) (map (λ s. s.1.now) c.args.shares.now) c.requires.takes.taken c.requires.takes.takes
-    c.args.places.now c.requires.takes.at c.in-Some.first.view.extension_block.now c.in-Some.first.ueb (c.agree.ensures.yes c.if-not-agree.false) c.in-Some.ensures.one_ueb
+    c.args.places.now c.requires.takes.at c.in-Ok.first.view.extension_block.now c.in-Ok.first.ueb (c.agree.ensures.yes c.if-not-agree.false) c.in-Ok.ensures.one_ueb
     (map (λ s. s.0) c.deref.result.now) (map (λ s. s.1.now) c.deref.result.now) (have_blocks c)
 
 own_leaves : (c : goal.After-drop-blocks) → List (List ℕ)
@@ -98,12 +98,12 @@ leaves_same : (c : goal.After-drop-blocks) → c.leaves_in-leaves.result.now ≡
 unfolding own_leaves
 leaves_same c =
     let t = lowest c.args.cap.now c.args.shares.now c.requires.takes.taken c.requires.takes.takes c.args.places.now c.requires.takes.at c.requires.some (0, record { ref_ptr = (0, 0); now = [] }) in
-    let same = c.in-Some.ensures.complete t.contents t.sections
-    (lowest_sound c.args.cap.now c.args.shares.now c.requires.takes.taken c.requires.takes.takes c.args.places.now c.requires.takes.at c.requires.some (0, record { ref_ptr = (0, 0); now = [] })) in
+    let same = c.in-Ok.ensures.complete t.contents t.sections
+    (lowest_sound c.args.cap.now c.args.shares.now c.requires.takes.taken c.requires.takes.takes c.args.places.now c.requires.takes.at c.requires.some (0, record { ref_ptr = (0, 0); now = [] })).reads in
     c.leaves_in-leaves.ensures.leaves
     ∙ tree_leaves c.args.cap.now c.args.shares.now c.requires.takes.taken c.requires.takes.takes c.args.places.now c.requires.takes.at c.requires.some (0, record { ref_ptr = (0, 0); now = [] })
-    c.segment_count.result c.in-Some.first.view.ciphertext_tree.now
-    (c.segment_count.ensures.value ∙ ap segment_count c.in-Some.ensures.geometry ∙ ap (λ (u : Contents). segment_count (geometry_by u)) same.0)
+    c.segment_count.result c.in-Ok.first.view.ciphertext_tree.now
+    (c.segment_count.ensures.value ∙ ap segment_count c.in-Ok.ensures.geometry ∙ ap (λ (u : Contents). segment_count (geometry_by u)) same.0)
     (ap (λ (s : Sections). s.ciphertext_tree) same.1)
 
 own_are_leaves : (c : goal.After-drop-blocks) → AreLeaves c.requires.takes.taken (own_leaves c)
@@ -111,47 +111,47 @@ unfolding own_leaves
 own_are_leaves c =
     are_leaves c.args.cap.now c.args.shares.now c.requires.takes.taken c.requires.takes.takes c.args.places.now c.requires.takes.at c.requires.some (0, record { ref_ptr = (0, 0); now = [] })
 
-own_count : (c : goal.After-drop-blocks) → length (own_leaves c) ≡ segment_count (geometry_by c.in-Some.first.ueb)
+own_count : (c : goal.After-drop-blocks) → length (own_leaves c) ≡ segment_count (geometry_by c.in-Ok.first.ueb)
 unfolding own_leaves
 own_count c =
     let t = lowest c.args.cap.now c.args.shares.now c.requires.takes.taken c.requires.takes.takes c.args.places.now c.requires.takes.at c.requires.some (0, record { ref_ptr = (0, 0); now = [] }) in
     let sound = lowest_sound c.args.cap.now c.args.shares.now c.requires.takes.taken c.requires.takes.takes c.args.places.now c.requires.takes.at c.requires.some (0, record { ref_ptr = (0, 0); now = [] }) in
-    sound.sections.ciphertext_tree.count ∙ ap (λ (u : Contents). segment_count (geometry_by u)) (sym (c.in-Some.ensures.complete t.contents t.sections sound).0)
+    sound.sections.ciphertext_tree.count ∙ ap (λ (u : Contents). segment_count (geometry_by u)) (sym (c.in-Ok.ensures.complete t.contents t.sections sound.reads).0)
 
-own_root : (c : goal.After-drop-blocks) → tree_root (own_leaves c) ≡ c.in-Some.first.ueb.crypttext_root_hash
+own_root : (c : goal.After-drop-blocks) → tree_root (own_leaves c) ≡ c.in-Ok.first.ueb.crypttext_root_hash
 unfolding own_leaves
 own_root c =
     let t = lowest c.args.cap.now c.args.shares.now c.requires.takes.taken c.requires.takes.takes c.args.places.now c.requires.takes.at c.requires.some (0, record { ref_ptr = (0, 0); now = [] }) in
     let sound = lowest_sound c.args.cap.now c.args.shares.now c.requires.takes.taken c.requires.takes.takes c.args.places.now c.requires.takes.at c.requires.some (0, record { ref_ptr = (0, 0); now = [] }) in
-    sound.sections.ciphertext_tree.root ∙ ap (λ (u : Contents). u.crypttext_root_hash) (sym (c.in-Some.ensures.complete t.contents t.sections sound).0)
+    sound.sections.ciphertext_tree.root ∙ ap (λ (u : Contents). u.crypttext_root_hash) (sym (c.in-Ok.ensures.complete t.contents t.sections sound.reads).0)
 
 pub returns-clause-read : goal.returns-clause-read
 returns-clause-read c =
     ok_map _ _ c.decode_all.result (λ ciphertext decoded. record {
       taken = c.requires.takes.taken;
       takes = c.requires.takes.takes;
-      extension_block = c.in-Some.first.view.extension_block.now;
-      u = c.in-Some.first.ueb;
+      extension_block = c.in-Ok.first.view.extension_block.now;
+      u = c.in-Ok.first.ueb;
       ueb =
           own_ueb c.args.cap.now (map (λ s. s.0) c.args.shares.now) (map (λ s. s.1.now) c.args.shares.now) c.requires.takes.taken c.requires.takes.takes
-          c.args.places.now c.requires.takes.at c.in-Some.first.view.extension_block.now c.in-Some.first.ueb (c.agree.ensures.yes c.if-not-agree.false) c.in-Some.ensures.one_ueb
+          c.args.places.now c.requires.takes.at c.in-Ok.first.view.extension_block.now c.in-Ok.first.ueb (c.agree.ensures.yes c.if-not-agree.false) c.in-Ok.ensures.one_ueb
           (taken_some c.args.cap.now c.args.shares.now c.requires.takes.taken c.requires.takes.takes c.args.places.now c.requires.takes.at c.requires.some);
       agree =
           they_agree c.args.cap.now (map (λ s. s.0) c.args.shares.now) (map (λ s. s.1.now) c.args.shares.now) c.requires.takes.taken c.requires.takes.takes
-          c.args.places.now c.requires.takes.at c.in-Some.first.view.extension_block.now c.in-Some.first.ueb (c.agree.ensures.yes c.if-not-agree.false) c.in-Some.ensures.one_ueb;
+          c.args.places.now c.requires.takes.at c.in-Ok.first.view.extension_block.now c.in-Ok.first.ueb (c.agree.ensures.yes c.if-not-agree.false) c.in-Ok.ensures.one_ueb;
       leaves = own_leaves c;
       are_leaves = own_are_leaves c;
       count = own_count c;
       root = own_root c;
       decoded =
           subst (λ (T : Type 0). T)
-          (λ i. IsDecoded (c.in-Some.ensures.geometry i) (numbers_same c i) (blocks_same c i) (leaves_same c i) ciphertext.items) decoded;
+          (λ i. IsDecoded (c.in-Ok.ensures.geometry i) (numbers_same c i) (blocks_same c i) (leaves_same c i) ciphertext.items) decoded;
     }) c.decode_all.ensures.decoded
 
 pub returns-clause-inconsistent : goal.returns-clause-inconsistent
 returns-clause-inconsistent c = λ is.
-    wrong_segment c.requires.takes.taken c.in-Some.first.view.extension_block.now c.in-Some.first.ueb (own_leaves c) c.requires.takes.takes
+    wrong_segment c.requires.takes.taken c.in-Ok.first.view.extension_block.now c.in-Ok.first.ueb (own_leaves c) c.requires.takes.takes
     (they_agree c.args.cap.now (map (λ s. s.0) c.args.shares.now) (map (λ s. s.1.now) c.args.shares.now) c.requires.takes.taken c.requires.takes.takes
-    c.args.places.now c.requires.takes.at c.in-Some.first.view.extension_block.now c.in-Some.first.ueb (c.agree.ensures.yes c.if-not-agree.false) c.in-Some.ensures.one_ueb)
+    c.args.places.now c.requires.takes.at c.in-Ok.first.view.extension_block.now c.in-Ok.first.ueb (c.agree.ensures.yes c.if-not-agree.false) c.in-Ok.ensures.one_ueb)
     (own_are_leaves c)
-    (subst (λ (T : Type 0). T) (λ i. HasWrongSegment (c.in-Some.ensures.geometry i) (numbers_same c i) (blocks_same c i) (leaves_same c i)) (c.decode_all.ensures.inconsistent is))
+    (subst (λ (T : Type 0). T) (λ i. HasWrongSegment (c.in-Ok.ensures.geometry i) (numbers_same c i) (blocks_same c i) (leaves_same c i)) (c.decode_all.ensures.inconsistent is))

@@ -1,9 +1,10 @@
-use Rattle.std.proofs.Common.{◌≡◌, ℕ, List, length, map, ap, subst, ◌∙◌, arith}
+use Rattle.std.proofs.Common.{◌≡◌, ℕ, List, length, map, ap, subst, sym, ◌∙◌, arith}
 use Rattle.std.proofs.lemmas.List.{length-map}
 use Rattle.aes_ctr.specs.CounterMode.{xored}
 use Rattle.cap_text.specs.Cap.{VerifyCapValue}
 use Rattle.file_encoding.specs.LowestShares.{GivesCiphertext, TakesAt}
 use Rattle.file_encoding.specs.Reading.{AreInconsistent, LacksShares, TakenShare}
+use Rattle.file_encoding.proofs.LowestShares.{enough_places}
 use Rattle.file_encoding.proofs.Reread.{inside_shares, read_is}
 use Rattle.file_encoding.proofs.reading.read_from.Goals as goal
 
@@ -54,3 +55,21 @@ returns-then-len-from-clause-not_enough c = λ _.
 pub returns-clause-inconsistent : goal.returns-clause-inconsistent
 returns-clause-inconsistent c = λ is.
     subst (λ (v : VerifyCapValue). AreInconsistent v (map (λ s. s.0) c.args.shares.now) (map (λ s. s.1.now) c.args.shares.now)) c.to_verify-verify_cap.ensures (c.in-Err.ensures.inconsistent is)
+
+pub returns-in-Ok-clause-lacking : goal.returns-in-Ok-clause-lacking
+returns-in-Ok-clause-lacking c = λ lacks.
+    let cap = c.to_verify-verify_cap.result in
+    let same = c.to_verify-verify_cap.ensures in
+    let needed : cap.needed ≡ c.args.cap.now.needed = ap (λ (v : VerifyCapValue). v.needed) same in
+    absurd (enough_places cap (map (λ s. s.0) c.args.shares.now) (map (λ s. s.1.now) c.args.shares.now) c.in_ok-places.places.items c.in_ok-places.ensures
+    (omega (arith, needed, c.if-len-from.false, c.from.ensures, c.k.ensures.value, c.len.ensures, c.in_ok-places.places.ok))
+    (subst (λ (v : VerifyCapValue). LacksShares v (map (λ s. s.0) c.args.shares.now) (map (λ s. s.1.now) c.args.shares.now)) (sym same) lacks))
+
+pub returns-clause-lacking : goal.returns-clause-lacking
+returns-clause-lacking c = λ lacks.
+    let cap = c.to_verify-verify_cap.result in
+    let same = c.to_verify-verify_cap.ensures in
+    let needed : cap.needed ≡ c.args.cap.now.needed = ap (λ (v : VerifyCapValue). v.needed) same in
+    absurd (enough_places cap (map (λ s. s.0) c.args.shares.now) (map (λ s. s.1.now) c.args.shares.now) c.in_ok-places.places.items c.in_ok-places.ensures
+    (omega (arith, needed, c.if-len-from.false, c.from.ensures, c.k.ensures.value, c.len.ensures, c.in_ok-places.places.ok))
+    (subst (λ (v : VerifyCapValue). LacksShares v (map (λ s. s.0) c.args.shares.now) (map (λ s. s.1.now) c.args.shares.now)) (sym same) lacks))

@@ -1,7 +1,7 @@
 use Rattle.std.proofs.Common.{◌≡◌, ◌+◌, List, [], ℕ, ◌∷◌, ◌++◌, sym, ◌∙◌, zero-add}
 use Rattle.std.proofs.lemmas.List.FromFn.{map-range_with_len_more}
 use Rattle.merkle.specs.Tree.{tree_root}
-use Rattle.file_encoding.specs.Encoding.{block_hashes}
+use Rattle.share_verify.specs.Pieces.{block_hashes}
 use Rattle.file_encoding.specs.Blocks.{share_beginning}
 use Rattle.file_encoding.proofs.shares.begin_shares.Invariants.{HaveBegun}
 use Rattle.file_encoding.proofs.shares.begin_shares.Goals as goal

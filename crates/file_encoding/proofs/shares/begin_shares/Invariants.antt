@@ -1,7 +1,7 @@
 use Rattle.std.proofs.Common.{◌≡◌, List, ℕ, map}
 use Rattle.std.specs.List.{range_with_len}
 use Rattle.merkle.specs.Tree.{tree_nodes, tree_root}
-use Rattle.file_encoding.specs.Encoding.{block_hashes}
+use Rattle.share_verify.specs.Pieces.{block_hashes}
 use Rattle.file_encoding.specs.Blocks.{padded_blocks, share_beginning}
 use Rattle.file_encoding.proofs.shares.begin_shares.Given as goal
 

@@ -1,9 +1,10 @@
 use Rattle.std.proofs.Common.{◌-◌, ◌+◌, ◌*◌, List, ℕ, [], ◌∷◌, ◌++◌, drop, length, rules, ap, sym, ◌∙◌, arith}
 use Rattle.std.proofs.lemmas.List.{length-map}
-use Rattle.file_encoding.specs.Encoding.{pieces, segment_hashes}
-use Rattle.file_encoding.proofs.Pieces.{length-pieces, map_pieces-from}
 use Rattle.tagged_hash.specs.TaggedHash.{tagged_hash}
 use Rattle.tagged_hash.specs.declared.tag.Tag.TheVariants.{CiphertextSegment}
+use Rattle.share_verify.specs.Pieces.{pieces}
+use Rattle.file_encoding.specs.Encoding.{segment_hashes}
+use Rattle.file_encoding.proofs.Pieces.{length-pieces, map_pieces-from}
 use Rattle.file_encoding.proofs.blocks.Segments.hashes.Goals as goal
 
 pub loop-number-preserved : goal.loop-number-preserved

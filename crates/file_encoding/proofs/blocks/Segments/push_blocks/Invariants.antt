@@ -1,6 +1,6 @@
 use Rattle.std.proofs.Common.{◌≡◌, ℕ, List, ◌-◌, ◌*◌, ◌++◌, drop}
+use Rattle.share_verify.specs.Pieces.{block_hashes, joined}
 use Rattle.file_encoding.specs.Blocks.{padded_blocks}
-use Rattle.file_encoding.specs.Encoding.{block_hashes, joined}
 use Rattle.file_encoding.proofs.blocks.Segments.push_blocks.Given as goal
 
 -- what is written so far, and the blocks of the rest

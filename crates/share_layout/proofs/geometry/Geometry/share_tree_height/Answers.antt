@@ -1,5 +1,5 @@
 use Rattle.std.proofs.Common.{arith}
-use Rattle.share_layout.proofs.HeightLemmas.{height_low}
+use Rattle.merkle.proofs.HeightLemmas.{height_low}
 use Rattle.share_layout.proofs.geometry.Geometry.share_tree_height.Goals as goal
 
 pub returns-clause-low : goal.returns-clause-low

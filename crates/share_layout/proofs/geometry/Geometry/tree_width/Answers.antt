@@ -1,7 +1,7 @@
 use Rattle.std.proofs.Common.{arith}
 use Rattle.std.proofs.Math.Nat.{pow-le-pow_right}
 use Rattle.std.proofs.lemmas.Nat.{one_shl, pow_pos}
-use Rattle.share_layout.proofs.HeightLemmas.{height_low}
+use Rattle.merkle.proofs.HeightLemmas.{height_low}
 use Rattle.share_layout.proofs.geometry.Geometry.tree_width.Goals as goal
 
 pub overflow_shl-result : goal.overflow_shl-result

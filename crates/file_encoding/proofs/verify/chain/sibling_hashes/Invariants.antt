@@ -1,9 +1,0 @@
-use Rattle.std.proofs.Common.{◌≡◌, ℕ, ◌<◌, [], Some, length, slice_index_or}
-use Rattle.file_encoding.specs.ShareHashes.{carried_hash, sibling_number}
-use Rattle.file_encoding.proofs.verify.chain.sibling_hashes.Given as goal
-
-abbrev pub invariant-loop-i : goal.invariant-loop-i
-invariant-loop-i l = record {
-  size : length l.siblings ≡ 8;
-  found : (k : ℕ) → k < l.i → carried_hash l.entries (sibling_number l.height l.leaf k) ≡ Some (slice_index_or l.siblings k []);
-}

@@ -1,0 +1,5 @@
+pub mod CapBlock
+pub mod Pieces
+pub mod TreeSection
+pub mod ShareHashes
+pub mod Verify

@@ -1,0 +1,46 @@
+//! Why a share does not pass.
+
+ghost use Rattle.std.specs.Prelude.{◌≡◌};
+ghost use Rattle.share_verify.specs.Verify.{fault_number};
+
+use share_layout::LayoutError;
+use ueb::UebError;
+
+/// Why a share is not the one that its cap and number ask for. `verify_share` tells the first fault, in the order of its
+/// documentation.
+#[derive(Clone, Copy, Debug, PartialEq, Eq)]
+pub enum ShareFault {
+    /// It is not laid out as a share (number 40).
+    Layout(LayoutError),
+    /// The hash of its extension block is not the cap's (number 42).
+    OtherUeb,
+    /// Its extension block is not one of a file with the cap's numbers (number 42).
+    Ueb(UebError),
+    /// The place of the tree that is no longer used holds other bytes than zeros (number 41).
+    Unused,
+    /// The ciphertext tree has wrong inner nodes or padding, or another root than the extension block's (number 43).
+    CiphertextTree,
+    /// The block tree has wrong inner nodes or padding (number 44).
+    BlockTree,
+    /// The share hashes do not lead from the block tree's root to the extension block's share root (number 45).
+    ShareHashes,
+    /// The hash of a block is not its leaf in the block tree (number 46).
+    Data,
+}
+
+impl ShareFault {
+    /// The fault's number.
+    pub fn number(&self) -> u8
+        ensures { result ≡ fault_number self.now }
+    {
+        match self {
+            ShareFault::Layout(_) => 40,
+            ShareFault::Unused => 41,
+            ShareFault::OtherUeb | ShareFault::Ueb(_) => 42,
+            ShareFault::CiphertextTree => 43,
+            ShareFault::BlockTree => 44,
+            ShareFault::ShareHashes => 45,
+            ShareFault::Data => 46,
+        }
+    }
+}

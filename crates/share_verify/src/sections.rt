@@ -1,0 +1,89 @@
+//! The sections of a share, against its extension block.
+
+ghost use Rattle.std.specs.Prelude.{◌≡◌, ◌<◌, ◌≤◌, ◌↔◌, ◌*◌, ◌+◌, ◌-◌, ◌^◌, IsTrue, IsOk, Err, length, replicate};
+ghost use Rattle.merkle.specs.Tree.{height};
+ghost use Rattle.share_layout.specs.Reading.{sections_in};
+ghost use Rattle.share_layout.specs.Share.{HaveLengths};
+ghost use Rattle.share_verify.specs.Pieces.{block_hashes, pieces};
+ghost use Rattle.share_verify.specs.CapBlock.{geometry_by};
+ghost use Rattle.share_verify.specs.TreeSection.{HoldsTree, IsTreeSection};
+ghost use Rattle.share_verify.specs.Verify.{AreSound, HasShareHashes, IsSectionFault};
+ghost use Rattle.share_verify.specs.declared.fault.ShareFault.{ShareFault};
+
+use crate::blocks::are_hashes_of;
+use crate::chain::{entries_in, leads_by_entries};
+use crate::fault::ShareFault;
+use crate::tree::{is_tree_section, is_tree_with_root, leaves_in, root_in};
+use share_layout::{Geometry, ShareView};
+use ueb::Ueb;
+
+/// Whether the sections of share `num` are as the extension block asks, or their first fault. They have the lengths of the extension
+/// block's geometry.
+pub(crate) fn check_sections(
+    ueb: &Ueb,
+    geometry: &Geometry,
+    num: u16,
+    view: &ShareView<'_>,
+) -> Result<(), ShareFault>
+    requires geometry { geometry.now ≡ geometry_by ueb.now }
+    requires number { num < ueb.now.total_shares }
+    requires lengths { HaveLengths geometry.now (sections_in view.now) }
+    ensures sound { IsOk result ↔ AreSound ueb.now num (sections_in view.now) }
+    ensures refused { (fault : ShareFault) → (result ≡ Err fault) ↔ IsSectionFault ueb.now num (sections_in view.now) fault }
+{
+    let segments = geometry.segment_count();
+    if !is_zero(view.unused) {
+        return Err(ShareFault::Unused);
+    }
+    if !is_tree_with_root(view.ciphertext_tree, segments, ueb.crypttext_root_hash()) {
+        return Err(ShareFault::CiphertextTree);
+    }
+    if !is_tree_section(view.block_tree, segments) {
+        return Err(ShareFault::BlockTree);
+    }
+    if !has_share_hashes(ueb, num, view) {
+        return Err(ShareFault::ShareHashes);
+    }
+    if !is_tree_of(
+        view.block_tree,
+        segments,
+        geometry.block_size() as usize,
+        view.blocks,
+    ) {
+        return Err(ShareFault::Data);
+    }
+    Ok(())
+}
+
+// Whether all bytes are zeros.
+fn is_zero(bytes: &[u8]) -> bool
+    ensures { IsTrue result ↔ (bytes.now ≡ replicate (length bytes.now) 0) }
+{
+    bytes.iter().all(|byte| *byte == 0)
+}
+
+// Whether the share hashes lead from the block tree's root to the extension block's share root.
+fn has_share_hashes(ueb: &Ueb, num: u16, view: &ShareView<'_>) -> bool
+    requires number { num < ueb.now.total_shares }
+    requires tree { 32 ≤ length (sections_in view.now).block_tree }
+    requires hashes { length (sections_in view.now).share_hashes ≡ (height ueb.now.total_shares + 1) * 34 }
+    ensures { IsTrue result ↔ HasShareHashes ueb.now num (sections_in view.now) }
+{
+    leads_by_entries(
+        ueb.total_shares(),
+        ueb.share_root_hash(),
+        num,
+        root_in(view.block_tree),
+        entries_in(view.share_hashes),
+    )
+}
+
+// Whether the tree in a section is the one over the hashes of the blocks, which have `block_size` bytes each, the last one perhaps
+// fewer. It is a tree over as many leaves as there are blocks.
+fn is_tree_of(section: &[u8], block_count: u32, block_size: usize, blocks: &[u8]) -> bool
+    requires long { length section.now ≡ (2 * 2 ^ height block_count - 1) * 32 }
+    requires tree { IsTreeSection block_count section.now }
+    ensures { IsTrue result ↔ HoldsTree section.now (block_hashes (pieces block_count block_size blocks.now)) }
+{
+    are_hashes_of(leaves_in(section, block_count), block_size, blocks)
+}
