@@ -1,36 +1,50 @@
 // Base32 by RFC 4648's examples, and caps of whole encodings and with one fault, by Python.
 
-use cap_text::{Cap, CapError, LitCap, ReadCap, from_base32, to_base32};
-use std::test::Fail;
+use cap_text::{Cap, CapError, LitCap, ReadCap, VerifyCap, from_base32, to_base32};
+use std::alloc::Global;
 
-#[test]
-fn spells_base32(rt: HostRuntime) -> Result<(), Fail> {
-    let rows = [
-        ("", ""),
-        ("f", "my"),
-        ("fo", "mzxq"),
-        ("foo", "mzxw6"),
-        ("foob", "mzxw6yq"),
-        ("fooba", "mzxw6ytb"),
-        ("foobar", "mzxw6ytboi"),
-        ("hello", "nbswy3dp"),
-    ];
-    for (bytes, text) in rows {
-        let bytes = bytes.as_bytes();
-        assert_eq!(rt; to_base32(rt.alloc(), bytes)?.as_str(), text);
-        let mut out = vec![in rt.alloc(); 0u8; bytes.len()]?;
-        assert!(rt; from_base32(text.as_bytes(), &mut out), "{text}");
-        assert_eq!(rt; out.as_slice(), bytes, "{text}");
+// RFC 4648's examples in lower case, and a text of five bytes.
+const SPELLED: [(&str, &str); 8] = [
+    ("", ""),
+    ("f", "my"),
+    ("fo", "mzxq"),
+    ("foo", "mzxw6"),
+    ("foob", "mzxw6yq"),
+    ("fooba", "mzxw6ytb"),
+    ("foobar", "mzxw6ytboi"),
+    ("hello", "nbswy3dp"),
+];
+
+fn is_spelled(alloc: Global, bytes: &[u8], text: &str) -> bool {
+    match to_base32(alloc, bytes) {
+        Ok(spelled) => spelled.as_str() == text,
+        Err(_) => false,
     }
-    Ok(())
+}
+
+// Whether a text spells the bytes, at most six.
+fn spells(text: &str, bytes: &[u8]) -> bool {
+    let mut out = [0u8; 6];
+    let out = &mut out[..bytes.len().min(6)];
+    from_base32(text.as_bytes(), out) && *out == *bytes
 }
 
 #[test]
+fn spells_base32(rt: HostRuntime) {
+    for (bytes, text) in SPELLED {
+        assert!(rt; is_spelled(rt.alloc(), bytes.as_bytes(), text), "{text}");
+        assert!(rt; spells(text, bytes.as_bytes()), "{text}");
+    }
+}
+
+// Texts that do not spell one byte.
+const MISSPELLED: [&str; 13] = [
+    "m", "mz", "MY", "my======", "my ", "m0", "m1", "m8", "m{", "m`", "myaa", "a", "mya",
+];
+
+#[test]
 fn takes_no_other_spelling(rt: HostRuntime) {
-    let rows = [
-        "m", "mz", "MY", "my======", "my ", "m0", "m1", "m8", "m{", "m`", "myaa", "a", "mya",
-    ];
-    for text in rows {
+    for text in MISSPELLED {
         let mut out = [0u8; 1];
         assert!(rt; !from_base32(text.as_bytes(), &mut out), "{text}");
     }
@@ -38,6 +52,15 @@ fn takes_no_other_spelling(rt: HostRuntime) {
     assert!(rt; !from_base32(b"my", &mut out));
     assert!(rt; !from_base32(b"mzxw6", &mut out));
     assert!(rt; from_base32(b"mzxq", &mut out));
+}
+
+#[test]
+fn refused_memory_in_base32(rt: HostRuntime) {
+    let is_right = match to_base32(rt.alloc(), b"foobar") {
+        Ok(text) => text.as_str() == "mzxw6ytboi",
+        Err(error) => error == CapError::OutOfMemory,
+    };
+    assert!(rt; is_right);
 }
 
 // Read caps, each with the verify cap of its file.
@@ -93,48 +116,99 @@ const CAPS: [(&str, &str, u16, u16, u64); 7] = [
     ),
 ];
 
-#[test]
-fn reads_and_writes_caps(rt: HostRuntime) -> Result<(), Fail> {
-    for (text, verify_text, k, n, size) in CAPS {
-        let cap = Cap::parse(text.as_bytes())?;
-        assert_eq!(rt; cap.to_string(rt.alloc())?.as_str(), text);
-        let Cap::Chk(read) = cap else {
-            return Err("no read cap")?;
-        };
-        assert_eq!(rt; (read.k(), read.n(), read.size()), (k, n, size));
+fn read_cap(text: &str) -> Option<ReadCap> {
+    let Cap::Chk(cap) = Cap::parse(text.as_bytes()).ok()? else {
+        return None;
+    };
+    Some(cap)
+}
 
-        let verify = read.to_verify();
-        assert_eq!(rt; verify.to_string(rt.alloc())?.as_str(), verify_text);
-        assert_eq!(rt; Cap::parse(verify_text.as_bytes())?, Cap::Verify(verify));
-        assert_eq!(rt; verify.ueb_hash(), read.ueb_hash());
-        assert_eq!(rt; (verify.k(), verify.n(), verify.size()), (k, n, size));
-        let index = to_base32(rt.alloc(), verify.storage_index())?;
-        assert_eq!(rt; verify_text.as_bytes().get(17..43), Some(index.as_bytes()));
+fn is_written(alloc: Global, cap: &Cap, text: &str) -> bool {
+    match cap.to_string(alloc) {
+        Ok(written) => written.as_str() == text,
+        Err(_) => false,
     }
-    Ok(())
+}
+
+// Whether a text is read as a cap and written the same.
+fn comes_again(alloc: Global, text: &str) -> bool {
+    match Cap::parse(text.as_bytes()) {
+        Ok(cap) => is_written(alloc, &cap, text),
+        Err(_) => false,
+    }
+}
+
+// Whether the verify cap's text is read as this, and has its storage index in it.
+fn is_verify_text(alloc: Global, verify: VerifyCap, text: &str) -> bool {
+    let Ok(index) = to_base32(alloc, verify.storage_index()) else {
+        return false;
+    };
+    text.as_bytes().get(17..43) == Some(index.as_bytes())
+        && Cap::parse(text.as_bytes()) == Ok(Cap::Verify(verify))
+}
+
+fn have_numbers(read: &ReadCap, verify: &VerifyCap, k: u16, n: u16, size: u64) -> bool {
+    (read.k(), read.n(), read.size()) == (k, n, size)
+        && (verify.k(), verify.n(), verify.size()) == (k, n, size)
+        && verify.ueb_hash() == read.ueb_hash()
 }
 
 #[test]
-fn reads_and_writes_literal_caps(rt: HostRuntime) -> Result<(), Fail> {
-    let rows: [(&str, &[u8]); 5] = [
-        ("URI:LIT:", b""),
-        ("URI:LIT:na", &[0x68]),
-        ("URI:LIT:nbswy3dp", b"hello"),
-        ("URI:LIT:aaaaaaaa", &[0; 5]),
-        (
-            "URI:LIT:7777777777777777777777777777777777777777777777777777777777777777777777777777777777777777",
-            &[0xff; 55],
-        ),
-    ];
-    for (text, file) in rows {
-        let cap = LitCap::new(file)?;
-        assert_eq!(rt; cap.data(), file);
-        assert_eq!(rt; cap.to_string(rt.alloc())?.as_str(), text);
-        let read = Cap::parse(text.as_bytes())?;
-        assert_eq!(rt; read.to_string(rt.alloc())?.as_str(), text);
-        assert_eq!(rt; read, Cap::Lit(cap));
+fn reads_and_writes_caps(rt: HostRuntime) {
+    for (text, verify_text, k, n, size) in CAPS {
+        assert!(rt; comes_again(rt.alloc(), text), "{text}");
+        assert!(rt; comes_again(rt.alloc(), verify_text), "{text}");
+        assert!(rt;
+            are_of_one_file(rt.alloc(), text, verify_text, k, n, size),
+            "{text}"
+        );
     }
-    Ok(())
+}
+
+// Whether the verify cap of a read cap has this text, and both have these numbers.
+fn are_of_one_file(
+    alloc: Global,
+    text: &str,
+    verify_text: &str,
+    k: u16,
+    n: u16,
+    size: u64,
+) -> bool {
+    let Some(read) = read_cap(text) else {
+        return false;
+    };
+    let verify = read.to_verify();
+    have_numbers(&read, &verify, k, n, size) && is_verify_text(alloc, verify, verify_text)
+}
+
+// Literal caps and their files.
+const LITERALS: [(&str, &[u8]); 5] = [
+    ("URI:LIT:", b""),
+    ("URI:LIT:na", &[0x68]),
+    ("URI:LIT:nbswy3dp", b"hello"),
+    ("URI:LIT:aaaaaaaa", &[0; 5]),
+    (
+        "URI:LIT:7777777777777777777777777777777777777777777777777777777777777777777777777777777777777777",
+        &[0xff; 55],
+    ),
+];
+
+// Whether a text is read as the literal cap of a file.
+fn is_literal(text: &str, file: &[u8]) -> bool {
+    match LitCap::new(file) {
+        Ok(cap) => cap.data() == file && Cap::parse(text.as_bytes()) == Ok(Cap::Lit(cap)),
+        Err(_) => false,
+    }
+}
+
+#[test]
+fn reads_and_writes_literal_caps(rt: HostRuntime) {
+    for (text, file) in LITERALS {
+        assert!(rt;
+            is_literal(text, file) && comes_again(rt.alloc(), text),
+            "{text}"
+        );
+    }
 }
 
 // Texts with a fault, and the number of the first.
@@ -300,31 +374,50 @@ const FAULTY: [(&str, u8); 51] = [
     ),
 ];
 
-#[test]
-fn tells_the_first_fault(rt: HostRuntime) {
-    for (text, number) in FAULTY {
-        match Cap::parse(text.as_bytes()) {
-            Ok(_) => assert!(rt; false, "{text}"),
-            Err(fault) => assert_eq!(rt; fault.number(), number, "{text}"),
-        }
+// The number of the first fault of a text, or 0.
+fn fault_number(text: &str) -> u8 {
+    match Cap::parse(text.as_bytes()) {
+        Ok(_) => 0,
+        Err(fault) => fault.number(),
     }
 }
 
 #[test]
-fn keeps_ranges(rt: HostRuntime) -> Result<(), Fail> {
-    let (key, hash) = ([7u8; 16], [9u8; 32]);
-    let cap = ReadCap::new(key, hash, 3, 10, 56)?;
-    assert_eq!(rt; (cap.key(), cap.ueb_hash()), (&key, &hash));
-    for (k, n, size) in [
-        (0, 10, 56),
-        (4, 3, 56),
-        (3, 257, 56),
-        (3, 10, 55),
-        (3, 10, 1073741825),
-    ] {
-        let refused = ReadCap::new(key, hash, k, n, size);
-        assert_eq!(rt; refused.err(), Some(CapError::BadParameters));
+fn tells_the_first_fault(rt: HostRuntime) {
+    for (text, number) in FAULTY {
+        assert!(rt; fault_number(text) == number, "{text}");
     }
-    assert_eq!(rt; LitCap::new(&[1; 56]).err(), Some(CapError::LitTooLong));
-    Ok(())
+}
+
+// The numbers of a read cap that is refused.
+const REFUSED: [(u16, u16, u64); 5] = [
+    (0, 10, 56),
+    (4, 3, 56),
+    (3, 257, 56),
+    (3, 10, 55),
+    (3, 10, 1073741825),
+];
+
+fn keeps_key_and_hash() -> bool {
+    let (key, hash) = ([7u8; 16], [9u8; 32]);
+    match ReadCap::new(key, hash, 3, 10, 56) {
+        Ok(cap) => *cap.key() == key && *cap.ueb_hash() == hash,
+        Err(_) => false,
+    }
+}
+
+fn refuses(k: u16, n: u16, size: u64) -> bool {
+    match ReadCap::new([7; 16], [9; 32], k, n, size) {
+        Ok(_) => false,
+        Err(error) => error == CapError::BadParameters,
+    }
+}
+
+#[test]
+fn keeps_ranges(rt: HostRuntime) {
+    assert!(rt; keeps_key_and_hash());
+    for (k, n, size) in REFUSED {
+        assert!(rt; refuses(k, n, size), "{k} of {n}, {size} bytes");
+    }
+    assert!(rt; matches!(LitCap::new(&[1; 56]), Err(CapError::LitTooLong)));
 }

@@ -161,6 +161,44 @@ fn encodes_files_as_others_do(rt: HostRuntime) -> Result<(), Fail> {
     Ok(())
 }
 
+// A file of eight segments, where memory may be refused.
+#[test]
+fn refused_memory_in_encoding(rt: HostRuntime) {
+    let many = (30_000, 2, 5, 4096);
+    let secret = "friends of the grid";
+    let is_right = match becomes(rt.alloc(), many, secret, CAPS[3], 16_930, &SMALL_SEGMENTS) {
+        Ok(is_right) => is_right,
+        Err(error) => error.number() == 1,
+    };
+    assert!(rt; is_right);
+}
+
+// Whether a file of three segments comes from two of its three shares, or memory is refused.
+fn reads_or_is_refused(alloc: Global) -> bool {
+    let Ok(file) = counted(alloc, 300) else {
+        return true;
+    };
+    let Ok(Encoded { cap, shares }) = encoded(alloc, &file, NO_SECRET, 2, 3, 100) else {
+        return true;
+    };
+    let Cap::Chk(cap) = cap else {
+        return false;
+    };
+    let strings = [
+        (2, up_to(&shares, 2, 10_000)),
+        (1, up_to(&shares, 1, 10_000)),
+    ];
+    match read_from(alloc, &cap, &strings) {
+        Ok(found) => found == file,
+        Err(error) => error == ReadError::OutOfMemory,
+    }
+}
+
+#[test]
+fn refused_memory_in_reading(rt: HostRuntime) {
+    assert!(rt; reads_or_is_refused(rt.alloc()));
+}
+
 // The digest of the digests of shares.
 fn digest_of_digests(alloc: Global, shares: &[Share]) -> Result<String, AllocError> {
     let mut digests = Vec::new(alloc);
@@ -176,8 +214,8 @@ fn encodes_256_of_256_as_others_do(rt: HostRuntime) -> Result<(), Fail> {
     let file = counted(alloc, 256)?;
     let e = encoded(alloc, &file, NO_SECRET, 256, 256, SEGMENT)?;
     assert!(rt; is_written(alloc, &e.cap, CAPS[4])?);
-    assert_eq!(rt; e.shares.len(), 256);
-    assert_eq!(rt; digest_of_digests(alloc, &e.shares)?.as_str(), ALL_OF_256);
+    assert!(rt; e.shares.len() == 256);
+    assert!(rt; digest_of_digests(alloc, &e.shares)?.as_str() == ALL_OF_256);
     Ok(())
 }
 
@@ -204,7 +242,7 @@ fn shares_begin_with_their_header(rt: HostRuntime) -> Result<(), Fail> {
     let shares = three_of_ten(rt.alloc())?;
     for share in &shares {
         let header = &share.as_slice()[..share.as_slice().len().min(36)];
-        assert_eq!(rt; hexadecimal(rt.alloc(), header)?.as_str(), HEADER);
+        assert!(rt; hexadecimal(rt.alloc(), header)?.as_str() == HEADER);
     }
     Ok(())
 }
@@ -235,10 +273,10 @@ fn a_short_share_is_passed_over(rt: HostRuntime) -> Result<(), Fail> {
     let shares = three_of_ten(alloc)?;
     for len in 0..633 {
         let fault = ShareFault::Layout(LayoutError::Truncated(section_cut_at(len)));
-        assert_eq!(rt; fault_of(1, up_to(&shares, 1, len)), Some(fault), "{len}");
+        assert!(rt; fault_of(1, up_to(&shares, 1, len)) == Some(fault), "{len}");
         assert!(rt; gives_with_three(alloc, &shares, len, &file)?, "{len}");
     }
-    assert_eq!(rt; fault_of(1, up_to(&shares, 1, 633)), None);
+    assert!(rt; fault_of(1, up_to(&shares, 1, 633)) == None);
     Ok(())
 }
 
@@ -291,10 +329,10 @@ fn tells_the_section_of_a_changed_byte(rt: HostRuntime) -> Result<(), Fail> {
     ];
     for (at, fault) in rows {
         flip(&mut share, at);
-        assert_eq!(rt; fault_of(4, &share), Some(fault), "byte {at}");
+        assert!(rt; fault_of(4, &share) == Some(fault), "byte {at}");
         flip(&mut share, at);
     }
-    assert_eq!(rt; fault_of(4, &share), None);
+    assert!(rt; fault_of(4, &share) == None);
     assert!(rt; fault_of(5, &share).is_some());
     Ok(())
 }

@@ -1,7 +1,6 @@
 //! Frames, against the table of the format, and bytes that a program in Python wrote from it.
 
-use std::alloc::Global;
-use std::test::Fail;
+use std::alloc::{AllocError, Global};
 use wire::decoding::decode;
 use wire::error::WireError;
 use wire::feed::Feed;
@@ -117,143 +116,226 @@ const DIGEST: [u8; 32] = [
     56, 57, 58, 59, 60, 61, 62, 63,
 ];
 
-fn encoded(alloc: Global, session: u64, number: u64, body: Body) -> Result<Vec<u8>, Fail> {
+// Whether a message of this session and number has this frame.
+fn has_frame(alloc: Global, session: u64, number: u64, body: Option<Body>, frame: &[u8]) -> bool {
+    let Some(body) = body else {
+        return false;
+    };
     let message = Message {
         session,
         number,
         body,
     };
-    Ok(message.encode(alloc)?)
+    match message.encode(alloc) {
+        Ok(bytes) => bytes.as_slice() == frame,
+        Err(_) => false,
+    }
 }
 
-#[test]
-fn worked_frames(rt: HostRuntime) -> Result<(), Fail> {
-    let alloc = rt.alloc();
+fn allocate(bytes: u64) -> Option<Body> {
     let id = ShareId {
         index: [0; 16],
         share: 3,
     };
-    let length = ShareLength::new(633).ok_or("a length in its range")?;
-    assert_eq!(rt;
-        encoded(alloc, 1, 1, Body::Ask([0; 16]))?.as_slice(),
-        b"\x00\x00\x00!\x01\x00\x00\x00\x00\x00\x00\x00\x01\x00\x00\x00\x00\x00\x00\x00\x01\x00\x00\x00\x00\x00\x00\x00\x00\x00\x00\x00\x00\x00\x00\x00\x00".as_slice()
-    );
-    assert_eq!(rt;
-        encoded(alloc, 1, 2, Body::Granted)?.as_slice(),
-        b"\x00\x00\x00\x11\x04\x00\x00\x00\x00\x00\x00\x00\x01\x00\x00\x00\x00\x00\x00\x00\x02".as_slice()
-    );
-    assert_eq!(rt;
-        encoded(alloc, 1, 2, Body::Allocate(id, length))?.as_slice(),
-        b"\x00\x00\x00+\x03\x00\x00\x00\x00\x00\x00\x00\x01\x00\x00\x00\x00\x00\x00\x00\x02\x00\x00\x00\x00\x00\x00\x00\x00\x00\x00\x00\x00\x00\x00\x00\x00\x00\x03\x00\x00\x00\x00\x00\x00\x02y".as_slice()
-    );
-    Ok(())
+    Some(Body::Allocate(id, ShareLength::new(bytes)?))
+}
+
+// An Ask, a Granted and an Allocate of 633 bytes, of session 1.
+const WORKED: [&[u8]; 3] = [
+    b"\x00\x00\x00!\x01\x00\x00\x00\x00\x00\x00\x00\x01\x00\x00\x00\x00\x00\x00\x00\x01\x00\x00\x00\x00\x00\x00\x00\x00\x00\x00\x00\x00\x00\x00\x00\x00",
+    b"\x00\x00\x00\x11\x04\x00\x00\x00\x00\x00\x00\x00\x01\x00\x00\x00\x00\x00\x00\x00\x02",
+    b"\x00\x00\x00+\x03\x00\x00\x00\x00\x00\x00\x00\x01\x00\x00\x00\x00\x00\x00\x00\x02\x00\x00\x00\x00\x00\x00\x00\x00\x00\x00\x00\x00\x00\x00\x00\x00\x00\x03\x00\x00\x00\x00\x00\x00\x02y",
+];
+
+#[test]
+fn worked_frames(rt: HostRuntime) {
+    let alloc = rt.alloc();
+    assert!(rt; has_frame(alloc, 1, 1, Some(Body::Ask([0; 16])), WORKED[0]));
+    assert!(rt; has_frame(alloc, 1, 2, Some(Body::Granted), WORKED[1]));
+    assert!(rt; has_frame(alloc, 1, 2, allocate(633), WORKED[2]));
+}
+
+fn have(alloc: Global) -> Option<Body> {
+    let first = HeldShare {
+        share: 0,
+        digest: DIGEST,
+    };
+    let last = HeldShare {
+        share: 255,
+        digest: [0xee; 32],
+    };
+    let held = vec![in alloc; first, last].ok()?;
+    Some(Body::Have(true, HeldList::from_vec(held)?))
+}
+
+fn write(alloc: Global) -> Option<Body> {
+    let data = WriteData::from_vec(b"abc".to_vec(alloc).ok()?)?;
+    Some(Body::Write(ID, u64::MAX, data))
+}
+
+fn read() -> Option<Body> {
+    Some(Body::Read(ID, 5, ReadLength::new(32_768)?))
 }
 
 // The kinds with several fields, from their values.
 #[test]
-fn several_fields(rt: HostRuntime) -> Result<(), Fail> {
+fn several_fields(rt: HostRuntime) {
     let alloc = rt.alloc();
-    let held = vec![in alloc;
-        HeldShare {
-            share: 0,
-            digest: DIGEST
-        },
-        HeldShare {
-            share: 255,
-            digest: [0xee; 32]
-        },
-    ]?;
-    let held = HeldList::from_vec(held).ok_or("shares that rise")?;
-    let data = WriteData::from_vec(b"abc".to_vec(alloc)?).ok_or("a few bytes")?;
-    let length = ReadLength::new(32_768).ok_or("the longest piece")?;
-    assert_eq!(rt;
-        encoded(alloc, SESSION, 2, Body::Have(true, held))?.as_slice(),
-        FRAMES[1]
-    );
-    assert_eq!(rt;
-        encoded(alloc, SESSION, 8, Body::Write(ID, u64::MAX, data))?.as_slice(),
-        FRAMES[7]
-    );
-    assert_eq!(rt;
-        encoded(alloc, SESSION, 15, Body::Read(ID, 5, length))?.as_slice(),
-        FRAMES[14]
-    );
-    Ok(())
+    assert!(rt; has_frame(alloc, SESSION, 2, have(alloc), FRAMES[1]));
+    assert!(rt; has_frame(alloc, SESSION, 8, write(alloc), FRAMES[7]));
+    assert!(rt; has_frame(alloc, SESSION, 15, read(), FRAMES[14]));
+}
+
+// Whether a frame is one of this kind, in the session of all and numbered as its kind.
+fn is_of_kind(alloc: Global, frame: &[u8], number: u8) -> bool {
+    let Ok(message) = decode(alloc, frame.get(4..).unwrap_or(&[])) else {
+        return false;
+    };
+    if message.session != SESSION || message.number != u64::from(number) {
+        return false;
+    }
+    let Message { body, .. } = message;
+    Kind::of(&body).number() == number
+        && has_frame(alloc, SESSION, u64::from(number), Some(body), frame)
 }
 
 #[test]
-fn each_kind(rt: HostRuntime) -> Result<(), Fail> {
+fn each_kind(rt: HostRuntime) {
     let mut number: u8 = 0;
     for frame in FRAMES {
         number = number.wrapping_add(1);
-        let message = decode(rt.alloc(), &frame[4..])?;
-        assert_eq!(rt;
-            (message.session, message.number),
-            (SESSION, u64::from(number))
-        );
-        assert_eq!(rt; Kind::of(&message.body).number(), number);
-        assert_eq!(rt;
-            message.encode(rt.alloc())?.as_slice(),
-            frame,
-            "kind {number}"
-        );
+        assert!(rt; is_of_kind(rt.alloc(), frame, number), "kind {number}");
     }
-    Ok(())
+}
+
+// Appends the frame of a message. No, where memory is out.
+fn appends(alloc: Global, out: &mut Vec<u8>, message: &Message) -> bool {
+    match message.encode(alloc) {
+        Ok(bytes) => out.extend_from_slice(&bytes).is_ok(),
+        Err(_) => false,
+    }
 }
 
 // Feeds the pieces, and writes the messages that come out again.
-fn through(alloc: Global, out: &mut Vec<u8>, feed: &mut Feed, piece: &[u8]) -> Result<(), Fail> {
-    feed.feed(piece)?;
+fn goes_through(alloc: Global, out: &mut Vec<u8>, feed: &mut Feed, piece: &[u8]) -> bool {
+    if feed.feed(piece).is_err() {
+        return false;
+    }
     for _ in 0..=FRAMES.len() {
-        match feed.next()? {
-            None => return Ok(()),
-            Some(message) => out.extend_from_slice(&message.encode(alloc)?)?,
+        match feed.next() {
+            Ok(None) => return true,
+            Ok(Some(message)) => {
+                if !appends(alloc, out, &message) {
+                    return false;
+                }
+            }
+            Err(_) => return false,
         }
     }
-    Err("more frames than were fed")?
+    false
+}
+
+// Whether a stream that is cut at this place gives its frames.
+fn passes_in_two(alloc: Global, stream: &[u8], place: usize) -> bool {
+    let (front, back) = stream.split_at(place.min(stream.len()));
+    let mut feed = Feed::new(alloc);
+    let mut out = Vec::new(alloc);
+    goes_through(alloc, &mut out, &mut feed, front)
+        && goes_through(alloc, &mut out, &mut feed, back)
+        && out.as_slice() == stream
+}
+
+fn passes_in_bytes(alloc: Global, stream: &[u8]) -> bool {
+    let mut feed = Feed::new(alloc);
+    let mut out = Vec::new(alloc);
+    for byte in stream {
+        if !goes_through(alloc, &mut out, &mut feed, &[*byte]) {
+            return false;
+        }
+    }
+    out.as_slice() == stream
 }
 
 // A stream cut at each place, and into single bytes, gives the same frames.
 #[test]
-fn any_cut(rt: HostRuntime) -> Result<(), Fail> {
+fn any_cut(rt: HostRuntime) -> Result<(), AllocError> {
     let alloc = rt.alloc();
     let mut stream = Vec::new(alloc);
     for frame in FRAMES {
         stream.extend_from_slice(frame)?;
     }
-    let mut single = Feed::new(alloc);
-    let mut bytes = Vec::new(alloc);
     for place in 0..stream.len() {
-        let (front, back) = stream.as_slice().split_at(place);
-        let mut feed = Feed::new(alloc);
-        let mut out = Vec::new(alloc);
-        through(alloc, &mut out, &mut feed, front)?;
-        through(alloc, &mut out, &mut feed, back)?;
-        assert!(rt; out == stream, "cut at {place}");
-        through(alloc, &mut bytes, &mut single, &back[..1])?;
+        assert!(rt; passes_in_two(alloc, &stream, place), "cut at {place}");
     }
-    assert!(rt; bytes == stream, "in single bytes");
+    assert!(rt; passes_in_bytes(alloc, &stream));
     Ok(())
 }
 
+// The number of the refusal that stands at the front; 0 where the frame is not whole, and 255 where a message came.
+fn told(feed: &mut Feed) -> u8 {
+    match feed.next() {
+        Ok(None) => 0,
+        Ok(Some(_)) => 255,
+        Err(error) => error.number(),
+    }
+}
+
+// Whether bytes that begin so have this refusal, and still have it behind more bytes.
+fn has_refusal(alloc: Global, bytes: &[u8], number: u8) -> bool {
+    let mut feed = Feed::new(alloc);
+    feed.feed(bytes).is_ok()
+        && told(&mut feed) == number
+        && feed.feed(b"more").is_ok()
+        && told(&mut feed) == number
+}
+
+// Whether these bytes begin a frame that is not whole.
+fn is_partial(alloc: Global, bytes: &[u8]) -> bool {
+    let mut feed = Feed::new(alloc);
+    feed.feed(bytes).is_ok() && told(&mut feed) == 0
+}
+
 #[test]
-fn faults(rt: HostRuntime) -> Result<(), Fail> {
+fn faults(rt: HostRuntime) {
     for (what, bytes, number) in FAULTY {
-        let mut feed = Feed::new(rt.alloc());
-        feed.feed(bytes)?;
-        for _ in 0..2 {
-            assert_eq!(rt;
-                feed.next().err().map(WireError::number),
-                Some(number),
-                "{what}"
-            );
-            feed.feed(b"more")?;
-        }
+        assert!(rt; has_refusal(rt.alloc(), bytes, number), "{what}");
     }
     for (what, bytes) in PARTIAL {
-        let mut feed = Feed::new(rt.alloc());
-        feed.feed(bytes)?;
-        assert!(rt; matches!(feed.next(), Ok(None)), "{what}");
+        assert!(rt; is_partial(rt.alloc(), bytes), "{what}");
     }
-    Ok(())
+}
+
+// Whether a frame gives its message, where a call that was refused memory is made again.
+fn comes_again(alloc: Global, frame: &[u8]) -> bool {
+    let mut feed = Feed::new(alloc);
+    if feed.feed(frame).is_err() && feed.feed(frame).is_err() {
+        return false;
+    }
+    for _ in 0..2 {
+        match feed.next() {
+            Ok(Some(message)) => return is_frame_or_refused(alloc, &message, frame),
+            Ok(None) => return false,
+            Err(error) => {
+                if error != WireError::OutOfMemory {
+                    return false;
+                }
+            }
+        }
+    }
+    false
+}
+
+fn is_frame_or_refused(alloc: Global, message: &Message, frame: &[u8]) -> bool {
+    match message.encode(alloc) {
+        Ok(bytes) => bytes.as_slice() == frame,
+        Err(_) => true,
+    }
+}
+
+// A Have, a Write and a Data.
+#[test]
+fn refused_memory_in_a_stream(rt: HostRuntime) {
+    for place in [1usize, 7, 15] {
+        assert!(rt; comes_again(rt.alloc(), FRAMES[place]), "{place}");
+    }
 }

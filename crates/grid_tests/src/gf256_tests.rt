@@ -13,10 +13,10 @@ fn products_are_those_of_0x11d(rt: HostRuntime) -> Result<(), Fail> {
         (0x53, 0xca, 0x8f),
     ];
     for (a, b, product) in cases {
-        assert_eq!(rt; mul(a, b), product);
-        assert_eq!(rt; mul(b, a), product);
+        assert!(rt; mul(a, b) == product);
+        assert!(rt; mul(b, a) == product);
     }
-    assert_eq!(rt; inv(0x02), 0x8e);
+    assert!(rt; inv(0x02) == 0x8e);
     Ok(())
 }
 
@@ -30,7 +30,7 @@ fn points_are_zero_and_the_powers(rt: HostRuntime) -> Result<(), Fail> {
         (9, 0x1d),
         (255, 0x8e),
     ] {
-        assert_eq!(rt; point(i), x);
+        assert!(rt; point(i) == x);
     }
     Ok(())
 }
@@ -39,9 +39,9 @@ fn points_are_zero_and_the_powers(rt: HostRuntime) -> Result<(), Fail> {
 fn multiples_are_added_byte_by_byte(rt: HostRuntime) -> Result<(), Fail> {
     let mut sum = [0x01, 0x01];
     add_mul(&mut sum, &[0x80, 0x02], 0x02);
-    assert_eq!(rt; sum, [0x1c, 0x05]);
+    assert!(rt; sum == [0x1c, 0x05]);
     add_mul(&mut sum, &[0xff, 0xff], 0x00);
-    assert_eq!(rt; sum, [0x1c, 0x05]);
+    assert!(rt; sum == [0x1c, 0x05]);
     Ok(())
 }
 
@@ -65,7 +65,7 @@ fn each_length_is_as_the_plain_loop_has_it(rt: HostRuntime) -> Result<(), Fail> 
         add_mul(&mut sum[..len], &source[..len], 0x8e);
         for i in 0..65 {
             let added = if i < len { mul(0x8e, source[i]) } else { 0 };
-            assert_eq!(rt; sum[i], before[i] ^ added, "byte {i} of {len}");
+            assert!(rt; sum[i] == before[i] ^ added, "byte {i} of {len}");
         }
     }
     Ok(())

@@ -16,6 +16,8 @@ mod gf256_tests;
 #[cfg(test)]
 mod grid_commands_tests;
 #[cfg(test)]
+mod grid_refusals_tests;
+#[cfg(test)]
 mod merkle_tests;
 #[cfg(test)]
 mod placement_tests;

@@ -8,17 +8,18 @@ use std::alloc::{AllocError, Global};
 use std::process::Abort;
 use std::test::Fail;
 
+const SERVER_IDS: [ServerId; 7] = [
+    ServerId([7; 20]),
+    ServerId([1; 20]),
+    ServerId([2; 20]),
+    ServerId([7; 20]),
+    ServerId([0; 20]),
+    ServerId([255; 20]),
+    ServerId([1; 20]),
+];
+
 #[test]
 fn orders_by_hash_then_id_then_place(rt: HostRuntime) -> Result<(), Fail> {
-    let servers = [
-        ServerId([7; 20]),
-        ServerId([1; 20]),
-        ServerId([2; 20]),
-        ServerId([7; 20]),
-        ServerId([0; 20]),
-        ServerId([255; 20]),
-        ServerId([1; 20]),
-    ];
     let rows = [
         (
             [0, 1, 2, 3, 4, 5, 6, 7, 8, 9, 10, 11, 12, 13, 14, 15],
@@ -27,8 +28,8 @@ fn orders_by_hash_then_id_then_place(rt: HostRuntime) -> Result<(), Fail> {
         ([0; 16], [2, 0, 3, 1, 6, 4, 5]),
     ];
     for (storage_index, places) in rows {
-        let found = order(rt.alloc(), &storage_index, &servers)?;
-        assert_eq!(rt; found.as_slice(), places.as_slice());
+        let found = order(rt.alloc(), &storage_index, &SERVER_IDS)?;
+        assert!(rt; found.as_slice() == places.as_slice());
     }
     Ok(())
 }
@@ -36,14 +37,14 @@ fn orders_by_hash_then_id_then_place(rt: HostRuntime) -> Result<(), Fail> {
 #[test]
 fn happiness_of_worked_graphs(rt: HostRuntime) -> Result<(), Fail> {
     let two = happiness(rt.alloc(), &[(0, 0), (0, 1), (1, 0)])?;
-    assert_eq!(rt; two.pairs.len(), 2);
+    assert!(rt; two.pairs.len() == 2);
     let none = happiness(rt.alloc(), &[])?;
-    assert_eq!(rt; none.pairs.len(), 0);
-    assert_eq!(rt; none.blocking.len(), 0);
+    assert!(rt; none.pairs.len() == 0);
+    assert!(rt; none.blocking.len() == 0);
     let mut one = happiness(rt.alloc(), &[(0, 0), (1, 0), (2, 0)])?;
-    assert_eq!(rt; one.pairs.len(), 1);
+    assert!(rt; one.pairs.len() == 1);
     one.blocking.sort_unstable();
-    assert_eq!(rt; one.blocking.as_slice(), [0, 1, 2].as_slice());
+    assert!(rt; one.blocking.as_slice() == [0, 1, 2].as_slice());
     Ok(())
 }
 
@@ -67,7 +68,7 @@ fn check_of_worked_matchings(rt: HostRuntime) -> Result<(), Fail> {
             pairs: chosen.to_vec(rt.alloc())?,
             blocking: set.to_vec(rt.alloc())?,
         };
-        assert_eq!(rt; check(&matching, &pairs), answer);
+        assert!(rt; check(&matching, &pairs) == answer);
     }
     Ok(())
 }
@@ -81,11 +82,11 @@ fn expect_plan(
     unplaced: &[u16],
 ) {
     let [m1, m2, m3] = matchings;
-    assert_eq!(rt; plan.m1.as_slice(), m1);
-    assert_eq!(rt; plan.m2.as_slice(), m2);
-    assert_eq!(rt; plan.m3.as_slice(), m3);
-    assert_eq!(rt; plan.leftovers.as_slice(), leftovers);
-    assert_eq!(rt; plan.unplaced.as_slice(), unplaced);
+    assert!(rt; plan.m1.as_slice() == m1);
+    assert!(rt; plan.m2.as_slice() == m2);
+    assert!(rt; plan.m3.as_slice() == m3);
+    assert!(rt; plan.leftovers.as_slice() == leftovers);
+    assert!(rt; plan.unplaced.as_slice() == unplaced);
 }
 
 #[test]
@@ -100,6 +101,33 @@ fn plans_where_nothing_is_held(rt: HostRuntime) -> Result<(), Fail> {
     Ok(())
 }
 
+// Whether seven servers are ordered, and three pairs matched, each right where memory is not refused.
+fn places_or_is_refused(alloc: Global) -> bool {
+    let is_ordered = match order(alloc, &[0; 16], &SERVER_IDS) {
+        Ok(places) => places.as_slice() == [2, 0, 3, 1, 6, 4, 5].as_slice(),
+        Err(error) => error == PlacementError::OutOfMemory,
+    };
+    let is_matched = match happiness(alloc, &[(0, 0), (0, 1), (1, 0)]) {
+        Ok(matching) => matching.pairs.len() == 2,
+        Err(error) => error == PlacementError::OutOfMemory,
+    };
+    is_ordered && is_matched
+}
+
+#[test]
+fn refused_memory_in_placing(rt: HostRuntime) {
+    assert!(rt; places_or_is_refused(rt.alloc()));
+}
+
+#[test]
+fn refused_memory_in_a_plan(rt: HostRuntime) {
+    let is_right = match place(rt.alloc(), &[9], &[0, 1], &[(9, 0), (0, 0), (0, 1)], 4) {
+        Ok(plan) => plan.m3.as_slice() == [(1, 2)].as_slice() && plan.leftovers.len() == 1,
+        Err(error) => error == PlacementError::OutOfMemory,
+    };
+    assert!(rt; is_right);
+}
+
 #[test]
 fn plans_where_some_is_held(rt: HostRuntime) -> Result<(), Fail> {
     let plan = place(rt.alloc(), &[9], &[0, 1], &[(9, 0), (0, 0), (0, 1)], 4)?;
@@ -107,10 +135,10 @@ fn plans_where_some_is_held(rt: HostRuntime) -> Result<(), Fail> {
     expect_plan(&rt, &plan, matchings, &[(0, 3)], &[]);
     // a share that a server holds is no leftover
     let plan = place(rt.alloc(), &[9], &[0], &[(9, 0), (9, 1), (9, 2)], 3)?;
-    assert_eq!(rt; plan.m1.len(), 1);
-    assert_eq!(rt; plan.m3.len(), 1);
-    assert_eq!(rt; plan.leftovers.len(), 0);
-    assert_eq!(rt; plan.unplaced.len(), 0);
+    assert!(rt; plan.m1.len() == 1);
+    assert!(rt; plan.m3.len() == 1);
+    assert!(rt; plan.leftovers.len() == 0);
+    assert!(rt; plan.unplaced.len() == 0);
     Ok(())
 }
 
@@ -119,14 +147,14 @@ fn plans_without_writable_servers(rt: HostRuntime) -> Result<(), Fail> {
     let plan = place(rt.alloc(), &[9], &[], &[(9, 0)], 2)?;
     expect_plan(&rt, &plan, [&[(9, 0)], &[], &[]], &[], &[1]);
     let plan = place(rt.alloc(), &[9], &[], &[(9, 0), (9, 1)], 2)?;
-    assert_eq!(rt; plan.m1.len(), 1);
-    assert_eq!(rt; plan.unplaced.len(), 0);
+    assert!(rt; plan.m1.len() == 1);
+    assert!(rt; plan.unplaced.len() == 0);
     Ok(())
 }
 
 #[test]
 fn number_of_the_refusal(rt: HostRuntime) {
-    assert_eq!(rt; PlacementError::OutOfMemory.number(), 1);
+    assert!(rt; PlacementError::OutOfMemory.number() == 1);
 }
 
 // A graph is a number: its bit 4 s + h says that server s holds share h. These are the pairs of each server, and of each share.
@@ -183,12 +211,12 @@ fn all_small_graphs(rt: HostRuntime) -> Result<(), Fail> {
         }
     }
     // 1 + 4 * 4 + 6 * 6 * 2 + 4 * 4 * 6 + 24
-    assert_eq!(rt; matchings.len(), 209);
+    assert!(rt; matchings.len() == 209);
     for graph in 0..=u16::MAX {
         let pairs = pairs_of(alloc, graph)?;
         let mut found = happiness(alloc, &pairs)?;
         let length = longest(&matchings, graph) as usize;
-        assert_eq!(rt; found.pairs.len(), length, "graph {graph:04x}");
+        assert!(rt; found.pairs.len() == length, "graph {graph:04x}");
         assert!(rt; check(&found, &pairs), "graph {graph:04x}");
         if let Some(last) = found.pairs.pop() {
             assert!(rt; !check(&found, &pairs), "graph {graph:04x}");
@@ -216,9 +244,8 @@ fn check_all_sets(
             }
         }
         let blocked = count_of(&SERVERS, graph & !held) + count_of(&SHARES, held);
-        assert_eq!(rt;
-            check(found, pairs),
-            found.pairs.len() == blocked,
+        assert!(rt;
+            check(found, pairs) == (found.pairs.len() == blocked),
             "graph {graph:04x}, set {set}"
         );
     }

@@ -1,8 +1,7 @@
 //! The record of requests, against the times at which silent servers are asked again.
 
 use std::alloc::Global;
-use std::test::Fail;
-use wire::message::{Body, HeldList, Message, ReadData, ReadLength, ShareLength};
+use wire::message::{Body, HeldList, HeldShare, Message, ReadData, ReadLength, ShareLength};
 use wire::requests::{Asked, Outcome, Requests};
 
 // The seconds of the ticks, and those at which one request is sent. At the last tick it is lost.
@@ -42,88 +41,175 @@ fn is_lost(requests: &Requests, place: usize) -> bool {
     }
 }
 
-#[test]
-fn silent_servers(rt: HostRuntime) -> Result<(), Fail> {
-    for (ticks, times) in SILENT {
-        let mut requests = Requests::new(rt.alloc(), 7, 0);
-        requests.ask(9, Asked::Holdings)?;
-        let mut sent = Vec::new(rt.alloc());
-        if requests.take_next() == Some(0) {
-            sent.push(0)?;
+// The times at which a request to a silent server is sent, and that it is lost at the last tick and not before. `None` where
+// that is not so, or memory is out.
+fn sent_times(alloc: Global, ticks: &[u64]) -> Option<Vec<u64>> {
+    let mut requests = Requests::new(alloc, 7, 0);
+    requests.ask(9, Asked::Holdings).ok()?;
+    let mut sent = Vec::new(alloc);
+    note_sent(&mut sent, &mut requests, 0)?;
+    for tick in ticks {
+        if is_lost(&requests, 0) {
+            return None;
         }
-        for tick in ticks {
-            assert!(rt; !is_lost(&requests, 0), "before the tick at {tick}");
-            requests.tick(*tick)?;
-            if requests.take_next() == Some(0) {
-                sent.push(*tick)?;
-            }
-            assert_eq!(rt; requests.outgoing_len(), 0);
-        }
-        assert_eq!(rt; sent.as_slice(), times);
-        assert!(rt; is_lost(&requests, 0), "after the last tick");
-        assert_eq!(rt; requests.outstanding(), 0);
-        assert_eq!(rt; requests.answer(9, &closed(7, 1), 30)?, None);
+        requests.tick(*tick).ok()?;
+        note_sent(&mut sent, &mut requests, *tick)?;
     }
-    Ok(())
+    if is_lost(&requests, 0) && is_ended(&mut requests) {
+        Some(sent)
+    } else {
+        None
+    }
+}
+
+// Notes the time where the first request is sent, with no other behind it.
+fn note_sent(sent: &mut Vec<u64>, requests: &mut Requests, now: u64) -> Option<()> {
+    if requests.take_next() == Some(0) {
+        sent.push(now).ok()?;
+    }
+    if requests.outgoing_len() == 0 {
+        Some(())
+    } else {
+        None
+    }
+}
+
+// Whether no request waits, and an answer that comes late does not count.
+fn is_ended(requests: &mut Requests) -> bool {
+    requests.outstanding() == 0 && matches!(requests.answer(9, &closed(7, 1), 30), Ok(None))
+}
+
+#[test]
+fn silent_servers(rt: HostRuntime) {
+    for (ticks, times) in SILENT {
+        let is_right = match sent_times(rt.alloc(), ticks) {
+            Some(sent) => sent.as_slice() == times,
+            None => false,
+        };
+        assert!(rt; is_right);
+    }
 }
 
 // An operation of session 7 that asked server 9 for its shares, to keep share 3, and to give share 4 up.
-fn asked(alloc: Global) -> Result<Requests, Fail> {
+fn asked(alloc: Global) -> Option<Requests> {
     let mut requests = Requests::new(alloc, 7, 0);
-    requests.ask(9, Asked::Holdings)?;
-    requests.ask(9, Asked::Closing(3))?;
-    requests.ask(9, Asked::Aborting(4))?;
-    Ok(requests)
+    requests.ask(9, Asked::Holdings).ok()?;
+    requests.ask(9, Asked::Closing(3)).ok()?;
+    requests.ask(9, Asked::Aborting(4)).ok()?;
+    Some(requests)
+}
+
+// Whether a Closed from there counts as the answer to the second request, or does not count.
+fn is_counted(alloc: Global, from: u16, session: u64, number: u64, counts: bool) -> bool {
+    let Some(mut requests) = asked(alloc) else {
+        return false;
+    };
+    let Ok(place) = requests.answer(from, &closed(session, number), 1) else {
+        return false;
+    };
+    if counts {
+        place == Some(1) && requests.outstanding() == 1
+    } else {
+        place == None && requests.outstanding() == 2
+    }
 }
 
 #[test]
-fn answers(rt: HostRuntime) -> Result<(), Fail> {
+fn answers(rt: HostRuntime) {
     for (what, from, session, number, counts) in ANSWERS {
-        let mut requests = asked(rt.alloc())?;
-        let place = requests.answer(from, &closed(session, number), 1)?;
-        assert_eq!(rt; place, if counts { Some(1) } else { None }, "{what}");
-        assert_eq!(rt;
-            requests.outstanding(),
-            if counts { 1 } else { 2 },
+        assert!(rt;
+            is_counted(rt.alloc(), from, session, number, counts),
             "{what}"
         );
     }
-    Ok(())
+}
+
+// Whether both requests that wait are sent again after five seconds, the abort not, and the answer to one counts the first time alone.
+fn counts_once(alloc: Global) -> bool {
+    let Some(mut requests) = asked(alloc) else {
+        return false;
+    };
+    requests.session() == 7
+        && requests.first() == Some(0)
+        && requests.outgoing_len() == 3
+        && requests.tick(5).is_ok()
+        && requests.outgoing_len() == 5
+        && answers_at(&mut requests, Some(1))
+        && answers_at(&mut requests, None)
+}
+
+// Whether a Closed for the second request counts at this place.
+fn answers_at(requests: &mut Requests, place: Option<usize>) -> bool {
+    if requests.counts_at(9, &closed(7, 2)) != place {
+        return false;
+    }
+    match requests.answer(9, &closed(7, 2), 6) {
+        Ok(found) => found == place,
+        Err(_) => false,
+    }
 }
 
 #[test]
-fn an_answer_counts_once(rt: HostRuntime) -> Result<(), Fail> {
-    let mut requests = asked(rt.alloc())?;
-    assert_eq!(rt;
-        (
-            requests.session(),
-            requests.first(),
-            requests.outgoing_len()
-        ),
-        (7, Some(0), 3)
-    );
-    requests.tick(5)?;
-    assert_eq!(rt;
-        requests.outgoing_len(),
-        5,
-        "both that wait are sent again, the abort is not"
-    );
-    for counts in [Some(1), None] {
-        assert_eq!(rt; requests.counts_at(9, &closed(7, 2)), counts);
-        assert_eq!(rt; requests.answer(9, &closed(7, 2), 6)?, counts);
+fn an_answer_counts_once(rt: HostRuntime) {
+    assert!(rt; counts_once(rt.alloc()));
+}
+
+// Whether a request is recorded and sent again after five seconds, where a call that was refused memory changes nothing and is made
+// again.
+fn is_recorded_and_sent(alloc: Global) -> bool {
+    let mut requests = Requests::new(alloc, 7, 0);
+    if requests.ask(9, Asked::Holdings).is_err() {
+        if requests.outgoing_len() != 0 || requests.ask(9, Asked::Holdings).is_err() {
+            return false;
+        }
     }
-    Ok(())
+    if requests.tick(5).is_err() {
+        if requests.outgoing_len() != 1 || requests.tick(5).is_err() {
+            return false;
+        }
+    }
+    requests.outgoing_len() == 2
+        && requests.outstanding() == 1
+        && keeps_answer(alloc, &mut requests)
+}
+
+// Whether a Have with one share is kept as the answer to the first request, where a call that was refused memory is made again.
+fn keeps_answer(alloc: Global, requests: &mut Requests) -> bool {
+    let Some(message) = have(alloc) else {
+        return true;
+    };
+    for _ in 0..2 {
+        if let Ok(place) = requests.answer(9, &message, 6) {
+            return place == Some(0) && requests.outstanding() == 0;
+        }
+    }
+    false
+}
+
+fn have(alloc: Global) -> Option<Message> {
+    let share = HeldShare {
+        share: 3,
+        digest: [5; 32],
+    };
+    let held = HeldList::from_vec(vec![in alloc; share].ok()?)?;
+    Some(Message {
+        session: 7,
+        number: 1,
+        body: Body::Have(true, held),
+    })
+}
+
+#[test]
+fn refused_memory_in_a_record(rt: HostRuntime) {
+    assert!(rt; is_recorded_and_sent(rt.alloc()));
 }
 
 // Which answers fit a request: Have, Granted, Already, Busy, Full, Wrote, WrongOffset, Closed, NotComplete, Data, NoShare.
-#[test]
-fn fitting_kinds(rt: HostRuntime) -> Result<(), Fail> {
-    let alloc = rt.alloc();
+fn answer_kinds(alloc: Global) -> Option<Vec<Body>> {
+    let held = HeldList::from_vec(Vec::new(alloc))?;
+    let data = ReadData::from_vec(Vec::new(alloc))?;
     let kinds = vec![in alloc;
-        Body::Have(
-            true,
-            HeldList::from_vec(Vec::new(alloc)).ok_or("no shares")?
-        ),
+        Body::Have(true, held),
         Body::Granted,
         Body::Already([1; 32]),
         Body::Busy,
@@ -132,12 +218,32 @@ fn fitting_kinds(rt: HostRuntime) -> Result<(), Fail> {
         Body::WrongOffset(1),
         Body::Closed([1; 32]),
         Body::NotComplete(1),
-        Body::Data(ReadData::from_vec(Vec::new(alloc)).ok_or("no bytes")?),
+        Body::Data(data),
         Body::NoShare,
         Body::Ask([0; 16]),
-    ]?;
-    let length = ShareLength::new(9).ok_or("a length in its range")?;
-    let piece = ReadLength::new(9).ok_or("a length in its range")?;
+    ];
+    kinds.ok()
+}
+
+// Whether just the kinds marked `y` fit.
+fn fit(asked: &Asked, kinds: &[Body], fitting: &str) -> bool {
+    let mut fit = kinds.len() == fitting.len();
+    for (body, mark) in kinds.iter().zip(fitting.chars()) {
+        fit &= asked.fits(body) == (mark == 'y');
+    }
+    fit
+}
+
+#[test]
+fn fitting_kinds(rt: HostRuntime) {
+    let (Some(kinds), Some(length), Some(piece)) = (
+        answer_kinds(rt.alloc()),
+        ShareLength::new(9),
+        ReadLength::new(9),
+    ) else {
+        assert!(rt; false);
+        return;
+    };
     for (asked, fitting) in [
         (Asked::Holdings, "y..........."),
         (Asked::Allocation(1, length), ".yyyy......."),
@@ -146,9 +252,6 @@ fn fitting_kinds(rt: HostRuntime) -> Result<(), Fail> {
         (Asked::Reading(1, 0, piece), ".........yy."),
         (Asked::Aborting(1), "............"),
     ] {
-        for (body, fits) in kinds.iter().zip(fitting.chars()) {
-            assert_eq!(rt; asked.fits(body), fits == 'y', "{asked:?} {body:?}");
-        }
+        assert!(rt; fit(&asked, &kinds, fitting), "{fitting}");
     }
-    Ok(())
 }

@@ -1,8 +1,12 @@
 //! The server over a store in memory, against the lines of its table.
+//!
+//! The tests whose names begin with `refused_memory` pass too where any one allocation of theirs is refused.
 
 use server_core::error::ServerFault;
+use server_core::keeping;
 use server_core::server::Server;
 use share_store::memory::MemoryStore;
+use share_store::store::Store;
 use std::alloc::Global;
 use wire::message::{Body, Digest, Message, ReadLength, ShareId, ShareLength, WriteData};
 
@@ -113,7 +117,7 @@ fn send(
         number: 3,
         body,
     };
-    match server.on_message(client.0, &request, now) {
+    match keeping::serve(server, client.0, &request, now) {
         Ok(None) => Said::Nothing,
         Ok(Some(answer)) if answer.session == client.1 && answer.number == 3 => heard(&answer.body),
         Ok(Some(_)) => Said::Request,
@@ -124,8 +128,8 @@ fn send(
 fn happens(alloc: Global, server: &mut Server<MemoryStore>, row: &Row) -> Said {
     let (now, client, event, _) = *row;
     match event {
-        Event::Tick => server.tick(now),
-        Event::Restart => server.restart(),
+        Event::Tick => keeping::tick(server, now),
+        Event::Restart => keeping::restart(server),
         Event::StoreFails => server.fail_store(),
         _ => return send(alloc, server, client, event, now),
     }
@@ -136,6 +140,32 @@ fn happens(alloc: Global, server: &mut Server<MemoryStore>, row: &Row) -> Said {
 fn right_rows(alloc: Global, server: &mut Server<MemoryStore>, rows: &[Row]) -> usize {
     for (i, row) in rows.iter().enumerate() {
         if happens(alloc, server, row) != row.3 {
+            return i;
+        }
+    }
+    rows.len()
+}
+
+// What the store shows of itself: the digest of share 3, and the bytes of all.
+fn shown(server: &Server<MemoryStore>) -> (Option<Digest>, u64) {
+    let store = server.store();
+    (store.closed(&id(3)), store.used())
+}
+
+// What the server says at last: where it was refused memory once, and the store shows no change, the same comes again.
+fn happens_at_last(alloc: Global, server: &mut Server<MemoryStore>, row: &Row) -> Said {
+    let before = shown(server);
+    let said = happens(alloc, server, row);
+    if said != Said::Fault(1) || shown(server) != before {
+        return said;
+    }
+    happens(alloc, server, row)
+}
+
+// How many rows in turn go as they are to, where memory may be refused once.
+fn right_rows_at_last(alloc: Global, server: &mut Server<MemoryStore>, rows: &[Row]) -> usize {
+    for (i, row) in rows.iter().enumerate() {
+        if happens_at_last(alloc, server, row) != row.3 {
             return i;
         }
     }
@@ -209,6 +239,20 @@ fn one_bucket(rt: HostRuntime) {
     assert_eq!(rt; end_of_share(&mut server), Some(*b"89"));
 }
 
+#[test]
+fn refused_memory_one_bucket(rt: HostRuntime) {
+    let mut server = server(rt.alloc(), 100, false);
+    assert_eq!(rt;
+        right_rows_at_last(rt.alloc(), &mut server, &ONE_BUCKET),
+        28
+    );
+    let end = match end_of_share(&mut server) {
+        None => end_of_share(&mut server),
+        end => end,
+    };
+    assert_eq!(rt; end, Some(*b"89"));
+}
+
 const CAPACITY: [Row; 9] = [
     (0, FIRST, Event::Allocate(0, 10), Said::Granted),
     (0, FIRST, Event::Write(0, 0, b"0123456789"), Said::Wrote(10)),
@@ -238,9 +282,10 @@ fn takes_no_shares(rt: HostRuntime) {
     assert_eq!(rt; right_rows(rt.alloc(), &mut server, &READONLY), 2);
 }
 
-fn is_granted(server: &mut Server<MemoryStore>, file: u8, share: u8) -> bool {
+// What the server says to a client that asks for room for one byte. Where it was refused memory once, the client asks again.
+fn allocates(server: &mut Server<MemoryStore>, file: u8, share: u8) -> Said {
     let Some(length) = ShareLength::new(1) else {
-        return false;
+        return Said::Nothing;
     };
     let id = ShareId {
         index: [file; 16],
@@ -251,16 +296,21 @@ fn is_granted(server: &mut Server<MemoryStore>, file: u8, share: u8) -> bool {
         number: 1,
         body: Body::Allocate(id, length),
     };
-    let Ok(Some(answer)) = server.on_message(1, &request, 0) else {
-        return false;
+    let answer = match server.on_message(1, &request, 0) {
+        Err(ServerFault::OutOfMemory) => server.on_message(1, &request, 0),
+        answer => answer,
     };
-    matches!(answer.body, Body::Granted)
+    match answer {
+        Ok(Some(answer)) => heard(&answer.body),
+        Ok(None) => Said::Nothing,
+        Err(fault) => Said::Fault(fault.number()),
+    }
 }
 
 fn are_granted(server: &mut Server<MemoryStore>, files: u8) -> bool {
     for file in 0..files {
         for share in 0..=255 {
-            if !is_granted(server, file, share) {
+            if allocates(server, file, share) != Said::Granted {
                 return false;
             }
         }
@@ -269,12 +319,12 @@ fn are_granted(server: &mut Server<MemoryStore>, files: u8) -> bool {
 }
 
 #[test]
-fn most_buckets(rt: HostRuntime) {
+fn refused_memory_most_buckets(rt: HostRuntime) {
     let mut server = server(rt.alloc(), 5000, false);
     assert!(rt; are_granted(&mut server, 4));
-    assert!(rt; !is_granted(&mut server, 4, 0));
+    assert!(rt; allocates(&mut server, 4, 0) == Said::Full);
     server.tick(600);
-    assert!(rt; is_granted(&mut server, 4, 0));
+    assert!(rt; allocates(&mut server, 4, 0) == Said::Granted);
 }
 
 // A bucket is touched by writes, by wrong offsets, by a close that comes too early and by its client's `Allocate`.

@@ -34,7 +34,7 @@ fn gives_published_digests(rt: HostRuntime) {
     ];
     for (message, digest) in rows {
         let bytes = message.as_bytes();
-        assert_eq!(rt; Sha256::digest(bytes), digest, "{message}");
+        assert!(rt; Sha256::digest(bytes) == digest, "{message}");
     }
 }
 
@@ -51,7 +51,7 @@ fn pieces_have_the_published_digest(rt: HostRuntime) {
         let mut hasher = Sha256::new();
         hasher.update(&message[..cut]);
         hasher.update(&message[cut..]);
-        assert_eq!(rt; hasher.finalize(), digest, "{cut}");
+        assert!(rt; hasher.finalize() == digest, "{cut}");
     }
 }
 
@@ -78,11 +78,11 @@ fn tags_are_netstrings_before_the_message(rt: HostRuntime) {
         (Tag::WholeShare, b"24:grid_core_whole_share_v1,abc"),
     ];
     for (tag, input) in rows {
-        assert_eq!(rt; tagged(tag, b"abc"), twice(input), "{tag:?}");
+        assert!(rt; tagged(tag, b"abc") == twice(input), "{tag:?}");
         let mut hasher = TaggedHasher::new(tag);
         hasher.update(b"a");
         hasher.update(b"bc");
-        assert_eq!(rt; hasher.finish(), twice(input), "{tag:?}");
+        assert!(rt; hasher.finish() == twice(input), "{tag:?}");
     }
 }
 
@@ -91,9 +91,6 @@ fn tags_are_netstrings_before_the_message(rt: HostRuntime) {
 fn a_node_is_the_netstrings_of_its_children(rt: HostRuntime) {
     let input =
         b"25:Merkle tree internal node,32:llllllllllllllllllllllllllllllll,32:rrrrrrrrrrrrrrrrrrrrrrrrrrrrrrrr,";
-    assert_eq!(rt; pair(&[b'l'; 32], &[b'r'; 32]), twice(input));
-    assert_eq!(rt;
-        pair(&[b'l'; 32], &[b'r'; 32]),
-        tagged(Tag::TreeNode, &input[29..])
-    );
+    assert!(rt; pair(&[b'l'; 32], &[b'r'; 32]) == twice(input));
+    assert!(rt; pair(&[b'l'; 32], &[b'r'; 32]) == tagged(Tag::TreeNode, &input[29..]));
 }

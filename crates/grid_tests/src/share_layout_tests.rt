@@ -1,11 +1,13 @@
 // Geometries and shares of worked examples, and shares with one fault.
 
 ghost use Rattle.std.specs.Prelude.{◌≡◌, ◌≤◌, false, length, IsTrue, OnErr, OnOk, Some};
+ghost use Rattle.ueb.specs.declared.limits.TheConstants.{MAX_LENGTH};
 ghost use Rattle.share_layout.specs.Geometry.{share_data_size, tree_size, hashes_size};
 ghost use Rattle.share_layout.specs.declared.error.Section.TheVariants.{Data, ShareHashes};
 
+use file_encoding::{Encoded, Params, Share, encode_all};
 use share_layout::{Geometry, LayoutError, Section, ShareView, ShareWriter, locate_ueb};
-use std::alloc::{AllocError, Global};
+use std::alloc::Global;
 use std::io;
 use std::test::Fail;
 
@@ -51,23 +53,17 @@ const GEOMETRIES: [((u64, u16, u16, u32), [u32; 5], [u32; 9]); 6] = [
 fn geometries_have_their_sizes(rt: HostRuntime) -> Result<(), Fail> {
     for ((size, k, n, max), sizes, numbers) in GEOMETRIES {
         let geometry = Geometry::of(size, k, n, max)?;
-        assert_eq!(rt;
-            (geometry.size(), geometry.needed(), geometry.total()),
-            (size, k, n)
-        );
+        assert!(rt; (geometry.size(), geometry.needed(), geometry.total()) == (size, k, n));
         let [segment, segments, tail, block, tail_block] = sizes;
-        assert_eq!(rt; geometry.segment_size(), segment, "at {size}");
-        assert_eq!(rt; geometry.segment_count(), segments, "at {size}");
-        assert_eq!(rt; geometry.tail_length(), tail, "at {size}");
-        assert_eq!(rt; geometry.block_size(), block, "at {size}");
-        assert_eq!(rt; geometry.tail_block_size(), tail_block, "at {size}");
-        assert_eq!(rt; geometry.share_data_size(), numbers[2], "at {size}");
+        assert!(rt; geometry.segment_size() == segment, "at {size}");
+        assert!(rt; geometry.segment_count() == segments, "at {size}");
+        assert!(rt; geometry.tail_length() == tail, "at {size}");
+        assert!(rt; geometry.block_size() == block, "at {size}");
+        assert!(rt; geometry.tail_block_size() == tail_block, "at {size}");
+        assert!(rt; geometry.share_data_size() == numbers[2], "at {size}");
         let header = geometry.header();
         for i in 0..9 {
-            assert_eq!(rt;
-                header.get(4 * i..4 * i + 4),
-                Some(&numbers[i].to_be_bytes()[..])
-            );
+            assert!(rt; header.get(4 * i..4 * i + 4) == Some(&numbers[i].to_be_bytes()[..]));
         }
     }
     Ok(())
@@ -112,7 +108,7 @@ fn geometries_have_limits(rt: HostRuntime) {
             Ok(_) => 0,
             Err(error) => error.number(),
         };
-        assert_eq!(rt; found, number, "at {size} {k} {n} {max}");
+        assert!(rt; found == number, "at {size} {k} {n} {max}");
     }
 }
 
@@ -133,78 +129,67 @@ fn refusals_have_numbers_and_names(rt: HostRuntime) -> Result<(), Fail> {
         (LayoutError::WriterFault, 36, "WriterFault"),
     ];
     for (error, number, text) in rows {
-        assert_eq!(rt; error.number(), number);
-        assert_eq!(rt; format!(in rt.alloc(); "{error}")?.as_str(), text);
+        assert!(rt; error.number() == number);
+        assert!(rt; format!(in rt.alloc(); "{error}")?.as_str() == text);
     }
     Ok(())
 }
 
-// Writes the first four sections, each a beginning of `material`.
-fn put_first<W: io::Write>(
-    share: &mut ShareWriter<W>,
-    geometry: &Geometry,
-    material: &[u8],
-) -> Result<(), LayoutError>
-    requires geometry { share.old.geometry ≡ geometry.now }
+// Writes the first four sections of a share.
+fn put_first<W: io::Write>(share: &mut ShareWriter<W>, view: &ShareView) -> Result<(), LayoutError>
     requires next { share.old.next ≡ Some Data }
     requires failed { share.old.failed ≡ false }
-    requires blocks { share_data_size geometry.now ≤ length material.now }
-    requires tree { tree_size geometry.now ≤ length material.now }
-    ensures geometry { OnOk result (share.new.geometry ≡ geometry.now) }
+    requires blocks { length view.now.blocks.now ≡ share_data_size share.old.geometry }
+    requires unused { length view.now.unused.now ≡ tree_size share.old.geometry }
+    requires ciphertext_tree { length view.now.ciphertext_tree.now ≡ tree_size share.old.geometry }
+    requires block_tree { length view.now.block_tree.now ≡ tree_size share.old.geometry }
+    ensures geometry { OnOk result (share.new.geometry ≡ share.old.geometry) }
     ensures next { OnOk result (share.new.next ≡ Some ShareHashes) }
     ensures ok { OnOk result (share.new.failed ≡ false) }
     ensures err { OnErr result (IsTrue share.new.failed) }
 {
-    let tree = geometry.tree_size() as usize;
-    share.put(&material[..geometry.share_data_size() as usize])?;
-    share.put(&material[..tree])?;
-    share.put(&material[..tree])?;
-    share.put(&material[..tree])
+    share.put(view.blocks)?;
+    share.put(view.unused)?;
+    share.put(view.ciphertext_tree)?;
+    share.put(view.block_tree)
 }
 
-// Writes the six sections, each a beginning of `material` but the share hashes.
-fn put_all<W: io::Write>(
-    share: &mut ShareWriter<W>,
-    geometry: &Geometry,
-    material: &[u8],
-    hashes: &[u8],
-) -> Result<(), LayoutError>
-    requires geometry { share.old.geometry ≡ geometry.now }
+// Writes the six sections of a share.
+fn put_all<W: io::Write>(share: &mut ShareWriter<W>, view: &ShareView) -> Result<(), LayoutError>
     requires next { share.old.next ≡ Some Data }
     requires failed { share.old.failed ≡ false }
-    requires blocks { share_data_size geometry.now ≤ length material.now }
-    requires tree { tree_size geometry.now ≤ length material.now }
-    requires hashes { length hashes.now ≡ hashes_size geometry.now }
-    requires extension_block { 308 ≤ length material.now }
+    requires blocks { length view.now.blocks.now ≡ share_data_size share.old.geometry }
+    requires unused { length view.now.unused.now ≡ tree_size share.old.geometry }
+    requires ciphertext_tree { length view.now.ciphertext_tree.now ≡ tree_size share.old.geometry }
+    requires block_tree { length view.now.block_tree.now ≡ tree_size share.old.geometry }
+    requires hashes { length view.now.share_hashes.now ≡ hashes_size share.old.geometry }
+    requires extension_block { length view.now.extension_block.now ≤ MAX_LENGTH }
     ensures { OnErr result (IsTrue share.new.failed) }
 {
-    put_first(share, geometry, material)?;
-    share.put(hashes)?;
-    share.put(&material[..308])
+    put_first(share, view)?;
+    share.put(view.share_hashes)?;
+    share.put(view.extension_block)
 }
 
-// The share hashes of share 2 or 3 of 10. Each hash is its node's number, over and over.
-fn hashes_of_three(alloc: Global) -> Result<Vec<u8>, AllocError> {
-    let mut hashes = Vec::new(alloc);
-    for node in [2, 4, 7, 17, 18] {
-        hashes.push(0)?;
-        for _ in 0..33 {
-            hashes.push(node)?;
-        }
-    }
-    Ok(hashes)
+// Whether the sections have their lengths.
+fn fits(geometry: &Geometry, view: &ShareView) -> bool
+    ensures { IsTrue result → (length view.now.blocks.now ≡ share_data_size geometry.now)
+        × (length view.now.unused.now ≡ tree_size geometry.now)
+        × (length view.now.ciphertext_tree.now ≡ tree_size geometry.now)
+        × (length view.now.block_tree.now ≡ tree_size geometry.now)
+        × (length view.now.share_hashes.now ≡ hashes_size geometry.now)
+        × (length view.now.extension_block.now ≤ MAX_LENGTH) }
+{
+    let tree = geometry.tree_size() as usize;
+    view.blocks.len() == geometry.share_data_size() as usize
+        && view.unused.len() == tree
+        && view.ciphertext_tree.len() == tree
+        && view.block_tree.len() == tree
+        && view.share_hashes.len() == geometry.hashes_size() as usize
+        && view.extension_block.len() <= ueb::MAX_LENGTH
 }
 
-// The bytes 0 to 255, and then on from 0.
-fn material(alloc: Global) -> Result<Vec<u8>, AllocError> {
-    let mut bytes = Vec::new(alloc);
-    for i in 0..400u16 {
-        bytes.push((i % 256) as u8)?;
-    }
-    Ok(bytes)
-}
-
-// A writer that takes so many bytes, at most seven a call, and then fails.
+// A writer that takes so many bytes, at most seven a call, then fails once, and then takes all.
 #[derive(Drop)]
 struct Short {
     taken: Vec<u8>,
@@ -214,6 +199,7 @@ struct Short {
 impl io::Write for Short {
     fn write(&mut self, buf: &[u8]) -> io::Result<usize> {
         if self.left == 0 {
+            self.left = usize::MAX;
             return Err(io::Error::from(io::ErrorKind::BrokenPipe));
         }
         let count = buf.len().min(self.left).min(7);
@@ -227,74 +213,122 @@ impl io::Write for Short {
     }
 }
 
-// What went out of a share to a writer that takes so many bytes, and whether the share writer failed, for good.
-fn written(alloc: Global, geometry: &Geometry, left: usize) -> Result<(Vec<u8>, bool), AllocError> {
-    let material = material(alloc)?;
-    let hashes = hashes_of_three(alloc)?;
+// What went out of a share to a writer that takes so many bytes and then fails, and whether the share writer failed, for good.
+fn written(alloc: Global, view: &ShareView, number: u16, left: usize) -> Option<(Vec<u8>, bool)> {
     let writer = Short {
         taken: Vec::new(alloc),
         left,
     };
-    let mut share = ShareWriter::new(writer, geometry, 3);
-    let fits = geometry.share_data_size() as usize <= material.len()
-        && geometry.tree_size() as usize <= material.len()
-        && geometry.hashes_size() as usize == hashes.len();
+    let geometry = geometry()?;
+    if !fits(&geometry, view) {
+        return None;
+    }
+    let mut share = ShareWriter::new(writer, &geometry, number);
     let mut failed = false;
-    if fits && material.len() >= 308 {
-        if put_all(&mut share, geometry, &material, &hashes).is_err() {
-            failed = share.put(&[]) == Err(LayoutError::WriterFault);
+    if put_all(&mut share, view).is_err() {
+        failed = share.put(&[]) == Err(LayoutError::WriterFault);
+    }
+    Some((share.into_inner().taken, failed))
+}
+
+// Whether the sections of a share, written to a writer that fails after so many bytes, give a beginning of it, and the share
+// writer fails where that is not all.
+fn is_beginning(alloc: Global, share: &[u8], number: u16, left: usize) -> bool {
+    let Some(geometry) = geometry() else {
+        return false;
+    };
+    let Ok(view) = ShareView::read(share, number, &geometry) else {
+        return false;
+    };
+    match written(alloc, &view, number, left) {
+        Some((taken, failed)) => {
+            failed == (left < share.len())
+                && Some(taken.as_slice()) == share.get(..left.min(share.len()))
         }
+        None => false,
     }
-    Ok((share.into_inner().taken, failed))
 }
 
-// Share 3 of the file of 56 bytes, 3 of 10.
-fn share_three(rt: &HostRuntime, geometry: &Geometry) -> Result<Vec<u8>, AllocError> {
-    let (share, _) = written(rt.alloc(), geometry, 1_000)?;
-    Ok(share)
+// The shares of the file of 56 bytes at 3 of 10, whose byte i is i.
+fn shares_of_ten(alloc: Global) -> Option<Vec<Share>> {
+    let mut file = [0u8; 56];
+    for i in 0..56 {
+        file[i] = i as u8;
+    }
+    let params = Params::new(3, 1, 10, 131_072).ok()?;
+    let Encoded { cap: _, shares } = encode_all(alloc, &file, b"", &params).ok()?;
+    Some(shares)
 }
 
-const SIZES: (u64, u16, u16, u32) = (56, 3, 10, 131_072);
+// Share 3 of that file.
+fn share_three(alloc: Global) -> Option<Vec<u8>> {
+    let shares = shares_of_ten(alloc)?;
+    Vec::from_slice(alloc, shares.get(3)?.as_slice()).ok()
+}
 
-fn geometry() -> Result<Geometry, LayoutError> {
-    let (size, k, n, max) = SIZES;
-    Geometry::of(size, k, n, max)
+fn geometry() -> Option<Geometry> {
+    Geometry::of(56, 3, 10, 131_072).ok()
+}
+
+// The sections of each share of a file make the share.
+#[test]
+fn sections_make_each_share(rt: HostRuntime) {
+    let Some(shares) = shares_of_ten(rt.alloc()) else {
+        assert!(rt; false);
+        return;
+    };
+    assert!(rt; shares.len() == 10);
+    let mut number = 0u16;
+    for share in &shares {
+        assert!(rt;
+            is_beginning(rt.alloc(), share.as_slice(), number, 1000),
+            "{number}"
+        );
+        number = number.wrapping_add(1);
+    }
 }
 
 #[test]
-fn a_failed_writer_ends_a_share(rt: HostRuntime) -> Result<(), Fail> {
-    let geometry = geometry()?;
-    let share = share_three(&rt, &geometry)?;
-    assert_eq!(rt; share.len(), 633);
-    for left in 0..633 {
-        let (taken, failed) = written(rt.alloc(), &geometry, left)?;
-        assert!(rt; failed, "at {left}");
-        assert_eq!(rt; Some(taken.as_slice()), share.get(..left), "at {left}");
+fn a_failed_writer_ends_a_share(rt: HostRuntime) {
+    let Some(share) = share_three(rt.alloc()) else {
+        assert!(rt; false);
+        return;
+    };
+    assert!(rt; share.len() == 633);
+    for left in 0..=633 {
+        assert!(rt; is_beginning(rt.alloc(), &share, 3, left), "at {left}");
     }
-    let (taken, failed) = written(rt.alloc(), &geometry, 633)?;
-    assert!(rt; !failed && taken == share);
-    Ok(())
+}
+
+// The header of a share at 3 of 10.
+const HEADER: [u8; 36] = [
+    0, 0, 0, 1, 0, 0, 0, 19, 0, 0, 0, 19, 0, 0, 0, 36, 0, 0, 0, 55, 0, 0, 0, 87, 0, 0, 0, 119, 0,
+    0, 0, 151, 0, 0, 1, 65,
+];
+
+// Whether the sections of a share stand at their places.
+fn has_sections(share: &[u8], geometry: &Geometry) -> bool {
+    let Ok(view) = ShareView::read(share, 3, geometry) else {
+        return false;
+    };
+    Some(view.blocks) == share.get(36..55)
+        && Some(view.unused) == share.get(55..87)
+        && Some(view.ciphertext_tree) == share.get(87..119)
+        && Some(view.block_tree) == share.get(119..151)
+        && Some(view.share_hashes) == share.get(151..321)
+        && Some(view.extension_block) == share.get(325..)
+        && locate_ueb(share).ok() == share.get(325..)
 }
 
 #[test]
-fn a_share_has_its_sections(rt: HostRuntime) -> Result<(), Fail> {
-    let geometry = geometry()?;
-    let share = share_three(&rt, &geometry)?;
-    let header = [
-        0, 0, 0, 1, 0, 0, 0, 19, 0, 0, 0, 19, 0, 0, 0, 36, 0, 0, 0, 55, 0, 0, 0, 87, 0, 0, 0, 119,
-        0, 0, 0, 151, 0, 0, 1, 65,
-    ];
-    assert_eq!(rt; share.get(..36), Some(&header[..]));
-    assert_eq!(rt; share.get(321..325), Some(&[0u8, 0, 1, 52][..]));
-    let view = ShareView::read(&share, 3, &geometry)?;
-    assert_eq!(rt; Some(view.blocks), share.get(36..55));
-    assert_eq!(rt; Some(view.unused), share.get(55..87));
-    assert_eq!(rt; Some(view.ciphertext_tree), share.get(87..119));
-    assert_eq!(rt; Some(view.block_tree), share.get(119..151));
-    assert_eq!(rt; Some(view.share_hashes), share.get(151..321));
-    assert_eq!(rt; Some(view.extension_block), share.get(325..));
-    assert_eq!(rt; Some(locate_ueb(&share)?), share.get(325..));
-    Ok(())
+fn a_share_has_its_sections(rt: HostRuntime) {
+    let (Some(geometry), Some(share)) = (geometry(), share_three(rt.alloc())) else {
+        assert!(rt; false);
+        return;
+    };
+    assert!(rt; share.starts_with(&HEADER));
+    assert!(rt; share.get(321..325) == Some(&[0u8, 0, 1, 52][..]));
+    assert!(rt; has_sections(&share, &geometry));
 }
 
 // The number of the refusal of share 3, or 0.
@@ -314,13 +348,14 @@ fn locate_number(share: &[u8]) -> u8 {
 }
 
 #[test]
-fn shares_carry_the_numbers_of_their_nodes(rt: HostRuntime) -> Result<(), Fail> {
-    let geometry = geometry()?;
-    let mut share = share_three(&rt, &geometry)?;
+fn shares_carry_the_numbers_of_their_nodes(rt: HostRuntime) {
+    let (Some(geometry), Some(mut share)) = (geometry(), share_three(rt.alloc())) else {
+        assert!(rt; false);
+        return;
+    };
     for (number, refusal) in [(2, 0), (3, 0), (4, 35), (1, 35), (10, 35), (u16::MAX, 35)] {
-        assert_eq!(rt;
-            read_number(&share, number, &geometry),
-            refusal,
+        assert!(rt;
+            read_number(&share, number, &geometry) == refusal,
             "at {number}"
         );
     }
@@ -334,12 +369,11 @@ fn shares_carry_the_numbers_of_their_nodes(rt: HostRuntime) -> Result<(), Fail> 
     ] {
         if place < share.len() {
             share[place] ^= 1;
-            assert_eq!(rt; read_number(&share, 3, &geometry), refusal, "at {place}");
-            assert_eq!(rt; locate_number(&share), 0);
+            assert!(rt; read_number(&share, 3, &geometry) == refusal, "at {place}");
+            assert!(rt; locate_number(&share) == 0);
             share[place] ^= 1;
         }
     }
-    Ok(())
 }
 
 // The section of the first byte that is missing from a share of 633 bytes that is cut to this length.
@@ -356,9 +390,11 @@ fn section_of(len: usize) -> Section {
 }
 
 #[test]
-fn a_cut_share_names_its_section(rt: HostRuntime) -> Result<(), Fail> {
-    let geometry = geometry()?;
-    let share = share_three(&rt, &geometry)?;
+fn a_cut_share_names_its_section(rt: HostRuntime) {
+    let (Some(geometry), Some(share)) = (geometry(), share_three(rt.alloc())) else {
+        assert!(rt; false);
+        return;
+    };
     for len in 0..share.len() {
         let cut = &share[..len];
         let fault = LayoutError::Truncated(section_of(len));
@@ -368,39 +404,41 @@ fn a_cut_share_names_its_section(rt: HostRuntime) -> Result<(), Fail> {
         );
         assert!(rt; has_fault(cut, fault), "at {len}");
     }
-    Ok(())
 }
 
 #[test]
-fn a_changed_header_is_refused(rt: HostRuntime) -> Result<(), Fail> {
-    let geometry = geometry()?;
-    let mut share = share_three(&rt, &geometry)?;
+fn a_changed_header_is_refused(rt: HostRuntime) {
+    let (Some(geometry), Some(mut share)) = (geometry(), share_three(rt.alloc())) else {
+        assert!(rt; false);
+        return;
+    };
     for place in 0..36 {
         if place < share.len() {
             share[place] ^= 1;
             let refusal = if place < 4 { 32 } else { 33 };
-            assert_eq!(rt; read_number(&share, 3, &geometry), refusal, "at {place}");
+            assert!(rt; read_number(&share, 3, &geometry) == refusal, "at {place}");
             let located = match place {
                 0..=3 => 32,
                 4..=11 => 0,
                 _ => 33,
             };
             if place < 16 {
-                assert_eq!(rt; locate_number(&share), located, "at {place}");
+                assert!(rt; locate_number(&share) == located, "at {place}");
             }
             share[place] ^= 1;
         }
     }
-    Ok(())
 }
 
 #[test]
-fn a_share_ends_with_its_extension_block(rt: HostRuntime) -> Result<(), Fail> {
-    let geometry = geometry()?;
-    let mut share = share_three(&rt, &geometry)?;
-    share.push(0)?;
-    assert_eq!(rt; read_number(&share, 3, &geometry), 33);
-    assert_eq!(rt; locate_number(&share), 33);
+fn a_share_ends_with_its_extension_block(rt: HostRuntime) {
+    let (Some(geometry), Some(mut share)) = (geometry(), share_three(rt.alloc())) else {
+        assert!(rt; false);
+        return;
+    };
+    assert!(rt; share.push(0).is_ok());
+    assert!(rt; read_number(&share, 3, &geometry) == 33);
+    assert!(rt; locate_number(&share) == 33);
     share.pop();
     // The length of the extension block, its two low bytes.
     for (high, low, refusal) in [
@@ -414,15 +452,13 @@ fn a_share_ends_with_its_extension_block(rt: HostRuntime) -> Result<(), Fail> {
         if share.len() > 324 {
             share[323] = high;
             share[324] = low;
-            assert_eq!(rt;
-                read_number(&share, 3, &geometry),
-                refusal,
+            assert!(rt;
+                read_number(&share, 3, &geometry) == refusal,
                 "at {high} {low}"
             );
-            assert_eq!(rt; locate_number(&share), refusal, "at {high} {low}");
+            assert!(rt; locate_number(&share) == refusal, "at {high} {low}");
         }
     }
-    Ok(())
 }
 
 // Whether this is the first fault of a share, by its header's own numbers.

@@ -1,6 +1,8 @@
 // The stores: one in memory, and one over the files of folders of the tests' own.
 //
 // The base32 texts were computed by a program that shares no code with these crates.
+//
+// The tests whose names begin with `refused_memory` pass too where any one allocation of theirs is refused.
 
 use share_store::error::StoreError;
 use share_store::folder::FolderStore;
@@ -22,6 +24,63 @@ const OTHER_INDEX: StorageIndex = [0, 1, 2, 3, 4, 5, 6, 7, 8, 9, 10, 11, 12, 13,
 const SEVENS: &str = "a4dqobyha4dqobyha4dqobyha4dqobyha4dqobyha4dqobyha4dq";
 
 const GREATER: &str = "2dinbugq2dinbugq2dinbugq2dinbugq2dinbugq2dinbugq2dia";
+
+// A call of a store about a share, and what it is to give. Shares are closed under a digest of 32 times one byte.
+#[derive(Clone, Copy)]
+enum Call {
+    // Bytes are written at an offset.
+    Write(StorageIndex, u8, u64, &'static [u8]),
+    Close(StorageIndex, u8, u8),
+    // So many bytes are read from an offset on: these come.
+    Read(StorageIndex, u8, u64, u32, &'static [u8]),
+    // The shares of these numbers are listed, all under one digest.
+    List(StorageIndex, &'static [u8], u8),
+    // The share is not closed.
+    Open(StorageIndex, u8),
+    Closed(StorageIndex, u8, u8),
+    // The closed shares have so many bytes, and there was no fault.
+    Used(u64),
+    Restart,
+}
+
+// A share that is written in pieces, closed and read.
+const KEEPS: [Call; 13] = [
+    Call::Used(0),
+    Call::Write(INDEX, 3, 0, b"\x09\x09\x09\x09"),
+    Call::Write(INDEX, 3, 0, b"\x01\x02\x03"),
+    Call::Write(INDEX, 3, 3, b"\x04\x05"),
+    Call::Open(INDEX, 3),
+    Call::Close(INDEX, 3, 7),
+    Call::Closed(INDEX, 3, 7),
+    Call::Used(5),
+    Call::Read(INDEX, 3, 0, 32_768, b"\x01\x02\x03\x04\x05"),
+    Call::Read(INDEX, 3, 3, 1, b"\x04"),
+    Call::Read(INDEX, 3, 4, 9, b"\x05"),
+    Call::Read(INDEX, 3, 5, 1, b""),
+    Call::Read(INDEX, 3, u64::MAX, 1, b""),
+];
+
+// The shares of a storage index come in order, and no other index's. An open one is gone after a restart.
+const LISTS: [Call; 18] = [
+    Call::Write(INDEX, 200, 0, b"\xc8"),
+    Call::Close(INDEX, 200, 7),
+    Call::Write(INDEX, 3, 0, b"\x03"),
+    Call::Close(INDEX, 3, 7),
+    Call::Write(INDEX, 10, 0, b"\x0a"),
+    Call::Write(INDEX, 10, 1, b"\x0b"),
+    Call::Close(INDEX, 10, 7),
+    Call::Write(OTHER_INDEX, 5, 0, b"\x01\x02"),
+    Call::Close(OTHER_INDEX, 5, 8),
+    Call::Write(INDEX, 4, 0, b"\x01"),
+    Call::Restart,
+    Call::List(INDEX, b"\x03\x0a\xc8", 7),
+    Call::List(OTHER_INDEX, b"\x05", 8),
+    Call::Used(6),
+    Call::Read(INDEX, 10, 0, 9, b"\x0a\x0b"),
+    Call::Write(INDEX, 4, 3, b"\x06"),
+    Call::Close(INDEX, 4, 7),
+    Call::Read(INDEX, 4, 0, 9, b"\x06"),
+];
 
 fn share(index: StorageIndex, share: u8) -> ShareId {
     ShareId { index, share }
@@ -86,113 +145,117 @@ fn lists<S: Store>(
     Ok(true)
 }
 
-// What a store does with shares that are written in pieces, whichever store it is: how many of these steps go as they should.
-fn keeps<S: Store>(alloc: Global, store: &mut S) -> Result<u8, StoreError> {
-    let first = share(INDEX, 3);
-    let mut right = 0u8;
-    if store.used() == 0 && writes(store, &first, 0, &[9, 9, 9, 9])? {
-        right = 1;
-    }
-    if right == 1 && writes(store, &first, 0, &[1, 2, 3])? && writes(store, &first, 3, &[4, 5])? {
-        right = 2;
-    }
-    if right == 2 && store.closed(&first).is_none() && closes(store, &first, &[7; 32])? {
-        right = 3;
-    }
-    if right == 3 && store.closed(&first) == Some([7; 32]) && store.used() == 5 {
-        right = 4;
-    }
-    if right == 4 && reads(alloc, store, &first, 0, 32_768, &[1, 2, 3, 4, 5])? {
-        right = 5;
-    }
-    if right == 5
-        && reads(alloc, store, &first, 3, 1, &[4])?
-        && reads(alloc, store, &first, 4, 9, &[5])?
-    {
-        right = 6;
-    }
-    if right == 6
-        && reads(alloc, store, &first, 5, 1, &[])?
-        && reads(alloc, store, &first, u64::MAX, 1, &[])?
-    {
-        right = 7;
-    }
-    Ok(right)
-}
-
-// Whether the shares of a storage index come in order, and no other index's, and an open one is gone after a restart.
-fn lists_in_order<S: Store>(alloc: Global, store: &mut S) -> Result<bool, StoreError> {
-    for number in [200, 3, 10] {
-        let id = share(INDEX, number);
-        if !writes(store, &id, 0, &[number])? || !closes(store, &id, &[7; 32])? {
-            return Ok(false);
+// Whether a call gives what it is to give.
+fn gives<S: Store>(alloc: Global, store: &mut S, call: Call) -> Result<bool, StoreError> {
+    match call {
+        Call::Write(index, number, offset, bytes) => {
+            writes(store, &share(index, number), offset, bytes)
+        }
+        Call::Close(index, number, digest) => closes(store, &share(index, number), &[digest; 32]),
+        Call::Read(index, number, offset, count, wanted) => {
+            reads(alloc, store, &share(index, number), offset, count, wanted)
+        }
+        Call::List(index, numbers, digest) => lists(alloc, store, &index, numbers, &[digest; 32]),
+        Call::Open(index, number) => Ok(store.closed(&share(index, number)).is_none()),
+        Call::Closed(index, number, digest) => {
+            Ok(store.closed(&share(index, number)) == Some([digest; 32]))
+        }
+        Call::Used(bytes) => Ok(store.used() == bytes && store.failures() == 0),
+        Call::Restart => {
+            store.restart();
+            Ok(true)
         }
     }
-    let other = share(OTHER_INDEX, 5);
-    if !writes(store, &other, 0, &[1, 2])? || !closes(store, &other, &[8; 32])? {
-        return Ok(false);
+}
+
+// How many calls in turn give what they are to give, up to the first that does not.
+fn right_calls<S: Store>(alloc: Global, store: &mut S, calls: &[Call]) -> usize {
+    for (i, call) in calls.iter().enumerate() {
+        if gives(alloc, store, *call) != Ok(true) {
+            return i;
+        }
     }
-    let open = share(INDEX, 4);
-    if !writes(store, &open, 0, &[1])? {
-        return Ok(false);
+    calls.len()
+}
+
+// What a store shows of itself: the digest of share 3, how many shares of its file there are, the bytes of all, and the faults.
+type Shown = (Option<Digest>, usize, u64, u64);
+
+// How many shares of a file are listed. Where there is no memory once, the call is made again.
+fn count_listed<S: Store>(alloc: Global, store: &mut S) -> usize {
+    for _ in 0..2 {
+        if let Ok(found) = store.list(alloc, &INDEX) {
+            return found.as_slice().len();
+        }
     }
-    store.restart();
-    Ok(
-        lists(alloc, store, &INDEX, &[3, 10, 200], &[7; 32])?
-            && lists(alloc, store, &OTHER_INDEX, &[5], &[8; 32])?
-            && store.used() == 5
-            && store.failures() == 0
-            && writes(store, &open, 3, &[6])?
-            && closes(store, &open, &[7; 32])?
-            && reads(alloc, store, &open, 0, 9, &[6])?,
+    usize::MAX
+}
+
+fn shown<S: Store>(alloc: Global, store: &mut S) -> Shown {
+    let listed = count_listed(alloc, store);
+    (
+        store.closed(&share(INDEX, 3)),
+        listed,
+        store.used(),
+        store.failures(),
     )
 }
 
-#[test]
-fn memory_keeps(rt: HostRuntime) -> Result<(), Fail> {
-    let mut store = MemoryStore::new(rt.alloc());
-    assert_eq!(rt; keeps(rt.alloc(), &mut store)?, 7);
-    Ok(())
+// Whether a call gives what it is to give, at once, or after it was refused memory once and changed nothing.
+fn gives_at_last<S: Store>(alloc: Global, store: &mut S, call: Call) -> bool {
+    let before = shown(alloc, store);
+    let outcome = gives(alloc, store, call);
+    if outcome != Err(StoreError::OutOfMemory) {
+        return outcome == Ok(true);
+    }
+    shown(alloc, store) == before && gives(alloc, store, call) == Ok(true)
+}
+
+// How many calls in turn give what they are to give, where memory may be refused once.
+fn right_at_last<S: Store>(alloc: Global, store: &mut S, calls: &[Call]) -> usize {
+    for (i, call) in calls.iter().enumerate() {
+        if !gives_at_last(alloc, store, *call) {
+            return i;
+        }
+    }
+    calls.len()
 }
 
 #[test]
-fn memory_lists(rt: HostRuntime) -> Result<(), Fail> {
+fn memory_keeps(rt: HostRuntime) {
     let mut store = MemoryStore::new(rt.alloc());
-    assert!(rt; lists_in_order(rt.alloc(), &mut store)?);
-    Ok(())
+    assert_eq!(rt; right_calls(rt.alloc(), &mut store, &KEEPS), 13);
 }
+
+#[test]
+fn refused_memory_in_memory(rt: HostRuntime) {
+    let mut store = MemoryStore::new(rt.alloc());
+    assert_eq!(rt; right_at_last(rt.alloc(), &mut store, &LISTS), 18);
+}
+
+const FAILING: [Call; 4] = [
+    Call::Write(INDEX, 3, 0, b"\x01\x02"),
+    Call::Close(INDEX, 3, 7),
+    Call::Read(INDEX, 3, 0, 9, b"\x01\x02"),
+    Call::List(INDEX, b"\x03", 7),
+];
 
 // Each call fails in turn, and then goes as it should.
 #[test]
-fn memory_fails(rt: HostRuntime) -> Result<(), Fail> {
+fn memory_fails(rt: HostRuntime) {
     let mut store = MemoryStore::new(rt.alloc());
-    let id = share(INDEX, 0);
-    store.fail_next();
-    assert!(rt; is_fault(&writes(&mut store, &id, 0, &[1, 2])));
-    assert!(rt; writes(&mut store, &id, 0, &[1, 2])?);
-    store.fail_next();
-    assert!(rt; is_fault(&closes(&mut store, &id, &[7; 32])));
-    assert!(rt; store.closed(&id).is_none());
-    assert!(rt; closes(&mut store, &id, &[7; 32])?);
-    store.fail_next();
-    assert!(rt; is_fault(&reads(rt.alloc(), &mut store, &id, 0, 9, &[1, 2])));
-    store.fail_next();
-    assert!(rt; is_fault(&lists(rt.alloc(), &mut store, &INDEX, &[0], &[7; 32])));
+    for call in FAILING {
+        store.fail_next();
+        assert!(rt; gives(rt.alloc(), &mut store, call) == Err(StoreError::StoreFault));
+        assert!(rt; gives(rt.alloc(), &mut store, call) == Ok(true));
+    }
     assert_eq!(rt; store.failures(), 4);
-    assert!(rt; reads(rt.alloc(), &mut store, &id, 0, 9, &[1, 2])?);
-    assert!(rt; lists(rt.alloc(), &mut store, &INDEX, &[0], &[7; 32])?);
-    Ok(())
 }
 
 #[test]
-fn errors_have_numbers(rt: HostRuntime) -> Result<(), Fail> {
+fn errors_have_numbers(rt: HostRuntime) {
     assert_eq!(rt; StoreError::OutOfMemory.number(), 1);
     assert_eq!(rt; StoreError::StoreFault.number(), 60);
-    Ok(())
-}
-
-fn is_fault(outcome: &Result<bool, StoreError>) -> bool {
-    matches!(outcome, Err(StoreError::StoreFault))
 }
 
 // A path in a folder that is this process's own.
@@ -221,91 +284,136 @@ fn open(rt: &HostRuntime) -> Result<FolderStore<HostRuntime>, StoreError> {
     FolderStore::open(rt, path(rt, "")?.as_str())
 }
 
+// How many calls in turn give what they are to give in the folder's store, once it is opened.
+fn right_in_folder(rt: &HostRuntime, calls: &[Call]) -> Result<usize, StoreError> {
+    let mut store = open(rt)?;
+    Ok(right_calls(rt.alloc(), &mut store, calls))
+}
+
+const KEPT: [Call; 2] = [Call::Used(5), Call::Read(INDEX, 3, 1, 3, b"\x02\x03\x04")];
+
 #[test]
 fn folder_keeps(rt: HostRuntime) -> Result<(), Fail> {
     remove(&rt)?;
-    let mut store = open(&rt)?;
-    assert_eq!(rt; keeps(rt.alloc(), &mut store)?, 7);
-    let closed = file(&rt, ".3.", SEVENS)?;
-    assert_eq!(rt; fs::metadata(&rt, closed.as_str())?.len(), 5);
+    assert_eq!(rt; right_in_folder(&rt, &KEEPS)?, 13);
+    assert_eq!(rt;
+        fs::metadata(&rt, file(&rt, ".3.", SEVENS)?.as_str())?.len(),
+        5
+    );
     assert!(rt; !fs::exists(&rt, file(&rt, ".3.open", "")?.as_str())?);
-    let mut again = open(&rt)?;
-    assert_eq!(rt; again.used(), 5);
-    assert!(rt; reads(rt.alloc(), &mut again, &share(INDEX, 3), 1, 3, &[2, 3, 4])?);
+    assert_eq!(rt; right_in_folder(&rt, &KEPT)?, 2);
     remove(&rt)?;
     Ok(())
 }
 
+const LISTED: [Call; 5] = [
+    Call::List(INDEX, b"\x03\x04\x0a\xc8", 7),
+    Call::List(OTHER_INDEX, b"\x05", 8),
+    Call::Read(INDEX, 4, 0, 9, b"\x06"),
+    Call::Read(INDEX, 10, 0, 9, b"\x0a\x0b"),
+    Call::Used(7),
+];
+
+// How many calls go right in a folder's store, where memory may be refused once: none, where it is not opened.
+fn right_in_folder_at_last(rt: &HostRuntime, folder: &str, calls: &[Call]) -> usize {
+    let opened = match FolderStore::open(rt, folder) {
+        Err(StoreError::OutOfMemory) => FolderStore::open(rt, folder),
+        outcome => outcome,
+    };
+    match opened {
+        Ok(mut store) => right_at_last(rt.alloc(), &mut store, calls),
+        Err(_) => 0,
+    }
+}
+
 #[test]
-fn folder_lists(rt: HostRuntime) -> Result<(), Fail> {
-    remove(&rt)?;
-    let mut store = open(&rt)?;
-    assert!(rt; lists_in_order(rt.alloc(), &mut store)?);
-    let mut again = open(&rt)?;
-    assert!(rt; lists(rt.alloc(), &mut again, &INDEX, &[3, 4, 10, 200], &[7; 32])?);
-    assert_eq!(rt; again.used(), 6);
-    remove(&rt)?;
+fn refused_memory_in_folder(rt: HostRuntime) {
+    let Ok(folder) = path(&rt, "") else {
+        return;
+    };
+    if remove(&rt).is_err() {
+        return;
+    }
+    let written = right_in_folder_at_last(&rt, folder.as_str(), &LISTS);
+    let kept = right_in_folder_at_last(&rt, folder.as_str(), &LISTED);
+    assert!(rt; remove(&rt).is_ok() || remove(&rt).is_ok());
+    assert_eq!(rt; written, 18);
+    assert_eq!(rt; kept, 5);
+}
+
+const NAMES: [(&str, &str, usize); 12] = [
+    (".0.", SEVENS, 1),
+    (".0.", GREATER, 2),
+    (".255.", SEVENS, 4),
+    (".1.open", "", 8),
+    (".01.", SEVENS, 16),
+    (".256.", SEVENS, 32),
+    ("..", SEVENS, 64),
+    (".+2.", SEVENS, 128),
+    ("", "", 256),
+    ("_3.", SEVENS, 512),
+    (".4_", SEVENS, 1024),
+    (".5.", INDEX_TEXT, 2048),
+];
+
+// Makes a file of each name in the folder, and a folder with the name of a closed share.
+fn fill(rt: &HostRuntime) -> Result<(), Fail> {
+    for (rest, end, size) in NAMES {
+        let name = file(rt, rest, end)?;
+        let bytes = vec![in rt.alloc(); 0u8; size]?;
+        fs::write(rt, name.as_str(), bytes.as_slice())?;
+    }
+    fs::create_dir(rt, file(rt, ".6.", SEVENS)?.as_str())?;
     Ok(())
 }
+
+const EMPTY: [Call; 1] = [Call::Used(0)];
+
+const FILLED: [Call; 6] = [
+    Call::Used(6),
+    Call::Closed(INDEX, 0, 208),
+    Call::Closed(INDEX, 255, 7),
+    Call::Write(INDEX, 1, 8, b"\x03"),
+    Call::Close(INDEX, 1, 7),
+    Call::Read(INDEX, 1, 0, 9, b"\x03"),
+];
 
 // Other names, open files and folders are ignored. Of two digests the one with the lower text counts.
 #[test]
 fn folder_ignores_other_names(rt: HostRuntime) -> Result<(), Fail> {
     remove(&rt)?;
-    let store = open(&rt)?;
-    assert_eq!(rt; store.used(), 0);
-    let rows = [
-        (".0.", SEVENS, 1usize),
-        (".0.", GREATER, 2),
-        (".255.", SEVENS, 4),
-        (".1.open", "", 8),
-        (".01.", SEVENS, 16),
-        (".256.", SEVENS, 32),
-        ("..", SEVENS, 64),
-        (".+2.", SEVENS, 128),
-        ("", "", 256),
-        ("_3.", SEVENS, 512),
-        (".4_", SEVENS, 1024),
-        (".5.", INDEX_TEXT, 2048),
-    ];
-    for (rest, end, size) in rows {
-        let name = file(&rt, rest, end)?;
-        fs::write(
-            &rt,
-            name.as_str(),
-            vec![in rt.alloc(); 0u8; size]?.as_slice(),
-        )?;
-    }
-    fs::create_dir(&rt, file(&rt, ".6.", SEVENS)?.as_str())?;
-    let mut store = open(&rt)?;
-    assert_eq!(rt; store.used(), 6);
-    assert!(rt; store.closed(&share(INDEX, 0)) == Some([208; 32]));
-    assert!(rt; store.closed(&share(INDEX, 255)) == Some([7; 32]));
-    assert!(rt; writes(&mut store, &share(INDEX, 1), 8, &[3])?);
-    assert!(rt; closes(&mut store, &share(INDEX, 1), &[7; 32])?);
-    assert!(rt; reads(rt.alloc(), &mut store, &share(INDEX, 1), 0, 9, &[3])?);
+    assert_eq!(rt; right_in_folder(&rt, &EMPTY)?, 1);
+    fill(&rt)?;
+    assert_eq!(rt; right_in_folder(&rt, &FILLED)?, 6);
     remove(&rt)?;
     Ok(())
 }
 
-// A closed file that is gone, and a path that is no folder.
+const ONE_SHARE: [Call; 2] = [
+    Call::Write(INDEX, 0, 0, b"\x01\x02"),
+    Call::Close(INDEX, 0, 7),
+];
+
+// Whether a call of a folder's store fails, as the fault of this number.
+fn fails(rt: &HostRuntime, store: &mut FolderStore<HostRuntime>, call: Call, number: u64) -> bool {
+    gives(rt.alloc(), store, call) == Err(StoreError::StoreFault) && store.failures() == number
+}
+
+// A closed file that is gone, one that is too short, a path that is no folder, and a folder that is gone.
 #[test]
 fn folder_fails(rt: HostRuntime) -> Result<(), Fail> {
     remove(&rt)?;
     let mut store = open(&rt)?;
-    let id = share(INDEX, 0);
-    assert!(rt; writes(&mut store, &id, 0, &[1, 2])? && closes(&mut store, &id, &[7; 32])?);
+    assert_eq!(rt; right_calls(rt.alloc(), &mut store, &ONE_SHARE), 2);
     let closed = file(&rt, ".0.", SEVENS)?;
     fs::remove_file(&rt, closed.as_str())?;
-    assert!(rt; is_fault(&reads(rt.alloc(), &mut store, &id, 0, 9, &[1, 2])));
-    assert_eq!(rt; store.failures(), 1);
+    assert!(rt; fails(&rt, &mut store, Call::Read(INDEX, 0, 0, 9, b"\x01\x02"), 1));
     fs::write(&rt, closed.as_str(), [1u8].as_slice())?;
-    assert!(rt; is_fault(&reads(rt.alloc(), &mut store, &id, 0, 9, &[1, 2])));
-    assert_eq!(rt; store.failures(), 2);
+    assert!(rt; fails(&rt, &mut store, Call::Read(INDEX, 0, 0, 9, b"\x01\x02"), 2));
     let outcome = FolderStore::open(&rt, closed.as_str());
     assert!(rt; matches!(&outcome, Err(StoreError::StoreFault)));
     remove(&rt)?;
-    assert!(rt; is_fault(&writes(&mut store, &share(INDEX, 9), 0, &[1])));
-    assert_eq!(rt; store.failures(), 3);
+    assert!(rt; fails(&rt, &mut store, Call::Write(INDEX, 1, 0, b"\x01"), 3));
+    assert!(rt; fails(&rt, &mut store, Call::Close(INDEX, 1, 7), 4));
     Ok(())
 }

@@ -21,7 +21,7 @@ fn hashes_under_each_tag(rt: HostRuntime) {
     ];
     for (tag, start) in rows {
         let hash = tagged(tag, b"abc");
-        assert_eq!(rt; &hash[..4], start.as_slice(), "{tag:?}");
+        assert!(rt; &hash[..4] == start.as_slice(), "{tag:?}");
     }
 }
 
@@ -39,7 +39,7 @@ fn pieces_make_one_message(rt: HostRuntime) {
         0x70, 0x08, 0x89, 0x0e, 0x39, 0xeb, 0x47, 0xdd, 0x57, 0x2d, 0x2b, 0x62, 0x49, 0x9d, 0xba,
         0x11, 0xed,
     ];
-    assert_eq!(rt; hasher.finish(), hash);
+    assert!(rt; hasher.finish() == hash);
 }
 
 #[test]
@@ -49,7 +49,7 @@ fn hashes_a_node(rt: HostRuntime) {
         0xe6, 0xc4, 0x4b, 0xd4, 0xa0, 0x23, 0x23, 0x56, 0x90, 0xbf, 0x14, 0xa9, 0x34, 0x57, 0xa6,
         0x2f, 0xef,
     ];
-    assert_eq!(rt; pair(&[0; 32], &[0xff; 32]), node);
+    assert!(rt; pair(&[0; 32], &[0xff; 32]) == node);
 }
 
 #[test]
@@ -64,8 +64,8 @@ fn hashes_empty_leaves(rt: HostRuntime) {
         0xaa, 0x0b, 0x99, 0xcb, 0x6c, 0x6d, 0xc0, 0x2c, 0x01, 0x36, 0x5b, 0x61, 0xcd, 0xbd, 0x65,
         0xe0, 0x73,
     ];
-    assert_eq!(rt; empty_leaf(0), first);
-    assert_eq!(rt; empty_leaf(u32::MAX), last);
+    assert!(rt; empty_leaf(0) == first);
+    assert!(rt; empty_leaf(u32::MAX) == last);
 }
 
 #[test]
@@ -77,7 +77,7 @@ fn keeps_the_secret_and_the_encoding_in_the_key(rt: HostRuntime) {
     let mut hasher = KeyHasher::new(256, 256, 1_048_831, &[b's'; 64]);
     hasher.update(b"hel");
     hasher.update(b"lo");
-    assert_eq!(rt; hasher.finish(), key);
+    assert!(rt; hasher.finish() == key);
 }
 
 // Three files of one segment: 56 zero bytes as 1 of 1, and the bytes 0, 1, 2, .., counted modulo 251,
@@ -129,18 +129,17 @@ fn keys_and_hashes_of_files(rt: HostRuntime) -> Result<(), Fail> {
     ];
     for ((k, segment_size, file), key, index, starts) in rows {
         let n = if k == 3 { 10 } else { k };
-        assert_eq!(rt;
-            convergent_key(k, n, segment_size, b"", file),
-            key,
+        assert!(rt;
+            convergent_key(k, n, segment_size, b"", file) == key,
             "{k} of {n}"
         );
-        assert_eq!(rt; storage_index(&key), index, "{k} of {n}");
+        assert!(rt; storage_index(&key) == index, "{k} of {n}");
         let mut text = file.to_vec(rt.alloc())?;
         Aes128::new(&key).xor_at(0, &mut text);
         let whole = tagged(Tag::Ciphertext, &text);
-        assert_eq!(rt; &whole[..4], &starts[..4], "{k} of {n}");
+        assert!(rt; &whole[..4] == &starts[..4], "{k} of {n}");
         let segment = tagged(Tag::CiphertextSegment, &text);
-        assert_eq!(rt; &segment[..4], &starts[4..], "{k} of {n}");
+        assert!(rt; &segment[..4] == &starts[4..], "{k} of {n}");
     }
     Ok(())
 }

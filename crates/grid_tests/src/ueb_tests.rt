@@ -1,8 +1,7 @@
 // Extension blocks: those of whole files' encodings, and one that is changed in one place, which a reader in Python judged by the
 // format's rules.
 
-use std::alloc::Global;
-use std::test::Fail;
+use std::alloc::{AllocError, Global};
 use ueb::{Expect, Key, MAX_FILE_SIZE, MAX_LENGTH, MAX_SHARES, MIN_FILE_SIZE, Ueb, UebError};
 
 // A block of a file of 56 bytes at 3 of 10, with hashes that can be read.
@@ -54,344 +53,390 @@ const BLOCKS: [(u16, u16, u64, &[u8]); 5] = [
     ),
 ];
 
-fn expect(k: u16, n: u16, size: u64) -> Result<Expect, Fail> {
+fn expect(k: u16, n: u16, size: u64) -> Option<Expect> {
     if k == 0 || k > n || n > MAX_SHARES || !(MIN_FILE_SIZE..=MAX_FILE_SIZE).contains(&size) {
-        return Err("not a file's numbers")?;
+        return None;
     }
-    Ok(Expect { k, n, size })
+    Some(Expect { k, n, size })
+}
+
+// Whether the block is read as that of a file with these numbers, and written the same.
+fn is_read_and_written(alloc: Global, k: u16, n: u16, size: u64, block: &[u8]) -> bool {
+    let Some(expect) = expect(k, n, size) else {
+        return false;
+    };
+    let Ok(ueb) = Ueb::read(block, &expect) else {
+        return false;
+    };
+    ueb.needed_shares() == k
+        && ueb.total_shares() == n
+        && ueb.size() == size
+        && is_written(alloc, &ueb, block)
+}
+
+fn is_written(alloc: Global, ueb: &Ueb, block: &[u8]) -> bool {
+    match ueb.write(alloc) {
+        Ok(text) => text.as_slice() == block,
+        Err(_) => false,
+    }
 }
 
 #[test]
-fn reads_and_writes_blocks_of_files(rt: HostRuntime) -> Result<(), Fail> {
+fn reads_and_writes_blocks_of_files(rt: HostRuntime) {
     for (k, n, size, block) in BLOCKS {
-        let ueb = Ueb::read(block, &expect(k, n, size)?)?;
-        assert_eq!(rt;
-            (ueb.needed_shares(), ueb.total_shares(), ueb.size()),
-            (k, n, size)
+        assert!(rt;
+            is_read_and_written(rt.alloc(), k, n, size, block),
+            "{size}"
         );
-        assert_eq!(rt; ueb.write(rt.alloc())?.as_slice(), block);
     }
-    Ok(())
 }
 
-#[test]
-fn writes_what_is_read(rt: HostRuntime) -> Result<(), Fail> {
-    let ueb = Ueb::new(
-        &Expect {
-            k: 3,
-            n: 10,
-            size: 56,
-        },
+// The fields of the block of 56 bytes.
+fn good() -> Ueb {
+    Ueb::new(
+        &EXPECT,
         57,
         *b"abcdefghijklmnopqrstuvwxyz012345",
         *b"ABCDEFGHIJKLMNOPQRSTUVWXYZ012345",
         *b"0123456789abcdefghijklmnopqrstuv",
-    );
-    assert_eq!(rt; ueb.write(rt.alloc())?.as_slice(), GOOD.as_bytes());
-    assert_eq!(rt; Ueb::read(GOOD.as_bytes(), &EXPECT), Ok(ueb));
-    assert_eq!(rt; (ueb.segment_size(), ueb.num_segments()), (57, 1));
-    assert_eq!(rt; ueb.crypttext_hash(), b"abcdefghijklmnopqrstuvwxyz012345");
-    assert_eq!(rt;
-        ueb.crypttext_root_hash(),
-        b"ABCDEFGHIJKLMNOPQRSTUVWXYZ012345"
-    );
-    assert_eq!(rt; ueb.share_root_hash(), b"0123456789abcdefghijklmnopqrstuv");
-    Ok(())
+    )
 }
 
-// The fault of the block with one place changed.
-fn fault_of(alloc: Global, old: &str, new: &str) -> Result<Option<UebError>, Fail> {
-    let (before, after) = GOOD.split_once(old).ok_or("no such place")?;
-    let block = format!(in alloc; "{before}{new}{after}")?;
-    Ok(Ueb::read(block.as_bytes(), &EXPECT).err())
+fn has_fields(ueb: &Ueb) -> bool {
+    ueb.segment_size() == 57
+        && ueb.num_segments() == 1
+        && ueb.crypttext_hash() == b"abcdefghijklmnopqrstuvwxyz012345"
+        && ueb.crypttext_root_hash() == b"ABCDEFGHIJKLMNOPQRSTUVWXYZ012345"
+        && ueb.share_root_hash() == b"0123456789abcdefghijklmnopqrstuv"
 }
 
 #[test]
-fn tells_the_first_fault(rt: HostRuntime) -> Result<(), Fail> {
-    let rows = [
-        // Further keys are skipped where they stand in their order.
-        ("size:2:56,", "size:2:56,", None),
-        ("needed_shares:", "extra:3:abc,needed_shares:", None),
-        ("codec_name:", "A-_z:0:,codec_name:", None),
-        ("total_shares:2:10,", "total_shares:2:10,totalz:1:,,", None),
-        // A key that does not come later than the one before it, whatever follows it.
-        (
-            "total_shares:2:10,",
-            "total_shares:2:10,extra:3:abc,",
-            Some(UebError::KeyOrder),
-        ),
-        (
-            "total_shares:2:10,",
-            "total_shares:2:10,total_shares:2:10,",
-            Some(UebError::KeyOrder),
-        ),
-        (
-            "total_shares:2:10,",
-            "total_shares:2:10,extra:03:abc,",
-            Some(UebError::KeyOrder),
-        ),
-        ("tail_", "share:0:,tail_", Some(UebError::KeyOrder)),
-        // No field in a field's place.
-        (
-            "total_shares:2:10,",
-            "total_shares:2:10,zz",
-            Some(UebError::Malformed),
-        ),
-        (
-            "total_shares:2:10,",
-            "total_shares:2:10,,",
-            Some(UebError::Malformed),
-        ),
-        (
-            "total_shares:2:10,",
-            "total_shares:2:10,:0:,",
-            Some(UebError::Malformed),
-        ),
-        (
-            "total_shares:2:10,",
-            "total_shares:2:10,z1:0:,",
-            Some(UebError::Malformed),
-        ),
-        (
-            "total_shares:2:10,",
-            "total_shares:2:10,zz:0",
-            Some(UebError::Malformed),
-        ),
-        (
-            "codec_name:3:crs,",
-            "codec_name:03:crs,",
-            Some(UebError::Malformed),
-        ),
-        (
-            "codec_name:3:crs,",
-            "codec_name:+3:crs,",
-            Some(UebError::Malformed),
-        ),
-        (
-            "codec_name:3:crs,",
-            "codec_name::crs,",
-            Some(UebError::Malformed),
-        ),
-        (
-            "codec_name:3:crs,",
-            "codec_name:3:crs;",
-            Some(UebError::Malformed),
-        ),
-        (
-            "codec_name:3:crs,",
-            "codec_name:4:crs,",
-            Some(UebError::Malformed),
-        ),
-        (
-            "total_shares:2:10,",
-            "total_shares:3:10,",
-            Some(UebError::Malformed),
-        ),
-        (
-            "total_shares:2:10,",
-            "total_shares:2:10",
-            Some(UebError::Malformed),
-        ),
-        (
-            "total_shares:2:10,",
-            "total_shares:18446744073709551616:10,",
-            Some(UebError::Malformed),
-        ),
-        // The first of the two from the left.
-        (
-            "codec_name:3:crs,codec_params:",
-            "codec_name:03:crs,a:",
-            Some(UebError::Malformed),
-        ),
-        (
-            "crypttext_hash:32:",
-            "a:0:,crypttext_hash:032:",
-            Some(UebError::KeyOrder),
-        ),
-        // The first missing key, and none where a key is out of order; missing keys come before values.
-        (
-            "codec_name:3:crs,",
-            "",
-            Some(UebError::MissingKey(Key::CodecName)),
-        ),
-        (
-            "codec_params:7:57-3-10,c",
-            "c",
-            Some(UebError::MissingKey(Key::CodecParams)),
-        ),
-        (
-            "crypttext_hash:32:abcdefghijklmnopqrstuvwxyz012345,",
-            "",
-            Some(UebError::MissingKey(Key::CrypttextHash)),
-        ),
-        (
-            "crypttext_root_hash:32:ABCDEFGHIJKLMNOPQRSTUVWXYZ012345,",
-            "",
-            Some(UebError::MissingKey(Key::CrypttextRootHash)),
-        ),
-        (
-            "needed_shares:1:3,",
-            "",
-            Some(UebError::MissingKey(Key::NeededShares)),
-        ),
-        (
-            "num_segments:1:1,",
-            "",
-            Some(UebError::MissingKey(Key::NumSegments)),
-        ),
-        (
-            "segment_size:2:57,",
-            "",
-            Some(UebError::MissingKey(Key::SegmentSize)),
-        ),
-        (
-            "share_root_hash:32:0123456789abcdefghijklmnopqrstuv,",
-            "",
-            Some(UebError::MissingKey(Key::ShareRootHash)),
-        ),
-        ("size:2:56,", "", Some(UebError::MissingKey(Key::Size))),
-        (
-            "tail_codec_params:7:57-3-10,",
-            "",
-            Some(UebError::MissingKey(Key::TailCodecParams)),
-        ),
-        (
-            "total_shares:2:10,",
-            "",
-            Some(UebError::MissingKey(Key::TotalShares)),
-        ),
-        (
-            "codec_name:3:crs,codec_params:7:57-3-10,",
-            "",
-            Some(UebError::MissingKey(Key::CodecName)),
-        ),
-        (
-            "size:2:56,tail_codec_params:7:57-3-10,total_shares:2:10,",
-            "size:2:57,",
-            Some(UebError::MissingKey(Key::TailCodecParams)),
-        ),
-        ("size:2:56,", "a:0:,", Some(UebError::KeyOrder)),
-        // Values.
-        (
-            "codec_name:3:crs,",
-            "codec_name:3:crx,",
-            Some(UebError::Disagrees(Key::CodecName)),
-        ),
-        (
-            "codec_params:7:57-3-10,c",
-            "codec_params:6:57-3-1,c",
-            Some(UebError::Disagrees(Key::CodecParams)),
-        ),
-        (
-            "codec_params:7:57-3-10,c",
-            "codec_params:8:57-3-100,c",
-            Some(UebError::Disagrees(Key::CodecParams)),
-        ),
-        (
-            "codec_params:7:57-3-10,c",
-            "codec_params:8:057-3-10,c",
-            Some(UebError::Disagrees(Key::CodecParams)),
-        ),
-        (
-            "codec_params:7:57-3-10,c",
-            "codec_params:4:57-3,c",
-            Some(UebError::Disagrees(Key::CodecParams)),
-        ),
-        (
-            "crypttext_hash:32:abcdefghijklmnopqrstuvwxyz012345,",
-            "crypttext_hash:5:short,",
-            Some(UebError::Disagrees(Key::CrypttextHash)),
-        ),
-        (
-            "crypttext_root_hash:32:ABCDEFGHIJKLMNOPQRSTUVWXYZ012345,",
-            "crypttext_root_hash:33:ABCDEFGHIJKLMNOPQRSTUVWXYZ012345x,",
-            Some(UebError::Disagrees(Key::CrypttextRootHash)),
-        ),
-        (
-            "share_root_hash:32:0123456789abcdefghijklmnopqrstuv,",
-            "share_root_hash:0:,",
-            Some(UebError::Disagrees(Key::ShareRootHash)),
-        ),
-        (
-            "needed_shares:1:3,",
-            "needed_shares:2:03,",
-            Some(UebError::Disagrees(Key::NeededShares)),
-        ),
-        (
-            "num_segments:1:1,",
-            "num_segments:1:2,",
-            Some(UebError::Disagrees(Key::NumSegments)),
-        ),
-        (
-            "size:2:56,",
-            "size:2:57,",
-            Some(UebError::Disagrees(Key::Size)),
-        ),
-        (
-            "tail_codec_params:7:57-3-10,",
-            "tail_codec_params:7:56-3-10,",
-            Some(UebError::Disagrees(Key::TailCodecParams)),
-        ),
-        (
-            "total_shares:2:10,",
-            "total_shares:2:11,",
-            Some(UebError::Disagrees(Key::TotalShares)),
-        ),
-        // The segment size: its form, its limits, and that it comes first.
-        (
-            "segment_size:2:57,",
-            "segment_size:3:057,",
-            Some(UebError::Disagrees(Key::SegmentSize)),
-        ),
-        (
-            "segment_size:2:57,",
-            "segment_size:3:+57,",
-            Some(UebError::Disagrees(Key::SegmentSize)),
-        ),
-        (
-            "segment_size:2:57,",
-            "segment_size:0:,",
-            Some(UebError::Disagrees(Key::SegmentSize)),
-        ),
-        (
-            "segment_size:2:57,",
-            "segment_size:1:0,",
-            Some(UebError::Disagrees(Key::SegmentSize)),
-        ),
-        (
-            "segment_size:2:57,",
-            "segment_size:2:58,",
-            Some(UebError::Disagrees(Key::SegmentSize)),
-        ),
-        (
-            "segment_size:2:57,",
-            "segment_size:2:60,",
-            Some(UebError::Disagrees(Key::SegmentSize)),
-        ),
-        (
-            "segment_size:2:57,",
-            "segment_size:3:57 ,",
-            Some(UebError::Disagrees(Key::SegmentSize)),
-        ),
-        (
-            "segment_size:2:57,",
-            "segment_size:20:18446744073709551673,",
-            Some(UebError::Disagrees(Key::SegmentSize)),
-        ),
-        (
-            "codec_name:3:crs,codec_params:7:57-3-10,",
-            "codec_name:3:crx,codec_params:7:57-3-10,",
-            Some(UebError::Disagrees(Key::CodecName)),
-        ),
-    ];
-    for (old, new, fault) in rows {
-        assert_eq!(rt; fault_of(rt.alloc(), old, new)?, fault, "{old} to {new}");
+fn writes_what_is_read(rt: HostRuntime) {
+    let ueb = good();
+    assert!(rt; has_fields(&ueb) && is_written(rt.alloc(), &ueb, GOOD.as_bytes()));
+    assert!(rt; Ueb::read(GOOD.as_bytes(), &EXPECT) == Ok(ueb));
+}
+
+#[test]
+fn refused_memory_in_writing(rt: HostRuntime) {
+    let is_right = match good().write(rt.alloc()) {
+        Ok(text) => text.as_slice() == GOOD.as_bytes(),
+        Err(fault) => fault == UebError::OutOfMemory,
+    };
+    assert!(rt; is_right);
+}
+
+// The block with one place changed.
+fn changed(alloc: Global, old: &str, new: &str) -> Option<String> {
+    let (before, after) = GOOD.split_once(old)?;
+    format!(in alloc; "{before}{new}{after}").ok()
+}
+
+// Whether the block with one place changed has this fault, or none.
+fn has_fault(alloc: Global, old: &str, new: &str, fault: Option<UebError>) -> bool {
+    match changed(alloc, old, new) {
+        Some(block) => Ueb::read(block.as_bytes(), &EXPECT).err() == fault,
+        None => false,
     }
-    Ok(())
+}
+
+// A text of the block, what stands in its place, and the fault.
+const CHANGES: [(&str, &str, Option<UebError>); 59] = [
+    // Further keys are skipped where they stand in their order.
+    ("size:2:56,", "size:2:56,", None),
+    ("needed_shares:", "extra:3:abc,needed_shares:", None),
+    ("codec_name:", "A-_z:0:,codec_name:", None),
+    ("total_shares:2:10,", "total_shares:2:10,totalz:1:,,", None),
+    // A key that does not come later than the one before it, whatever follows it.
+    (
+        "total_shares:2:10,",
+        "total_shares:2:10,extra:3:abc,",
+        Some(UebError::KeyOrder),
+    ),
+    (
+        "total_shares:2:10,",
+        "total_shares:2:10,total_shares:2:10,",
+        Some(UebError::KeyOrder),
+    ),
+    (
+        "total_shares:2:10,",
+        "total_shares:2:10,extra:03:abc,",
+        Some(UebError::KeyOrder),
+    ),
+    ("tail_", "share:0:,tail_", Some(UebError::KeyOrder)),
+    // No field in a field's place.
+    (
+        "total_shares:2:10,",
+        "total_shares:2:10,zz",
+        Some(UebError::Malformed),
+    ),
+    (
+        "total_shares:2:10,",
+        "total_shares:2:10,,",
+        Some(UebError::Malformed),
+    ),
+    (
+        "total_shares:2:10,",
+        "total_shares:2:10,:0:,",
+        Some(UebError::Malformed),
+    ),
+    (
+        "total_shares:2:10,",
+        "total_shares:2:10,z1:0:,",
+        Some(UebError::Malformed),
+    ),
+    (
+        "total_shares:2:10,",
+        "total_shares:2:10,zz:0",
+        Some(UebError::Malformed),
+    ),
+    (
+        "codec_name:3:crs,",
+        "codec_name:03:crs,",
+        Some(UebError::Malformed),
+    ),
+    (
+        "codec_name:3:crs,",
+        "codec_name:+3:crs,",
+        Some(UebError::Malformed),
+    ),
+    (
+        "codec_name:3:crs,",
+        "codec_name::crs,",
+        Some(UebError::Malformed),
+    ),
+    (
+        "codec_name:3:crs,",
+        "codec_name:3:crs;",
+        Some(UebError::Malformed),
+    ),
+    (
+        "codec_name:3:crs,",
+        "codec_name:4:crs,",
+        Some(UebError::Malformed),
+    ),
+    (
+        "total_shares:2:10,",
+        "total_shares:3:10,",
+        Some(UebError::Malformed),
+    ),
+    (
+        "total_shares:2:10,",
+        "total_shares:2:10",
+        Some(UebError::Malformed),
+    ),
+    (
+        "total_shares:2:10,",
+        "total_shares:18446744073709551616:10,",
+        Some(UebError::Malformed),
+    ),
+    // The first of the two from the left.
+    (
+        "codec_name:3:crs,codec_params:",
+        "codec_name:03:crs,a:",
+        Some(UebError::Malformed),
+    ),
+    (
+        "crypttext_hash:32:",
+        "a:0:,crypttext_hash:032:",
+        Some(UebError::KeyOrder),
+    ),
+    // The first missing key, and none where a key is out of order; missing keys come before values.
+    (
+        "codec_name:3:crs,",
+        "",
+        Some(UebError::MissingKey(Key::CodecName)),
+    ),
+    (
+        "codec_params:7:57-3-10,c",
+        "c",
+        Some(UebError::MissingKey(Key::CodecParams)),
+    ),
+    (
+        "crypttext_hash:32:abcdefghijklmnopqrstuvwxyz012345,",
+        "",
+        Some(UebError::MissingKey(Key::CrypttextHash)),
+    ),
+    (
+        "crypttext_root_hash:32:ABCDEFGHIJKLMNOPQRSTUVWXYZ012345,",
+        "",
+        Some(UebError::MissingKey(Key::CrypttextRootHash)),
+    ),
+    (
+        "needed_shares:1:3,",
+        "",
+        Some(UebError::MissingKey(Key::NeededShares)),
+    ),
+    (
+        "num_segments:1:1,",
+        "",
+        Some(UebError::MissingKey(Key::NumSegments)),
+    ),
+    (
+        "segment_size:2:57,",
+        "",
+        Some(UebError::MissingKey(Key::SegmentSize)),
+    ),
+    (
+        "share_root_hash:32:0123456789abcdefghijklmnopqrstuv,",
+        "",
+        Some(UebError::MissingKey(Key::ShareRootHash)),
+    ),
+    ("size:2:56,", "", Some(UebError::MissingKey(Key::Size))),
+    (
+        "tail_codec_params:7:57-3-10,",
+        "",
+        Some(UebError::MissingKey(Key::TailCodecParams)),
+    ),
+    (
+        "total_shares:2:10,",
+        "",
+        Some(UebError::MissingKey(Key::TotalShares)),
+    ),
+    (
+        "codec_name:3:crs,codec_params:7:57-3-10,",
+        "",
+        Some(UebError::MissingKey(Key::CodecName)),
+    ),
+    (
+        "size:2:56,tail_codec_params:7:57-3-10,total_shares:2:10,",
+        "size:2:57,",
+        Some(UebError::MissingKey(Key::TailCodecParams)),
+    ),
+    ("size:2:56,", "a:0:,", Some(UebError::KeyOrder)),
+    // Values.
+    (
+        "codec_name:3:crs,",
+        "codec_name:3:crx,",
+        Some(UebError::Disagrees(Key::CodecName)),
+    ),
+    (
+        "codec_params:7:57-3-10,c",
+        "codec_params:6:57-3-1,c",
+        Some(UebError::Disagrees(Key::CodecParams)),
+    ),
+    (
+        "codec_params:7:57-3-10,c",
+        "codec_params:8:57-3-100,c",
+        Some(UebError::Disagrees(Key::CodecParams)),
+    ),
+    (
+        "codec_params:7:57-3-10,c",
+        "codec_params:8:057-3-10,c",
+        Some(UebError::Disagrees(Key::CodecParams)),
+    ),
+    (
+        "codec_params:7:57-3-10,c",
+        "codec_params:4:57-3,c",
+        Some(UebError::Disagrees(Key::CodecParams)),
+    ),
+    (
+        "crypttext_hash:32:abcdefghijklmnopqrstuvwxyz012345,",
+        "crypttext_hash:5:short,",
+        Some(UebError::Disagrees(Key::CrypttextHash)),
+    ),
+    (
+        "crypttext_root_hash:32:ABCDEFGHIJKLMNOPQRSTUVWXYZ012345,",
+        "crypttext_root_hash:33:ABCDEFGHIJKLMNOPQRSTUVWXYZ012345x,",
+        Some(UebError::Disagrees(Key::CrypttextRootHash)),
+    ),
+    (
+        "share_root_hash:32:0123456789abcdefghijklmnopqrstuv,",
+        "share_root_hash:0:,",
+        Some(UebError::Disagrees(Key::ShareRootHash)),
+    ),
+    (
+        "needed_shares:1:3,",
+        "needed_shares:2:03,",
+        Some(UebError::Disagrees(Key::NeededShares)),
+    ),
+    (
+        "num_segments:1:1,",
+        "num_segments:1:2,",
+        Some(UebError::Disagrees(Key::NumSegments)),
+    ),
+    (
+        "size:2:56,",
+        "size:2:57,",
+        Some(UebError::Disagrees(Key::Size)),
+    ),
+    (
+        "tail_codec_params:7:57-3-10,",
+        "tail_codec_params:7:56-3-10,",
+        Some(UebError::Disagrees(Key::TailCodecParams)),
+    ),
+    (
+        "total_shares:2:10,",
+        "total_shares:2:11,",
+        Some(UebError::Disagrees(Key::TotalShares)),
+    ),
+    // The segment size: its form, its limits, and that it comes first.
+    (
+        "segment_size:2:57,",
+        "segment_size:3:057,",
+        Some(UebError::Disagrees(Key::SegmentSize)),
+    ),
+    (
+        "segment_size:2:57,",
+        "segment_size:3:+57,",
+        Some(UebError::Disagrees(Key::SegmentSize)),
+    ),
+    (
+        "segment_size:2:57,",
+        "segment_size:0:,",
+        Some(UebError::Disagrees(Key::SegmentSize)),
+    ),
+    (
+        "segment_size:2:57,",
+        "segment_size:1:0,",
+        Some(UebError::Disagrees(Key::SegmentSize)),
+    ),
+    (
+        "segment_size:2:57,",
+        "segment_size:2:58,",
+        Some(UebError::Disagrees(Key::SegmentSize)),
+    ),
+    (
+        "segment_size:2:57,",
+        "segment_size:2:60,",
+        Some(UebError::Disagrees(Key::SegmentSize)),
+    ),
+    (
+        "segment_size:2:57,",
+        "segment_size:3:57 ,",
+        Some(UebError::Disagrees(Key::SegmentSize)),
+    ),
+    (
+        "segment_size:2:57,",
+        "segment_size:20:18446744073709551673,",
+        Some(UebError::Disagrees(Key::SegmentSize)),
+    ),
+    (
+        "codec_name:3:crs,codec_params:7:57-3-10,",
+        "codec_name:3:crx,codec_params:7:57-3-10,",
+        Some(UebError::Disagrees(Key::CodecName)),
+    ),
+];
+
+#[test]
+fn tells_the_first_fault(rt: HostRuntime) {
+    for (old, new, fault) in CHANGES {
+        assert!(rt; has_fault(rt.alloc(), old, new, fault), "{old} to {new}");
+    }
+}
+
+// Whether the block is refused for this value as that of a file with these numbers.
+fn disagrees(k: u16, n: u16, size: u64, key: Key) -> bool {
+    match expect(k, n, size) {
+        Some(expect) => {
+            Ueb::read(GOOD.as_bytes(), &expect).err() == Some(UebError::Disagrees(key))
+        }
+        None => false,
+    }
 }
 
 #[test]
-fn compares_with_the_file(rt: HostRuntime) -> Result<(), Fail> {
+fn compares_with_the_file(rt: HostRuntime) {
     for (k, n, size, key) in [
         (2, 10, 56, Key::SegmentSize),
         (3, 11, 56, Key::CodecParams),
@@ -400,18 +445,12 @@ fn compares_with_the_file(rt: HostRuntime) -> Result<(), Fail> {
         (3, 10, 115, Key::NumSegments),
         (1, 1, 56, Key::SegmentSize),
     ] {
-        let fault = Ueb::read(GOOD.as_bytes(), &expect(k, n, size)?).err();
-        assert_eq!(rt;
-            fault,
-            Some(UebError::Disagrees(key)),
-            "{k} of {n}, {size} bytes"
-        );
+        assert!(rt; disagrees(k, n, size, key), "{k} of {n}, {size} bytes");
     }
-    Ok(())
 }
 
 // The block with one more field, that makes it so long.
-fn grown(alloc: Global, length: usize) -> Result<Vec<u8>, Fail> {
+fn grown(alloc: Global, length: usize) -> Result<Vec<u8>, AllocError> {
     let mut block = Vec::from_slice(alloc, GOOD.as_bytes())?;
     let value = length.saturating_sub(block.len() + 10);
     block.extend_from_slice(format!(in alloc; "zzz:{value}:")?.as_bytes())?;
@@ -422,22 +461,21 @@ fn grown(alloc: Global, length: usize) -> Result<Vec<u8>, Fail> {
     Ok(block)
 }
 
+// The fault of the block of so many bytes.
+fn fault_of_grown(alloc: Global, length: usize) -> Option<UebError> {
+    match grown(alloc, length) {
+        Ok(block) if block.len() == length => Ueb::read(&block, &EXPECT).err(),
+        _ => Some(UebError::OutOfMemory),
+    }
+}
+
 #[test]
-fn reads_at_most_4096_bytes(rt: HostRuntime) -> Result<(), Fail> {
-    let longest = grown(rt.alloc(), MAX_LENGTH)?;
-    assert_eq!(rt; longest.len(), 4096);
-    assert!(rt; Ueb::read(&longest, &EXPECT).is_ok());
-    let longer = grown(rt.alloc(), MAX_LENGTH + 1)?;
-    assert_eq!(rt; Ueb::read(&longer, &EXPECT).err(), Some(UebError::TooLong));
-    assert_eq!(rt;
-        Ueb::read(&[0; 4096], &EXPECT).err(),
-        Some(UebError::Malformed)
-    );
-    assert_eq!(rt;
-        Ueb::read(&[0; 4097], &EXPECT).err(),
-        Some(UebError::TooLong)
-    );
-    Ok(())
+fn reads_at_most_4096_bytes(rt: HostRuntime) {
+    assert!(rt; MAX_LENGTH == 4096);
+    assert!(rt; fault_of_grown(rt.alloc(), 4096) == None);
+    assert!(rt; fault_of_grown(rt.alloc(), 4097) == Some(UebError::TooLong));
+    assert!(rt; Ueb::read(&[0; 4096], &EXPECT).err() == Some(UebError::Malformed));
+    assert!(rt; Ueb::read(&[0; 4097], &EXPECT).err() == Some(UebError::TooLong));
 }
 
 #[test]
@@ -450,6 +488,6 @@ fn numbers_the_refusals(rt: HostRuntime) {
         (UebError::Disagrees(Key::Size), 23),
         (UebError::TooLong, 24),
     ] {
-        assert_eq!(rt; fault.number(), number);
+        assert!(rt; fault.number() == number, "{number}");
     }
 }
