@@ -10,3 +10,4 @@ pub mod SliceLemmas
 pub mod TransposeLemmas
 pub mod SpreadLemmas
 pub mod CounterLemmas
+pub mod FirstRound

@@ -1,12 +1,12 @@
 -- MixColumns by doubling: twice the sum of a byte and the one below it, with the other three bytes of the column added.
-use Rattle.std.proofs.Common.{◌≡◌, ℕ, zero, suc, ◌+◌, ◌*◌, ◌/◌, ◌^◌, ◌<◌, List, [], ◌∷◌, map, get_or, bit_xor, refl, sym, ap, ap₂, ◌∙◌, arith, zero-add}
+use Rattle.std.proofs.Common.{◌≡◌, ℕ, zero, suc, ◌+◌, ◌*◌, ◌/◌, ◌^◌, ◌<◌, List, [], ◌∷◌, ◌++◌, map, get_or, bit_xor, refl, sym, ap, ap₂, ◌∙◌, arith}
 use Rattle.std.specs.List.{range_with_len}
-use Rattle.std.proofs.lemmas.List.FromFn.{get_or-map-range_with_len}
 use Rattle.std.proofs.lemmas.Nat.{xor_block, xor_comm, xor_lt, xor_shr}
 use lib.Bits.{xor_assoc, xor_zero_r}
-use Rattle.aes_ctr.specs.Aes.{mix_columns, xor_bytes}
+use Rattle.aes_ctr.specs.Aes.{mix_column, mix_columns, shift_rows, xor_bytes}
 use Rattle.aes_ctr.specs.Byte.{product, times_x}
 use Rattle.aes_ctr.specs.Slices.{turned_columns}
+use Rattle.aes_ctr.proofs.Bytes.{at_below}
 
 -- ---- times x is additive
 
@@ -17,9 +17,7 @@ carried_tried : map times_x (range_with_len 0 256) ≡ map carried (range_with_l
 carried_tried = refl
 
 carried_is : (b : ℕ) → b < 256 → times_x b ≡ carried b
-carried_is b below =
-    sym (get_or-map-range_with_len times_x 0 256 b b 0 below (zero-add b)) ∙ ap (λ (t : List ℕ). get_or t b 0) carried_tried
-    ∙ get_or-map-range_with_len carried 0 256 b b 0 below (zero-add b)
+carried_is = at_below times_x carried 256 carried_tried
 
 twice : (a b : ℕ) → 2 * bit_xor a b ≡ bit_xor (2 * a) (2 * b)
 twice a b =
@@ -39,7 +37,7 @@ times_283 zero (suc (suc k)) p q = absurd (omega arith)
 times_283 (suc zero) (suc (suc k)) p q = absurd (omega arith)
 
 -- four sums in another order
-crossed : (a b c d : ℕ) → bit_xor (bit_xor a b) (bit_xor c d) ≡ bit_xor (bit_xor a c) (bit_xor b d)
+pub crossed : (a b c d : ℕ) → bit_xor (bit_xor a b) (bit_xor c d) ≡ bit_xor (bit_xor a c) (bit_xor b d)
 crossed a b c d =
     xor_assoc a b (bit_xor c d) ∙ ap (bit_xor a) (sym (xor_assoc b c d) ∙ ap (λ x. bit_xor x d) (xor_comm b c) ∙ xor_assoc c b d)
     ∙ sym (xor_assoc a c (bit_xor b d))
@@ -118,3 +116,68 @@ module _ (f : ℕ → ℕ) (small : (p : ℕ) → f p < 256) where
   mixed_columns =
       λ i. row_0 0 i ∷ row_1 0 i ∷ row_2 0 i ∷ row_3 0 i ∷ row_0 4 i ∷ row_1 4 i ∷ row_2 4 i ∷ row_3 4 i
       ∷ row_0 8 i ∷ row_1 8 i ∷ row_2 8 i ∷ row_3 8 i ∷ row_0 12 i ∷ row_1 12 i ∷ row_2 12 i ∷ row_3 12 i ∷ []
+
+-- ---- sums of blocks
+
+-- the sum of two sums, each of two parts
+sum_of_parts : (x y a b c d : ℕ) → x ≡ bit_xor a b → y ≡ bit_xor c d → bit_xor x y ≡ bit_xor (bit_xor a c) (bit_xor b d)
+sum_of_parts x y a b c d first second = ap₂ bit_xor first second ∙ crossed a b c d
+
+twofold : (a b : ℕ) → a < 256 → b < 256 → product 2 (bit_xor a b) ≡ bit_xor (product 2 a) (product 2 b)
+twofold a b small_a small_b = product-2 (bit_xor a b) ∙ times_x-xor a b small_a small_b ∙ ap₂ bit_xor (sym (product-2 a)) (sym (product-2 b))
+
+threefold : (a b : ℕ) → a < 256 → b < 256 → product 3 (bit_xor a b) ≡ bit_xor (product 3 a) (product 3 b)
+threefold a b small_a small_b =
+    product-3 (bit_xor a b) ∙ sum_of_parts (bit_xor a b) (times_x (bit_xor a b)) a b (times_x a) (times_x b) refl (times_x-xor a b small_a small_b)
+    ∙ ap₂ bit_xor (sym (product-3 a)) (sym (product-3 b))
+
+-- two lists of bytes and their sum, place by place
+pub record AddUp (s t u : List ℕ) : Type 0 where
+  pub first : (p : ℕ) → p < 16 → get_or t p 0 < 256
+  pub second : (p : ℕ) → p < 16 → get_or u p 0 < 256
+  pub sum : (p : ℕ) → p < 16 → get_or s p 0 ≡ bit_xor (get_or t p 0) (get_or u p 0)
+
+-- a byte of a mixed column: the sum of what four functions give at four places
+abbrev row : (f g h e : ℕ → ℕ) (v : List ℕ) (i j k l : ℕ) → ℕ
+row f g h e v i j k l = bit_xor (bit_xor (bit_xor (f (get_or v i 0)) (g (get_or v j 0))) (h (get_or v k 0))) (e (get_or v l 0))
+
+abbrev once : ℕ → ℕ
+once b = b
+
+module _ (s t u : List ℕ) (are : AddUp s t u) where
+  abbrev Adds : (ℕ → ℕ) → ℕ → Type 0
+  Adds f p = f (get_or s p 0) ≡ bit_xor (f (get_or t p 0)) (f (get_or u p 0))
+
+  twice_adds : (p : ℕ) → p < 16 → Adds (product 2) p
+  twice_adds p below = ap (product 2) (are.sum p below) ∙ twofold (get_or t p 0) (get_or u p 0) (are.first p below) (are.second p below)
+
+  thrice_adds : (p : ℕ) → p < 16 → Adds (product 3) p
+  thrice_adds p below = ap (product 3) (are.sum p below) ∙ threefold (get_or t p 0) (get_or u p 0) (are.first p below) (are.second p below)
+
+  row_adds : (f g h e : ℕ → ℕ) (i j k l : ℕ) → Adds f i → Adds g j → Adds h k → Adds e l
+      → row f g h e s i j k l ≡ bit_xor (row f g h e t i j k l) (row f g h e u i j k l)
+  row_adds f g h e i j k l at_i at_j at_k at_l =
+      sum_of_parts _ _ (bit_xor (bit_xor (f (get_or t i 0)) (g (get_or t j 0))) (h (get_or t k 0))) (bit_xor (bit_xor (f (get_or u i 0)) (g (get_or u j 0))) (h (get_or u k 0)))
+      (e (get_or t l 0)) (e (get_or u l 0))
+      (sum_of_parts _ _ (bit_xor (f (get_or t i 0)) (g (get_or t j 0))) (bit_xor (f (get_or u i 0)) (g (get_or u j 0))) (h (get_or t k 0)) (h (get_or u k 0))
+      (sum_of_parts _ _ (f (get_or t i 0)) (f (get_or u i 0)) (g (get_or t j 0)) (g (get_or u j 0)) at_i at_j) at_k) at_l
+
+  abbrev column : List ℕ → (i j k l : ℕ) → List ℕ
+  column v i j k l = mix_column (get_or v i 0) (get_or v j 0) (get_or v k 0) (get_or v l 0)
+
+  column_adds : (i j k l : ℕ) → i < 16 → j < 16 → k < 16 → l < 16 → column s i j k l ≡ xor_bytes (column t i j k l) (column u i j k l)
+  column_adds i j k l in_i in_j in_k in_l =
+      let row_0 = row_adds (product 2) (product 3) once once i j k l (twice_adds i in_i) (thrice_adds j in_j) (are.sum k in_k) (are.sum l in_l) in
+      let row_1 = row_adds once (product 2) (product 3) once i j k l (are.sum i in_i) (twice_adds j in_j) (thrice_adds k in_k) (are.sum l in_l) in
+      let row_2 = row_adds once once (product 2) (product 3) i j k l (are.sum i in_i) (are.sum j in_j) (twice_adds k in_k) (thrice_adds l in_l) in
+      let row_3 = row_adds (product 3) once once (product 2) i j k l (thrice_adds i in_i) (are.sum j in_j) (are.sum k in_k) (twice_adds l in_l) in
+      λ m. row_0 m ∷ row_1 m ∷ row_2 m ∷ row_3 m ∷ []
+
+  -- shifting rows and mixing columns are additive
+  pub mixed_sum : mix_columns (shift_rows s) ≡ xor_bytes (mix_columns (shift_rows t)) (mix_columns (shift_rows u))
+  mixed_sum =
+      let column_0 = column_adds 0 5 10 15 (omega arith) (omega arith) (omega arith) (omega arith) in
+      let column_1 = column_adds 4 9 14 3 (omega arith) (omega arith) (omega arith) (omega arith) in
+      let column_2 = column_adds 8 13 2 7 (omega arith) (omega arith) (omega arith) (omega arith) in
+      let column_3 = column_adds 12 1 6 11 (omega arith) (omega arith) (omega arith) (omega arith) in
+      λ m. column_0 m ++ column_1 m ++ column_2 m ++ column_3 m

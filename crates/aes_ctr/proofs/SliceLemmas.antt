@@ -19,15 +19,15 @@ by_bit P p0 p1 p2 p3 p4 p5 p6 p7 (suc (suc (suc (suc (suc (suc (suc zero))))))) 
 by_bit P p0 p1 p2 p3 p4 p5 p6 p7 (suc (suc (suc (suc (suc (suc (suc (suc b)))))))) lt = absurd (omega arith)
 
 -- a lane of two vectors, and of one and a splat
-pub lane : (f : ℕ → ℕ → ℕ) (xs ys : List ℕ) (p : ℕ) → length xs ≡ 16 → length ys ≡ 16 → p < 16
+pub lane : (f : ℕ → ℕ → ℕ) (xs ys : List ℕ) (p : ℕ) → length xs ≡ 32 → length ys ≡ 32 → p < 32
     → get_or (zip2 f xs ys) p 0 ≡ f (get_or xs p 0) (get_or ys p 0)
 lane f xs ys p long as_long below = get_or-zip2 f xs ys p 0 0 0 (omega arith) (omega arith)
 
-pub lane_splat : (f : ℕ → ℕ → ℕ) (xs : List ℕ) (y p : ℕ) → length xs ≡ 16 → p < 16
-    → get_or (zip2 f xs (replicate 16 y)) p 0 ≡ f (get_or xs p 0) y
-lane_splat f xs y p long below = lane f xs (replicate 16 y) p long refl below ∙ ap (f (get_or xs p 0)) (get_or-replicate 16 p y 0 below)
+pub lane_splat : (f : ℕ → ℕ → ℕ) (xs : List ℕ) (y p : ℕ) → length xs ≡ 32 → p < 32
+    → get_or (zip2 f xs (replicate 32 y)) p 0 ≡ f (get_or xs p 0) y
+lane_splat f xs y p long below = lane f xs (replicate 32 y) p long refl below ∙ ap (f (get_or xs p 0)) (get_or-replicate 32 p y 0 below)
 
-pub long_both : (f : ℕ → ℕ → ℕ) (xs ys : List ℕ) → length xs ≡ 16 → length ys ≡ 16 → length (zip2 f xs ys) ≡ 16
+pub long_both : (f : ℕ → ℕ → ℕ) (xs ys : List ℕ) → length xs ≡ 32 → length ys ≡ 32 → length (zip2 f xs ys) ≡ 32
 long_both f xs ys long as_long = length-zip2 f xs ys (omega arith) ∙ long
 
 abbrev shift_left : ℕ → ℕ → ℕ
@@ -45,28 +45,28 @@ abbrev pub second : ℕ → ℕ → ℕ → ℕ → ℕ
 second s odd x y = bit_or (bit_and x odd / 2 ^ s) (bit_and y odd)
 
 -- the same on vectors
-module _ (s mask : ℕ) (low high : List ℕ) (long : length low ≡ 16) (as_long : length high ≡ 16) (p : ℕ) (below : p < 16) where
-  pub first_lane : get_or (zip2 bit_or (zip2 bit_and low (replicate 16 mask)) (zip2 shift_left (zip2 bit_and high (replicate 16 mask)) (replicate 16 s))) p 0
+module _ (s mask : ℕ) (low high : List ℕ) (long : length low ≡ 32) (as_long : length high ≡ 32) (p : ℕ) (below : p < 32) where
+  pub first_lane : get_or (zip2 bit_or (zip2 bit_and low (replicate 32 mask)) (zip2 shift_left (zip2 bit_and high (replicate 32 mask)) (replicate 32 s))) p 0
       ≡ first s mask (get_or low p 0) (get_or high p 0)
   first_lane =
-      let stays = zip2 bit_and low (replicate 16 mask) in
-      let comes = zip2 bit_and high (replicate 16 mask) in
-      let comes_long = long_both bit_and high (replicate 16 mask) as_long refl in
-      lane bit_or stays (zip2 shift_left comes (replicate 16 s)) p (long_both bit_and low (replicate 16 mask) long refl) (long_both shift_left comes (replicate 16 s) comes_long refl) below
+      let stays = zip2 bit_and low (replicate 32 mask) in
+      let comes = zip2 bit_and high (replicate 32 mask) in
+      let comes_long = long_both bit_and high (replicate 32 mask) as_long refl in
+      lane bit_or stays (zip2 shift_left comes (replicate 32 s)) p (long_both bit_and low (replicate 32 mask) long refl) (long_both shift_left comes (replicate 32 s) comes_long refl) below
       ∙ (λ i. bit_or (lane_splat bit_and low mask p long below i)
       ((lane_splat shift_left comes s p comes_long below ∙ ap (λ (y : ℕ). shift_left y s) (lane_splat bit_and high mask p as_long below)) i))
 
-  pub second_lane : get_or (zip2 bit_or (zip2 shift_right (zip2 bit_and low (replicate 16 mask)) (replicate 16 s)) (zip2 bit_and high (replicate 16 mask))) p 0
+  pub second_lane : get_or (zip2 bit_or (zip2 shift_right (zip2 bit_and low (replicate 32 mask)) (replicate 32 s)) (zip2 bit_and high (replicate 32 mask))) p 0
       ≡ second s mask (get_or low p 0) (get_or high p 0)
   second_lane =
-      let stays = zip2 bit_and high (replicate 16 mask) in
-      let comes = zip2 bit_and low (replicate 16 mask) in
-      let comes_long = long_both bit_and low (replicate 16 mask) long refl in
-      lane bit_or (zip2 shift_right comes (replicate 16 s)) stays p (long_both shift_right comes (replicate 16 s) comes_long refl) (long_both bit_and high (replicate 16 mask) as_long refl) below
+      let stays = zip2 bit_and high (replicate 32 mask) in
+      let comes = zip2 bit_and low (replicate 32 mask) in
+      let comes_long = long_both bit_and low (replicate 32 mask) long refl in
+      lane bit_or (zip2 shift_right comes (replicate 32 s)) stays p (long_both shift_right comes (replicate 32 s) comes_long refl) (long_both bit_and high (replicate 32 mask) as_long refl) below
       ∙ (λ i. bit_or ((lane_splat shift_right comes s p comes_long below ∙ ap (λ (y : ℕ). shift_right y s) (lane_splat bit_and low mask p long below)) i)
       (lane_splat bit_and high mask p as_long below i))
 
-  pub bytes_below : mask < 256 → (get_or (zip2 bit_or (zip2 bit_and low (replicate 16 mask)) (zip2 shift_left (zip2 bit_and high (replicate 16 mask)) (replicate 16 s))) p 0 < 256)
+  pub bytes_below : mask < 256 → (get_or (zip2 bit_or (zip2 bit_and low (replicate 32 mask)) (zip2 shift_left (zip2 bit_and high (replicate 32 mask)) (replicate 32 s))) p 0 < 256)
   bytes_below small =
       let x = get_or low p 0 in
       let y = get_or high p 0 in
@@ -74,7 +74,7 @@ module _ (s mask : ℕ) (low high : List ℕ) (long : length low ≡ 16) (as_lon
       let both = or_lt 8 (bit_and x mask) (bit_and y mask * 2 ^ s % 2 ^ 8) (omega (arith, and_le_r x mask)) (omega arith) in
       omega (arith, is, both)
 
-  pub bytes_below_second : mask < 256 → (get_or (zip2 bit_or (zip2 shift_right (zip2 bit_and low (replicate 16 mask)) (replicate 16 s)) (zip2 bit_and high (replicate 16 mask))) p 0 < 256)
+  pub bytes_below_second : mask < 256 → (get_or (zip2 bit_or (zip2 shift_right (zip2 bit_and low (replicate 32 mask)) (replicate 32 s)) (zip2 bit_and high (replicate 32 mask))) p 0 < 256)
   bytes_below_second small =
       let x = get_or low p 0 in
       let y = get_or high p 0 in
@@ -83,18 +83,18 @@ module _ (s mask : ℕ) (low high : List ℕ) (long : length low ≡ 16) (as_lon
       omega (arith, is, both)
 
 -- the vectors are whole
-module _ (s mask : ℕ) (low high : List ℕ) (long : length low ≡ 16) (as_long : length high ≡ 16) where
-  pub first_long : length (zip2 bit_or (zip2 bit_and low (replicate 16 mask)) (zip2 shift_left (zip2 bit_and high (replicate 16 mask)) (replicate 16 s))) ≡ 16
+module _ (s mask : ℕ) (low high : List ℕ) (long : length low ≡ 32) (as_long : length high ≡ 32) where
+  pub first_long : length (zip2 bit_or (zip2 bit_and low (replicate 32 mask)) (zip2 shift_left (zip2 bit_and high (replicate 32 mask)) (replicate 32 s))) ≡ 32
   first_long =
-      let comes = zip2 bit_and high (replicate 16 mask) in
-      long_both bit_or (zip2 bit_and low (replicate 16 mask)) (zip2 shift_left comes (replicate 16 s)) (long_both bit_and low (replicate 16 mask) long refl)
-      (long_both shift_left comes (replicate 16 s) (long_both bit_and high (replicate 16 mask) as_long refl) refl)
+      let comes = zip2 bit_and high (replicate 32 mask) in
+      long_both bit_or (zip2 bit_and low (replicate 32 mask)) (zip2 shift_left comes (replicate 32 s)) (long_both bit_and low (replicate 32 mask) long refl)
+      (long_both shift_left comes (replicate 32 s) (long_both bit_and high (replicate 32 mask) as_long refl) refl)
 
-  pub second_long : length (zip2 bit_or (zip2 shift_right (zip2 bit_and low (replicate 16 mask)) (replicate 16 s)) (zip2 bit_and high (replicate 16 mask))) ≡ 16
+  pub second_long : length (zip2 bit_or (zip2 shift_right (zip2 bit_and low (replicate 32 mask)) (replicate 32 s)) (zip2 bit_and high (replicate 32 mask))) ≡ 32
   second_long =
-      let comes = zip2 bit_and low (replicate 16 mask) in
-      long_both bit_or (zip2 shift_right comes (replicate 16 s)) (zip2 bit_and high (replicate 16 mask))
-      (long_both shift_right comes (replicate 16 s) (long_both bit_and low (replicate 16 mask) long refl) refl) (long_both bit_and high (replicate 16 mask) as_long refl)
+      let comes = zip2 bit_and low (replicate 32 mask) in
+      long_both bit_or (zip2 shift_right comes (replicate 32 s)) (zip2 bit_and high (replicate 32 mask))
+      (long_both shift_right comes (replicate 32 s) (long_both bit_and low (replicate 32 mask) long refl) refl) (long_both bit_and high (replicate 32 mask) as_long refl)
 
 pub first_1 : (x y b : ℕ) → b < 8 → bit_at (first 1 85 x y) b ≡ (if b % 2 == 0 then bit_at x b else bit_at y (b - 1))
 first_1 x y =

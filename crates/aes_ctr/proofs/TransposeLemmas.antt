@@ -1,16 +1,15 @@
 -- Eight slices after three exchanges: the bits, transposed.
-use Rattle.std.proofs.Common.{◌≡◌, ℕ, zero, suc, ◌+◌, ◌-◌, ◌*◌, ◌/◌, ◌%◌, ◌^◌, ◌<◌, ◌==◌, if◌then◌else◌, List, [], ◌∷◌, length, get_or, map, refl, sym, ap, ◌∙◌, arith, zero-add, div-one, ext_get_or, pow-suc}
+use Rattle.std.proofs.Common.{◌≡◌, ℕ, ◌+◌, ◌-◌, ◌*◌, ◌/◌, ◌%◌, ◌<◌, ◌==◌, if◌then◌else◌, List, [], ◌∷◌, ◌++◌, length, get_or, map, take, drop, refl, sym, ap, ◌∙◌, arith, div-one}
 use Rattle.std.specs.Int.{bit_at}
 use Rattle.std.specs.List.{range_with_len}
-use Rattle.std.proofs.lemmas.List.FromFn.{get_or-map-range_with_len}
-use Rattle.std.proofs.lemmas.List.{get_or-map, length-map}
-use Rattle.std.proofs.lemmas.Nat.Bits.{bit_at_lowest, bit_at-suc}
-use Rattle.aes_ctr.specs.Slices.{AreSlices, number_of, bits_in, block_in}
+use Rattle.std.proofs.lemmas.List.{get_or-drop, get_or-take, length-drop, length-take-le, take-append-drop, take_all}
+use Rattle.aes_ctr.specs.Slices.{AreSlices, block_in}
+use Rattle.aes_ctr.proofs.Bytes.{at_below, is_block}
 use Rattle.aes_ctr.proofs.SliceLemmas.{by_bit}
 
 -- bit b of byte p of slice i
-abbrev pub bit_in : List (List ℕ) → ℕ → ℕ → ℕ → ℕ
-bit_in slices p i b = bit_at (get_or (get_or slices i []) p 0) b
+abbrev pub slice_bit : List (List ℕ) → ℕ → ℕ → ℕ → ℕ
+slice_bit slices p i b = bit_at (get_or (get_or slices i []) p 0) b
 
 -- where bit b of slice i comes from in an exchange of groups of s bits
 abbrev pub slice_before : ℕ → ℕ → ℕ → ℕ
@@ -41,26 +40,25 @@ of_single_bits p low high first second firsts_are seconds_are = record {
 
 -- those of all eight slices
 abbrev pub Stage : ℕ → ℕ → List (List ℕ) → List (List ℕ) → Type 0
-Stage s p old new = (i b : ℕ) → i < 8 → b < 8 → bit_in new p i b ≡ bit_in old p (slice_before s i b) (slice_before s b i)
+Stage s p old new = (i b : ℕ) → i < 8 → b < 8 → slice_bit new p i b ≡ slice_bit old p (slice_before s i b) (slice_before s b i)
 
 abbrev pub eight : List ℕ → List ℕ → List ℕ → List ℕ → List ℕ → List ℕ → List ℕ → List ℕ → List (List ℕ)
 eight a b c d e f g h = a ∷ b ∷ c ∷ d ∷ e ∷ f ∷ g ∷ h ∷ []
 
 -- one slice of them, by its eight bits
 row : (s p i : ℕ) (old : List (List ℕ)) (made : ℕ → ℕ) (slice : List ℕ)
-    → map made (range_with_len 0 8) ≡ map (λ b. bit_in old p (slice_before s i b) (slice_before s b i)) (range_with_len 0 8)
+    → map made (range_with_len 0 8) ≡ map (λ b. slice_bit old p (slice_before s i b) (slice_before s b i)) (range_with_len 0 8)
     → ((b : ℕ) → b < 8 → bit_at (get_or slice p 0) b ≡ made b)
-    → (b : ℕ) → b < 8 → bit_at (get_or slice p 0) b ≡ bit_in old p (slice_before s i b) (slice_before s b i)
+    → (b : ℕ) → b < 8 → bit_at (get_or slice p 0) b ≡ slice_bit old p (slice_before s i b) (slice_before s b i)
 row s p i old made slice same is b within =
-    is b within ∙ sym (get_or-map-range_with_len made 0 8 b b 0 within (zero-add b)) ∙ ap (λ (l : List ℕ). get_or l b 0) same
-    ∙ get_or-map-range_with_len (λ b. bit_in old p (slice_before s i b) (slice_before s b i)) 0 8 b b 0 within (zero-add b)
+    is b within ∙ at_below made (λ b. slice_bit old p (slice_before s i b) (slice_before s b i)) 8 same b within
 
 module _ (p : ℕ) (a0 a1 a2 a3 a4 a5 a6 a7 c0 c1 c2 c3 c4 c5 c6 c7 : List ℕ) where
   pub stage_1 : Exchanged 1 p a0 a1 c0 c1 → Exchanged 1 p a2 a3 c2 c3 → Exchanged 1 p a4 a5 c4 c5 → Exchanged 1 p a6 a7 c6 c7
       → Stage 1 p (eight a0 a1 a2 a3 a4 a5 a6 a7) (eight c0 c1 c2 c3 c4 c5 c6 c7)
   stage_1 e01 e23 e45 e67 i b below within =
       let old = eight a0 a1 a2 a3 a4 a5 a6 a7 in
-      by_bit (λ i. bit_in (eight c0 c1 c2 c3 c4 c5 c6 c7) p i b ≡ bit_in old p (slice_before 1 i b) (slice_before 1 b i))
+      by_bit (λ i. slice_bit (eight c0 c1 c2 c3 c4 c5 c6 c7) p i b ≡ slice_bit old p (slice_before 1 i b) (slice_before 1 b i))
       (row 1 p 0 old (firsts 1 p a0 a1) c0 refl e01.firsts_are b within)
       (row 1 p 1 old (seconds 1 p a0 a1) c1 refl e01.seconds_are b within)
       (row 1 p 2 old (firsts 1 p a2 a3) c2 refl e23.firsts_are b within)
@@ -75,7 +73,7 @@ module _ (p : ℕ) (a0 a1 a2 a3 a4 a5 a6 a7 c0 c1 c2 c3 c4 c5 c6 c7 : List ℕ) 
       → Stage 2 p (eight a0 a1 a2 a3 a4 a5 a6 a7) (eight c0 c1 c2 c3 c4 c5 c6 c7)
   stage_2 e02 e13 e46 e57 i b below within =
       let old = eight a0 a1 a2 a3 a4 a5 a6 a7 in
-      by_bit (λ i. bit_in (eight c0 c1 c2 c3 c4 c5 c6 c7) p i b ≡ bit_in old p (slice_before 2 i b) (slice_before 2 b i))
+      by_bit (λ i. slice_bit (eight c0 c1 c2 c3 c4 c5 c6 c7) p i b ≡ slice_bit old p (slice_before 2 i b) (slice_before 2 b i))
       (row 2 p 0 old (firsts 2 p a0 a2) c0 refl e02.firsts_are b within)
       (row 2 p 1 old (firsts 2 p a1 a3) c1 refl e13.firsts_are b within)
       (row 2 p 2 old (seconds 2 p a0 a2) c2 refl e02.seconds_are b within)
@@ -90,7 +88,7 @@ module _ (p : ℕ) (a0 a1 a2 a3 a4 a5 a6 a7 c0 c1 c2 c3 c4 c5 c6 c7 : List ℕ) 
       → Stage 4 p (eight a0 a1 a2 a3 a4 a5 a6 a7) (eight c0 c1 c2 c3 c4 c5 c6 c7)
   stage_4 e04 e15 e26 e37 i b below within =
       let old = eight a0 a1 a2 a3 a4 a5 a6 a7 in
-      by_bit (λ i. bit_in (eight c0 c1 c2 c3 c4 c5 c6 c7) p i b ≡ bit_in old p (slice_before 4 i b) (slice_before 4 b i))
+      by_bit (λ i. slice_bit (eight c0 c1 c2 c3 c4 c5 c6 c7) p i b ≡ slice_bit old p (slice_before 4 i b) (slice_before 4 b i))
       (row 4 p 0 old (firsts 4 p a0 a4) c0 refl e04.firsts_are b within)
       (row 4 p 1 old (firsts 4 p a1 a5) c1 refl e15.firsts_are b within)
       (row 4 p 2 old (firsts 4 p a2 a6) c2 refl e26.firsts_are b within)
@@ -103,7 +101,7 @@ module _ (p : ℕ) (a0 a1 a2 a3 a4 a5 a6 a7 c0 c1 c2 c3 c4 c5 c6 c7 : List ℕ) 
 
 -- three exchanges, of single bits, of pairs and of groups of four, are the transposition
 pub transposed : (p : ℕ) (s0 s1 s2 s3 : List (List ℕ)) → Stage 1 p s0 s1 → Stage 2 p s1 s2 → Stage 4 p s2 s3
-    → (i b : ℕ) → i < 8 → b < 8 → bit_in s3 p i b ≡ bit_in s0 p b i
+    → (i b : ℕ) → i < 8 → b < 8 → slice_bit s3 p i b ≡ slice_bit s0 p b i
 transposed p s0 s1 s2 s3 one two four i b below within =
     let i1 = slice_before 4 i b in
     let b1 = slice_before 4 b i in
@@ -111,33 +109,35 @@ transposed p s0 s1 s2 s3 one two four i b below within =
     let b2 = slice_before 2 b1 i1 in
     let same_i : slice_before 1 i2 b2 ≡ b = omega arith in
     let same_b : slice_before 1 b2 i2 ≡ i = omega arith in
-    four i b below within ∙ two i1 b1 (omega arith) (omega arith) ∙ one i2 b2 (omega arith) (omega arith) ∙ (λ k. bit_in s0 p (same_i k) (same_b k))
+    four i b below within ∙ two i1 b1 (omega arith) (omega arith) ∙ one i2 b2 (omega arith) (omega arith) ∙ (λ k. slice_bit s0 p (same_i k) (same_b k))
 
--- the number of a byte's bits is the byte
-pub number_of-bits : (n x : ℕ) (bits : List ℕ) → length bits ≡ n → x < 2 ^ n → ((i : ℕ) → i < n → get_or bits i 0 ≡ bit_at x i) → number_of bits ≡ x
-number_of-bits zero x [] long fits are = omega arith
-number_of-bits zero x (b ∷ bits) long fits are = absurd (omega arith)
-number_of-bits (suc n) x [] long fits are = absurd (omega arith)
-number_of-bits (suc n) x (b ∷ bits) long fits are =
-    let low : b ≡ x % 2 = are 0 (omega arith) ∙ bit_at_lowest x in
-    let high : number_of bits ≡ x / 2 = number_of-bits n (x / 2) bits (omega arith) (omega (arith, pow-suc 2 n)) (λ i below. are (suc i) (omega arith) ∙ bit_at-suc x i) in
-    omega arith
+-- a vector with the bits of two blocks is the one after the other
+module _ (slices : List (List ℕ)) (vector : List ℕ) (t : ℕ) (count : length slices ≡ 8) (long : length vector ≡ 32)
+    (bytes : (q : ℕ) → q < 32 → get_or vector q 0 < 256)
+    (bits : (q i : ℕ) → q < 32 → i < 8 → bit_at (get_or vector q 0) i ≡ slice_bit slices q i t) where
+  half : (h : ℕ) → h < 2 → take 16 (drop (16 * h) vector) ≡ block_in slices (2 * t + h)
+  half h low =
+      is_block slices (take 16 (drop (16 * h) vector)) (2 * t + h) count
+      (length-take-le 16 (drop (16 * h) vector) (omega (arith, length-drop (16 * h) vector)))
+      (λ p within. omega (arith, is p within, bytes (16 * h + p) (omega arith)))
+      (λ p i within in_byte.
+      let place : 16 * h + p ≡ 16 * ((2 * t + h) % 2) + p = omega arith in
+      let bit : t ≡ (2 * t + h) / 2 = omega arith in
+      ap (λ n. bit_at n i) (is p within) ∙ bits (16 * h + p) i (omega arith) in_byte ∙ (λ k. slice_bit slices (place k) i (bit k)))
+    where
+      is : (p : ℕ) → p < 16 → get_or (take 16 (drop (16 * h) vector)) p 0 ≡ get_or vector (16 * h + p) 0
+      is p within = get_or-take 16 (drop (16 * h) vector) p 0 within ∙ get_or-drop (16 * h) vector p 0
 
--- a vector of bytes with the bits of block j is the block
-pub is_block : (slices : List (List ℕ)) (block : List ℕ) (j : ℕ) → length slices ≡ 8 → length block ≡ 16 → ((p : ℕ) → p < 16 → get_or block p 0 < 256)
-    → ((p i : ℕ) → p < 16 → i < 8 → bit_at (get_or block p 0) i ≡ bit_in slices p i j) → block ≡ block_in slices j
-is_block slices block j count long bytes bits =
-    ext_get_or 0 block (block_in slices j) long
-    (λ p below.
-    let within : p < 16 = omega arith in
-    sym (number_of-bits 8 (get_or block p 0) (bits_in slices j p) (length-map slices (λ (slice : List ℕ). bit_at (get_or slice p 0) j) ∙ count) (bytes p within)
-    (λ i low. get_or-map (λ (slice : List ℕ). bit_at (get_or slice p 0) j) slices i [] 0 (omega arith) ∙ sym (bits p i within low)))
-    ∙ sym (get_or-map-range_with_len (λ (q : ℕ). number_of (bits_in slices j q)) 0 16 p p 0 within (zero-add p)))
+  pub two_blocks : vector ≡ block_in slices (2 * t) ++ block_in slices (2 * t + 1)
+  two_blocks =
+      let first : 2 * t + 0 ≡ 2 * t = omega arith in
+      sym (take-append-drop 16 vector)
+      ∙ (λ i. (half 0 (omega arith) ∙ ap (block_in slices) first) i ++ (sym (take_all 16 (drop 16 vector) (omega (arith, length-drop 16 vector))) ∙ half 1 (omega arith)) i)
 
 -- eight vectors that are whole
-pub are_slices : (a b c d e f g h : List ℕ) → length a ≡ 16 → length b ≡ 16 → length c ≡ 16 → length d ≡ 16
-    → length e ≡ 16 → length f ≡ 16 → length g ≡ 16 → length h ≡ 16 → AreSlices (eight a b c d e f g h)
+pub are_slices : (a b c d e f g h : List ℕ) → length a ≡ 32 → length b ≡ 32 → length c ≡ 32 → length d ≡ 32
+    → length e ≡ 32 → length f ≡ 32 → length g ≡ 32 → length h ≡ 32 → AreSlices (eight a b c d e f g h)
 are_slices a b c d e f g h la lb lc ld le lf lg lh = record {
   eight = refl;
-  each = λ k other below. by_bit (λ k. length (get_or (eight a b c d e f g h) k other) ≡ 16) la lb lc ld le lf lg lh k below;
+  each = λ k other below. by_bit (λ k. length (get_or (eight a b c d e f g h) k other) ≡ 32) la lb lc ld le lf lg lh k below;
 }

@@ -19,11 +19,11 @@ bit_of bits made set = 1
 bit_of bits made (sum a b) = (bit_of bits made a + bit_of bits made b) % 2
 bit_of bits made (both a b) = min (bit_of bits made a) (bit_of bits made b)
 
--- what it gives on slices of 16 bytes, on all their bits at once
+-- what it gives on slices of 32 bytes, on all their bits at once
 abbrev pub slice_of : List (List ℕ) → List (List ℕ) → Gate → List ℕ
 slice_of slices made (wire k) = slice_index_or slices k []
 slice_of slices made (inner k) = slice_index_or made k []
-slice_of slices made set = replicate 16 255
+slice_of slices made set = replicate 32 255
 slice_of slices made (sum a b) = zip2 bit_xor (slice_of slices made a) (slice_of slices made b)
 slice_of slices made (both a b) = zip2 bit_and (slice_of slices made a) (slice_of slices made b)
 

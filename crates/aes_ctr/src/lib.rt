@@ -4,20 +4,21 @@
 //! so any part of a text can be encrypted or decrypted alone, by its place in the text. No call takes
 //! memory.
 //!
-//! Eight blocks are encrypted at once, cut into slices of one bit of each byte, by exclusive ors, ands and moves
-//! of whole vectors alone: no look-up and no branch depends on the key or the text. That is how the code is written,
-//! and nothing is proved of the time that a call takes.
+//! Sixteen blocks are encrypted at once, cut into slices of one bit of each byte, by exclusive ors, ands and moves
+//! of whole vectors of 32 bytes alone: no look-up and no branch depends on the key or the text. In a long text, how the first
+//! round of a counter changes with its last byte is computed once for all. That is how the code is written, and nothing is proved
+//! of the time that a call takes.
 #![tactic(auto)]
 
-ghost use Rattle.std.specs.Prelude.{◌≡◌, ◌+◌, ◌*◌, ◌%◌, ◌<◌, ◌≤◌, ◌^◌, ℕ, List, [], length, slice_index, slice_index_or};
-ghost use Rattle.std.specs.Simd.Lanes.{put_chunk};
+ghost use Rattle.std.specs.Prelude.{◌≡◌, ◌+◌, ◌*◌, ◌/◌, ◌%◌, ◌<◌, ◌≤◌, ◌^◌, ℕ, List, [], length, bit_xor, slice_index, slice_index_or};
 ghost use Rattle.aes_ctr.specs.Aes.{AreKeys, encrypted, round_key, rounds, xor_bytes};
 ghost use Rattle.aes_ctr.specs.CounterMode.{stream_byte, xored_from};
 ghost use Rattle.aes_ctr.specs.Slices.{AreSlices, block_in};
+ghost use Rattle.aes_ctr.specs.Differences.{AreDifferences, counter_round};
 
 use key::{RoundKey, round_keys};
 use rounds::{add, last_round, round};
-use slices::{Slices, blocks, counters, repeated};
+use slices::{Slices, counters, first_block, repeated, transposed};
 use std::marker::Model;
 use std::simd::prelude::*;
 
@@ -26,8 +27,20 @@ mod rounds;
 mod slices;
 mod substitution;
 
-// How many bytes of the key stream are made at once: eight blocks of 16.
-const STREAM_LEN: usize = 128;
+// How many bytes of the key stream are made at once: sixteen blocks of 16.
+const STREAM_LEN: usize = 256;
+
+// How many such pieces make a stretch of the stream: its 256 counters differ in their last byte alone.
+const GROUPS: usize = 16;
+
+// How many bytes a stretch has.
+const STRETCH_LEN: usize = GROUPS * STREAM_LEN;
+
+// From how many bytes on a table of differences is worth its making.
+const LONG_LEN: usize = 4 * STRETCH_LEN;
+
+// How many bytes a vector holds.
+const VECTOR_LEN: usize = 32;
 
 /// AES-128 under one key, which contracts see as its 16 bytes.
 #[derive(Drop)]
@@ -58,9 +71,8 @@ impl Aes128 {
     pub fn encrypt_block(&self, block: &[u8; 16]) -> [u8; 16]
         ensures { result ≡ encrypted self.now block.now }
     {
-        let slices = self.encrypt(repeated(u8x16::from_array(*block)));
-        let [first, _, _, _, _, _, _, _] = blocks(slices);
-        first.to_array()
+        let first = self.first_round(repeated(u8x16::from_array(*block)));
+        first_block(self.later_rounds(first))
     }
 
     /// Xors `text` with the key stream from its byte `offset` on: this encrypts, and decrypts, the
@@ -69,11 +81,80 @@ impl Aes128 {
         requires { offset + length text.old < 2 ^ 64 }
         ensures { text.new ≡ xored_from self.now offset text.old }
     {
+        if text.len() < LONG_LEN {
+            self.xor_pieces(offset, text);
+        } else {
+            self.xor_stretches(offset, text);
+        }
+    }
+
+    // The same, stretch by stretch, with a table of the differences that a counter's last byte makes after the first round.
+    fn xor_stretches(&self, offset: u64, text: &mut [u8])
+        requires { offset + length text.old < 2 ^ 64 }
+        ensures { text.new ≡ xored_from self.now offset text.old }
+    {
+        let table = self.differences();
         let len = text.len();
         let mut done = 0;
         while done < len {
             let place = offset + done as u64;
-            let skip = (place % 128) as usize;
+            let skip = (place % STRETCH_LEN as u64) as usize;
+            let count = (STRETCH_LEN - skip).min(len - done);
+            self.xor_within_stretch(place, &table, &mut text[done..done + count]);
+            done += count;
+        }
+    }
+
+    // Adds the key stream from `place` on to `part`, which lies within one stretch.
+    fn xor_within_stretch(&self, place: u64, table: &[Slices; GROUPS], part: &mut [u8])
+        requires in_range { place + length part.old < 2 ^ 64 }
+        requires within { place % STRETCH_LEN + length part.old ≤ STRETCH_LEN }
+        requires table { AreDifferences self.now table.now }
+        ensures { part.new ≡ xored_from self.now place part.old }
+    {
+        if part.len() == STRETCH_LEN {
+            self.xor_stretch(place / STRETCH_LEN as u64, table, part);
+        } else {
+            self.xor_pieces(place, part);
+        }
+    }
+
+    // Adds a whole stretch of the key stream.
+    fn xor_stretch(&self, index: u64, table: &[Slices; GROUPS], stretch: &mut [u8])
+        requires in_range { index < 2 ^ 52 }
+        requires table { AreDifferences self.now table.now }
+        requires whole { length stretch.old ≡ STRETCH_LEN }
+        ensures { stretch.new ≡ xored_from self.now (STRETCH_LEN * index) stretch.old }
+    {
+        let first = self.first_round(counters(GROUPS as u64 * index));
+        for g in 0..GROUPS {
+            let at = STREAM_LEN * g;
+            self.add_stream(add(first, table[g]), &mut stretch[at..at + STREAM_LEN]);
+        }
+    }
+
+    // For each group of sixteen counters below 256, what its first round differs by from that of the first group.
+    fn differences(&self) -> [Slices; GROUPS]
+        ensures { AreDifferences self.now result }
+    {
+        let first = self.first_round(counters(0));
+        let mut table = [first; GROUPS];
+        for g in 0..GROUPS {
+            table[g] = add(self.first_round(counters(g as u64)), first);
+        }
+        table
+    }
+
+    // Adds the key stream to a text, piece by piece.
+    fn xor_pieces(&self, offset: u64, text: &mut [u8])
+        requires { offset + length text.old < 2 ^ 64 }
+        ensures { text.new ≡ xored_from self.now offset text.old }
+    {
+        let len = text.len();
+        let mut done = 0;
+        while done < len {
+            let place = offset + done as u64;
+            let skip = (place % STREAM_LEN as u64) as usize;
             let count = (STREAM_LEN - skip).min(len - done);
             self.xor_within(place, &mut text[done..done + count]);
             done += count;
@@ -82,37 +163,71 @@ impl Aes128 {
 
     // Adds the key stream from `place` on to `part`, which lies within one piece of the stream.
     fn xor_within(&self, place: u64, part: &mut [u8])
-        requires { place % 128 + length part.old ≤ 128 }
+        requires { place % STREAM_LEN + length part.old ≤ STREAM_LEN }
         ensures { part.new ≡ xored_from self.now place part.old }
     {
-        let skip = (place % 128) as usize;
+        let index = place / STREAM_LEN as u64;
         let len = part.len();
-        let stream = self.stream(place / 128);
-        add_bytes(part, &stream[skip..skip + len]);
+        if len == STREAM_LEN {
+            self.xor_piece(index, part);
+        } else {
+            let skip = (place % STREAM_LEN as u64) as usize;
+            let stream = self.stream(index);
+            add_bytes(part, &stream[skip..skip + len]);
+        }
     }
 
-    // Piece `index` of the key stream, of eight blocks.
-    fn stream(&self, index: u64) -> [u8; 128]
-        requires { index < 2 ^ 57 }
-        ensures { (k : ℕ) → k < 128 → slice_index result k ≡ stream_byte self.now (128 * index + k) }
+    // Piece `index` of the key stream: what it makes of zeros.
+    fn stream(&self, index: u64) -> [u8; STREAM_LEN]
+        requires { index < 2 ^ 56 }
+        ensures { (k : ℕ) → k < STREAM_LEN → slice_index result k ≡ stream_byte self.now (STREAM_LEN * index + k) }
     {
-        let blocks = blocks(self.encrypt(counters(8 * index)));
-        let mut bytes = [0; 128];
-        for j in 0..8 {
-            put_block(&mut bytes, 16 * j, blocks[j]);
-        }
+        let mut bytes = [0; STREAM_LEN];
+        self.xor_piece(index, &mut bytes);
         bytes
     }
 
-    // Eight blocks encrypted.
+    // Adds piece `index` of the key stream to a piece of the text.
+    fn xor_piece(&self, index: u64, piece: &mut [u8])
+        requires in_range { index < 2 ^ 56 }
+        requires whole { length piece.old ≡ STREAM_LEN }
+        ensures { piece.new ≡ xored_from self.now (STREAM_LEN * index) piece.old }
+    {
+        self.add_stream(self.first_round(counters(index)), piece);
+    }
+
+    // Adds the key stream of sixteen counters to a piece of the text, straight from the vectors. `state` is the counters after their first round.
+    fn add_stream(&self, state: Slices, piece: &mut [u8])
+        requires slices { AreSlices state }
+        requires whole { length piece.old ≡ STREAM_LEN }
+        ensures { (index : ℕ) → ((j : ℕ) → j < 16 → block_in state j ≡ counter_round self.now (16 * index + j))
+            → piece.new ≡ xored_from self.now (STREAM_LEN * index) piece.old }
+    {
+        let vectors = transposed(self.later_rounds(state));
+        for t in 0..8 {
+            add_vector(piece, VECTOR_LEN * t, vectors[t]);
+        }
+    }
+
+    // Sixteen blocks after the first addition of a key and one round.
     #[inline(always)]
-    fn encrypt(&self, blocks: Slices) -> Slices
+    fn first_round(&self, blocks: Slices) -> Slices
         requires { AreSlices blocks }
         ensures slices { AreSlices result }
-        ensures blocks { (j : ℕ) → j < 8 → block_in result j ≡ encrypted self.now (block_in blocks j) }
+        ensures blocks { (j : ℕ) → j < 16 → block_in result j ≡ rounds self.now (block_in blocks j) 1 }
     {
-        let mut state = add(blocks, self.keys[0].slices());
-        'rounds: for r in 1..10 {
+        round(add(blocks, self.keys[0].slices()), self.keys[1].slices())
+    }
+
+    // The other rounds: what was encrypted as far as that, encrypted.
+    #[inline(always)]
+    fn later_rounds(&self, first: Slices) -> Slices
+        requires { AreSlices first }
+        ensures slices { AreSlices result }
+        ensures blocks { (j : ℕ) (block : List ℕ) → j < 16 → block_in first j ≡ rounds self.now block 1 → block_in result j ≡ encrypted self.now block }
+    {
+        let mut state = first;
+        'rounds: for r in 2..10 {
             let next = round(state, self.keys[r].slices());
             state = next;
         }
@@ -120,13 +235,17 @@ impl Aes128 {
     }
 }
 
-// Writes a block over the bytes from `at` on.
+// Adds a vector to the bytes of `text` from `at` on.
 #[inline(always)]
-fn put_block(bytes: &mut [u8], at: usize, block: u8x16)
-    requires { at + 16 ≤ length bytes.old }
-    ensures { bytes.new ≡ put_chunk at bytes.old block }
+fn add_vector(text: &mut [u8], at: usize, vector: u8x32)
+    requires within { at + VECTOR_LEN ≤ length text.old }
+    requires long { length vector ≡ VECTOR_LEN }
+    ensures below { (k : ℕ) → k < at → slice_index text.new k ≡ slice_index text.old k }
+    ensures added { (i : ℕ) → i < VECTOR_LEN → slice_index text.new (at + i) ≡ bit_xor (slice_index text.old (at + i)) (slice_index vector i) }
+    ensures above { (k : ℕ) → at + VECTOR_LEN ≤ k → slice_index text.new k ≡ slice_index text.old k }
 {
-    block.copy_to_slice(&mut bytes[at..]);
+    let sum = u8x32::from_slice(&text[at..]) ^ vector;
+    sum.copy_to_slice(&mut text[at..]);
 }
 
 // Adds `stream` to `text`, byte by byte.

@@ -1,9 +1,9 @@
-// The rounds, on eight blocks at once (FIPS 197, 5.1).
+// The rounds, on sixteen blocks at once (FIPS 197, 5.1).
 
-ghost use Rattle.std.specs.Prelude.{◌≡◌, ◌<◌, ℕ, length, map};
+ghost use Rattle.std.specs.Prelude.{◌≡◌, ◌+◌, ◌*◌, ◌/◌, ◌%◌, ◌<◌, ℕ, length, map};
 ghost use Rattle.aes_ctr.specs.Aes.{last_round, mix_columns, round, shift_rows, xor_bytes};
 ghost use Rattle.aes_ctr.specs.Byte.{times_x};
-ghost use Rattle.aes_ctr.specs.Slices.{AreSlices, block_in, turned_columns};
+ghost use Rattle.aes_ctr.specs.Slices.{AreSlices, block_in, moved_in_halves, turned_columns};
 
 use crate::slices::Slices;
 use crate::substitution::substituted;
@@ -15,7 +15,7 @@ pub(crate) fn round(slices: Slices, key: Slices) -> Slices
     requires slices { AreSlices slices }
     requires key { AreSlices key }
     ensures slices { AreSlices result }
-    ensures blocks { (j : ℕ) → j < 8 → block_in result j ≡ round (block_in key j) (block_in slices j) }
+    ensures blocks { (j : ℕ) → j < 16 → block_in result j ≡ round (block_in key j) (block_in slices j) }
 {
     add(mixed(shifted(substituted(slices))), key)
 }
@@ -26,7 +26,7 @@ pub(crate) fn last_round(slices: Slices, key: Slices) -> Slices
     requires slices { AreSlices slices }
     requires key { AreSlices key }
     ensures slices { AreSlices result }
-    ensures blocks { (j : ℕ) → j < 8 → block_in result j ≡ last_round (block_in key j) (block_in slices j) }
+    ensures blocks { (j : ℕ) → j < 16 → block_in result j ≡ last_round (block_in key j) (block_in slices j) }
 {
     add(shifted(substituted(slices)), key)
 }
@@ -74,11 +74,14 @@ fn shifted(slices: Slices) -> Slices
 }
 
 #[inline(always)]
-fn shifted_slice(slice: u8x16) -> u8x16
-    requires { length slice ≡ 16 }
-    ensures { result ≡ shift_rows slice }
+fn shifted_slice(slice: u8x32) -> u8x32
+    requires { length slice ≡ 32 }
+    ensures { result ≡ moved_in_halves (λ p. (p + 4 * (p % 4)) % 16) slice }
 {
-    slice.swizzle([0, 5, 10, 15, 4, 9, 14, 3, 8, 13, 2, 7, 12, 1, 6, 11])
+    slice.swizzle([
+        0, 5, 10, 15, 4, 9, 14, 3, 8, 13, 2, 7, 12, 1, 6, 11, 16, 21, 26, 31, 20, 25, 30, 19, 24,
+        29, 18, 23, 28, 17, 22, 27,
+    ])
 }
 
 // Each column times the matrix of MixColumns: twice the sum of a byte and the one below it, with the other three added.
@@ -86,7 +89,7 @@ fn shifted_slice(slice: u8x16) -> u8x16
 fn mixed(slices: Slices) -> Slices
     requires { AreSlices slices }
     ensures slices { AreSlices result }
-    ensures blocks { (j : ℕ) → j < 8 → block_in result j ≡ mix_columns (block_in slices j) }
+    ensures blocks { (j : ℕ) → j < 16 → block_in result j ≡ mix_columns (block_in slices j) }
 {
     let below = turned(slices);
     let sums = add(slices, below);
@@ -114,11 +117,14 @@ fn turned(slices: Slices) -> Slices
 }
 
 #[inline(always)]
-fn turned_slice(slice: u8x16) -> u8x16
-    requires { length slice ≡ 16 }
-    ensures { result ≡ turned_columns slice }
+fn turned_slice(slice: u8x32) -> u8x32
+    requires { length slice ≡ 32 }
+    ensures { result ≡ moved_in_halves (λ p. 4 * (p / 4) + (p + 1) % 4) slice }
 {
-    slice.swizzle([1, 2, 3, 0, 5, 6, 7, 4, 9, 10, 11, 8, 13, 14, 15, 12])
+    slice.swizzle([
+        1, 2, 3, 0, 5, 6, 7, 4, 9, 10, 11, 8, 13, 14, 15, 12, 17, 18, 19, 16, 21, 22, 23, 20, 25,
+        26, 27, 24, 29, 30, 31, 28,
+    ])
 }
 
 // Each byte times x.
@@ -126,7 +132,7 @@ fn turned_slice(slice: u8x16) -> u8x16
 fn doubled(slices: Slices) -> Slices
     requires { AreSlices slices }
     ensures slices { AreSlices result }
-    ensures blocks { (j : ℕ) → j < 8 → block_in result j ≡ map times_x (block_in slices j) }
+    ensures blocks { (j : ℕ) → j < 16 → block_in result j ≡ map times_x (block_in slices j) }
 {
     let [s0, s1, s2, s3, s4, s5, s6, s7] = slices;
     [s7, s0 ^ s7, s1, s2 ^ s7, s3 ^ s7, s4, s5, s6]

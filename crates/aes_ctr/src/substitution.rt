@@ -1,4 +1,4 @@
-// The byte substitution of eight blocks at once, by the circuit of Boyar and Peralta.
+// The byte substitution of sixteen blocks at once, by the circuit of Boyar and Peralta.
 //
 // Each step is straight-line code on whole slices, so that no look-up and no branch depends on the key or the text.
 
@@ -15,7 +15,7 @@ use std::simd::prelude::*;
 pub(crate) fn substituted(slices: Slices) -> Slices
     requires { AreSlices slices }
     ensures slices { AreSlices result }
-    ensures blocks { (j : ℕ) → j < 8 → block_in result j ≡ map substituted (block_in slices j) }
+    ensures blocks { (j : ℕ) → j < 16 → block_in result j ≡ map substituted (block_in slices j) }
 {
     let sums = sums(slices);
     outputs(sums, inverses(products(sums)))
@@ -23,7 +23,7 @@ pub(crate) fn substituted(slices: Slices) -> Slices
 
 // The sums of the bits that the next steps multiply.
 #[inline(always)]
-fn sums(slices: Slices) -> [u8x16; 22]
+fn sums(slices: Slices) -> [u8x32; 22]
     ensures { result ≡ map (slice_of slices []) sums }
 {
     let [x7, x6, x5, x4, x3, x2, x1, x0] = slices;
@@ -58,7 +58,7 @@ fn sums(slices: Slices) -> [u8x16; 22]
 
 // Four bits made of products of the sums.
 #[inline(always)]
-fn products(sums: [u8x16; 22]) -> [u8x16; 4]
+fn products(sums: [u8x32; 22]) -> [u8x32; 4]
     ensures { result ≡ map (slice_of sums []) products }
 {
     let [
@@ -113,7 +113,7 @@ fn products(sums: [u8x16; 22]) -> [u8x16; 4]
 
 // Four bits made of those.
 #[inline(always)]
-fn inverses(products: [u8x16; 4]) -> [u8x16; 4]
+fn inverses(products: [u8x32; 4]) -> [u8x32; 4]
     ensures { result ≡ map (slice_of products []) inverses }
 {
     let [t21, t22, t23, t24] = products;
@@ -138,7 +138,7 @@ fn inverses(products: [u8x16; 4]) -> [u8x16; 4]
 
 // The bits of the substituted bytes.
 #[inline(always)]
-fn outputs(sums: [u8x16; 22], inverses: [u8x16; 4]) -> Slices
+fn outputs(sums: [u8x32; 22], inverses: [u8x32; 4]) -> Slices
     ensures { result ≡ map (slice_of sums inverses) outputs }
 {
     let [
@@ -166,7 +166,7 @@ fn outputs(sums: [u8x16; 22], inverses: [u8x16; 4]) -> Slices
         x7,
     ] = sums;
     let [t29, t33, t37, t40] = inverses;
-    let ones = u8x16::splat(255);
+    let ones = u8x32::splat(255);
     let t41 = t40 ^ t37;
     let t42 = t29 ^ t33;
     let t43 = t29 ^ t40;

@@ -114,3 +114,21 @@ fn long_texts_go_on_where_they_were_cut(rt: HostRuntime) {
         assert!(rt; Sha256::digest(&text) == THOUSAND_DIGEST, "cut at {cut}");
     }
 }
+
+// The first 30,000 bytes, by OpenSSL: their SHA-256.
+const LONG_DIGEST: [u8; 32] = [
+    0xec, 0x9b, 0xf3, 0x29, 0xfb, 0x96, 0x3f, 0x47, 0xe6, 0x35, 0xf6, 0xd2, 0x86, 0x9e, 0x2e, 0xa7,
+    0x54, 0xb9, 0xc8, 0xd3, 0x71, 0xe4, 0x76, 0xae, 0x94, 0xe9, 0x11, 0xfc, 0x46, 0xc4, 0x40, 0x7e,
+];
+
+// A text for which the first rounds are made once for all, whole and in two parts.
+#[test]
+fn very_long_texts_go_on_where_they_were_cut(rt: HostRuntime) {
+    let aes = Aes128::new(&RISING);
+    for cut in [0, 100, 4096, 5000, 16384] {
+        let mut text = [0u8; 30_000];
+        aes.xor_at(0, &mut text[..cut]);
+        aes.xor_at(cut as u64, &mut text[cut..]);
+        assert!(rt; Sha256::digest(&text) == LONG_DIGEST, "cut at {cut}");
+    }
+}

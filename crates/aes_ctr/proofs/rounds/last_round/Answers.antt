@@ -5,6 +5,6 @@ use Rattle.aes_ctr.proofs.rounds.last_round.Goals as goal
 
 pub returns-clause-blocks : goal.returns-clause-blocks
 unfolding last_round
-returns-clause-blocks c j bit =
+returns-clause-blocks c j within =
     c.add.ensures.blocks j
-    ∙ ap (λ s. xor_bytes s (block_in c.args.key j)) (c.shifted.ensures.blocks j ∙ ap shift_rows (c.substituted.ensures.blocks j bit))
+    ∙ ap (λ s. xor_bytes s (block_in c.args.key j)) (c.shifted.ensures.blocks j ∙ ap shift_rows (c.substituted.ensures.blocks j within))

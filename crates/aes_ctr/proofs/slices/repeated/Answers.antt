@@ -1,9 +1,11 @@
-use Rattle.std.proofs.Common.{◌≡◌, ◌<◌, ℕ, List, get_or, sym, ap, ◌∙◌, arith}
+use Rattle.std.proofs.Common.{◌≡◌, ◌+◌, ◌*◌, ◌/◌, ◌%◌, ◌^◌, ◌<◌, ◌==◌, if◌then◌else◌, ℕ, List, [], get_or, bit_and, sym, ap, ◌∙◌, arith}
 use Rattle.std.specs.Int.{bit_at}
 use Rattle.std.proofs.lemmas.Simd.{Each1-get_or}
+use Rattle.aes_ctr.specs.Slices.{bit_in}
+use Rattle.aes_ctr.proofs.Bytes.{is_block}
 use Rattle.aes_ctr.proofs.SliceLemmas.{by_bit}
-use Rattle.aes_ctr.proofs.SpreadLemmas.{spread_bit}
-use Rattle.aes_ctr.proofs.TransposeLemmas.{are_slices, eight, bit_in, is_block}
+use Rattle.aes_ctr.proofs.SpreadLemmas.{in_both, spread_bit}
+use Rattle.aes_ctr.proofs.TransposeLemmas.{are_slices, eight}
 use Rattle.aes_ctr.proofs.slices.repeated.Goals as goal
 
 pub returns-clause-slices : goal.returns-clause-slices
@@ -18,17 +20,24 @@ returns-clause-blocks c j below =
     let slices : List (List ℕ) =
     eight c.spread.result c.spread-2.result c.spread-3.result c.spread-4.result c.spread-5.result c.spread-6.result c.spread-7.result c.spread-8.result
     in
-    let bits : (p i : ℕ) → p < 16 → i < 8 → bit_at (get_or block p 0) i ≡ bit_in slices p i j = λ p i in_block low.
+    let bits : (p i : ℕ) → p < 16 → i < 8 → bit_at (get_or block p 0) i ≡ bit_in (get_or slices i []) j p = λ p i in_block low.
+    let q : ℕ = 16 * (j % 2) + p in
+    let within : q < 32 = omega arith in
     let x : ℕ = get_or block p 0 in
-    by_bit (λ i. bit_at x i ≡ bit_in slices p i j)
-    (spread_bit x 0 j below ∙ ap (λ (y : ℕ). bit_at y j) (sym (c.spread.ensures.lanes p in_block)))
-    (spread_bit x 1 j below ∙ ap (λ (y : ℕ). bit_at y j) (sym (c.spread-2.ensures.lanes p in_block)))
-    (spread_bit x 2 j below ∙ ap (λ (y : ℕ). bit_at y j) (sym (c.spread-3.ensures.lanes p in_block)))
-    (spread_bit x 3 j below ∙ ap (λ (y : ℕ). bit_at y j) (sym (c.spread-4.ensures.lanes p in_block)))
-    (spread_bit x 4 j below ∙ ap (λ (y : ℕ). bit_at y j) (sym (c.spread-5.ensures.lanes p in_block)))
-    (spread_bit x 5 j below ∙ ap (λ (y : ℕ). bit_at y j) (sym (c.spread-6.ensures.lanes p in_block)))
-    (spread_bit x 6 j below ∙ ap (λ (y : ℕ). bit_at y j) (sym (c.spread-7.ensures.lanes p in_block)))
-    (spread_bit x 7 j below ∙ ap (λ (y : ℕ). bit_at y j) (sym (c.spread-8.ensures.lanes p in_block)))
+    let byte : get_or c.twice-both.result q 0 ≡ x = ap (λ (v : List ℕ). get_or v q 0) c.twice-both.ensures ∙ in_both block (j % 2) p c.requires.long (omega arith) in_block in
+    let spread : (i : ℕ) (slice : List ℕ) → get_or slice q 0 ≡ (if bit_and (get_or c.twice-both.result q 0) (2 ^ i) == 2 ^ i then 255 else 0) → bit_at x i ≡ bit_in slice j p = λ i slice is.
+    spread_bit x i (j / 2) (omega arith)
+    ∙ ap (λ (y : ℕ). bit_at y (j / 2)) (ap (λ (y : ℕ). if bit_and y (2 ^ i) == 2 ^ i then 255 else 0) (sym byte) ∙ sym is)
+    in
+    by_bit (λ i. bit_at x i ≡ bit_in (get_or slices i []) j p)
+    (spread 0 c.spread.result (c.spread.ensures.lanes q within))
+    (spread 1 c.spread-2.result (c.spread-2.ensures.lanes q within))
+    (spread 2 c.spread-3.result (c.spread-3.ensures.lanes q within))
+    (spread 3 c.spread-4.result (c.spread-4.ensures.lanes q within))
+    (spread 4 c.spread-5.result (c.spread-5.ensures.lanes q within))
+    (spread 5 c.spread-6.result (c.spread-6.ensures.lanes q within))
+    (spread 6 c.spread-7.result (c.spread-7.ensures.lanes q within))
+    (spread 7 c.spread-8.result (c.spread-8.ensures.lanes q within))
     i low
     in
     sym (is_block slices block j (returns-clause-slices c).eight c.requires.long

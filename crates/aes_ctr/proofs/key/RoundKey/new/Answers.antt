@@ -9,8 +9,8 @@ invariant_of-result c =
     let is = c.repeated.ensures.slices in
     let same = named slices is.eight in (
       subst AreSlices same is,
-      λ j bit.
-          ap (λ s. block_in s j) (sym same) ∙ c.repeated.ensures.blocks j bit ∙ sym (c.repeated.ensures.blocks 0 (omega arith)) ∙ ap (λ s. block_in s 0) same,
+      λ j within.
+          ap (λ s. block_in s j) (sym same) ∙ c.repeated.ensures.blocks j within ∙ sym (c.repeated.ensures.blocks 0 (omega arith)) ∙ ap (λ s. block_in s 0) same,
     )
 
 pub returns : goal.returns
