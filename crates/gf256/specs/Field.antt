@@ -41,6 +41,14 @@ point_of (suc i) = power i
 abbrev pub AddsMultiple : List ℕ → List ℕ → List ℕ → ℕ → Type 0
 AddsMultiple old new source c = EachIndex new (λ k. slice_index new k ≡ bit_xor (slice_index old k) (product c (slice_index source k)))
 
+-- the same with three sources: each byte of the new list is the old one plus `factors` times the sources' bytes at its place
+abbrev pub AddsThreeMultiples : List ℕ → List ℕ → List ℕ → List ℕ → List ℕ → List ℕ → Type 0
+AddsThreeMultiples old new x y z factors =
+    EachIndex new (λ k.
+    slice_index new k
+    ≡ bit_xor (bit_xor (bit_xor (slice_index old k) (product (slice_index factors 0) (slice_index x k)))
+    (product (slice_index factors 1) (slice_index y k))) (product (slice_index factors 2) (slice_index z k)))
+
 -- r is the remainder of the polynomial p by the modulus: r has degree below 8, and p is a multiple of the modulus and r
 pub record IsRemainder (p r : ℕ) : Type 0 where
   pub degree : r < 256

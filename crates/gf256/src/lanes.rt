@@ -5,7 +5,7 @@
 
 ghost use Rattle.std.specs.Prelude.{◌≡◌, ℕ, ◌+◌, ◌-◌, ◌*◌, ◌/◌, ◌%◌, ◌<◌, ◌≤◌, length, slice_index, bit_xor};
 ghost use Rattle.std.specs.Simd.Lanes.{Each1};
-ghost use Rattle.gf256.specs.Field.{product, AddsMultiple};
+ghost use Rattle.gf256.specs.Field.{product, AddsMultiple, AddsThreeMultiples};
 ghost use Rattle.gf256.specs.Nibbles.{IsTable};
 
 use crate::mul;
@@ -19,15 +19,71 @@ pub fn add_mul(dst: &mut [u8], src: &[u8], c: u8)
     requires { length dst.old ≡ length src.now }
     ensures { AddsMultiple dst.old dst.new src.now c }
 {
-    let low = u8x16::from_array(multiples(c, 1));
-    let high = u8x16::from_array(multiples(c, 16));
-    let (chunks, _) = src.as_chunks::<LANES>();
-    let whole = chunks.len();
+    let factor = Factor::new(c);
+    let whole = dst.len() / LANES;
     for i in 0..whole {
-        add_lanes(dst, i * LANES, u8x16::from_array(chunks[i]), low, high);
+        let multiple = factor.times(src, i * LANES);
+        add_lanes(dst, i * LANES, multiple);
     }
     for i in whole * LANES..dst.len() {
         dst[i] ^= mul(c, src[i]);
+    }
+}
+
+/// Adds the multiples of three sources in one pass: to each byte of `dst` `factors[0]` times the byte of `x` at its place,
+/// `factors[1]` times that of `y` and `factors[2]` times that of `z`.
+pub fn add_mul_three(dst: &mut [u8], x: &[u8], y: &[u8], z: &[u8], factors: [u8; 3])
+    requires first { length dst.old ≡ length x.now }
+    requires second { length dst.old ≡ length y.now }
+    requires third { length dst.old ≡ length z.now }
+    ensures { AddsThreeMultiples dst.old dst.new x.now y.now z.now factors }
+{
+    let [a, b, c] = factors;
+    let by_a = Factor::new(a);
+    let by_b = Factor::new(b);
+    let by_c = Factor::new(c);
+    let whole = dst.len() / LANES;
+    for i in 0..whole {
+        let at = i * LANES;
+        add_lanes(
+            dst,
+            at,
+            by_a.times(x, at) ^ by_b.times(y, at) ^ by_c.times(z, at),
+        );
+    }
+    for i in whole * LANES..dst.len() {
+        dst[i] ^= mul(a, x[i]) ^ mul(b, y[i]) ^ mul(c, z[i]);
+    }
+}
+
+/// A byte to multiply by, with the tables of its products with the low and the high nibbles.
+#[derive(Drop)]
+struct Factor {
+    value: u8,
+    low: u8x16,
+    high: u8x16,
+    ghost low_nibbles: { IsTable low value 1 },
+    ghost high_nibbles: { IsTable high value 16 },
+}
+
+impl Factor {
+    fn new(value: u8) -> Factor
+        ensures { result.value ≡ value }
+    {
+        let low = u8x16::from_array(multiples(value, 1));
+        let high = u8x16::from_array(multiples(value, 16));
+        Factor { value, low, high }
+    }
+
+    // The multiples of the 16 bytes of `src` from `at` on.
+    #[inline(always)]
+    fn times(&self, src: &[u8], at: usize) -> u8x16
+        requires { at + 16 ≤ length src.now }
+        ensures size { length result ≡ 16 }
+        ensures each { (j : ℕ) → j < 16 → slice_index result j ≡ product self.now.value (slice_index src.now (at + j)) }
+    {
+        let bytes = u8x16::from_slice(&src[at..]);
+        by_low_nibble(self.low, bytes) ^ by_high_nibble(self.high, bytes)
     }
 }
 
@@ -43,20 +99,16 @@ fn multiples(c: u8, step: usize) -> [u8; 16]
     table
 }
 
-// Adds the multiples of 16 bytes to those of `dst` from `at` on.
+// Adds 16 bytes to those of `dst` from `at` on.
 #[inline(always)]
-fn add_lanes(dst: &mut [u8], at: usize, bytes: u8x16, low: u8x16, high: u8x16)
+fn add_lanes(dst: &mut [u8], at: usize, lanes: u8x16)
     requires in_dst { at + 16 ≤ length dst.old }
-    requires long { length bytes ≡ 16 }
-    requires fit { Each1 (λ x. x < 256) bytes }
+    requires long { length lanes ≡ 16 }
     ensures below { (k : ℕ) → k < at → slice_index dst.new k ≡ slice_index dst.old k }
-    ensures added { (c : ℕ) → IsTable low c 1 → IsTable high c 16
-        → (k : ℕ) → at ≤ k → k < at + 16 → slice_index dst.new k ≡ bit_xor (slice_index dst.old k) (product c (slice_index bytes (k - at))) }
+    ensures added { (k : ℕ) → at ≤ k → k < at + 16 → slice_index dst.new k ≡ bit_xor (slice_index dst.old k) (slice_index lanes (k - at)) }
     ensures above { (k : ℕ) → at + 16 ≤ k → slice_index dst.new k ≡ slice_index dst.old k }
 {
-    let sum = u8x16::from_slice(&dst[at..])
-        ^ by_low_nibble(low, bytes)
-        ^ by_high_nibble(high, bytes);
+    let sum = u8x16::from_slice(&dst[at..]) ^ lanes;
     sum.copy_to_slice(&mut dst[at..]);
 }
 

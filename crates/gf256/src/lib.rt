@@ -10,7 +10,7 @@ ghost use Rattle.gf256.specs.Field.{polynomial_product, IsRemainder, product, po
 mod lanes;
 mod tables;
 
-pub use lanes::add_mul;
+pub use lanes::{add_mul, add_mul_three};
 use tables::{INVERSES, LOGARITHMS, POWERS};
 
 /// The product of two elements.

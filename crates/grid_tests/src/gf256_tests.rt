@@ -1,6 +1,6 @@
 // Products of the field modulo 0x11D, computed by Python.
 
-use gf256::{add_mul, inv, mul, point};
+use gf256::{add_mul, add_mul_three, inv, mul, point};
 use std::test::Fail;
 
 #[test]
@@ -65,6 +65,35 @@ fn each_length_is_as_the_plain_loop_has_it(rt: HostRuntime) -> Result<(), Fail> 
         add_mul(&mut sum[..len], &source[..len], 0x8e);
         for i in 0..65 {
             let added = if i < len { mul(0x8e, source[i]) } else { 0 };
+            assert!(rt; sum[i] == before[i] ^ added, "byte {i} of {len}");
+        }
+    }
+    Ok(())
+}
+
+// The same of three sources at once, each with a factor of its own.
+#[test]
+fn each_length_of_three_is_as_the_plain_loop_has_it(rt: HostRuntime) -> Result<(), Fail> {
+    let x = sample(37);
+    let y = sample(11);
+    let z = sample(149);
+    let before = sample(91);
+    for len in [0usize, 1, 15, 16, 17, 31, 32, 33, 64, 65] {
+        let len = len.min(65);
+        let mut sum = sample(91);
+        add_mul_three(
+            &mut sum[..len],
+            &x[..len],
+            &y[..len],
+            &z[..len],
+            [0x8e, 0x02, 0x53],
+        );
+        for i in 0..65 {
+            let added = if i < len {
+                mul(0x8e, x[i]) ^ mul(0x02, y[i]) ^ mul(0x53, z[i])
+            } else {
+                0
+            };
             assert!(rt; sum[i] == before[i] ^ added, "byte {i} of {len}");
         }
     }

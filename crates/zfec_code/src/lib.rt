@@ -11,14 +11,16 @@ ghost use Rattle.zfec_code.specs.Shares.{IsShareOf, Parameters, AreParameters, H
 ghost use Rattle.zfec_code.specs.declared.CodeError.TheVariants.{OutOfMemory};
 ghost use Rattle.zfec_code.specs.CodeError.{refusal_number};
 ghost use Rattle.zfec_code.specs.ShareValue.{FormulaGivesShares};
-ghost use Rattle.zfec_code.specs.Rows.{IsTable, AreDistinct, weighted_sum, primary_points};
+ghost use Rattle.zfec_code.specs.Rows.{IsTable, AreDistinct, primary_points};
 
 mod interpolation;
+mod sums;
 
-use gf256::{add_mul, point};
+use gf256::point;
 use interpolation::Nodes;
 use std::alloc::{AllocError, AllocFailed, Global};
 use std::marker::Model;
+use sums::{Blocks, Joined, Shares, combine};
 
 /// The greatest number of shares.
 pub const MAX_SHARES: u16 = 256;
@@ -111,13 +113,16 @@ impl Code {
         ensures { IsShareOf self.now.k primaries.now share out.new }
     {
         let share = usize::from(share);
-        let size = out.len();
+        let blocks = Joined {
+            bytes: primaries,
+            size: out.len(),
+        };
         if share < self.k {
-            out.copy_from_slice(&primaries[share * size..(share + 1) * size]);
+            out.copy_from_slice(blocks.get(share));
             return;
         }
         let start = (share - self.k) * self.k;
-        combine_blocks(&self.rows[start..start + self.k], primaries, out);
+        combine(&self.rows[start..start + self.k], &blocks, out);
     }
 
     /// Writes the `k` primary blocks, one after another, to `out`, from any `k` shares in any order, each with its number.
@@ -191,20 +196,6 @@ fn points_of_primaries(alloc: Global, k: usize) -> Result<Vec<u8>, AllocError>
         points.push(point(i as u8))?;
     }
     Ok(points)
-}
-
-/// Writes to each byte of `out` the sum of the bytes of the blocks at its place, each times its block's coefficient.
-fn combine_blocks(row: &[u8], blocks: &[u8], out: &mut [u8])
-    requires { length blocks.now ≡ length row.now * length out.old }
-    ensures sums { EachIndex out.new (λ t.
-        slice_index out.new t ≡ weighted_sum (length row.now) (slice_index row.now) (λ j. slice_index blocks.now (j * length out.old + t))) }
-    ensures bytes { (m : ℕ) → slice_index row.now m < 256 }
-{
-    out.fill(0);
-    let size = out.len();
-    for (j, coefficient) in row.iter().enumerate() {
-        add_mul(out, &blocks[j * size..(j + 1) * size], *coefficient);
-    }
 }
 
 /// The length of the shares, where there are `k`, all as long, and `out_length` is `k` times that.
@@ -310,10 +301,6 @@ fn decode_block(nodes: &Nodes, shares: &[(u16, &[u8])], primary: usize, block: &
             return;
         }
     }
-    block.fill(0);
-    let x = point(primary as u8);
-    let whole = nodes.product_at(x);
-    for (m, (_, bytes)) in shares.iter().enumerate() {
-        add_mul(block, *bytes, nodes.coefficient(m, x, whole));
-    }
+    let row = nodes.row(point(primary as u8));
+    combine(&row[..shares.len()], &Shares(shares), block);
 }
