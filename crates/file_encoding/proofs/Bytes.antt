@@ -150,7 +150,8 @@ module _ (key : List ℕ) (bytes : AreBytes key) where
   pub bytes-xored : (file : List ℕ) → AreBytes file → AreBytes (xored key file)
   bytes-xored file each = bytes-xored_from 0 file each
 
-xored_from-again : (key : List ℕ) (place : ℕ) (text : List ℕ) → xored_from key place (xored_from key place text) ≡ text
+-- what is encrypted twice at its place of the stream is the text
+pub xored_from-again : (key : List ℕ) (place : ℕ) (text : List ℕ) → xored_from key place (xored_from key place text) ≡ text
 xored_from-again key place [] = refl
 xored_from-again key place (b ∷ bs) =
     let stream : ℕ = stream_byte key place in

@@ -7,9 +7,12 @@ use Rattle.std.proofs.lemmas.Nat.Gcd.{dvd_of_mod-eq-zero}
 use Rattle.std.proofs.Math.Nat.{add-mul, div-mul_cancel, mul_assoc, mul_comm, mul-le-mul_right}
 use Rattle.tagged_hash.specs.TaggedHash.{tagged_hash}
 use Rattle.tagged_hash.specs.declared.tag.Tag.TheVariants.{CiphertextSegment}
+use Rattle.aes_ctr.specs.CounterMode.{xored, xored_from}
+use Rattle.aes_ctr.proofs.StreamLemmas.{xored_from-append}
 use Rattle.zfec_code.specs.Shares.{HaveLengths}
 use Rattle.share_layout.specs.Geometry.{Geometry, IsGeometry, block_size, segment_count, share_data_size}
 use Rattle.file_encoding.specs.Decoding.{AreBlocks, DecodesPadded, block_length}
+use Rattle.file_encoding.proofs.Bytes.{xored_from-again}
 use Rattle.file_encoding.specs.Reading.{DecodedBelow, Decodes, IsDecoded, block_at, segment_at, segment_length}
 
 -- one more share's block is cut
@@ -144,6 +147,19 @@ module _ (g : Geometry) (numbers : List ℕ) (blocks leaves : List (List ℕ)) w
                   subst (λ n. tagged_hash CiphertextSegment (segment_at g n after) ≡ get_or leaves n []) is (ap (tagged_hash CiphertextSegment) new ∙ hashed))
             ];
       }
+
+  -- and it decrypted at its place of the stream
+  pub decrypted_more : (key : List ℕ) (count : ℕ) (file segment after : List ℕ) → IsGeometry g → count < segment_count g
+      → DecodedBelow g numbers blocks leaves (xored key file) count → Decodes g numbers blocks count segment
+      → tagged_hash CiphertextSegment segment ≡ get_or leaves count [] → after ≡ file ++ xored_from key (length file) segment
+      → DecodedBelow g numbers blocks leaves (xored key after) (count + 1)
+  decrypted_more key count file segment after valid there before decodes hashed joined =
+      let place : 0 + length file ≡ length file = omega arith in
+      let split : xored key after ≡ xored key file ++ xored_from key (0 + length file) (xored_from key (length file) segment) =
+      ap (xored key) joined ∙ xored_from-append key 0 file (xored_from key (length file) segment) in
+      let back : xored_from key (0 + length file) (xored_from key (length file) segment) ≡ segment =
+      ap (λ p. xored_from key p (xored_from key (length file) segment)) place ∙ xored_from-again key (length file) segment in
+      decoded_more count (xored key file) segment (xored key after) valid there before decodes hashed (split ∙ ap (λ t. xored key file ++ t) back)
 
   -- all of them
   pub decoded_all : (count : ℕ) (ciphertext : List ℕ) → IsGeometry g → count ≡ segment_count g → DecodedBelow g numbers blocks leaves ciphertext count

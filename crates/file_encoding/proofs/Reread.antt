@@ -19,6 +19,7 @@ use Rattle.share_verify.specs.Verify.{IsSound}
 use Rattle.share_verify.proofs.SectionLemmas.{leaves_in_tree}
 use Rattle.share_verify.specs.CapBlock.{IsUebFor, geometry_by}
 use Rattle.file_encoding.specs.Encoding.{segment_hashes}
+use Rattle.file_encoding.proofs.Bytes.{xored-xored}
 use Rattle.file_encoding.proofs.LowestShares.{rising_distinct}
 use Rattle.file_encoding.proofs.Pieces.{get_or-pieces, length-pieces}
 use Rattle.file_encoding.specs.Decoding.{AreBlocks}
@@ -256,9 +257,10 @@ module _ (cap : VerifyCapValue) (shares : List (ℕ × Bor (List ℕ))) (taken :
     }
 
 -- the ciphertext, decrypted, is the file
-pub read_is : (cap : ReadCapValue) (numbers : List ℕ) (strings : List (List ℕ)) (file ciphertext : List ℕ)
-    → GivesCiphertext (verify_cap_of cap) numbers strings ciphertext → file ≡ xored cap.key ciphertext → IsReadFrom cap numbers strings file
-read_is cap numbers strings file ciphertext gives decrypted =
+pub read_is : (cap : ReadCapValue) (numbers : List ℕ) (strings : List (List ℕ)) (file : List ℕ)
+    → GivesCiphertext (verify_cap_of cap) numbers strings (xored cap.key file) → IsReadFrom cap numbers strings file
+read_is cap numbers strings file gives =
+    let ciphertext : List ℕ = xored cap.key file in
     let g : Geometry = geometry_by gives.u in
     let cut : List (List ℕ) = pieces (segment_count g) g.segment_size ciphertext in
     let many : length cut ≡ segment_count g = length-pieces (segment_count g) g.segment_size ciphertext in
@@ -277,5 +279,5 @@ read_is cap numbers strings file ciphertext gives decrypted =
       are_leaves = gives.are_leaves;
       ciphertext = ciphertext;
       decoded = gives.decoded;
-      is_file = record { block = gives.ueb; size = gives.decoded.size ∙ gives.ueb.size; root = ap tree_root hashes ∙ gives.root; decrypted = decrypted };
+      is_file = record { block = gives.ueb; size = gives.decoded.size ∙ gives.ueb.size; root = ap tree_root hashes ∙ gives.root; decrypted = sym (xored-xored cap.key file) };
     }

@@ -1,6 +1,7 @@
 // Segments, decoded from the blocks of as many shares as are needed.
 
-ghost use Rattle.std.specs.Prelude.{◌≡◌, ◌≤◌, ◌<◌, ◌+◌, ◌-◌, ◌*◌, ◌^◌, ℕ, List, All, [], length, map, IfOk, IfErr, IsErrOf, IsTrue, ◌↔◌, ◌⊎◌, min};
+ghost use Rattle.std.specs.Prelude.{◌≡◌, ◌≤◌, ◌<◌, ◌+◌, ◌-◌, ◌*◌, ◌^◌, ◌++◌, ℕ, List, All, [], length, map, IfOk, IfErr, IsErrOf, OnOk, IsTrue, ◌↔◌, ◌⊎◌, min};
+ghost use Rattle.aes_ctr.specs.CounterMode.{xored};
 ghost use Rattle.tagged_hash.specs.TaggedHash.{tagged_hash};
 ghost use Rattle.tagged_hash.specs.declared.tag.Tag.TheVariants.{CiphertextSegment};
 ghost use Rattle.zfec_code.specs.Rows.{AreDistinct};
@@ -11,35 +12,42 @@ ghost use Rattle.file_encoding.specs.Decoding.{AreBlocks, DecodesPadded, block_l
 
 use crate::blocks::Segments;
 use crate::reading::ReadError;
+use aes_ctr::Aes128;
 use share_layout::Geometry;
 use std::alloc::{AllocError, Global};
 use tagged_hash::{Tag, tagged};
 use zfec_code::{Code, CodeError};
 
-/// The ciphertext that all blocks of some shares decode to, each with its share's number, or `Inconsistent` where a segment has not the
-/// hash of its leaf.
+/// The file whose ciphertext all blocks of some shares decode to, each with its share's number, or `Inconsistent` where a segment has not the
+/// hash of its leaf. Each segment is decoded and checked where it is to stand, and then decrypted there.
 pub(crate) fn decode_all(
     alloc: Global,
+    key: &[u8; 16],
     geometry: &Geometry,
     blocks: &[(u16, &[u8])],
     leaves: &[[u8; 32]],
 ) -> Result<Vec<u8>, ReadError>
     requires blocks { AreBlocks geometry.now (map (λ s. s.0) blocks.now) (map (λ s. s.1.now) blocks.now) }
     requires leaves { length leaves.now ≡ segment_count geometry.now }
-    ensures decoded { IfOk result (λ ciphertext. IsDecoded geometry.now (map (λ s. s.0) blocks.now) (map (λ s. s.1.now) blocks.now) leaves.now ciphertext.items) }
+    // The file, encrypted, is what the blocks decode to.
+    ensures decoded { IfOk result (λ file. IsDecoded geometry.now (map (λ s. s.0) blocks.now) (map (λ s. s.1.now) blocks.now) leaves.now (xored key.now file.items)) }
     ensures inconsistent { IsErrOf result ReadError.Inconsistent → HasWrongSegment geometry.now (map (λ s. s.0) blocks.now) (map (λ s. s.1.now) blocks.now) leaves.now }
     ensures no_other { IfErr result (λ e. (e ≡ ReadError.OutOfMemory) ⊎ (e ≡ ReadError.Inconsistent)) }
 {
     let code = new_code(alloc, geometry)?;
-    let mut ciphertext = Vec::with_capacity(alloc, geometry.size() as usize)?;
+    let cipher = Aes128::new(key);
+    // Room for the last segment's padding too, so that the file is never moved.
+    let room = usize::from(geometry.needed()) * geometry.share_data_size() as usize;
+    let mut file = Vec::with_capacity(alloc, room)?;
     for number in 0..leaves.len() {
-        let segment = decode_segment(alloc, &code, geometry, blocks, number)?;
-        if !is_leaf(&segment, &leaves[number]) {
+        let start = file.len();
+        push_segment(alloc, &code, geometry, blocks, number, &mut file)?;
+        if !is_leaf(&file[start..], &leaves[number]) {
             return Err(ReadError::Inconsistent);
         }
-        ciphertext.extend_from_slice(&segment)?;
+        cipher.xor_at(start as u64, &mut file[start..]);
     }
-    Ok(ciphertext)
+    Ok(file)
 }
 
 // Whether this is the hash of a segment.
@@ -60,24 +68,28 @@ fn new_code(alloc: Global, geometry: &Geometry) -> Result<Code, AllocError>
     }
 }
 
-// The segment of this number, without its padding.
-fn decode_segment(
+// Appends the segment of this number, not decrypted yet and without its padding.
+fn push_segment(
     alloc: Global,
     code: &Code,
     geometry: &Geometry,
     blocks: &[(u16, &[u8])],
     number: usize,
-) -> Result<Vec<u8>, AllocError>
+    out: &mut Vec<u8>,
+) -> Result<(), AllocError>
     requires code { (code.now.k ≡ geometry.now.needed) × (code.now.n ≡ geometry.now.total) }
     requires blocks { AreBlocks geometry.now (map (λ s. s.0) blocks.now) (map (λ s. s.1.now) blocks.now) }
     requires there { number < segment_count geometry.now }
-    ensures { IfOk result (λ segment. Decodes geometry.now (map (λ s. s.0) blocks.now) (map (λ s. s.1.now) blocks.now) number segment.items) }
+    ensures { OnOk result ((segment : List ℕ) × (out.new.items ≡ out.old.items ++ segment)
+        × Decodes geometry.now (map (λ s. s.0) blocks.now) (map (λ s. s.1.now) blocks.now) number segment) }
 {
     let these = blocks_at(alloc, geometry, blocks, number)?;
+    let start = out.len();
     let size = usize::from(geometry.needed()) * block_length(geometry, number);
-    let mut segment = decode_padded(alloc, code, &these, size)?;
-    segment.truncate(segment_length(geometry, number));
-    Ok(segment)
+    out.resize(start + size, 0)?;
+    decode_padded(alloc, code, &these, &mut out[start..])?;
+    out.truncate(start + segment_length(geometry, number));
+    Ok(())
 }
 
 // The length of each block of a segment.
@@ -90,22 +102,20 @@ fn block_length(geometry: &Geometry, number: usize) -> usize
     size.min((geometry.share_data_size() as usize).saturating_sub(number * size))
 }
 
-// The padded segment of so many bytes that the blocks decode to.
+// Writes the padded segment that the blocks decode to.
 fn decode_padded(
     alloc: Global,
     code: &Code,
     blocks: &[(u16, &[u8])],
-    size: usize,
-) -> Result<Vec<u8>, AllocError>
-    requires lengths { HaveLengths code.now.k (map (λ s. s.1.now) blocks.now) size }
+    padded: &mut [u8],
+) -> Result<(), AllocError>
+    requires lengths { HaveLengths code.now.k (map (λ s. s.1.now) blocks.now) (length padded.old) }
     requires in_range { All (λ s. s.0 < code.now.n) blocks.now }
     requires distinct { AreDistinct (map (λ s. s.0) blocks.now) }
-    ensures size { IfOk result (λ padded. length padded.items ≡ size) }
-    ensures decoded { IfOk result (λ padded. DecodesPadded code.now.k (map (λ s. s.0) blocks.now) (map (λ s. s.1.now) blocks.now) padded.items) }
+    ensures { OnOk result (DecodesPadded code.now.k (map (λ s. s.0) blocks.now) (map (λ s. s.1.now) blocks.now) padded.new) }
 {
-    let mut padded = vec![in alloc; 0; size]?;
-    match code.decode(alloc, blocks, &mut padded) {
-        Ok(()) => Ok(padded),
+    match code.decode(alloc, blocks, padded) {
+        Ok(()) => Ok(()),
         Err(CodeError::OutOfMemory) => Err(AllocError),
         Err(_) => unreachable!(),
     }

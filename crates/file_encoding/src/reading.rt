@@ -11,7 +11,6 @@ ghost use Rattle.file_encoding.specs.ReadError.{read_refusal_number};
 
 use crate::decoding::decode_all;
 use crate::selection::take_lowest;
-use aes_ctr::Aes128;
 use cap_text::{ReadCap, VerifyCap};
 use share_layout::{Geometry, ShareView, locate_ueb};
 use share_verify::{leaves_in, read_share};
@@ -83,23 +82,13 @@ pub fn read_from(
     if places.len() < usize::from(cap.k()) {
         return Err(ReadError::NotEnoughShares);
     }
-    match read_ciphertext(alloc, &verify_cap, shares, &places) {
-        Ok(ciphertext) => Ok(decrypt(cap.key(), ciphertext)),
-        Err(error) => Err(error),
-    }
+    read_taken(alloc, cap.key(), &verify_cap, shares, &places)
 }
 
-// A ciphertext decrypted where it stands.
-fn decrypt(key: &[u8; 16], mut text: Vec<u8>) -> Vec<u8>
-    ensures { result.items ≡ xored key.now text.items }
-{
-    Aes128::new(key).xor_at(0, &mut text);
-    text
-}
-
-// The ciphertext of the shares at these places, which are as many as are needed.
-fn read_ciphertext(
+// The file of the shares at these places, which are as many as are needed.
+fn read_taken(
     alloc: Global,
+    key: &[u8; 16],
     cap: &VerifyCap,
     shares: &[(u16, &[u8])],
     places: &[usize],
@@ -107,7 +96,8 @@ fn read_ciphertext(
     requires takes { TakesAt cap.now (map (λ s. s.0) shares.now) (map (λ s. s.1.now) shares.now) places.now }
     requires some { 0 < length places.now }
     requires inside { All (λ p. p < length shares.now) places.now }
-    ensures read { IfOk result (λ ciphertext. GivesCiphertext cap.now (map (λ s. s.0) shares.now) (map (λ s. s.1.now) shares.now) ciphertext.items) }
+    // The file, encrypted, is the ciphertext that the shares give.
+    ensures read { IfOk result (λ file. GivesCiphertext cap.now (map (λ s. s.0) shares.now) (map (λ s. s.1.now) shares.now) (xored key.now file.items)) }
     ensures inconsistent { IsErrOf result ReadError.Inconsistent → AreInconsistent cap.now (map (λ s. s.0) shares.now) (map (λ s. s.1.now) shares.now) }
     ensures no_other { IfErr result (λ e. (e ≡ ReadError.OutOfMemory) ⊎ (e ≡ ReadError.Inconsistent)) }
 {
@@ -121,7 +111,7 @@ fn read_ciphertext(
     }
     let blocks = all_blocks(alloc, shares, places, &first.geometry)?;
     let leaves = leaves_in(view.ciphertext_tree, first.geometry.segment_count());
-    decode_all(alloc, &first.geometry, &blocks, leaves)
+    decode_all(alloc, key, &first.geometry, &blocks, leaves)
 }
 
 // Whether the shares at these places have this extension block.

@@ -1,4 +1,5 @@
 use Rattle.std.proofs.Common.{◌≡◌, ◌-◌, ◌*◌, ◌^◌, ℕ, List, [], length, map, get_or, ap, sym, subst, ◌∙◌}
+use Rattle.aes_ctr.specs.CounterMode.{xored}
 use Rattle.merkle.specs.Tree.{height, tree_root}
 use Rattle.share_layout.specs.Geometry.{Geometry, segment_count, tree_size}
 use Rattle.share_layout.specs.Share.{IsShare, Sections}
@@ -8,7 +9,7 @@ use Rattle.file_encoding.specs.Decoding.{AreBlocks}
 use Rattle.file_encoding.specs.LowestShares.{HaveBlocks}
 use Rattle.file_encoding.specs.Reading.{AreLeaves, HasWrongSegment, IsDecoded, blocks_in, disagree as shares_disagree, numbers_of, wrong_segment}
 use Rattle.file_encoding.proofs.Reread.{are_blocks, are_leaves, blocks_are_own, disagree, inside_shares, lowest, lowest_sound, numbers_are, ok_map, own_ueb, readable, taken_some, they_agree, tree_leaves, tree_long}
-use Rattle.file_encoding.proofs.reading.read_ciphertext.Goals as goal
+use Rattle.file_encoding.proofs.reading.read_taken.Goals as goal
 
 pub bounds-shares-places : goal.bounds-shares-places
 bounds-shares-places c = inside_shares c.args.cap.now c.args.shares.now c.requires.takes.taken c.requires.takes.takes c.args.places.now c.requires.takes.at 0 0 c.requires.some
@@ -127,7 +128,7 @@ own_root c =
 
 pub returns-clause-read : goal.returns-clause-read
 returns-clause-read c =
-    ok_map _ _ c.decode_all.result (λ ciphertext decoded. record {
+    ok_map _ _ c.decode_all.result (λ file decoded. record {
       taken = c.requires.takes.taken;
       takes = c.requires.takes.takes;
       extension_block = c.in-Ok.first.view.extension_block.now;
@@ -145,7 +146,7 @@ returns-clause-read c =
       root = own_root c;
       decoded =
           subst (λ (T : Type 0). T)
-          (λ i. IsDecoded (c.in-Ok.ensures.geometry i) (numbers_same c i) (blocks_same c i) (leaves_same c i) ciphertext.items) decoded;
+          (λ i. IsDecoded (c.in-Ok.ensures.geometry i) (numbers_same c i) (blocks_same c i) (leaves_same c i) (xored c.args.key.now file.items)) decoded;
     }) c.decode_all.ensures.decoded
 
 pub returns-clause-inconsistent : goal.returns-clause-inconsistent
