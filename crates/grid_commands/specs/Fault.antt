@@ -2,6 +2,12 @@
 use Rattle.std.specs.Prelude.{ℕ, List, ◌++◌, codes, decimal}
 use Rattle.std.specs.String.{string_bytes}
 use Rattle.cap_text.specs.CapError.{number_of, name_of}
+use Rattle.cap_text.specs.declared.error.CapError.{CapError}
+use Rattle.cap_text.specs.declared.error.CapError.TheVariants as caps
+use Rattle.file_encoding.specs.declared.error.EncodeError.{EncodeError}
+use Rattle.file_encoding.specs.declared.error.EncodeError.TheVariants as encodings
+use Rattle.file_encoding.specs.declared.reading.ReadError.{ReadError}
+use Rattle.file_encoding.specs.declared.reading.ReadError.TheVariants as readings
 use Rattle.grid_commands.specs.declared.fault.Fault.{Fault}
 use Rattle.grid_commands.specs.declared.fault.Fault.TheVariants.{OutOfMemory, BadParameters, Cap, TooLarge, TooManySegments, Unhappy, NotEnoughShares, Inconsistent, File, NeedsReadCap}
 
@@ -47,3 +53,26 @@ fault_name NeedsReadCap = codes "NeedsReadCap"
 -- the number and the name
 abbrev pub fault_text : Fault → List ℕ
 fault_text fault = decimal (fault_number fault) ++ (codes " " ++ fault_name fault)
+
+-- the fault that a cap's error becomes
+abbrev pub fault_of_cap : CapError → Fault
+fault_of_cap caps.OutOfMemory = OutOfMemory
+fault_of_cap caps.UnknownKind = Cap caps.UnknownKind
+fault_of_cap caps.BadBase32 = Cap caps.BadBase32
+fault_of_cap caps.BadNumber = Cap caps.BadNumber
+fault_of_cap caps.BadParameters = Cap caps.BadParameters
+fault_of_cap caps.WrongParts = Cap caps.WrongParts
+fault_of_cap caps.LitTooLong = Cap caps.LitTooLong
+
+-- the fault that an error of encoding becomes
+abbrev pub fault_of_encoding : EncodeError → Fault
+fault_of_encoding encodings.OutOfMemory = OutOfMemory
+fault_of_encoding encodings.BadParameters = BadParameters
+fault_of_encoding encodings.TooLarge = TooLarge
+fault_of_encoding encodings.TooManySegments = TooManySegments
+
+-- the fault that an error of reading becomes
+abbrev pub fault_of_reading : ReadError → Fault
+fault_of_reading readings.OutOfMemory = OutOfMemory
+fault_of_reading readings.NotEnoughShares = NotEnoughShares
+fault_of_reading readings.Inconsistent = Inconsistent

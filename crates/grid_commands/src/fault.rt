@@ -1,7 +1,7 @@
 // Why a command ended without its result: each fault has a number, a text and an exit status.
 
 ghost use Rattle.std.specs.Prelude.{◌≡◌, Some};
-ghost use Rattle.grid_commands.specs.Fault.{fault_number, fault_status, fault_text};
+ghost use Rattle.grid_commands.specs.Fault.{fault_number, fault_of_cap, fault_of_encoding, fault_of_reading, fault_status, fault_text};
 
 use crate::folders::is_memory;
 use cap_text::CapError;
@@ -105,6 +105,8 @@ impl fmt::Display for Fault {
 }
 
 impl From<CapError> for Fault {
+    ghost from_gives = { λ error fault. fault ≡ fault_of_cap error };
+
     fn from(error: CapError) -> Fault {
         match error {
             CapError::OutOfMemory => Fault::OutOfMemory,
@@ -114,6 +116,8 @@ impl From<CapError> for Fault {
 }
 
 impl From<EncodeError> for Fault {
+    ghost from_gives = { λ error fault. fault ≡ fault_of_encoding error };
+
     fn from(error: EncodeError) -> Fault {
         match error {
             EncodeError::OutOfMemory => Fault::OutOfMemory,
@@ -125,6 +129,8 @@ impl From<EncodeError> for Fault {
 }
 
 impl From<ReadError> for Fault {
+    ghost from_gives = { λ error fault. fault ≡ fault_of_reading error };
+
     fn from(error: ReadError) -> Fault {
         match error {
             ReadError::OutOfMemory => Fault::OutOfMemory,
@@ -135,12 +141,20 @@ impl From<ReadError> for Fault {
 }
 
 impl From<AllocError> for Fault {
+    ghost use Rattle.grid_commands.specs.declared.fault.Fault.TheVariants.{OutOfMemory};
+
+    ghost from_gives = { λ _ fault. fault ≡ OutOfMemory };
+
     fn from(_error: AllocError) -> Fault {
         Fault::OutOfMemory
     }
 }
 
 impl<T: Drop> From<AllocFailed<T>> for Fault {
+    ghost use Rattle.grid_commands.specs.declared.fault.Fault.TheVariants.{OutOfMemory};
+
+    ghost from_gives = { λ _ fault. fault ≡ OutOfMemory };
+
     fn from(_error: AllocFailed<T>) -> Fault {
         Fault::OutOfMemory
     }

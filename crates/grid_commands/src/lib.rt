@@ -13,6 +13,8 @@ mod placing;
 mod put;
 mod words;
 
+ghost use Rattle.std.specs.Prelude.{◌≡◌};
+
 use clap::error::ErrorKind;
 use fault::Fault;
 use std::alloc::Global;
@@ -35,6 +37,10 @@ enum Failure {
 }
 
 impl From<Fault> for Failure {
+    ghost use Rattle.grid_commands.specs.declared.Failure.TheVariants as failures;
+
+    ghost from_gives = { λ fault failure. failure ≡ failures.Fault fault };
+
     fn from(fault: Fault) -> Failure {
         Failure::Fault(fault)
     }
