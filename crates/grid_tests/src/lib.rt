@@ -6,6 +6,8 @@ mod aes_ctr_tests;
 #[cfg(test)]
 mod cap_text_tests;
 #[cfg(test)]
+mod failing_files_tests;
+#[cfg(test)]
 mod faulty_io_tests;
 #[cfg(test)]
 mod file_encoding_tests;

@@ -1,13 +1,16 @@
-//! The server over a store in memory, against the lines of its table.
+//! The server over a store in memory, and over one in a folder of the test's own, against the lines of its table.
 //!
 //! The tests whose names begin with `refused_memory` pass too where any one allocation of theirs is refused.
 
 use server_core::error::ServerFault;
 use server_core::keeping;
 use server_core::server::Server;
+use share_store::folder::FolderStore;
 use share_store::memory::MemoryStore;
 use share_store::store::Store;
 use std::alloc::Global;
+use std::fs;
+use std::test::Fail;
 use wire::message::{Body, Digest, Message, ReadLength, ShareId, ShareLength, WriteData};
 
 // The hash of `0123456789` under the tag of whole shares, by a program in Python.
@@ -101,7 +104,25 @@ fn heard(answer: &Body) -> Said {
     }
 }
 
+// The request, whose number is 3.
+fn request(alloc: Global, client: Client, event: Event) -> Option<Message> {
+    Some(Message {
+        session: client.1,
+        number: 3,
+        body: body(alloc, event)?,
+    })
+}
+
 // What the server answers, which is to repeat the request's session and number.
+fn told(client: Client, answer: &Result<Option<Message>, ServerFault>) -> Said {
+    match answer {
+        Ok(None) => Said::Nothing,
+        Ok(Some(answer)) if answer.session == client.1 && answer.number == 3 => heard(&answer.body),
+        Ok(Some(_)) => Said::Request,
+        Err(fault) => Said::Fault(fault.number()),
+    }
+}
+
 fn send(
     alloc: Global,
     server: &mut Server<MemoryStore>,
@@ -109,19 +130,9 @@ fn send(
     event: Event,
     now: u64,
 ) -> Said {
-    let Some(body) = body(alloc, event) else {
-        return Said::Fault(ServerFault::OutOfMemory.number());
-    };
-    let request = Message {
-        session: client.1,
-        number: 3,
-        body,
-    };
-    match keeping::serve(server, client.0, &request, now) {
-        Ok(None) => Said::Nothing,
-        Ok(Some(answer)) if answer.session == client.1 && answer.number == 3 => heard(&answer.body),
-        Ok(Some(_)) => Said::Request,
-        Err(fault) => Said::Fault(fault.number()),
+    match request(alloc, client, event) {
+        Some(request) => told(client, &keeping::serve(server, client.0, &request, now)),
+        None => Said::Fault(ServerFault::OutOfMemory.number()),
     }
 }
 
@@ -237,6 +248,58 @@ fn one_bucket(rt: HostRuntime) {
     let mut server = server(rt.alloc(), 100, false);
     assert_eq!(rt; right_rows(rt.alloc(), &mut server, &ONE_BUCKET), 28);
     assert_eq!(rt; end_of_share(&mut server), Some(*b"89"));
+}
+
+// The same over the files of a folder.
+fn happens_in_folder(
+    alloc: Global,
+    server: &mut Server<FolderStore<HostRuntime>>,
+    row: &Row,
+) -> Said {
+    let (now, client, event, _) = *row;
+    match event {
+        Event::Tick => server.tick(now),
+        Event::Restart => server.restart(),
+        _ => {
+            return match request(alloc, client, event) {
+                Some(request) => told(client, &server.on_message(client.0, &request, now)),
+                None => Said::Nothing,
+            };
+        }
+    }
+    Said::Nothing
+}
+
+// How many rows in turn go as they are to, with a server that starts over the folder as it is.
+fn right_rows_in_folder(rt: &HostRuntime, folder: &str, rows: &[Row]) -> Option<usize> {
+    let store = FolderStore::open(rt, folder).ok()?;
+    let mut server = Server::start(rt.alloc(), store, 100, false);
+    for (i, row) in rows.iter().enumerate() {
+        if happens_in_folder(rt.alloc(), &mut server, row) != row.3 {
+            return Some(i);
+        }
+    }
+    Some(rows.len())
+}
+
+// What another server finds in that folder.
+const FOUND: [Row; 4] = [
+    (0, SECOND, Event::Ask, Said::Have(false, 1)),
+    (0, SECOND, Event::Read(3, 8, 5), Said::Data(2)),
+    (0, SECOND, Event::Allocate(3, 10), Said::Already(DIGEST)),
+    (0, SECOND, Event::Allocate(4, 91), Said::Full),
+];
+
+#[test]
+fn one_bucket_in_folder(rt: HostRuntime) -> Result<(), Fail> {
+    let process = std::process::id(rt.process());
+    let folder = format!(in rt.alloc(); "/tmp/server-core-tests-{process}")?;
+    let written = right_rows_in_folder(&rt, folder.as_str(), &ONE_BUCKET);
+    let found = right_rows_in_folder(&rt, folder.as_str(), &FOUND);
+    fs::remove_dir_all(&rt, folder.as_str())?;
+    assert!(rt; written == Some(28));
+    assert!(rt; found == Some(4));
+    Ok(())
 }
 
 #[test]
