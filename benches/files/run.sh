@@ -1,5 +1,6 @@
 #!/bin/sh
 # Proves and runs the benchmark of whole files, in a folder of its own. The sources end in .txt, so that they are no part of the crates.
+# It is built and run as `grid` builds and runs its program: for the processor of this machine, and with huge pages.
 set -e
 here=$(cd "$(dirname "$0")" && pwd)
 crates=$(cd "$here/../../crates" && pwd)
@@ -16,4 +17,5 @@ for name in main timing; do cp "$here/$name.rt.txt" "$bench/src/$name.rt"; done
 echo 'bench: tagged_hash cap_text file_encoding sha2' >> "$work/crates.txt"
 (cd "$work" && git init -q .)
 cd "$bench"
-rt run
+export GLIBC_TUNABLES="glibc.malloc.hugetlb=1${GLIBC_TUNABLES:+:$GLIBC_TUNABLES}"
+rt run --cpu "$("$here/../../processor")"
