@@ -18,4 +18,8 @@ echo 'bench: tagged_hash cap_text file_encoding sha2' >> "$work/crates.txt"
 (cd "$work" && git init -q .)
 cd "$bench"
 export GLIBC_TUNABLES="glibc.malloc.hugetlb=1${GLIBC_TUNABLES:+:$GLIBC_TUNABLES}"
+echo "Each run takes fresh memory from the system:"
 rt run --cpu "$("$here/../../processor")"
+echo "Memory is kept from run to run, so that it was touched before:"
+keep=glibc.malloc.mmap_threshold=8589934592:glibc.malloc.trim_threshold=8589934592
+GLIBC_TUNABLES="$keep:$GLIBC_TUNABLES" out/bench
