@@ -5,11 +5,11 @@
 //! its length in decimal, `:`, the text and `,`. No call here takes memory.
 #![tactic(auto)]
 
-ghost use Rattle.std.specs.Prelude.{◌≡◌, ◌≤◌, length};
-ghost use Rattle.tagged_hash.specs.ConvergentKey.{convergent_key_of};
-ghost use Rattle.tagged_hash.specs.TaggedHash.{HashesHave32Bytes, empty_leaf_hash, node_hash, storage_index_of, tagged_hash};
+ghost use Rattle.std.specs.Prelude.{◌≡◌};
+ghost use Rattle.tagged_hash.specs.ConvergentKey.{IsSecret, convergent_key_of};
+ghost use Rattle.tagged_hash.specs.TaggedHash.{HashesHave32Bytes, tagged_hash, node_hash};
+ghost use Rattle.tagged_hash.specs.TaggedHash.{empty_leaf_hash, storage_index_of, share_digest};
 
-use decimal::DecimalText;
 use input::{HashInput, first_half};
 
 mod convergence;
@@ -19,6 +19,7 @@ mod input;
 mod tag;
 
 pub use convergence::KeyHasher;
+pub use decimal::{DecimalText, read_decimal};
 pub use hasher::TaggedHasher;
 pub use tag::Tag;
 
@@ -57,11 +58,18 @@ pub fn storage_index(key: &[u8; 16]) -> [u8; 16]
     first_half(&tagged(Tag::StorageIndex, key))
 }
 
+/// The digest of a whole share, as a server keeps it.
+pub fn share_digest(share: &[u8]) -> [u8; 32]
+    ensures { result ≡ share_digest share.now }
+{
+    tagged(Tag::WholeShare, share)
+}
+
 /// The convergent key of `file`: equal files, secrets and encodings have equal keys. Any `k` of the
 /// `n` shares give the file back, whose segments have `segment_size` bytes. The secret, which may be
 /// empty, has at most 64 bytes.
 pub fn convergent_key(k: u16, n: u16, segment_size: u32, secret: &[u8], file: &[u8]) -> [u8; 16]
-    requires { length secret.now ≤ 64 }
+    requires { IsSecret secret.now }
     ensures { result ≡ convergent_key_of k n segment_size secret.now file.now }
 {
     let mut hasher = KeyHasher::new(k, n, segment_size, secret);
