@@ -1,68 +1,17 @@
-// Trees that keep all their nodes.
+//! Trees that keep all their nodes.
 
-ghost use Rattle.std.specs.Prelude.{◌≡◌, ◌+◌, ◌-◌, ◌*◌, ◌/◌, ◌^◌, ◌<◌, ◌≤◌, ℕ, List, [], length, map, slice_index_or, IfOk, IsOkUnless};
+ghost use Rattle.std.specs.Prelude.{◌≡◌, ◌+◌, ◌-◌, ◌*◌, ◌^◌, ◌<◌, ◌≤◌, ℕ, List, [], length};
+ghost use Rattle.std.specs.Prelude.{map, slice_index_or, IfOk, IsOkUnless};
 ghost use Rattle.std.specs.List.{range_with_len};
 ghost use Rattle.merkle.specs.Path.{LeadsBy, siblings_of};
-ghost use Rattle.merkle.specs.Tree.{height, leaves_among, needed_numbers, node_number, padded_to, sibling, tree_nodes, tree_root};
-ghost use Rattle.merkle.specs.TreeError.{refusal_number};
+ghost use Rattle.merkle.specs.Tree.{height, leaves_among, max_leaves, needed_numbers, padded_to};
+ghost use Rattle.merkle.specs.Tree.{sibling_number, tree_nodes, tree_root};
 
-use std::alloc::{AllocError, AllocFailed, Global};
-use std::fmt;
+use crate::error::TreeError;
+use crate::numbers::{height, needed_number, sibling_number};
+use std::alloc::{AllocError, Global};
 use std::marker::Model;
 use tagged_hash::{empty_leaf, pair};
-
-/// Why a call on a tree failed.
-#[derive(Clone, Copy, Debug, PartialEq, Eq)]
-pub enum TreeError {
-    /// An allocation was refused (number 1).
-    OutOfMemory,
-}
-
-impl TreeError {
-    /// The number of the refusal.
-    pub fn number(self) -> u8
-        ensures { result ≡ refusal_number self }
-    {
-        match self {
-            TreeError::OutOfMemory => 1,
-        }
-    }
-}
-
-impl fmt::Display for TreeError {
-    ghost use Rattle.std.specs.Prelude.{Some};
-    ghost use Rattle.merkle.specs.TreeError.{refusal_text};
-
-    ghost output = { λ error. Some (refusal_text error) };
-
-    fn fmt<W: fmt::Write>(&self, f: &mut fmt::Formatter<W>) -> fmt::Result {
-        match self {
-            TreeError::OutOfMemory => f.write_str("out of memory"),
-        }
-    }
-}
-
-impl std::error::Error for TreeError {}
-
-impl From<AllocError> for TreeError {
-    ghost use Rattle.merkle.specs.declared.tree.TreeError.TheVariants.{OutOfMemory};
-
-    ghost from_gives = { λ _ e. e ≡ OutOfMemory };
-
-    fn from(_error: AllocError) -> TreeError {
-        TreeError::OutOfMemory
-    }
-}
-
-impl<T: Drop> From<AllocFailed<T>> for TreeError {
-    ghost use Rattle.merkle.specs.declared.tree.TreeError.TheVariants.{OutOfMemory};
-
-    ghost from_gives = { λ _ e. e ≡ OutOfMemory };
-
-    fn from(_error: AllocFailed<T>) -> TreeError {
-        TreeError::OutOfMemory
-    }
-}
 
 /// A hash tree with all its nodes, which contracts see as the list of its leaves.
 #[derive(Drop)]
@@ -77,7 +26,7 @@ impl Model for Tree {
 
     ghost view = { λ t. leaves_among t.nodes.items t.leaf_count };
 
-    ghost invariant = { λ t. (0 < t.leaf_count) × (t.leaf_count ≤ 2 ^ 20)
+    ghost invariant = { λ t. (0 < t.leaf_count) × (t.leaf_count ≤ max_leaves)
         × (length (leaves_among t.nodes.items t.leaf_count) ≡ t.leaf_count)
         × (t.nodes.items ≡ tree_nodes (leaves_among t.nodes.items t.leaf_count)) };
 }
@@ -86,7 +35,7 @@ impl Tree {
     /// The tree over `leaves`, which are 1 to 2^20. It takes 32 bytes a node: less than 128 a leaf.
     pub fn build(alloc: Global, leaves: &[[u8; 32]]) -> Result<Tree, TreeError>
         requires some { 0 < length leaves.now }
-        requires few { length leaves.now ≤ 2 ^ 20 }
+        requires few { length leaves.now ≤ max_leaves }
         ensures tree { IfOk result (λ tree. tree ≡ leaves.now) }
         ensures refused { IsOkUnless result TreeError.OutOfMemory }
     {
@@ -112,7 +61,8 @@ impl Tree {
     }
 
     /// The numbers of the nodes that lead from a leaf to the root, rising: the leaf, its sibling
-    /// and those of the nodes above it, without the root unless it is the leaf. There is such a leaf.
+    /// and those of the nodes above it, without the root unless it is the leaf. There is such a
+    /// leaf.
     pub fn needed(&self, alloc: Global, leaf: u32) -> Result<Vec<u32>, TreeError>
         requires { leaf < length self.now }
         ensures numbers { IfOk result (λ numbers.
@@ -122,8 +72,8 @@ impl Tree {
         Ok(needed_in(alloc, height(self.leaf_count), leaf)?)
     }
 
-    /// The siblings of a leaf and of the nodes above it, from the leaf upward, as `check_path` takes
-    /// them. There is such a leaf.
+    /// The siblings of a leaf and of the nodes above it, from the leaf upward, as `check_path`
+    /// takes them. There is such a leaf.
     pub fn path(&self, alloc: Global, leaf: u32) -> Result<Vec<[u8; 32]>, TreeError>
         requires { leaf < length self.now }
         ensures siblings { IfOk result (λ siblings. siblings.items ≡ siblings_of self.now leaf) }
@@ -134,21 +84,6 @@ impl Tree {
         let height = height(self.leaf_count);
         Ok(siblings_in(alloc, &self.nodes, height, leaf)?)
     }
-}
-
-/// How often `n` leaves can be halved: the height of the tree over them.
-pub fn height(n: u32) -> u32
-    ensures value { result ≡ height n }
-    ensures short { result ≤ 32 }
-    ensures room { n ≤ 2 ^ result }
-    ensures least { (k : ℕ) → k < result → 2 ^ k < n }
-{
-    for m in 0..32 {
-        if u64::from(n) <= 1u64 << m {
-            return m;
-        }
-    }
-    32
 }
 
 // Fills all nodes of a tree with `width` places for leaves.
@@ -191,21 +126,14 @@ fn needed_in(alloc: Global, height: u32, leaf: u32) -> Result<Vec<u32>, AllocErr
     ensures { IfOk result (λ numbers. numbers.items ≡ needed_numbers height leaf) }
 {
     let mut numbers = Vec::with_capacity(alloc, height as usize + 1)?;
-    if height == 0 {
-        numbers.push(0)?;
-        return Ok(numbers);
+    for place in 0..height + 1 {
+        numbers.push(needed_number(height, leaf, place))?;
     }
-    for row in 1..height {
-        numbers.push((1 << row) - 1 + sibling(leaf >> (height - row)))?;
-    }
-    let first = (1 << height) - 1 + leaf / 2 * 2;
-    numbers.push(first)?;
-    numbers.push(first + 1)?;
     Ok(numbers)
 }
 
-// The siblings of a leaf and of the nodes above it, from the leaf upward, among the nodes of a tree of
-// this height.
+// The siblings of a leaf and of the nodes above it, from the leaf upward, among the nodes of a tree
+// of this height.
 fn siblings_in(
     alloc: Global,
     nodes: &[[u8; 32]],
@@ -216,19 +144,12 @@ fn siblings_in(
     requires inside { leaf < 2 ^ height }
     requires nodes { length nodes.now + 1 ≡ 2 ^ (height + 1) }
     ensures { IfOk result (λ siblings. siblings.items ≡ map (λ i. slice_index_or nodes.now
-        (node_number (height - i) (sibling (leaf / 2 ^ i))) []) (range_with_len 0 height)) }
+        (sibling_number height leaf i) []) (range_with_len 0 height)) }
 {
     let mut siblings = Vec::with_capacity(alloc, height as usize)?;
     for i in 0..height {
-        let number = (1 << (height - i)) - 1 + sibling(leaf >> i);
+        let number = sibling_number(height, leaf, i);
         siblings.push(nodes[number as usize])?;
     }
     Ok(siblings)
-}
-
-// The place of the other child of one parent.
-fn sibling(place: u32) -> u32
-    ensures { result ≡ sibling place }
-{
-    if place % 2 == 0 { place + 1 } else { place - 1 }
 }

@@ -66,8 +66,8 @@ pub fn share_digest(share: &[u8]) -> [u8; 32]
 }
 
 /// The convergent key of `file`: equal files, secrets and encodings have equal keys. Any `k` of the
-/// `n` shares give the file back, whose segments have `segment_size` bytes. The secret, which may be
-/// empty, has at most 64 bytes.
+/// `n` shares give the file back, whose segments have `segment_size` bytes. The secret, which may
+/// be empty, has at most 64 bytes.
 pub fn convergent_key(k: u16, n: u16, segment_size: u32, secret: &[u8], file: &[u8]) -> [u8; 16]
     requires { IsSecret secret.now }
     ensures { result ≡ convergent_key_of k n segment_size secret.now file.now }
@@ -77,7 +77,8 @@ pub fn convergent_key(k: u16, n: u16, segment_size: u32, secret: &[u8], file: &[
     hasher.finish()
 }
 
-/// A law of the definitions: every hash has 32 bytes. The law is the contract; the call does nothing.
+/// A law of the definitions: every hash has 32 bytes. The law is the contract; the call does
+/// nothing.
 pub fn hashes_have_32_bytes()
     ensures { HashesHave32Bytes }
 {}

@@ -1,0 +1,60 @@
+//! Whether hashes are the nodes of a tree.
+
+ghost use Rattle.std.specs.Prelude.{◌≡◌, ◌-◌, ◌*◌, ◌%◌, ◌^◌, ◌<◌, ◌≤◌, ◌↔◌, IsTrue, length};
+ghost use Rattle.merkle.specs.Nodes.{ArePairs, AreTreeNodes, IsPadded};
+ghost use Rattle.merkle.specs.Tree.{height, max_leaves};
+ghost use Rattle.tagged_hash.specs.TaggedHash.{empty_leaf_hash, node_hash};
+
+use tagged_hash::{empty_leaf, pair};
+
+/// Whether hashes are all nodes of a tree, row by row from the root, whose leaves are the first
+/// `leaf_count` of the last row: each inner node the hash of its children, and the places after the
+/// leaves padded. There are as many hashes as such a tree has nodes, and at most 2^20 leaves. It
+/// takes no memory.
+pub fn are_tree_nodes(nodes: &[[u8; 32]], leaf_count: u32) -> bool
+    requires few { leaf_count ≤ max_leaves }
+    requires nodes { length nodes.now ≡ 2 * 2 ^ height leaf_count - 1 }
+    ensures { IsTrue result ↔ AreTreeNodes leaf_count nodes.now }
+{
+    are_pairs(nodes) && is_padded(&nodes[nodes.len() / 2..], leaf_count as usize)
+}
+
+// Whether each node that has children is the hash of the two.
+fn are_pairs(nodes: &[[u8; 32]]) -> bool
+    requires { length nodes.now % 2 ≡ 1 }
+    ensures { IsTrue result ↔ ArePairs nodes.now }
+{
+    for i in 0..nodes.len() / 2 {
+        if !is_pair(&nodes[i], &nodes[2 * i + 1], &nodes[2 * i + 2]) {
+            return false;
+        }
+    }
+    true
+}
+
+// Whether a node is the hash of these two.
+fn is_pair(node: &[u8; 32], left: &[u8; 32], right: &[u8; 32]) -> bool
+    ensures { IsTrue result ↔ (node.now ≡ node_hash left.now right.now) }
+{
+    *node == pair(left, right)
+}
+
+// Whether a row goes on with empty leaves after its first ones.
+fn is_padded(row: &[[u8; 32]], leaf_count: usize) -> bool
+    requires { length row.now < 2 ^ 32 }
+    ensures { IsTrue result ↔ IsPadded leaf_count row.now }
+{
+    for place in leaf_count..row.len() {
+        if !is_empty_leaf(&row[place], place as u32) {
+            return false;
+        }
+    }
+    true
+}
+
+// Whether a leaf is the empty leaf of this place.
+fn is_empty_leaf(leaf: &[u8; 32], place: u32) -> bool
+    ensures { IsTrue result ↔ (leaf.now ≡ empty_leaf_hash place) }
+{
+    *leaf == empty_leaf(place)
+}
