@@ -7,7 +7,7 @@ use Rattle.ueb.specs.declared.key.Key.TheVariants.{CodecName, CodecParams, Crypt
 use Rattle.ueb.specs.declared.block.Expect.{Expect}
 use Rattle.ueb.specs.declared.error.UebError.{UebError}
 use Rattle.ueb.specs.declared.error.UebError.TheVariants.{OutOfMemory, Malformed, KeyOrder, MissingKey, Disagrees, TooLong}
-use Rattle.ueb.specs.declared.limits.TheConstants.{MAX_LENGTH}
+use Rattle.ueb.specs.Limits.{max_length}
 use Rattle.ueb.specs.Key.{key_name, IsFirst}
 use Rattle.ueb.specs.Shape.{Contents, AreContents, IsSegmentSize, codec_params, num_segments, rounded_up, tail_size}
 use Rattle.ueb.specs.Fields.{Field, AreFields, value_of}
@@ -289,7 +289,7 @@ known_texts c fields h all Size = let s = all Size in s.there ∙ ap Some s.suit
 known_texts c fields h all TailCodecParams = let s = all TailCodecParams in s.there ∙ ap Some s.suits
 known_texts c fields h all TotalShares = let s = all TotalShares in s.there ∙ ap Some s.suits
 
-pub is_read : (bytes : List ℕ) (fields : List Field) (c : Contents) → length bytes ≤ MAX_LENGTH → AreFields bytes fields → AreContents c → HasHashes c fields → ((key : Key) → HasSuiting c fields key) → IsUeb bytes c
+pub is_read : (bytes : List ℕ) (fields : List Field) (c : Contents) → length bytes ≤ max_length → AreFields bytes fields → AreContents c → HasHashes c fields → ((key : Key) → HasSuiting c fields key) → IsUeb bytes c
 is_read bytes fields c short a contents h all = record {
   fields = fields;
   are_fields = a;

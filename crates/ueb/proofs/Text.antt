@@ -1,14 +1,15 @@
 -- Colons, keys, decimal texts and netstrings: what stands in front of a text is determined by the text.
-use Rattle.std.proofs.Common.{◌≡◌, ℕ, suc, zero, ◌+◌, ◌^◌, ◌<◌, ◌≤◌, Bool, true, false, not, cond, ltb, ◌==◌, List, [], ◌∷◌, ◌++◌, length, get_or, take, drop, eqb, Some, None, Result, Ok, Err, refl, sym, ap, subst, ◌∙◌, append_assoc, length-append, arith}
+use Rattle.std.proofs.Common.{◌≡◌, ℕ, suc, zero, ◌+◌, ◌^◌, ◌<◌, ◌≤◌, Bool, true, false, not, cond, ltb, ◌==◌, List, [], ◌∷◌, ◌++◌, length, get_or, take, drop, eqb, Some, None, refl, sym, ap, subst, ◌∙◌, append_assoc, length-append, arith}
 use Rattle.std.specs.Prelude.{IsTrue, decimal}
 use Rattle.std.specs.List.{list_all, position, position_or_len}
-use Rattle.std.specs.Str.Parse.{AllDigits, ParsesUnsigned}
+use Rattle.std.specs.Str.Parse.{AllDigits}
 use Rattle.std.proofs.lemmas.Bool.{and_parts, both_ways, ltb-false, eqb-true, eq-eqb}
 use Rattle.std.proofs.lemmas.Str.Parse.{digit_from_value}
-use Rattle.std.proofs.lemmas.Fmt.{decimal_is_IsNumeral, decimal_injective, parse-decimal}
+use Rattle.std.proofs.lemmas.Fmt.{decimal_is_IsNumeral, decimal_injective}
 use Rattle.std.proofs.lemmas.List.{take-append-drop, drop_more, get_or_at}
 use Rattle.std.proofs.lemmas.List.Quantifiers.{position-Some}
-use Rattle.ueb.specs.Fields.{Field, is_key_byte, IsKey, netstring, field_text}
+use Rattle.tagged_hash.specs.TaggedHash.{netstring}
+use Rattle.ueb.specs.Fields.{Field, is_key_byte, IsKey, field_text}
 use Rattle.ueb.specs.Splits.{HasNoColon}
 
 -- ---- colons
@@ -138,23 +139,3 @@ split_at_it bytes i e =
 pub no_colon_anywhere : (bytes value more : List ℕ) → HasNoColon bytes → bytes ≡ netstring value ++ more → ⊥
 no_colon_anywhere bytes value more h e =
     colon_stands (decimal (length value)) (value ++ 44 ∷ more) (subst (λ (t : List ℕ). HasNoColon t) (e ∙ netstring_form value more) h)
-
--- ---- numbers that `parse` read
-
-abbrev err : ℕ → Result ℕ ℕ
-err e = Err e
-
-abbrev ok : ℕ → Result ℕ ℕ
-ok n = Ok n
-
-err-ok : (e n : ℕ) → err e ≡ ok n → ⊥
-err-ok e n p = cc
-
-ok_same : (m n : ℕ) → ok m ≡ ok n → m ≡ n
-ok_same m n p = cc
-
-pub parses : (n : ℕ) (bs : List ℕ) → n < 2 ^ 64 → bs ≡ decimal n → ParsesUnsigned 64 10 bs (err 0) → ⊥
-parses n bs small e h = err-ok 0 n (parse-decimal 64 n bs (err 0) small small e h)
-
-pub parsed_same : (m n : ℕ) (bs : List ℕ) → n < 2 ^ 64 → bs ≡ decimal n → ParsesUnsigned 64 10 bs (ok m) → m ≡ n
-parsed_same m n bs small e h = ok_same m n (parse-decimal 64 n bs (ok m) small small e h)

@@ -1,7 +1,8 @@
 -- A text has one verdict: fields in their order to its end, or one first fault.
 use Rattle.std.proofs.Common.{◌≡◌, ℕ, ◌^◌, ◌<◌, List, [], ◌∷◌, ◌++◌, length, refl, sym, ap, subst, ◌∙◌, append_assoc, length-append, arith}
 use Rattle.std.proofs.lemmas.List.{append-nil}
-use Rattle.ueb.specs.Fields.{Field, IsKey, netstring, field_text, fields_text, Precedes, AreRising, AreFields, last_key, BeginsMalformed, BeginsOutOfOrder, IsMalformed, IsOutOfOrder}
+use Rattle.tagged_hash.specs.TaggedHash.{netstring}
+use Rattle.ueb.specs.Fields.{Field, IsKey, field_text, fields_text, Precedes, AreRising, AreFields, last_key, BeginsMalformed, BeginsOutOfOrder, IsMalformed, IsOutOfOrder}
 use Rattle.ueb.proofs.Text.{field_form, field_unique}
 use Rattle.ueb.proofs.Walk.{same_field, key_unique}
 

@@ -4,7 +4,8 @@ use Rattle.std.specs.Str.{bytes_eq}
 use Rattle.std.proofs.lemmas.Bool.{cond-true, cond-false}
 use Rattle.std.proofs.lemmas.List.{append-nil}
 use Rattle.std.proofs.lemmas.List.Concat.{flat_map-append}
-use Rattle.ueb.specs.Fields.{Field, IsKey, netstring, field_text, fields_text, Precedes, AreRising, AreFields, last_key, value_of, IsMalformed, IsOutOfOrder}
+use Rattle.tagged_hash.specs.TaggedHash.{netstring}
+use Rattle.ueb.specs.Fields.{Field, IsKey, field_text, fields_text, Precedes, AreRising, AreFields, last_key, value_of, IsMalformed, IsOutOfOrder}
 use Rattle.ueb.proofs.Text.{colon_unique, no_colon_in_key, length-netstring, field_form, field_unique}
 
 pub key_unique : (rest k l a b : List ℕ) → IsKey k → IsKey l → rest ≡ k ++ 58 ∷ a → rest ≡ l ++ 58 ∷ b → (k ≡ l) × (a ≡ b)

@@ -10,7 +10,8 @@ use Rattle.ueb.specs.declared.key.Key.TheVariants.{CodecName, CodecParams, Crypt
 use Rattle.ueb.specs.declared.key.TheConstants.Key.{ALL}
 use Rattle.ueb.specs.Key.{key_name}
 use Rattle.ueb.specs.Shape.{Contents, AreContents, codec_params, rounded_up, num_segments, tail_size}
-use Rattle.ueb.specs.Fields.{Field, IsKey, netstring, field_text, fields_text, AreRising, value_of}
+use Rattle.tagged_hash.specs.TaggedHash.{netstring}
+use Rattle.ueb.specs.Fields.{Field, IsKey, field_text, fields_text, AreRising, value_of}
 use Rattle.ueb.specs.Block.{value_text, known_field, ueb_text, IsUeb}
 use Rattle.ueb.proofs.Walk.{same_field}
 

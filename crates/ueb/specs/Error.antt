@@ -2,7 +2,8 @@
 use Rattle.std.specs.Prelude.{ℕ, List, ◌++◌, codes}
 use Rattle.ueb.specs.declared.error.UebError.{UebError}
 use Rattle.ueb.specs.Key.{key_name}
-use Rattle.ueb.specs.declared.error.UebError.TheVariants.{OutOfMemory, Malformed, KeyOrder, MissingKey, Disagrees, TooLong}
+use Rattle.ueb.specs.declared.error.UebError.TheVariants.{OutOfMemory, Malformed, KeyOrder}
+use Rattle.ueb.specs.declared.error.UebError.TheVariants.{MissingKey, Disagrees, TooLong}
 
 abbrev pub number_of : UebError → ℕ
 number_of OutOfMemory = 1

@@ -1,7 +1,10 @@
 -- The known keys, and the order in which they are told.
 use Rattle.std.specs.Prelude.{ℕ, ◌<◌, List, [], ◌∷◌, codes}
 use Rattle.ueb.specs.declared.key.Key.{Key}
-use Rattle.ueb.specs.declared.key.Key.TheVariants.{CodecName, CodecParams, CrypttextHash, CrypttextRootHash, NeededShares, NumSegments, SegmentSize, ShareRootHash, Size, TailCodecParams, TotalShares}
+use Rattle.ueb.specs.declared.key.Key.TheVariants.{CodecName, CodecParams, CrypttextHash}
+use Rattle.ueb.specs.declared.key.Key.TheVariants.{CrypttextRootHash, NeededShares, NumSegments}
+use Rattle.ueb.specs.declared.key.Key.TheVariants.{SegmentSize, ShareRootHash, Size}
+use Rattle.ueb.specs.declared.key.Key.TheVariants.{TailCodecParams, TotalShares}
 
 -- a key as it stands in the block
 unfoldable pub key_name : Key → List ℕ
@@ -19,7 +22,9 @@ key_name TotalShares = codes "total_shares"
 
 -- all keys in their order, which is that of their bytes
 abbrev pub known_keys : List Key
-known_keys = CodecName ∷ CodecParams ∷ CrypttextHash ∷ CrypttextRootHash ∷ NeededShares ∷ NumSegments ∷ SegmentSize ∷ ShareRootHash ∷ Size ∷ TailCodecParams ∷ TotalShares ∷ []
+known_keys =
+    CodecName ∷ CodecParams ∷ CrypttextHash ∷ CrypttextRootHash ∷ NeededShares ∷ NumSegments
+    ∷ SegmentSize ∷ ShareRootHash ∷ Size ∷ TailCodecParams ∷ TotalShares ∷ []
 
 -- a key's place among them, from 0 on
 abbrev pub place : Key → ℕ

@@ -1,11 +1,13 @@
 -- What a reader wants of an extension block, and the faults behind those of its form.
 use Rattle.std.specs.Prelude.{◌≡◌, ℕ, ◌<◌, ◌≤◌, List, [], length, decimal, Some, None, ◌⊎◌}
 use Rattle.ueb.specs.declared.key.Key.{Key}
-use Rattle.ueb.specs.declared.key.Key.TheVariants.{CrypttextHash, CrypttextRootHash, SegmentSize, ShareRootHash}
+use Rattle.ueb.specs.declared.key.Key.TheVariants.{CrypttextHash, CrypttextRootHash}
+use Rattle.ueb.specs.declared.key.Key.TheVariants.{SegmentSize, ShareRootHash}
 use Rattle.ueb.specs.declared.block.Expect.{Expect}
-use Rattle.ueb.specs.declared.limits.TheConstants.{MAX_LENGTH}
+use Rattle.ueb.specs.Limits.{max_length}
 use Rattle.ueb.specs.declared.error.UebError.{UebError}
-use Rattle.ueb.specs.declared.error.UebError.TheVariants.{OutOfMemory, Malformed, KeyOrder, MissingKey, Disagrees, TooLong}
+use Rattle.ueb.specs.declared.error.UebError.TheVariants.{OutOfMemory, Malformed, KeyOrder}
+use Rattle.ueb.specs.declared.error.UebError.TheVariants.{MissingKey, Disagrees, TooLong}
 use Rattle.ueb.specs.Key.{key_name, IsFirst}
 use Rattle.ueb.specs.Fields.{Field, AreFields, value_of, IsMalformed, IsOutOfOrder}
 use Rattle.ueb.specs.Shape.{Contents, IsSegmentSize}
@@ -48,18 +50,21 @@ pub record HasSuiting (c : Contents) (fields : List Field) (key : Key) : Type 0 
 
 -- the value of a key is not as it has to be
 abbrev pub Differs : Contents → List Field → Key → Type 0
-Differs c fields key = (value : List ℕ) → value_of (key_name key) fields ≡ Some value → Suits c key value → ⊥
+Differs c fields key =
+    (value : List ℕ) → value_of (key_name key) fields ≡ Some value → Suits c key value → ⊥
 
 -- the value of `segment_size` is this number, and such a file's segments may have this size
 pub record HasSegmentSize (expect : Expect) (fields : List Field) (segment_size : ℕ) : Type 0 where
   pub value : value_of (key_name SegmentSize) fields ≡ Some (decimal segment_size)
   pub suits : IsSegmentSize expect.k expect.size segment_size
 
--- The first key that disagrees with the file: `segment_size` comes before all others, they in their order.
+-- The first key that disagrees with the file: `segment_size` comes before all others, they in their
+-- order.
 abbrev pub IsFirstToDiffer : Expect → List Field → Key → Type 0
 IsFirstToDiffer expect fields key =
     ((key ≡ SegmentSize) × ((segment_size : ℕ) → HasSegmentSize expect fields segment_size → ⊥))
-    ⊎ ((segment_size : ℕ) × HasSegmentSize expect fields segment_size × IsFirst (Differs (numbers expect segment_size) fields) key)
+    ⊎ ((segment_size : ℕ) × HasSegmentSize expect fields segment_size
+    × IsFirst (Differs (numbers expect segment_size) fields) key)
 
 -- the bytes are fields in their order, and this is the first known key that is missing
 pub record LacksKey (bytes : List ℕ) (key : Key) : Type 0 where
@@ -67,7 +72,8 @@ pub record LacksKey (bytes : List ℕ) (key : Key) : Type 0 where
   pub are_fields : AreFields bytes fields
   pub first : IsFirst (IsMissing fields) key
 
--- the bytes are fields in their order, with all known keys, and this is the first one that disagrees with the file
+-- the bytes are fields in their order, with all known keys, and this is the first one that
+-- disagrees with the file
 pub record DisagreesAt (expect : Expect) (bytes : List ℕ) (key : Key) : Type 0 where
   pub fields : List Field
   pub are_fields : AreFields bytes fields
@@ -77,8 +83,8 @@ pub record DisagreesAt (expect : Expect) (bytes : List ℕ) (key : Key) : Type 0
 -- why bytes are refused: the first fault, in the documented order
 abbrev pub IsRefused : List ℕ → Expect → UebError → Type 0
 IsRefused bytes expect OutOfMemory = ⊥
-IsRefused bytes expect TooLong = MAX_LENGTH < length bytes
-IsRefused bytes expect Malformed = (length bytes ≤ MAX_LENGTH) × IsMalformed bytes
-IsRefused bytes expect KeyOrder = (length bytes ≤ MAX_LENGTH) × IsOutOfOrder bytes
-IsRefused bytes expect (MissingKey key) = (length bytes ≤ MAX_LENGTH) × LacksKey bytes key
-IsRefused bytes expect (Disagrees key) = (length bytes ≤ MAX_LENGTH) × DisagreesAt expect bytes key
+IsRefused bytes expect TooLong = max_length < length bytes
+IsRefused bytes expect Malformed = (length bytes ≤ max_length) × IsMalformed bytes
+IsRefused bytes expect KeyOrder = (length bytes ≤ max_length) × IsOutOfOrder bytes
+IsRefused bytes expect (MissingKey key) = (length bytes ≤ max_length) × LacksKey bytes key
+IsRefused bytes expect (Disagrees key) = (length bytes ≤ max_length) × DisagreesAt expect bytes key

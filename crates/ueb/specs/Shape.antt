@@ -1,7 +1,9 @@
 -- What an extension block says, and the limits of its numbers.
-use Rattle.std.specs.Prelude.{◌≡◌, ℕ, ◌*◌, ◌%◌, ◌<◌, ◌≤◌, ◌==◌, List, ◌++◌, length, codes, decimal, if◌then◌else◌}
+use Rattle.std.specs.Prelude.{◌≡◌, ℕ, ◌*◌, ◌%◌, ◌<◌, ◌≤◌, ◌==◌, if◌then◌else◌}
+use Rattle.std.specs.Prelude.{List, ◌++◌, length, codes, decimal}
 use Rattle.std.specs.Int.{div_ceil}
-use Rattle.ueb.specs.declared.limits.TheConstants.{MIN_FILE_SIZE, MAX_FILE_SIZE, MAX_SHARES, MAX_SEGMENT_SIZE, MAX_SEGMENTS}
+use Rattle.ueb.specs.Limits.{min_file_size, max_file_size, max_shares}
+use Rattle.ueb.specs.Limits.{max_segment_size, max_segments}
 
 -- four numbers and three hashes, from which the whole text follows
 pub record Contents : Type 0 where
@@ -23,27 +25,29 @@ num_segments size segment_size = div_ceil size segment_size
 
 -- the length of the last segment: what is left, or a whole one
 abbrev pub tail_size : ℕ → ℕ → ℕ
-tail_size size segment_size = if size % segment_size == 0 then segment_size else size % segment_size
+tail_size size segment_size =
+    if size % segment_size == 0 then segment_size else size % segment_size
 
 -- the parameters of a code: the size of what it cuts up, shares needed, shares in all
 abbrev pub codec_params : ℕ → ℕ → ℕ → List ℕ
-codec_params size needed total = decimal size ++ (codes "-" ++ (decimal needed ++ (codes "-" ++ decimal total)))
+codec_params size needed total =
+    decimal size ++ (codes "-" ++ (decimal needed ++ (codes "-" ++ decimal total)))
 
 -- a file that has an extension block, and the numbers of its shares
 pub record IsFile (needed total size : ℕ) : Type 0 where
   pub some_needed : 0 < needed
   pub enough : needed ≤ total
-  pub shares : total ≤ MAX_SHARES
-  pub not_small : MIN_FILE_SIZE ≤ size
-  pub not_large : size ≤ MAX_FILE_SIZE
+  pub shares : total ≤ max_shares
+  pub not_small : min_file_size ≤ size
+  pub not_large : size ≤ max_file_size
 
 -- a size that a file's segments may have
 pub record IsSegmentSize (needed size segment_size : ℕ) : Type 0 where
   pub some : 0 < segment_size
   pub multiple : segment_size % needed ≡ 0
-  pub not_large : segment_size ≤ MAX_SEGMENT_SIZE
+  pub not_large : segment_size ≤ max_segment_size
   pub within : segment_size ≤ rounded_up size needed
-  pub few : num_segments size segment_size ≤ MAX_SEGMENTS
+  pub few : num_segments size segment_size ≤ max_segments
 
 -- the numbers of an extension block
 pub record IsShape (needed total size segment_size : ℕ) : Type 0 where

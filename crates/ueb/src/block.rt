@@ -21,11 +21,13 @@ pub struct Expect {
     pub ghost in_range: { IsFile k n size },
 }
 
-/// The contents of an extension block: four numbers and three hashes. The rest of its text follows from them.
+/// The contents of an extension block: four numbers and three hashes. The rest of its text follows
+/// from them.
 ///
-/// There are 1 to 256 shares, of which at least one is needed and at most all. The file has `MIN_FILE_SIZE` to `MAX_FILE_SIZE` bytes.
-/// The segment size is a multiple of the shares needed, at most `MAX_SEGMENT_SIZE` and at most the file's size rounded up to such a
-/// multiple, and gives at most `MAX_SEGMENTS` segments.
+/// There are 1 to 256 shares, of which at least one is needed and at most all. The file has
+/// `MIN_FILE_SIZE` to `MAX_FILE_SIZE` bytes. The segment size is a multiple of the shares needed,
+/// at most `MAX_SEGMENT_SIZE` and at most the file's size rounded up to such a multiple, and gives
+/// at most `MAX_SEGMENTS` segments.
 #[derive(Clone, Copy, Debug, PartialEq, Eq)]
 pub struct Ueb {
     needed_shares: u16,
@@ -70,8 +72,9 @@ impl Ueb {
     ghost use Rattle.ueb.specs.Block.{value_text};
     ghost use Rattle.ueb.specs.Value.{value_bytes};
 
-    /// The extension block of a file of `expect`'s numbers, with segments of `segment_size` bytes, and these hashes: of the whole
-    /// ciphertext, the root over its segments' hashes, and the root over the shares' block trees.
+    /// The extension block of a file of `expect`'s numbers, with segments of `segment_size` bytes,
+    /// and these hashes: of the whole ciphertext, the root over its segments' hashes, and the root
+    /// over the shares' block trees.
     pub fn new(
         expect: &Expect,
         segment_size: u32,
@@ -165,7 +168,8 @@ impl Ueb {
 
     // The length of the last segment, rounded up to a multiple of the shares needed.
     fn padded_tail(&self) -> u64
-        ensures { result ≡ rounded_up (tail_size self.now.size self.now.segment_size) self.now.needed_shares }
+        ensures { result
+            ≡ rounded_up (tail_size self.now.size self.now.segment_size) self.now.needed_shares }
     {
         let segment = u64::from(self.segment_size);
         let left = self.size % segment;

@@ -7,12 +7,14 @@ use std::alloc::{AllocError, AllocFailed};
 use std::error::Error;
 use std::fmt;
 
-/// Why an extension block was not written or read. `read` tells the first fault, in the order of its documentation.
+/// Why an extension block was not written or read. `read` tells the first fault, in the order of
+/// its documentation.
 #[derive(Clone, Copy, Debug, PartialEq, Eq)]
 pub enum UebError {
     /// Memory ran out.
     OutOfMemory,
-    /// Something that stands in a field's place is no field: no key with a colon, or no netstring behind it.
+    /// Something that stands in a field's place is no field: no key with a colon, or no netstring
+    /// behind it.
     Malformed,
     /// A key is not greater, byte by byte, than the key before it.
     KeyOrder,
@@ -49,18 +51,15 @@ impl fmt::Display for UebError {
     ghost output = { λ error. Some (name_of error) };
 
     fn fmt<W: fmt::Write>(&self, f: &mut fmt::Formatter<W>) -> fmt::Result {
-        f.write_str(match self {
-            UebError::OutOfMemory => "OutOfMemory",
-            UebError::Malformed => "Malformed",
-            UebError::KeyOrder => "KeyOrder",
-            UebError::MissingKey(_) => "MissingKey",
-            UebError::Disagrees(_) => "Disagrees",
-            UebError::TooLong => "TooLong",
-        })?;
-        match self {
-            UebError::MissingKey(key) | UebError::Disagrees(key) => write!(f, " {}", key.name()),
-            _ => Ok(()),
-        }
+        let (name, key) = match self {
+            UebError::OutOfMemory => ("OutOfMemory", ""),
+            UebError::Malformed => ("Malformed", ""),
+            UebError::KeyOrder => ("KeyOrder", ""),
+            UebError::MissingKey(key) => ("MissingKey ", key.name()),
+            UebError::Disagrees(key) => ("Disagrees ", key.name()),
+            UebError::TooLong => ("TooLong", ""),
+        };
+        write!(f, "{name}{key}")
     }
 }
 

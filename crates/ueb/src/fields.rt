@@ -1,13 +1,14 @@
 //! The fields of an extension block, from the left.
 
-ghost use Rattle.std.specs.Prelude.{◌≡◌, ◌≢◌, ℕ, ◌<◌, ◌^◌, ◌==◌, ◌↔◌, IsTrue, position, List, ◌++◌, codes, decimal, IfSome, IfNone, OnOk, IfErr, MatchOption, None, Some};
+ghost use Rattle.std.specs.Prelude.{◌≡◌, ◌≢◌, ◌==◌, ◌↔◌, ◌++◌, ℕ, List, IsTrue, position, codes};
+ghost use Rattle.std.specs.Prelude.{IfSome, IfNone, OnOk, IfErr, MatchOption, None, Some};
 ghost use Rattle.std.specs.List.{list_all};
-ghost use Rattle.ueb.specs.Fields.{Field, is_key_byte, IsKey, netstring, Precedes, AreFields, value_of};
+ghost use Rattle.tagged_hash.specs.TaggedHash.{netstring};
+ghost use Rattle.ueb.specs.Fields.{Field, is_key_byte, IsKey, Precedes, AreFields, value_of};
 ghost use Rattle.ueb.specs.Splits.{HasNoColon, IsFieldFault};
 
-use crate::decimal::DecimalText;
 use crate::error::UebError;
-use std::str;
+use tagged_hash::read_decimal;
 
 fn is_key_byte(byte: u8) -> bool
     ensures { result ≡ is_key_byte byte }
@@ -45,29 +46,12 @@ fn split_at_colon(bytes: &[u8]) -> Option<(&[u8], &[u8])>
     Some((&bytes[..colon], &bytes[colon + 1..]))
 }
 
-/// The number that has this text in decimal, without a sign or a leading zero.
-pub(crate) fn number(text: &[u8]) -> Option<u64>
-    ensures found { IfSome result (λ n. text.now ≡ decimal n) }
-    ensures none { IfNone result ((n : ℕ) → n < 2 ^ 64 → text.now ≢ decimal n) }
-{
-    let Ok(digits) = str::from_utf8(text) else {
-        return None;
-    };
-    let Ok(n) = digits.parse::<u64>() else {
-        return None;
-    };
-    if DecimalText::new(n).as_bytes() == text {
-        Some(n)
-    } else {
-        None
-    }
-}
-
 // The key in front, and what stands behind its colon.
 fn split_key(bytes: &[u8]) -> Option<(&[u8], &[u8])>
     ensures key { IfSome result (λ parts. IsKey parts.0.now) }
     ensures found { IfSome result (λ parts. bytes.now ≡ parts.0.now ++ (codes ":" ++ parts.1.now)) }
-    ensures none { IfNone result ((key after : List ℕ) → IsKey key → bytes.now ≢ key ++ (codes ":" ++ after)) }
+    ensures none { IfNone result ((key after : List ℕ)
+        → IsKey key → bytes.now ≢ key ++ (codes ":" ++ after)) }
 {
     let (key, after) = split_at_colon(bytes)?;
     if is_key(key) {
@@ -83,7 +67,7 @@ fn split_netstring(bytes: &[u8]) -> Option<(&[u8], &[u8])>
     ensures none { IfNone result ((value more : List ℕ) → bytes.now ≢ netstring value ++ more) }
 {
     let (digits, rest) = split_at_colon(bytes)?;
-    let len = number(digits)? as usize;
+    let len = read_decimal(digits)? as usize;
     if rest.len() <= len || rest[len] != b',' {
         return None;
     }
@@ -123,7 +107,8 @@ pub(crate) fn scan(bytes: &[u8]) -> Result<(), UebError>
 /// What stands under a key, in a text of fields.
 pub(crate) fn find<'a>(bytes: &'a [u8], name: &[u8]) -> Option<&'a [u8]>
     ensures { (fields : List Field) → AreFields bytes.now fields
-        → MatchOption result (value_of name.now fields ≡ None) (λ value. value_of name.now fields ≡ Some value.now) }
+        → MatchOption result (value_of name.now fields ≡ None)
+        (λ value. value_of name.now fields ≡ Some value.now) }
 {
     let mut rest = bytes;
     while let Some((key, after)) = split_key(rest) {

@@ -1,10 +1,11 @@
 //! What stands under a key.
 
-ghost use Rattle.std.specs.Prelude.{◌≡◌, ◌≢◌, ◌↔◌, ℕ, List, ◌++◌, IsTrue, IfOk, IfSome, IfNone, codes, decimal};
+ghost use Rattle.std.specs.Prelude.{◌≡◌, ◌≢◌, ◌↔◌, ◌++◌, ℕ, List, codes, decimal};
+ghost use Rattle.std.specs.Prelude.{IsTrue, IfOk, IfSome, IfNone};
 ghost use Rattle.ueb.specs.Shape.{codec_params};
 
-use crate::decimal::DecimalText;
 use std::alloc::{AllocError, Global};
+use tagged_hash::DecimalText;
 
 /// What stands under a key.
 #[derive(Clone, Copy)]
@@ -67,7 +68,8 @@ fn strip<'a>(text: &'a [u8], prefix: &[u8]) -> Option<&'a [u8]>
 // What stands behind a number and a dash.
 fn strip_number(text: &[u8], number: u64) -> Option<&[u8]>
     ensures found { IfSome result (λ rest. text.now ≡ decimal number ++ (codes "-" ++ rest.now)) }
-    ensures none { IfNone result ((rest : List ℕ) → text.now ≢ decimal number ++ (codes "-" ++ rest)) }
+    ensures none { IfNone result ((rest : List ℕ)
+        → text.now ≢ decimal number ++ (codes "-" ++ rest)) }
 {
     let rest = strip(text, DecimalText::new(number).as_bytes())?;
     strip(rest, b"-")
