@@ -5,7 +5,8 @@ use Rattle.gf256.specs.Field.{product, point_of}
 use Rattle.gf256.proofs.Laws.{product-lt, product_assoc, product_comm}
 use Rattle.gf256.proofs.Inverses.{product-inverse_right}
 use Rattle.gf256.proofs.FieldInverses.{inverse-is}
-use Rattle.zfec_code.specs.Rows.{IsCoefficient, primary_points, product_without}
+use Rattle.zfec_code.specs.Rows.{primary_points, product_without}
+use Rattle.zfec_code.specs.Tables.{IsCoefficient}
 use Rattle.zfec_code.specs.Shares.{IsShareValue}
 use Rattle.zfec_code.specs.ShareValue.{lagrange_coefficient, share_value}
 use Rattle.zfec_code.proofs.Lagrange.{denominator-positive, product-one_right, product_without-lt}

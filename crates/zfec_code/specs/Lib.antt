@@ -2,3 +2,6 @@ pub mod CodeError
 pub mod Shares
 pub mod Rows
 pub mod ShareValue
+pub mod Laws
+-- words of private clauses
+pub mod Tables

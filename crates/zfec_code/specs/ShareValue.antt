@@ -1,24 +1,21 @@
--- The value of a share as a formula: Lagrange's interpolation through the points of the k primary shares.
-use Rattle.std.specs.Prelude.{ℕ, ◌+◌, ◌*◌, ◌<◌, ◌≤◌, List, map, slice_index}
+-- The value of a share as a formula: Lagrange's interpolation through the points of the k primary
+-- shares.
+use Rattle.std.specs.Prelude.{ℕ, ◌+◌, ◌*◌, List, map, slice_index}
 use Rattle.std.specs.List.{range_with_len}
 use Rattle.gf256.specs.Field.{product, inverse, point_of}
-use Rattle.zfec_code.specs.Shares.{IsShareValue}
 use Rattle.zfec_code.specs.Rows.{primary_points, product_without, weighted_sum}
 
--- what primary share m counts at x: the product of (x - x_l) / (x_m - x_l) over the other primary shares l
+-- what primary share m counts at x: the product of (x - x_l) / (x_m - x_l) over the other primary
+-- shares l
 unfoldable pub lagrange_coefficient : ℕ → ℕ → ℕ → ℕ
 lagrange_coefficient k x m =
-    product (product_without (primary_points k) m x k) (inverse (product_without (primary_points k) m (point_of m) k))
+    product (product_without (primary_points k) m x k)
+    (inverse (product_without (primary_points k) m (point_of m) k))
 
--- share i of the column: the value at its point of the polynomial of degree below k that takes the k bytes of the column at
--- the points of the primary shares
+-- share i of the column: the value at its point of the polynomial of degree below k that takes the
+-- k bytes of the column at the points of the primary shares
 unfoldable pub share_value : ℕ → ℕ → (ℕ → ℕ) → ℕ
 share_value k i column = weighted_sum k (lagrange_coefficient k (point_of i)) column
-
--- The law: the formula gives share i of the column, by the definition of a share's value.
-abbrev pub FormulaGivesShares : Type 0
-FormulaGivesShares = (k i : ℕ) (column : ℕ → ℕ) → k ≤ 256 → ((j : ℕ) → j < k → column j < 256)
-    → IsShareValue k column i (share_value k i column)
 
 -- share i of the k primary blocks of this size that `primaries` joins
 abbrev pub share_block : ℕ → ℕ → ℕ → List ℕ → List ℕ

@@ -1,32 +1,35 @@
 //! zfec's erasure code: from k primary blocks n shares, of which any k give the blocks back.
 //!
-//! The bytes of the primary blocks at one place are the values of a polynomial of degree below k over the field of 256
-//! elements at the points 0, 1, x, x^2, ..; byte number i of that place in share i is its value at point i. So share i
-//! below k is primary block i.
+//! The bytes of the primary blocks at one place are the values of a polynomial of degree below k
+//! over the field of 256 elements at the points 0, 1, x, x^2, ..; the byte of that place in share i
+//! is its value at point i. So share i below k is primary block i.
 #![tactic(auto)]
 
-ghost use Rattle.std.specs.Prelude.{◌≡◌, ◌≢◌, ℕ, ◌+◌, ◌*◌, ◌<◌, ◌≤◌, List, length, slice_index, map, All, IfOk, IfErr, OnOk, OnErr, IsErrOf, EachIndex, IfSome, IsNone, IsTrue, ◌↔◌, MatchBool, ◌⊎◌};
-ghost use Rattle.gf256.specs.Field.{product, point_of};
-ghost use Rattle.zfec_code.specs.Shares.{IsShareOf, Parameters, AreParameters, HaveSize, HaveLengths, AreSharesOf, AreShareValues};
+ghost use Rattle.std.specs.Prelude.{◌≡◌, ◌≢◌, ℕ, ◌*◌, ◌<◌, ◌≤◌, List, length, map, All, IfOk, IfErr, OnOk, OnErr, IsErrOf, ◌⊎◌};
+ghost use Rattle.zfec_code.specs.Shares.{IsShareOf, Parameters, AreParameters, HaveLengths, AreSharesOf};
 ghost use Rattle.zfec_code.specs.declared.CodeError.TheVariants.{OutOfMemory};
 ghost use Rattle.zfec_code.specs.CodeError.{refusal_number};
-ghost use Rattle.zfec_code.specs.ShareValue.{FormulaGivesShares};
-ghost use Rattle.zfec_code.specs.Rows.{IsTable, AreDistinct, primary_points};
+ghost use Rattle.zfec_code.specs.Laws.{FormulaGivesShares, PrimariesAreUnique, ShareValuesAreUnique};
+ghost use Rattle.zfec_code.specs.Rows.{AreDistinct, primary_points};
+ghost use Rattle.zfec_code.specs.Tables.{IsTable};
 
+mod decoding;
 mod interpolation;
 mod sums;
 
+pub use decoding::Decoder;
+use decoding::{are_below, has_repeat, have_lengths, numbers_of};
 use gf256::point;
 use interpolation::Nodes;
 use std::alloc::{AllocError, AllocFailed, Global};
 use std::marker::Model;
-use sums::{Blocks, Joined, Shares, combine};
+use sums::{Blocks, Joined, combine};
 
 /// The greatest number of shares.
 pub const MAX_SHARES: u16 = 256;
 
 /// Why a call is refused.
-#[derive(Clone, Copy, Debug, PartialEq, Eq)]
+#[derive(Clone, Copy, PartialEq, Eq)]
 pub enum CodeError {
     /// No memory was left (number 1).
     OutOfMemory,
@@ -36,7 +39,8 @@ pub enum CodeError {
     RepeatedShare,
     /// A share's number is not below n (number 4).
     ShareOutOfRange,
-    /// There are not k shares, their lengths differ, or the output is not k times as long as one (number 5).
+    /// There are not k shares, their lengths differ, or the output is not k times as long as one
+    /// (number 5).
     LengthMismatch,
 }
 
@@ -71,7 +75,8 @@ impl<T: Drop> From<AllocFailed<T>> for CodeError {
     }
 }
 
-/// A code of k primary blocks and n shares, with a row of k coefficients for each share that is no primary block.
+/// A code of k primary blocks and n shares, with a row of k coefficients for each share that is no
+/// primary block.
 #[derive(Drop)]
 pub struct Code {
     k: usize,
@@ -88,13 +93,15 @@ impl Model for Code {
 }
 
 impl Code {
-    /// The code for `k` primary blocks and `n` shares. It keeps `(n - k) * k` bytes, which is all that `encode` needs.
+    /// The code for `k` primary blocks and `n` shares. It keeps `(n - k) * k` bytes, which is all
+    /// that `encode` needs.
     ///
     /// Refuses `BadParameters` unless `1 <= k <= n <= 256`, and `OutOfMemory`.
     pub fn new(alloc: Global, k: u16, n: u16) -> Result<Code, CodeError>
         ensures ok { IfOk result (λ code. AreParameters k n × (code ≡ record { k = k; n = n })) }
         ensures bad_parameters { IsErrOf result CodeError.BadParameters → ¬ AreParameters k n }
-        ensures no_other { IfErr result (λ e. (e ≡ CodeError.OutOfMemory) ⊎ (e ≡ CodeError.BadParameters)) }
+        ensures no_other { IfErr result (λ e.
+            (e ≡ CodeError.OutOfMemory) ⊎ (e ≡ CodeError.BadParameters)) }
     {
         if k == 0 || k > n || n > MAX_SHARES {
             return Err(CodeError::BadParameters);
@@ -105,8 +112,8 @@ impl Code {
         Ok(Code { k, n, rows })
     }
 
-    /// Writes share number `share` to `out`, which is as long as one block. `primaries` holds the `k` primary blocks, one
-    /// after another. Takes no memory.
+    /// Writes share number `share` to `out`, which is as long as one block. `primaries` holds the
+    /// `k` primary blocks, one after another. Takes no memory.
     pub fn encode(&self, primaries: &[u8], share: u16, out: &mut [u8])
         requires blocks { length primaries.now ≡ self.now.k * length out.old }
         requires in_range { share < self.now.n }
@@ -125,11 +132,44 @@ impl Code {
         combine(&self.rows[start..start + self.k], &blocks, out);
     }
 
-    /// Writes the `k` primary blocks, one after another, to `out`, from any `k` shares in any order, each with its number.
+    /// Makes ready to decode shares with these `k` numbers, in any order. A decoder keeps
+    /// `k * k` bytes, and serves any count of segments.
     ///
-    /// Refuses, tested in this order: `LengthMismatch` (not `k` shares, shares of unequal length, or `out` not `k` times as
-    /// long as one), `ShareOutOfRange` (a number not below n) and `RepeatedShare`; and `OutOfMemory`. On every refusal
-    /// `out` is unchanged.
+    /// Refuses, tested in this order: `LengthMismatch` (not `k` numbers), `ShareOutOfRange` (a
+    /// number not below n) and `RepeatedShare`; and `OutOfMemory`.
+    pub fn decoder(&self, alloc: Global, numbers: Vec<u16>) -> Result<Decoder, CodeError>
+        ensures decoder { IfOk result (λ decoder. decoder ≡ numbers.items) }
+
+        // The refusals, in the order of their tests.
+        ensures ok { OnOk result ((length numbers.items ≡ self.now.k)
+            × All (λ i. i < self.now.n) numbers.items × AreDistinct numbers.items) }
+        ensures length_mismatch { IsErrOf result CodeError.LengthMismatch
+            → length numbers.items ≢ self.now.k }
+        ensures out_of_range { IsErrOf result CodeError.ShareOutOfRange
+            → (length numbers.items ≡ self.now.k) × (¬ All (λ i. i < self.now.n) numbers.items) }
+        ensures repeated { IsErrOf result CodeError.RepeatedShare
+            → (length numbers.items ≡ self.now.k)
+            × All (λ i. i < self.now.n) numbers.items × (¬ AreDistinct numbers.items) }
+        ensures no_other { IsErrOf result CodeError.BadParameters → ⊥ }
+    {
+        if numbers.len() != self.k {
+            return Err(CodeError::LengthMismatch);
+        }
+        if !are_below(&numbers, self.n) {
+            return Err(CodeError::ShareOutOfRange);
+        }
+        if has_repeat(&numbers) {
+            return Err(CodeError::RepeatedShare);
+        }
+        Ok(Decoder::new(alloc, numbers)?)
+    }
+
+    /// Writes the `k` primary blocks, one after another, to `out`, from any `k` shares in any
+    /// order, each with its number.
+    ///
+    /// Refuses, tested in this order: `LengthMismatch` (not `k` shares, shares of unequal length,
+    /// or `out` not `k` times as long as one), `ShareOutOfRange` (a number not below n) and
+    /// `RepeatedShare`; and `OutOfMemory`. On every refusal `out` is unchanged.
     pub fn decode(
         &self,
         alloc: Global,
@@ -137,40 +177,53 @@ impl Code {
         out: &mut [u8],
     ) -> Result<(), CodeError>
         ensures decoded { OnOk result ((primaries : List ℕ) → length primaries ≡ length out.old
-            → AreSharesOf self.now.k primaries (map (λ s. s.0) shares.now) (map (λ s. s.1.now) shares.now)
+            → AreSharesOf self.now.k primaries (map (λ s. s.0) shares.now)
+            (map (λ s. s.1.now) shares.now)
             → out.new ≡ primaries) }
+        // Any k blocks of one length are shares of what they decode to.
+        ensures shares_of { OnOk result (AreSharesOf self.now.k out.new (map (λ s. s.0) shares.now)
+            (map (λ s. s.1.now) shares.now)) }
 
         // The refusals, in the order of their tests.
-        ensures ok { OnOk result (HaveLengths self.now.k (map (λ s. s.1.now) shares.now) (length out.old)
-            × All (λ s. s.0 < self.now.n) shares.now × AreDistinct (map (λ s. s.0) shares.now)) }
-        ensures length_mismatch { IsErrOf result CodeError.LengthMismatch → ¬ HaveLengths self.now.k (map (λ s. s.1.now) shares.now) (length out.old) }
+        ensures ok { OnOk result (HaveLengths self.now.k (map (λ s. s.1.now) shares.now)
+            (length out.old) × All (λ s. s.0 < self.now.n) shares.now
+            × AreDistinct (map (λ s. s.0) shares.now)) }
+        ensures length_mismatch { IsErrOf result CodeError.LengthMismatch
+            → ¬ HaveLengths self.now.k (map (λ s. s.1.now) shares.now) (length out.old) }
         ensures out_of_range { IsErrOf result CodeError.ShareOutOfRange
-            → HaveLengths self.now.k (map (λ s. s.1.now) shares.now) (length out.old) × (¬ All (λ s. s.0 < self.now.n) shares.now) }
+            → HaveLengths self.now.k (map (λ s. s.1.now) shares.now) (length out.old)
+            × (¬ All (λ s. s.0 < self.now.n) shares.now) }
         ensures repeated { IsErrOf result CodeError.RepeatedShare
             → HaveLengths self.now.k (map (λ s. s.1.now) shares.now) (length out.old)
             × All (λ s. s.0 < self.now.n) shares.now × (¬ AreDistinct (map (λ s. s.0) shares.now)) }
         ensures no_other { IsErrOf result CodeError.BadParameters → ⊥ }
         ensures err { OnErr result (out.new ≡ out.old) }
     {
-        let size = match common_length(shares, self.k, out.len()) {
-            None => return Err(CodeError::LengthMismatch),
-            Some(size) => size,
-        };
-        if !are_below(shares, self.n) {
-            return Err(CodeError::ShareOutOfRange);
+        if !have_lengths(shares, self.k, out.len()) {
+            return Err(CodeError::LengthMismatch);
         }
-        if has_repeat(shares) {
-            return Err(CodeError::RepeatedShare);
-        }
-        let nodes = Nodes::new(alloc, share_points(alloc, shares)?)?;
-        decode_blocks(&nodes, shares, size, out);
+        let decoder = self.decoder(alloc, numbers_of(alloc, shares)?)?;
+        decoder.decode(shares, out);
         Ok(())
     }
 }
 
-/// The law that Lagrange's formula gives each share's bytes, so that a file's encoding is a function of the file. It does nothing.
+/// The law that Lagrange's formula gives each share's bytes, so that a file's encoding is a
+/// function of the file. It does nothing.
 pub fn formula_gives_shares()
     ensures { FormulaGivesShares }
+{}
+
+/// The law that a share's byte is one number: the column of primary bytes determines it. It does
+/// nothing.
+pub fn share_values_are_unique()
+    ensures { ShareValuesAreUnique }
+{}
+
+/// The law that any k shares, with different numbers, are those of one list of primary blocks. It
+/// does nothing.
+pub fn primaries_are_unique()
+    ensures { PrimariesAreUnique }
 {}
 
 /// The rows of the shares from number `k` up to `n`, one after another.
@@ -196,111 +249,4 @@ fn points_of_primaries(alloc: Global, k: usize) -> Result<Vec<u8>, AllocError>
         points.push(point(i as u8))?;
     }
     Ok(points)
-}
-
-/// The length of the shares, where there are `k`, all as long, and `out_length` is `k` times that.
-fn common_length(shares: &[(u16, &[u8])], k: usize, out_length: usize) -> Option<usize>
-    requires { 0 < k }
-    ensures some { IfSome result (λ size. HaveSize k size (map (λ s. s.1.now) shares.now) out_length) }
-    ensures none { IsNone result → ¬ HaveLengths k (map (λ s. s.1.now) shares.now) out_length }
-{
-    if shares.len() != k {
-        return None;
-    }
-    let size = shares[0].1.len();
-    if !have_length(shares, size) {
-        return None;
-    }
-    if out_length / k != size || out_length % k != 0 {
-        return None;
-    }
-    Some(size)
-}
-
-/// Whether each share has `size` bytes.
-fn have_length(shares: &[(u16, &[u8])], size: usize) -> bool
-    ensures { IsTrue result ↔ All (λ s. length s.1.now ≡ size) shares.now }
-{
-    shares.iter().all(|(_, bytes)| bytes.len() == size)
-}
-
-/// Whether each share's number is below `n`.
-fn are_below(shares: &[(u16, &[u8])], n: usize) -> bool
-    ensures { IsTrue result ↔ All (λ s. s.0 < n) shares.now }
-{
-    shares.iter().all(|(number, _)| usize::from(*number) < n)
-}
-
-/// Whether two of the shares have one number.
-fn has_repeat(shares: &[(u16, &[u8])]) -> bool
-    ensures { MatchBool result (¬ AreDistinct (map (λ s. s.0) shares.now)) (AreDistinct (map (λ s. s.0) shares.now)) }
-{
-    for i in 0..shares.len() {
-        for j in 0..i {
-            if shares[i].0 == shares[j].0 {
-                return true;
-            }
-        }
-    }
-    false
-}
-
-/// The points of the shares' numbers.
-fn share_points(alloc: Global, shares: &[(u16, &[u8])]) -> Result<Vec<u8>, AllocError>
-    requires { All (λ s. s.0 < 256) shares.now }
-    ensures size { IfOk result (λ points. length points.items ≡ length shares.now) }
-    ensures points { IfOk result (λ points. EachIndex points.items (λ m. slice_index points.items m ≡ point_of (slice_index (map (λ s. s.0) shares.now) m))) }
-{
-    let mut points = Vec::with_capacity(alloc, shares.len())?;
-    for (number, _) in shares {
-        points.push(point(*number as u8))?;
-    }
-    Ok(points)
-}
-
-/// Writes the primary blocks of `size` bytes, joined, to `out`.
-fn decode_blocks(nodes: &Nodes, shares: &[(u16, &[u8])], size: usize, out: &mut [u8])
-    requires few { length shares.now ≤ 256 }
-    requires lengths { All (λ s. length s.1.now ≡ size) shares.now }
-    requires numbers { All (λ s. s.0 < 256) shares.now }
-    requires distinct { AreDistinct (map (λ s. s.0) shares.now) }
-    requires size { length nodes.now.points.items ≡ length shares.now }
-    requires points { EachIndex nodes.now.points.items (λ m. slice_index nodes.now.points.items m ≡ point_of (slice_index (map (λ s. s.0) shares.now) m)) }
-    requires whole { length out.old ≡ length shares.now * size }
-    ensures { (primary t : ℕ) → primary < length shares.now → t < size → (column : ℕ → ℕ)
-        → AreShareValues (length shares.now) column (map (λ s. s.0) shares.now) (map (λ s. s.1.now) shares.now) t
-        → slice_index out.new (primary * size + t) ≡ column primary }
-{
-    for primary in 0..shares.len() {
-        decode_block(
-            nodes,
-            shares,
-            primary,
-            &mut out[primary * size..(primary + 1) * size],
-        );
-    }
-}
-
-/// Writes one primary block: a copy of its share where that is given, else the sum of the shares' bytes, each times its
-/// coefficient.
-fn decode_block(nodes: &Nodes, shares: &[(u16, &[u8])], primary: usize, block: &mut [u8])
-    requires few { length shares.now ≤ 256 }
-    requires primary_in_range { primary < length shares.now }
-    requires lengths { All (λ s. length s.1.now ≡ length block.old) shares.now }
-    requires numbers { All (λ s. s.0 < 256) shares.now }
-    requires distinct { AreDistinct (map (λ s. s.0) shares.now) }
-    requires size { length nodes.now.points.items ≡ length shares.now }
-    requires points { EachIndex nodes.now.points.items (λ m. slice_index nodes.now.points.items m ≡ point_of (slice_index (map (λ s. s.0) shares.now) m)) }
-    ensures { EachIndex block.new (λ t. (column : ℕ → ℕ)
-        → AreShareValues (length shares.now) column (map (λ s. s.0) shares.now) (map (λ s. s.1.now) shares.now) t
-        → slice_index block.new t ≡ column primary) }
-{
-    for (number, bytes) in shares {
-        if usize::from(*number) == primary {
-            block.copy_from_slice(*bytes);
-            return;
-        }
-    }
-    let row = nodes.row(point(primary as u8));
-    combine(&row[..shares.len()], &Shares(shares), block);
 }

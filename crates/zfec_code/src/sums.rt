@@ -1,4 +1,5 @@
-//! Sums of blocks: each byte is the sum of the blocks' bytes at its place, each times its block's coefficient.
+//! Sums of blocks: each byte is the sum of the blocks' bytes at its place, each times its block's
+//! coefficient.
 
 ghost use Rattle.std.specs.Prelude.{◌≡◌, ℕ, ◌+◌, ◌*◌, ◌<◌, ◌≤◌, List, [], length, slice_index, slice_index_or, EachIndex, map};
 ghost use Rattle.std.specs.List.{slice_range};
@@ -52,12 +53,15 @@ impl<'a> Blocks for Shares<'a> {
     }
 }
 
-/// Writes to `out` the sum of the first blocks, as many as `row` has coefficients: three at once, and the rest one by one.
+/// Writes to `out` the sum of the first blocks, as many as `row` has coefficients: three at once,
+/// and the rest one by one.
 pub(crate) fn combine<B: Blocks>(row: &[u8], blocks: &B, out: &mut [u8])
     requires given { (j : ℕ) → j < length row.now → B.has blocks.now j }
-    requires lengths { (j : ℕ) → j < length row.now → length out.old ≡ length (B.block blocks.now j) }
+    requires lengths { (j : ℕ) → j < length row.now
+        → length out.old ≡ length (B.block blocks.now j) }
     ensures sums { EachIndex out.new (λ t.
-        slice_index out.new t ≡ weighted_sum (length row.now) (slice_index row.now) (λ j. slice_index (B.block blocks.now j) t)) }
+        slice_index out.new t ≡ weighted_sum (length row.now) (slice_index row.now)
+        (λ j. slice_index (B.block blocks.now j) t)) }
     ensures bytes { (m : ℕ) → slice_index row.now m < 256 }
 {
     out.fill(0);
