@@ -5,7 +5,8 @@ use Rattle.std.specs.Fmt.{decimal}
 use Rattle.std.specs.List.{join_with_byte}
 use Rattle.cap_text.specs.declared.fields.Fields.{Fields}
 use Rattle.cap_text.specs.Base32.{base32}
-use Rattle.cap_text.specs.CapText.{parts, part, fields_text, IsBase32, IsDecimal, AreNumbers, HasFiveParts, HasBase32, HasNumbers}
+use Rattle.cap_text.specs.CapText.{parts, part, fields_text, IsBase32, AreNumbers, HasFiveParts, HasBase32, HasNumbers}
+use Rattle.tagged_hash.specs.Decimal.{IsDecimal}
 use Rattle.cap_text.proofs.Parts.{parts_some}
 
 -- more than five are not five

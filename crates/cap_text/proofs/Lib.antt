@@ -2,7 +2,6 @@ pub mod Bits
 pub mod Groups
 pub mod Reading
 pub mod Parts
-pub mod DecimalLemmas
 pub mod FieldLemmas
 pub mod OneText
 pub mod OneAnswer

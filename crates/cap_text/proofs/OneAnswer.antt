@@ -1,7 +1,7 @@
 -- A text is that of one cap, or has one first fault.
 use Rattle.std.proofs.Common.{◌≡◌, ◌⊎◌, ◌↔◌, inl, inr, ℕ, ◌*◌, ◌/◌, ◌<◌, ◌≤◌, List, ◌++◌, length, get_or, drop, Result, Ok, Err, refl, sym, ap, subst, ◌∙◌, arith}
 use Rattle.std.specs.Prelude.{codes}
-use Rattle.cap_text.specs.declared.cap.TheConstants.{MAX_LIT_SIZE, MAX_LIT_LETTERS}
+use Rattle.cap_text.specs.Cap.{max_lit_size, max_lit_letters}
 use Rattle.cap_text.specs.declared.cap.Cap.{Cap}
 use Rattle.cap_text.specs.declared.cap.Cap.TheVariants.{Chk, Verify, Lit}
 use Rattle.cap_text.specs.declared.fields.Fields.{Fields}
@@ -65,10 +65,10 @@ bytes_of_letters text bytes same =
     omega (arith, size.few, size.total)
 
 -- letters that are not too long spell a short file, and only they
-pub short_file : (text bytes : List ℕ) → text ≡ base32 bytes → length text ≤ MAX_LIT_LETTERS → length bytes ≤ MAX_LIT_SIZE
+pub short_file : (text bytes : List ℕ) → text ≡ base32 bytes → length text ≤ max_lit_letters → length bytes ≤ max_lit_size
 short_file text bytes same short = omega (arith, bytes_of_letters text bytes same)
 
-pub short_text : (text bytes : List ℕ) → text ≡ base32 bytes → length bytes ≤ MAX_LIT_SIZE → length text ≤ MAX_LIT_LETTERS
+pub short_text : (text bytes : List ℕ) → text ≡ base32 bytes → length bytes ≤ max_lit_size → length text ≤ max_lit_letters
 short_text text bytes same short =
     let s = spelled text bytes same in
     let size = sizes text bytes s in
@@ -92,7 +92,7 @@ lit_cases text (Err BadParameters) p = absurd p
 lit_cases text (Err UnknownKind) p = absurd p
 lit_cases text (Err OutOfMemory) p = absurd p
 
-not_too_long : (text : List ℕ) (r : Result (List ℕ) CapError) → IsFile text r → MAX_LIT_LETTERS < length text → ⊥
+not_too_long : (text : List ℕ) (r : Result (List ℕ) CapError) → IsFile text r → max_lit_letters < length text → ⊥
 not_too_long text r of long = omega (arith, short_text text of.file of.spells of.cap.short)
 
 not_bad : (text : List ℕ) (r : Result (List ℕ) CapError) → IsFile text r → ((count : ℕ) → IsBase32 count text → ⊥) → ⊥

@@ -4,7 +4,8 @@ use Rattle.std.proofs.lemmas.Bool.{ne_eqb, cases_order, cases_lt}
 use Rattle.std.proofs.lemmas.Fmt.{decimal_injective, digits_decimal}
 use Rattle.std.proofs.lemmas.List.{get_or-map, length-map, get_or_default}
 use Rattle.std.proofs.lemmas.List.Splits.{slice_split_none, slice_split_at}
-use Rattle.std.proofs.lemmas.Str.Parse.{digit_at}
+use Rattle.std.proofs.lemmas.Str.Parse.{IsNumeralModel, numerals_by_value, tells_digits, digit_at}
+use Rattle.std.specs.Str.Parse.{AllDigits, digits_value}
 use Rattle.std.specs.Fmt.{decimal}
 use Rattle.std.specs.List.{All, flat_map}
 use Rattle.cap_text.specs.declared.fields.Fields.{Fields}
@@ -14,10 +15,13 @@ use Rattle.cap_text.specs.Base32.{base32, bits, letter, IsBytes}
 use Rattle.cap_text.specs.Cap.{AreParameters}
 use Rattle.cap_text.specs.CapText.{parts, fields_text, AreFields, AreNumbers, HasFiveParts, HasBase32, HasNumbers, AnswersFields}
 use Rattle.cap_text.proofs.Bits.{length-flat_map-bits}
-use Rattle.cap_text.proofs.DecimalLemmas.{own}
 use Rattle.cap_text.proofs.FieldLemmas.{part_at}
 use Rattle.cap_text.proofs.Groups.{letter-small, letter-large, map-letter-injective}
 use Rattle.cap_text.proofs.Reading.{spelled, small_at, parts_of_one, byte_bits-injective}
+
+-- the numerals of `decimal`
+own : IsNumeralModel (AllDigits 10) (digits_value 10)
+own = numerals_by_value (AllDigits 10) tells_digits
 
 -- bytes have a base32 text of their own
 pub base32-injective : (count : ℕ) (x y : List ℕ) → IsBytes count x → IsBytes count y → base32 x ≡ base32 y → x ≡ y

@@ -1,6 +1,5 @@
 -- The values of caps.
-use Rattle.std.specs.Prelude.{ℕ, ◌<◌, ◌≤◌, List, length, slice_index}
-use Rattle.cap_text.specs.declared.cap.TheConstants.{MIN_SIZE, MAX_SIZE, MAX_SHARES, MAX_LIT_SIZE}
+use Rattle.std.specs.Prelude.{ℕ, ◌^◌, ◌<◌, ◌≤◌, List, length, slice_index}
 use Rattle.cap_text.specs.Base32.{IsBytes}
 use Rattle.tagged_hash.specs.TaggedHash.{storage_index_of}
 
@@ -24,9 +23,9 @@ pub record VerifyCapValue : Type 0 where
 pub record AreParameters (needed total size : ℕ) : Type 0 where
   pub some : 1 ≤ needed
   pub enough : needed ≤ total
-  pub shares : total ≤ MAX_SHARES
-  pub least : MIN_SIZE ≤ size
-  pub most : size ≤ MAX_SIZE
+  pub shares : total ≤ 256
+  pub least : 56 ≤ size
+  pub most : size ≤ 2 ^ 40
 
 -- such a read cap may be
 pub record IsReadCap (c : ReadCapValue) : Type 0 where
@@ -40,11 +39,24 @@ pub record IsVerifyCap (c : VerifyCapValue) : Type 0 where
   pub ueb_hash : IsBytes 32 c.ueb_hash
   pub parameters : AreParameters c.needed c.total c.size
 
+-- the most bytes of a literal cap's file, and the most letters that spell it
+abbrev pub max_lit_size : ℕ
+max_lit_size = 55
+
+abbrev pub max_lit_letters : ℕ
+max_lit_letters = 88
+
 -- the file of a literal cap
 pub record IsLitCap (file : List ℕ) : Type 0 where
-  pub short : length file ≤ MAX_LIT_SIZE
+  pub short : length file ≤ max_lit_size
   pub below : (i : ℕ) → slice_index file i < 256
 
 -- the verify cap of a read cap's file
 abbrev pub verify_cap_of : ReadCapValue → VerifyCapValue
-verify_cap_of c = record { storage_index = storage_index_of c.key; ueb_hash = c.ueb_hash; needed = c.needed; total = c.total; size = c.size }
+verify_cap_of c = record {
+  storage_index = storage_index_of c.key;
+  ueb_hash = c.ueb_hash;
+  needed = c.needed;
+  total = c.total;
+  size = c.size;
+}

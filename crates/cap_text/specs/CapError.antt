@@ -1,7 +1,9 @@
 -- The numbers and names of the refusals.
 use Rattle.std.specs.Prelude.{ℕ, List, codes}
 use Rattle.cap_text.specs.declared.error.CapError.{CapError}
-use Rattle.cap_text.specs.declared.error.CapError.TheVariants.{OutOfMemory, UnknownKind, BadBase32, BadNumber, BadParameters, WrongParts, LitTooLong}
+use Rattle.cap_text.specs.declared.error.CapError.TheVariants.{OutOfMemory, UnknownKind, BadBase32}
+use Rattle.cap_text.specs.declared.error.CapError.TheVariants.{BadNumber, BadParameters, WrongParts}
+use Rattle.cap_text.specs.declared.error.CapError.TheVariants.{LitTooLong}
 
 -- the number of a refusal
 abbrev pub number_of : CapError → ℕ

@@ -1,21 +1,21 @@
 -- The texts of caps.
-use Rattle.std.specs.Prelude.{◌≡◌, ◌==◌, ℕ, ◌<◌, ◌≤◌, ◌^◌, ◌⊎◌, List, [], ◌∷◌, ◌++◌, length, codes, decimal, Result, Ok, Err}
+use Rattle.std.specs.Prelude.{◌≡◌, ◌==◌, ℕ, ◌<◌, ◌≤◌, ◌^◌, ◌⊎◌, List, [], ◌∷◌, ◌++◌, length, codes}
+use Rattle.std.specs.Prelude.{decimal, Result, Ok, Err}
 use Rattle.std.specs.List.{slice_split, slice_index_or, join_with_byte}
 use Rattle.cap_text.specs.declared.fields.Fields.{Fields}
-use Rattle.cap_text.specs.declared.cap.TheConstants.{MAX_LIT_LETTERS}
 use Rattle.cap_text.specs.declared.cap.Cap.{Cap}
 use Rattle.cap_text.specs.declared.cap.Cap.TheVariants.{Chk, Verify, Lit}
 use Rattle.cap_text.specs.declared.cap.LitCap.{LitCap}
 use Rattle.cap_text.specs.declared.text.Kind.{Kind}
 use Rattle.cap_text.specs.declared.text.Kind.TheVariants.{Read, Check, Literal}
 use Rattle.cap_text.specs.declared.error.CapError.{CapError}
-use Rattle.cap_text.specs.declared.error.CapError.TheVariants.{OutOfMemory, UnknownKind, BadBase32, BadNumber, BadParameters, WrongParts, LitTooLong}
+use Rattle.cap_text.specs.declared.error.CapError.TheVariants.{OutOfMemory, UnknownKind, BadBase32}
+use Rattle.cap_text.specs.declared.error.CapError.TheVariants.{BadNumber, BadParameters, WrongParts}
+use Rattle.cap_text.specs.declared.error.CapError.TheVariants.{LitTooLong}
+use Rattle.tagged_hash.specs.Decimal.{IsDecimal}
 use Rattle.cap_text.specs.Base32.{base32, IsBytes}
-use Rattle.cap_text.specs.Cap.{ReadCapValue, VerifyCapValue, AreParameters, IsReadCap, IsVerifyCap, IsLitCap}
-
--- this is a number below 2^64 in decimal
-abbrev pub IsDecimal : List ℕ → Type 0
-IsDecimal text = (n : ℕ) × (n < 2 ^ 64) × (text ≡ decimal n)
+use Rattle.cap_text.specs.Cap.{ReadCapValue, VerifyCapValue, AreParameters, max_lit_letters}
+use Rattle.cap_text.specs.Cap.{IsReadCap, IsVerifyCap, IsLitCap}
 
 -- this is the base32 text of so many bytes
 abbrev pub IsBase32 : ℕ → List ℕ → Type 0
@@ -57,7 +57,8 @@ pub record AreFields (f : Fields) : Type 0 where
 
 -- the text of the fields: with a colon between any two
 abbrev pub fields_text : Fields → List ℕ
-fields_text f = join_with_byte 58 (base32 f.first ∷ base32 f.ueb_hash ∷ decimal f.needed ∷ decimal f.total ∷ decimal f.size ∷ [])
+fields_text f = join_with_byte 58
+    (base32 f.first ∷ base32 f.ueb_hash ∷ decimal f.needed ∷ decimal f.total ∷ decimal f.size ∷ [])
 
 -- the fields that the text spells, or its first fault
 abbrev pub AnswersFields : List ℕ → Result Fields CapError → Type 0
@@ -66,7 +67,8 @@ AnswersFields text (Err WrongParts) = ¬ (HasFiveParts text)
 AnswersFields text (Err BadBase32) = HasFiveParts text × ¬ (HasBase32 text)
 AnswersFields text (Err BadNumber) = HasFiveParts text × HasBase32 text × ¬ (HasNumbers text)
 AnswersFields text (Err BadParameters) = HasFiveParts text × HasBase32 text
-    × ((needed total size : ℕ) × AreNumbers text needed total size × ¬ (AreParameters needed total size))
+    × ((needed total size : ℕ) × AreNumbers text needed total size
+        × ¬ (AreParameters needed total size))
 AnswersFields text (Err UnknownKind) = ⊥
 AnswersFields text (Err LitTooLong) = ⊥
 AnswersFields text (Err OutOfMemory) = ⊥
@@ -87,12 +89,22 @@ Begins text rest = BeginsAs Read text rest ⊎ BeginsAs Check text rest
 
 -- the text of each cap
 abbrev pub read_cap_text : ReadCapValue → List ℕ
-read_cap_text c =
-    codes "URI:CHK:" ++ fields_text (record { first = c.key; ueb_hash = c.ueb_hash; needed = c.needed; total = c.total; size = c.size })
+read_cap_text c = codes "URI:CHK:" ++ fields_text (record {
+  first = c.key;
+  ueb_hash = c.ueb_hash;
+  needed = c.needed;
+  total = c.total;
+  size = c.size;
+})
 
 abbrev pub verify_cap_text : VerifyCapValue → List ℕ
-verify_cap_text c =
-    codes "URI:CHK-Verifier:" ++ fields_text (record { first = c.storage_index; ueb_hash = c.ueb_hash; needed = c.needed; total = c.total; size = c.size })
+verify_cap_text c = codes "URI:CHK-Verifier:" ++ fields_text (record {
+  first = c.storage_index;
+  ueb_hash = c.ueb_hash;
+  needed = c.needed;
+  total = c.total;
+  size = c.size;
+})
 
 abbrev pub lit_cap_text : List ℕ → List ℕ
 lit_cap_text file = codes "URI:LIT:" ++ base32 file
@@ -126,29 +138,33 @@ HasBadParts text = (rest : List ℕ) × Begins text rest × (HasFiveParts rest �
 
 -- what follows the beginning of a literal cap is no base32 text, and not too long
 abbrev pub HasBadData : List ℕ → Type 0
-HasBadData text = (rest : List ℕ) × BeginsAs Literal text rest × (length rest ≤ MAX_LIT_LETTERS × ((count : ℕ) → ¬ (IsBase32 count rest)))
+HasBadData text = (rest : List ℕ) × BeginsAs Literal text rest
+    × (length rest ≤ max_lit_letters × ((count : ℕ) → ¬ (IsBase32 count rest)))
 
 abbrev pub HasBadBase32 : List ℕ → Type 0
 HasBadBase32 text = HasBadParts text ⊎ HasBadData text
 
 -- there are five parts, two of them base32, and the others are not all numbers
 abbrev pub HasBadNumber : List ℕ → Type 0
-HasBadNumber text = (rest : List ℕ) × Begins text rest × (HasFiveParts rest × HasBase32 rest × ¬ (HasNumbers rest))
+HasBadNumber text = (rest : List ℕ) × Begins text rest
+    × (HasFiveParts rest × HasBase32 rest × ¬ (HasNumbers rest))
 
 -- they are numbers, but of no cap
 abbrev pub HasBadParameters : List ℕ → Type 0
 HasBadParameters text = (rest : List ℕ) × Begins text rest × (HasFiveParts rest × HasBase32 rest
-    × ((needed total size : ℕ) × AreNumbers rest needed total size × ¬ (AreParameters needed total size)))
+    × ((needed total size : ℕ) × AreNumbers rest needed total size
+        × ¬ (AreParameters needed total size)))
 
 -- what follows the beginning of a literal cap is too long
 abbrev pub IsLitTooLong : List ℕ → Type 0
-IsLitTooLong text = (rest : List ℕ) × BeginsAs Literal text rest × (MAX_LIT_LETTERS < length rest)
+IsLitTooLong text = (rest : List ℕ) × BeginsAs Literal text rest × (max_lit_letters < length rest)
 
 -- the file that the letters of a literal cap spell, or their first fault
 abbrev pub AnswersLit : List ℕ → Result LitCap CapError → Type 0
 AnswersLit text (Ok file) = IsLitCap file × (text ≡ base32 file)
-AnswersLit text (Err LitTooLong) = MAX_LIT_LETTERS < length text
-AnswersLit text (Err BadBase32) = length text ≤ MAX_LIT_LETTERS × ((count : ℕ) → ¬ (IsBase32 count text))
+AnswersLit text (Err LitTooLong) = max_lit_letters < length text
+AnswersLit text (Err BadBase32) =
+    length text ≤ max_lit_letters × ((count : ℕ) → ¬ (IsBase32 count text))
 AnswersLit text (Err UnknownKind) = ⊥
 AnswersLit text (Err WrongParts) = ⊥
 AnswersLit text (Err BadNumber) = ⊥
@@ -168,7 +184,19 @@ Answers text (Err OutOfMemory) = ⊥
 
 -- the caps of some fields, of which the first is a key, or a storage index
 abbrev pub read_cap_of : Fields → ReadCapValue
-read_cap_of f = record { key = f.first; ueb_hash = f.ueb_hash; needed = f.needed; total = f.total; size = f.size }
+read_cap_of f = record {
+  key = f.first;
+  ueb_hash = f.ueb_hash;
+  needed = f.needed;
+  total = f.total;
+  size = f.size;
+}
 
 abbrev pub verify_cap_from : Fields → VerifyCapValue
-verify_cap_from f = record { storage_index = f.first; ueb_hash = f.ueb_hash; needed = f.needed; total = f.total; size = f.size }
+verify_cap_from f = record {
+  storage_index = f.first;
+  ueb_hash = f.ueb_hash;
+  needed = f.needed;
+  total = f.total;
+  size = f.size;
+}

@@ -1,6 +1,7 @@
-// Base32 by RFC 4648, in lower case and without padding.
+//! Base32 by RFC 4648, in lower case and without padding.
 
-ghost use Rattle.std.specs.Prelude.{◌≡◌, ◌≢◌, ◌+◌, ◌<◌, ◌≤◌, ◌++◌, ℕ, List, [], Some, true, length, map, IfOk, IfSome, IfNone, IsOkUnless};
+ghost use Rattle.std.specs.Prelude.{◌≡◌, ◌≢◌, ◌+◌, ◌<◌, ◌≤◌, ◌++◌, ℕ, List, [], Some, true, length};
+ghost use Rattle.std.specs.Prelude.{map, IfOk, IfSome, IfNone, IsOkUnless};
 ghost use Rattle.std.specs.Bool.{OnTrue};
 ghost use Rattle.std.specs.List.{flat_map};
 ghost use Rattle.std.specs.Option.{option_to_list};
@@ -79,8 +80,8 @@ impl<'a> Letters<'a> {
     }
 }
 
-// Sees that there are at least five bits, or no bits at all: takes a byte where there are fewer, and
-// fills the last group with zeros. Answers the bytes that are left.
+// Sees that there are at least five bits, or no bits at all: takes a byte where there are fewer,
+// and fills the last group with zeros. Answers the bytes that are left.
 fn refill<'a>(waiting: &mut BitQueue, bytes: &'a [u8]) -> &'a [u8]
     requires { length waiting.old ≤ 7 }
     ensures same { groups (waiting.new ++ flat_map (bits 8) result.now)
@@ -130,7 +131,8 @@ fn number_for(text: u8) -> Option<u8>
 /// Reads a base32 text in lower case and without padding into `out`. Yes exactly where the text is
 /// the one spelling of as many bytes as `out` has; otherwise `out` holds any bytes.
 pub fn from_base32(text: &[u8], out: &mut [u8]) -> bool
-    ensures spells { OnTrue result (IsBytes (length out.old) out.new × (text.now ≡ base32 out.new)) }
+    ensures spells { OnTrue result
+        (IsBytes (length out.old) out.new × (text.now ≡ base32 out.new)) }
     ensures only { (bytes : List ℕ) → IsBytes (length out.old) bytes → text.now ≡ base32 bytes
         → (result ≡ true) × (out.new ≡ bytes) }
 {

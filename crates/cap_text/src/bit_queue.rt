@@ -1,6 +1,7 @@
-// A short queue of bits, which go in and come out as the bits of small numbers.
+//! A short queue of bits, which go in and come out as the bits of small numbers.
 
-ghost use Rattle.std.specs.Prelude.{◌≡◌, ◌+◌, ◌-◌, ◌*◌, ◌^◌, ◌<◌, ◌≤◌, ◌++◌, ◌↔◌, ℕ, List, [], IsTrue, length, replicate};
+ghost use Rattle.std.specs.Prelude.{◌≡◌, ◌+◌, ◌-◌, ◌*◌, ◌^◌, ◌<◌, ◌≤◌, ◌++◌, ◌↔◌, ℕ, List, []};
+ghost use Rattle.std.specs.Prelude.{IsTrue, length, replicate};
 ghost use Rattle.cap_text.specs.Base32.{bits};
 
 use std::marker::Model;

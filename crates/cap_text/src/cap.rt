@@ -1,8 +1,9 @@
-// The three kinds of caps.
+//! The three kinds of caps.
 
 ghost use Rattle.std.specs.Prelude.{◌≡◌, ◌<◌, ◌≤◌, ◌↔◌, Err, IsTrue, length};
 ghost use Rattle.std.specs.Result.{OkIff};
-ghost use Rattle.cap_text.specs.Cap.{ReadCapValue, VerifyCapValue, AreParameters, IsReadCap, IsVerifyCap, IsLitCap};
+ghost use Rattle.cap_text.specs.Cap.{ReadCapValue, VerifyCapValue, AreParameters, IsReadCap};
+ghost use Rattle.cap_text.specs.Cap.{IsVerifyCap, IsLitCap, max_lit_size};
 
 use crate::error::CapError;
 use crate::fields::Fields;
@@ -12,7 +13,7 @@ use std::marker::Model;
 pub const MIN_SIZE: u64 = 56;
 
 /// The greatest size of a file, in bytes.
-pub const MAX_SIZE: u64 = 1 << 30;
+pub const MAX_SIZE: u64 = 1 << 40;
 
 /// The greatest number of shares of a file.
 pub const MAX_SHARES: u16 = 256;
@@ -48,11 +49,17 @@ pub struct ReadCap {
 impl Model for ReadCap {
     ghost Value = { ReadCapValue };
 
-    ghost view = { λ c. record { key = c.key; ueb_hash = c.ueb_hash; needed = c.k; total = c.n; size = c.size } };
+    ghost view = { λ c. record {
+      key = c.key; ueb_hash = c.ueb_hash; needed = c.k; total = c.n; size = c.size
+    } };
 
-    ghost inverse = { λ v. record { key = v.key; ueb_hash = v.ueb_hash; k = v.needed; n = v.total; size = v.size } };
+    ghost inverse = { λ v. record {
+      key = v.key; ueb_hash = v.ueb_hash; k = v.needed; n = v.total; size = v.size
+    } };
 
-    ghost invariant = { λ c. IsReadCap (record { key = c.key; ueb_hash = c.ueb_hash; needed = c.k; total = c.n; size = c.size }) };
+    ghost invariant = { λ c. IsReadCap (record {
+      key = c.key; ueb_hash = c.ueb_hash; needed = c.k; total = c.n; size = c.size
+    }) };
 }
 
 impl ReadCap {
@@ -62,7 +69,7 @@ impl ReadCap {
     ghost use Rattle.cap_text.specs.CapText.{AreFields, read_cap_of};
 
     /// The cap with these fields: `k` of `n` shares are needed, and the file has `size` bytes.
-    /// `BadParameters` where not 1 <= k <= n <= 256, or the size is not 56 to 2^30.
+    /// `BadParameters` where not 1 <= k <= n <= 256, or the size is not 56 to 2^40.
     pub fn new(
         key: [u8; 16],
         ueb_hash: [u8; 32],
@@ -171,11 +178,20 @@ pub struct VerifyCap {
 impl Model for VerifyCap {
     ghost Value = { VerifyCapValue };
 
-    ghost view = { λ c. record { storage_index = c.storage_index; ueb_hash = c.ueb_hash; needed = c.k; total = c.n; size = c.size } };
+    ghost view = { λ c. record {
+      storage_index = c.storage_index; ueb_hash = c.ueb_hash;
+      needed = c.k; total = c.n; size = c.size
+    } };
 
-    ghost inverse = { λ v. record { storage_index = v.storage_index; ueb_hash = v.ueb_hash; k = v.needed; n = v.total; size = v.size } };
+    ghost inverse = { λ v. record {
+      storage_index = v.storage_index; ueb_hash = v.ueb_hash;
+      k = v.needed; n = v.total; size = v.size
+    } };
 
-    ghost invariant = { λ c. IsVerifyCap (record { storage_index = c.storage_index; ueb_hash = c.ueb_hash; needed = c.k; total = c.n; size = c.size }) };
+    ghost invariant = { λ c. IsVerifyCap (record {
+      storage_index = c.storage_index; ueb_hash = c.ueb_hash;
+      needed = c.k; total = c.n; size = c.size
+    }) };
 }
 
 impl VerifyCap {
@@ -249,16 +265,19 @@ pub struct LitCap {
 
 impl Model for LitCap {
     ghost use Rattle.std.specs.Prelude.{ℕ, ◌-◌, List, ◌++◌, length, take, replicate};
-    ghost use Rattle.cap_text.specs.declared.cap.TheConstants.{MAX_LIT_SIZE};
+    ghost use Rattle.cap_text.specs.Cap.{max_lit_size};
     ghost use Rattle.cap_text.specs.LitBuffer.{IsLitBuffer, lit_buffer_again};
 
     ghost Value = { List ℕ };
 
     ghost view = { λ c. take c.len c.bytes };
 
-    ghost inverse = { λ file. record { bytes = file ++ replicate (MAX_LIT_SIZE - length file) 0; len = length file } };
+    ghost inverse = { λ file. record {
+      bytes = file ++ replicate (max_lit_size - length file) 0; len = length file
+    } };
 
-    ghost inverse_ok = { λ c lit. let same = lit_buffer_again c.bytes c.len lit in λ i. record { bytes = same.bytes i; len = same.size i } };
+    ghost inverse_ok = { λ c lit. let same = lit_buffer_again c.bytes c.len lit in
+      λ i. record { bytes = same.bytes i; len = same.size i } };
 
     ghost invariant = { λ c. IsLitBuffer c.bytes c.len };
 }
@@ -266,8 +285,8 @@ impl Model for LitCap {
 impl LitCap {
     /// The cap that holds this file. `LitTooLong` where it has more than 55 bytes.
     pub fn new(file: &[u8]) -> Result<LitCap, CapError>
-        ensures value { OkIff result (length file.now ≤ MAX_LIT_SIZE) file.now }
-        ensures refused { (result ≡ Err CapError.LitTooLong) ↔ (MAX_LIT_SIZE < length file.now) }
+        ensures value { OkIff result (length file.now ≤ max_lit_size) file.now }
+        ensures refused { (result ≡ Err CapError.LitTooLong) ↔ (max_lit_size < length file.now) }
     {
         if file.len() > MAX_LIT_SIZE {
             return Err(CapError::LitTooLong);

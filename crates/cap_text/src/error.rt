@@ -1,4 +1,4 @@
-// Why a call is refused.
+//! Why a call is refused.
 
 ghost use Rattle.std.specs.Prelude.{◌≡◌, Some};
 ghost use Rattle.cap_text.specs.CapError.{name_of, number_of};

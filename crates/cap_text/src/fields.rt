@@ -1,12 +1,12 @@
-// The fields that read caps and verify caps have in common.
+//! The fields that read caps and verify caps have in common.
 
 ghost use Rattle.std.specs.Prelude.{◌≡◌, ◌∷◌, [], MatchOption};
 ghost use Rattle.cap_text.specs.CapText.{parts, AnswersFields, HasFiveParts};
 
 use crate::base32::from_base32;
 use crate::cap::are_parameters;
-use crate::decimal::read_decimal;
 use crate::error::CapError;
+use tagged_hash::read_decimal;
 
 // The fields of a read cap or a verify cap. The first is the key or the storage index.
 #[derive(Drop)]
@@ -44,7 +44,8 @@ fn cut(text: &[u8]) -> Option<(&[u8], &[u8])>
 // The five parts of a text, if it has five.
 fn five_parts(text: &[u8]) -> Option<Parts<'_>>
     ensures { MatchOption result (¬ (HasFiveParts text.entry.now))
-        (λ p. parts text.entry.now ≡ p.first.now ∷ p.ueb_hash.now ∷ p.needed.now ∷ p.total.now ∷ p.size.now ∷ []) }
+        (λ p. parts text.entry.now
+            ≡ p.first.now ∷ p.ueb_hash.now ∷ p.needed.now ∷ p.total.now ∷ p.size.now ∷ []) }
 {
     let (first, rest) = cut(text)?;
     let (ueb_hash, rest) = cut(rest)?;

@@ -8,7 +8,6 @@
 mod base32;
 mod bit_queue;
 mod cap;
-mod decimal;
 mod error;
 mod fields;
 mod text;

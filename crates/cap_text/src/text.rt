@@ -1,8 +1,11 @@
-// The texts of caps.
+//! The texts of caps.
 
 ghost use Rattle.std.specs.Prelude.{◌≡◌, ◌≢◌, ◌↔◌, Ok, Err, Some, MatchOption};
 ghost use Rattle.cap_text.specs.declared.cap.Cap.{Cap};
-ghost use Rattle.cap_text.specs.CapText.{Answers, AnswersLit, BeginsAs, Spells, IsUnknownKind, HasWrongParts, HasBadBase32, HasBadNumber, HasBadParameters, IsLitTooLong, read_cap_text, verify_cap_text, lit_cap_text, cap_text};
+ghost use Rattle.cap_text.specs.CapText.{Answers, AnswersLit, BeginsAs, Spells, IsUnknownKind};
+ghost use Rattle.cap_text.specs.CapText.{HasWrongParts, HasBadBase32, HasBadNumber};
+ghost use Rattle.cap_text.specs.CapText.{HasBadParameters, IsLitTooLong, read_cap_text};
+ghost use Rattle.cap_text.specs.CapText.{verify_cap_text, lit_cap_text, cap_text};
 
 use crate::base32::{Base32, from_base32};
 use crate::cap::{Cap, LitCap, MAX_LIT_LETTERS, MAX_LIT_SIZE, ReadCap, VerifyCap};
