@@ -10,7 +10,7 @@ use Rattle.ueb.specs.declared.limits.TheConstants.{MAX_FILE_SIZE, MAX_SEGMENT_SI
 use Rattle.share_layout.specs.Geometry.{Geometry, geometry_of, segment_count, AreParameters, HasGeometry, IsGeometry}
 
 -- more is rounded up to no less
-div_ceil_le : (m n k : ℕ) → 0 < k → m ≤ n → div_ceil m k ≤ div_ceil n k
+pub div_ceil_le : (m n k : ℕ) → 0 < k → m ≤ n → div_ceil m k ≤ div_ceil n k
 div_ceil_le m n k some le =
     elim (cases_lt (div_ceil n k) (div_ceil m k)) [
       | inl above ↦ absurd (omega (arith, mul-le-mul_right {m = div_ceil n k + 1} {n = div_ceil m k} k (omega arith), (div_ceil_times m k some).1, (div_ceil_times n k some).0))

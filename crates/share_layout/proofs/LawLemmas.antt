@@ -1,17 +1,22 @@
 -- A share's header leads to its extension block.
-use Rattle.std.proofs.Common.{◌≡◌, ℕ, ◌+◌, ◌*◌, ◌^◌, ◌<◌, ◌≤◌, inl, inr, List, ◌++◌, length, take, drop, ap, sym, subst, refl, ◌∙◌, append_assoc, arith}
-use Rattle.std.specs.Int.{w32, div_ceil, from_be_bytes, to_be_bytes}
+use Rattle.std.proofs.Common.{◌≡◌, ℕ, ◌+◌, ◌*◌, ◌^◌, ◌<◌, ◌≤◌, inl, inr, List, ◌++◌, length, take, drop, get_or, ap, sym, subst, refl, ◌∙◌, append_assoc, arith}
+use Rattle.std.specs.Int.{w32, div_ceil, to_be_bytes}
+use Rattle.std.specs.List.{flat_map}
 use Rattle.std.proofs.Math.Nat.{div-le_self, pow-le-pow_right}
 use Rattle.std.proofs.lemmas.Bool.{cases_lt}
 use Rattle.std.proofs.lemmas.Grind.{div_ceil_times}
-use Rattle.std.proofs.lemmas.List.{drop-take, take-take}
-use Rattle.std.proofs.lemmas.Nat.{from_be_bytes-to_be_bytes_4, pow_pos}
-use Rattle.merkle.specs.Tree.{height}
+use Rattle.std.proofs.lemmas.List.{drop-drop, drop_at, drop-take, take-take}
+use Rattle.std.proofs.lemmas.Nat.{pow_pos}
+use Rattle.merkle.specs.Tree.{height, needed_numbers}
 use Rattle.share_layout.specs.Geometry.{Geometry, hashes_size, segment_count, share_data_size, tree_size, IsGeometry}
-use Rattle.share_layout.specs.Share.{header, header_numbers, HaveLengths, IsShare, Sections, share_bytes}
-use Rattle.share_layout.specs.Places.{AreRising, EndsWith, LocatesUeb, number_at, places_in, places_of}
+use Rattle.share_layout.specs.declared.layout.Layout.{Layout}
+use Rattle.share_layout.specs.declared.layout.Layout.TheVariants.{One, Two}
+use Rattle.share_layout.specs.Layout.{header, header_numbers, header_size, layout_of, number_in, places_by, places_of, spelled, version, width}
+use Rattle.share_layout.specs.Share.{CarriesNumbers, HaveLengths, IsShare, Sections, share_bytes}
+use Rattle.share_layout.specs.Places.{AreRising, EndsWith, HasVersion, LocatesUeb, header_number, layout_in, places_in}
 use Rattle.share_layout.specs.declared.places.Places.{Places}
 use Rattle.merkle.proofs.HeightLemmas.{height_below}
+use Rattle.share_layout.proofs.LayoutLemmas.{fits_layout, inside_header, layout_is, limit, read_back, spelled_at, width_8}
 use Rattle.share_layout.proofs.ShareLemmas.{parts_of, share_whole}
 
 -- something is left of something
@@ -27,15 +32,15 @@ div_ceil-some n k some divisor =
 -- the sizes of a geometry
 pub record HaveBounds (g : Geometry) : Type 0 where
   pub some_blocks : 0 < share_data_size g
-  pub few_blocks : share_data_size g ≤ 2 ^ 30 + 1
+  pub few_blocks : share_data_size g ≤ 2 ^ 40 + 1
   pub some_nodes : 0 < tree_size g
-  pub few_nodes : tree_size g < 2 ^ 22
+  pub few_nodes : tree_size g < 2 ^ 26
   pub some_hashes : 0 < hashes_size g
   pub few_hashes : hashes_size g ≤ 306
 
 pub have_bounds : (g : Geometry) → IsGeometry g → HaveBounds g
 have_bounds g v =
-    let width = pow-le-pow_right {n = 2} (omega arith) {i = height (segment_count g)} {j = 16} (height_below (segment_count g) 16 (omega (arith, v.few))) in
+    let width = pow-le-pow_right {n = 2} (omega arith) {i = height (segment_count g)} {j = 20} (height_below (segment_count g) 20 (omega (arith, v.few))) in
     let some = pow_pos (height (segment_count g)) in
     record {
       some_blocks = div_ceil-some g.size g.needed v.some v.some_needed;
@@ -46,8 +51,8 @@ have_bounds g v =
       few_hashes = omega (arith, height_below g.total 8 (omega (arith, v.shares)));
     }
 
-pub places_rise : (g : Geometry) → HaveBounds g → AreRising (places_of g)
-places_rise g b = record {
+pub places_rise : (g : Geometry) (l : Layout) → HaveBounds g → AreRising (places_by l g)
+places_rise g l b = record {
   unused = omega (arith, b.some_blocks);
   ciphertext_tree = omega (arith, b.some_nodes);
   block_tree = omega (arith, b.some_nodes);
@@ -56,50 +61,81 @@ places_rise g b = record {
 }
 
 -- a number in a header
-number_in : (bytes front : List ℕ) (at n : ℕ) → take 36 bytes ≡ front → at + 4 ≤ 36 → drop at (take (at + 4) front) ≡ to_be_bytes w32 n → n < 2 ^ 32
-    → number_at bytes at ≡ n
-number_in bytes front at n is inside spelled small =
-    ap (from_be_bytes w32) (sym (drop-take at 4 bytes) ∙ ap (drop at) (sym (take-take (at + 4) 36 bytes inside) ∙ ap (take (at + 4)) is) ∙ spelled)
-    ∙ from_be_bytes-to_be_bytes_4 n small
+number_told : (l : Layout) (bytes numbers : List ℕ) (i n : ℕ)
+    → take (header_size l) bytes ≡ to_be_bytes w32 (version l) ++ flat_map (spelled l) numbers → layout_in bytes ≡ l
+    → i < 8 → i < length numbers → get_or numbers i 0 ≡ n → n < limit l → header_number bytes i ≡ n
+number_told l bytes numbers i n is layout eight inside at fits =
+    let w = width l in
+    let v = to_be_bytes w32 (version l) in
+    let front = v ++ flat_map (spelled l) numbers in
+    let a : ℕ = 4 + w * i in
+    let behind : drop a front ≡ drop (w * i) (flat_map (spelled l) numbers) =
+    sym (drop-drop (w * i) 4 front) ∙ ap (drop (w * i)) (drop_at v (flat_map (spelled l) numbers) 4 refl) in
+    let spelled_there : take w (drop a bytes) ≡ spelled l n =
+    sym (drop-take a w bytes) ∙ ap (drop a) (sym (take-take (a + w) (header_size l) bytes (inside_header l i eight)) ∙ ap (take (a + w)) is)
+    ∙ drop-take a w front ∙ ap (take w) behind ∙ spelled_at l numbers i inside ∙ ap (spelled l) at in
+    subst (λ m. number_in m (take (width m) (drop (4 + width m * i) bytes)) ≡ n) (sym layout)
+    (ap (number_in l) spelled_there ∙ read_back l n fits)
 
 -- the places that a share's header tells are the right ones
-pub places_told : (g : Geometry) (bytes : List ℕ) → HaveBounds g → take 36 bytes ≡ header (header_numbers g (hashes_size g)) → places_in bytes ≡ places_of g
-places_told g bytes b is =
+pub places_told : (g : Geometry) (bytes : List ℕ) → HaveBounds g → take (header_size (layout_of g)) bytes ≡ header g
+    → layout_in bytes ≡ layout_of g → places_in bytes ≡ places_of g
+places_told g bytes b is layout =
+    let l = layout_of g in
     let p = places_of g in
-    let front = header (header_numbers g (hashes_size g)) in
-    let a = number_in bytes front 16 p.unused is (omega arith) refl (omega (arith, b.few_blocks)) in
-    let c = number_in bytes front 20 p.ciphertext_tree is (omega arith) refl (omega (arith, b.few_blocks, b.few_nodes)) in
-    let d = number_in bytes front 24 p.block_tree is (omega arith) refl (omega (arith, b.few_blocks, b.few_nodes)) in
-    let e = number_in bytes front 28 p.share_hashes is (omega arith) refl (omega (arith, b.few_blocks, b.few_nodes)) in
-    let f = number_in bytes front 32 p.extension_block is (omega arith) refl (omega (arith, b.few_blocks, b.few_nodes, b.few_hashes)) in
-    λ i. record { unused = a i; ciphertext_tree = c i; block_tree = d i; share_hashes = e i; extension_block = f i }
+    let numbers = header_numbers l g in
+    let last : p.extension_block < limit l = fits_layout g l (omega (arith, b.few_blocks, b.few_nodes, b.few_hashes)) refl in
+    let a = number_told l bytes numbers 3 p.unused is layout (omega arith) (omega arith) refl (omega (arith, last)) in
+    let c = number_told l bytes numbers 4 p.ciphertext_tree is layout (omega arith) (omega arith) refl (omega (arith, last)) in
+    let d = number_told l bytes numbers 5 p.block_tree is layout (omega arith) (omega arith) refl (omega (arith, last)) in
+    let e = number_told l bytes numbers 6 p.share_hashes is layout (omega arith) (omega arith) refl (omega (arith, last)) in
+    let f = number_told l bytes numbers 7 p.extension_block is layout (omega arith) (omega arith) refl last in
+    λ i. record { layout = layout i; unused = a i; ciphertext_tree = c i; block_tree = d i; share_hashes = e i; extension_block = f i }
 
 pub locates_own : (g : Geometry) (num : ℕ) (bytes : List ℕ) (s : Sections) → IsGeometry g → IsShare g num bytes s → LocatesUeb bytes s.extension_block
 locates_own g num bytes s v is =
+    let l = layout_of g in
     let b = have_bounds g v in
     let parts = parts_of g bytes s is.text is.lengths in
     let whole = share_whole g num bytes s is in
-    let told = sym (places_told g bytes b parts.header) in
+    let layout = layout_is l bytes whole.version.version in
+    let told = sym (places_told g bytes b parts.header layout) in
+    let last : (places_of g).extension_block < limit l = fits_layout g l (omega (arith, b.few_blocks, b.few_nodes, b.few_hashes)) refl in
+    let begins : header_number bytes 2 ≡ header_size l =
+    number_told l bytes (header_numbers l g) 2 (header_size l) parts.header layout (omega arith) (omega arith) refl (omega (arith, last)) in
     let ends : EndsWith (places_of g) bytes s.extension_block = record {
       text = parts.text;
       place = omega (arith, parts.tail.long);
       short = is.lengths.extension_block;
     } in
     record {
-      version = whole.version;
+      version = subst (λ m. HasVersion m bytes) (sym layout) whole.version;
       places = record {
-        data_place = number_in bytes (header (header_numbers g (hashes_size g))) 12 36 parts.header (omega arith) refl (omega arith);
-        rising = subst AreRising told (places_rise g b);
+        data_place = begins ∙ ap header_size (sym layout);
+        rising = subst AreRising told (places_rise g l b);
       };
       ends = subst (λ (p : Places). EndsWith p bytes s.extension_block) told ends;
     }
 
+-- five lists behind one
+five : (h a b c d e : List ℕ) → h ++ (a ++ b ++ c ++ d ++ e) ≡ h ++ a ++ b ++ c ++ d ++ e
+five h a b c d e =
+    sym (append_assoc h (a ++ b ++ c ++ d) e)
+    ∙ ap (λ (l : List ℕ). l ++ e) (sym (append_assoc h (a ++ b ++ c) d)
+    ∙ ap (λ (l : List ℕ). l ++ d) (sym (append_assoc h (a ++ b) c)
+    ∙ ap (λ (l : List ℕ). l ++ c) (sym (append_assoc h a b))))
+
 -- what is written for the sections
-pub sections_made : (g : Geometry) (s : Sections) → HaveLengths g s
-    → header (header_numbers g (hashes_size g)) ++ s.blocks ++ s.unused ++ s.ciphertext_tree ++ s.block_tree ++ s.share_hashes
-    ++ (to_be_bytes w32 (length s.extension_block) ++ s.extension_block) ≡ share_bytes g s
-sections_made g s l =
-    sym (append_assoc (header (header_numbers g (hashes_size g)) ++ s.blocks ++ s.unused ++ s.ciphertext_tree ++ s.block_tree ++ s.share_hashes)
-    (to_be_bytes w32 (length s.extension_block)) s.extension_block)
-    ∙ ap (λ n. header (header_numbers g n) ++ s.blocks ++ s.unused ++ s.ciphertext_tree ++ s.block_tree ++ s.share_hashes
-    ++ to_be_bytes w32 (length s.extension_block) ++ s.extension_block) (sym l.share_hashes)
+pub sections_made : (g : Geometry) (num : ℕ) (s : Sections) → HaveLengths g s → num < g.total
+    → CarriesNumbers (needed_numbers (height g.total) num) s.share_hashes
+    → IsShare g num (header g ++ (s.blocks ++ s.unused ++ s.ciphertext_tree ++ s.block_tree ++ s.share_hashes)
+    ++ (spelled (layout_of g) (length s.extension_block) ++ s.extension_block)) s
+sections_made g num s lengths number numbers = record {
+  text = ap (λ (f : List ℕ). f ++ (spelled (layout_of g) (length s.extension_block) ++ s.extension_block))
+      (five (header g) s.blocks s.unused s.ciphertext_tree s.block_tree s.share_hashes)
+      ∙ sym (append_assoc (header g ++ s.blocks ++ s.unused ++ s.ciphertext_tree ++ s.block_tree ++ s.share_hashes)
+      (spelled (layout_of g) (length s.extension_block)) s.extension_block);
+  lengths = lengths;
+  number = number;
+  numbers = numbers;
+}

@@ -1,5 +1,7 @@
 pub mod NumberLemmas
+pub mod LayoutLemmas
 pub mod GeometryLemmas
+pub mod CutLemmas
 pub mod ListLemmas
 pub mod Verdicts
 pub mod ShareLemmas

@@ -5,21 +5,26 @@ use Rattle.std.proofs.lemmas.List.{take_at, take-take, length-take-le, length-dr
 use Rattle.std.proofs.lemmas.List.Edits.{length-between}
 use Rattle.merkle.specs.Tree.{height, needed_numbers}
 use Rattle.share_layout.specs.Geometry.{Geometry, hashes_size}
-use Rattle.share_layout.specs.Share.{header, header_numbers, share_bytes, CarriesNumbers, HaveLengths, IsShare, Sections}
-use Rattle.share_layout.specs.Places.{AreRising, EndsWith, HasOwnPlaces, HasVersion, LocatesUeb, places_in, places_of}
-use Rattle.share_layout.specs.Reading.{HasHeader, HasNumbers, IsCut, IsWhole, sections_at}
+use Rattle.share_layout.specs.declared.layout.Layout.{Layout}
+use Rattle.share_layout.specs.Layout.{header, header_size, layout_of, places_of, spelled, version, width}
+use Rattle.share_layout.specs.Share.{share_bytes, CarriesNumbers, HaveLengths, IsShare, Sections}
+use Rattle.share_layout.specs.Places.{AreRising, EndsWith, HasOwnPlaces, HasVersion, LocatesUeb, layout_in, places_in}
+use Rattle.share_layout.specs.Reading.{HasHeader, HasNumbers, IsWhole}
+use Rattle.share_layout.specs.Cutting.{IsCut, sections_at}
+use Rattle.share_layout.proofs.LayoutLemmas.{header_version, length-header, length-spelled}
 use Rattle.share_layout.proofs.ListLemmas.{take_between, take_before, between_parts, tail_text, HasTail, has_tail}
 
 -- an extension block that is cut out
-pub located : (bytes : List ℕ) (s : Sections) → ((i : ℕ) → get_or (take 4 (drop (places_in bytes).extension_block bytes)) i 0 < 256)
-    → HasVersion bytes → HasOwnPlaces bytes → IsCut (places_in bytes) bytes s → LocatesUeb bytes s.extension_block
+pub located : (bytes : List ℕ) (s : Sections) → ((i : ℕ) → get_or (take (width (layout_in bytes)) (drop (places_in bytes).extension_block bytes)) i 0 < 256)
+    → HasVersion (layout_in bytes) bytes → HasOwnPlaces bytes → IsCut (places_in bytes) bytes s → LocatesUeb bytes s.extension_block
 located bytes s small version places cut =
+    let l = layout_in bytes in
     let e = (places_in bytes).extension_block in
-    let text = tail_text bytes e small cut.end in
-    let found : EndsWith (places_in bytes) bytes (drop (e + 4) bytes) = record {
+    let text = tail_text l bytes e small cut.end in
+    let found : EndsWith (places_in bytes) bytes (drop (e + width l) bytes) = record {
       text = text;
       place = omega (arith, cut.end);
-      short = omega (arith, length-drop (e + 4) bytes, cut.end, cut.short);
+      short = omega (arith, length-drop (e + width l) bytes, cut.end, cut.short);
     } in
     record {
       version = version;
@@ -28,10 +33,10 @@ located bytes s small version places cut =
     }
 
 -- where an extension block is located, all is right, and it stands behind its length
-pub located_tail : (bytes block : List ℕ) → LocatesUeb bytes block → HasTail bytes (places_in bytes).extension_block block
+pub located_tail : (bytes block : List ℕ) → LocatesUeb bytes block → HasTail (layout_in bytes) bytes (places_in bytes).extension_block block
 located_tail bytes block l =
     let e = (places_in bytes).extension_block in
-    has_tail bytes (take e bytes) block e l.ends.text (length-take-le e bytes l.ends.place) (omega (arith, l.ends.short))
+    has_tail (layout_in bytes) bytes (take e bytes) block e l.ends.text (length-take-le e bytes l.ends.place) (omega (arith, l.ends.short))
 
 pub located_whole : (bytes block : List ℕ) → LocatesUeb bytes block → IsWhole (HasOwnPlaces bytes) (places_in bytes) bytes
 located_whole bytes block l =
@@ -40,7 +45,7 @@ located_whole bytes block l =
 
 -- the sections that are cut out of a share
 pub cut_is_share : (g : Geometry) (num : ℕ) (bytes : List ℕ) (s : Sections)
-    → ((i : ℕ) → get_or (take 4 (drop (places_of g).extension_block bytes)) i 0 < 256)
+    → ((i : ℕ) → get_or (take (width (layout_of g)) (drop (places_of g).extension_block bytes)) i 0 < 256)
     → HasHeader g bytes → AreRising (places_of g) → IsCut (places_of g) bytes s → num < g.total
     → CarriesNumbers (needed_numbers (height g.total) num) s.share_hashes → IsShare g num bytes s
 cut_is_share g num bytes s small right rising cut number numbers =
@@ -48,24 +53,24 @@ cut_is_share g num bytes s small right rising cut number numbers =
     let long : p.extension_block ≤ length bytes = omega (arith, cut.end) in
     let t = sections_at p bytes in
     let hashes : length t.share_hashes ≡ hashes_size g = length-between bytes p.share_hashes p.extension_block long ∙ omega arith in
-    let header_is : header (header_numbers g (length t.share_hashes)) ≡ take 36 bytes = ap (λ n. header (header_numbers g n)) hashes ∙ sym right in
-    let front : take p.extension_block bytes ≡ header (header_numbers g (length t.share_hashes)) ++ t.blocks ++ t.unused ++ t.ciphertext_tree ++ t.block_tree ++ t.share_hashes =
+    let l = layout_of g in
+    let front : take p.extension_block bytes ≡ header g ++ t.blocks ++ t.unused ++ t.ciphertext_tree ++ t.block_tree ++ t.share_hashes =
     take_between bytes p.share_hashes p.extension_block (omega arith)
     ∙ ap (λ (l : List ℕ). l ++ t.share_hashes) (take_between bytes p.block_tree p.share_hashes (omega arith)
     ∙ ap (λ (l : List ℕ). l ++ t.block_tree) (take_between bytes p.ciphertext_tree p.block_tree (omega arith)
     ∙ ap (λ (l : List ℕ). l ++ t.ciphertext_tree) (take_between bytes p.unused p.ciphertext_tree (omega arith)
-    ∙ ap (λ (l : List ℕ). l ++ t.unused) (take_between bytes 36 p.unused (omega arith)
-    ∙ ap (λ (l : List ℕ). l ++ t.blocks) (sym header_is))))) in
+    ∙ ap (λ (l : List ℕ). l ++ t.unused) (take_between bytes (header_size l) p.unused (omega arith)
+    ∙ ap (λ (l : List ℕ). l ++ t.blocks) right)))) in
     let text : bytes ≡ share_bytes g t =
-    tail_text bytes p.extension_block small cut.end
-    ∙ ap (λ (l : List ℕ). l ++ to_be_bytes w32 (length t.extension_block) ++ t.extension_block) front in
+    tail_text l bytes p.extension_block small cut.end
+    ∙ ap (λ (f : List ℕ). f ++ spelled l (length t.extension_block) ++ t.extension_block) front in
     let lengths : HaveLengths g t = record {
-      blocks = length-between bytes 36 p.unused (omega arith) ∙ omega arith;
+      blocks = length-between bytes (header_size l) p.unused (omega arith) ∙ omega arith;
       unused = length-between bytes p.unused p.ciphertext_tree (omega arith) ∙ omega arith;
       ciphertext_tree = length-between bytes p.ciphertext_tree p.block_tree (omega arith) ∙ omega arith;
       block_tree = length-between bytes p.block_tree p.share_hashes (omega arith) ∙ omega arith;
       share_hashes = hashes;
-      extension_block = omega (arith, length-drop (p.extension_block + 4) bytes, cut.end, cut.short);
+      extension_block = omega (arith, length-drop (p.extension_block + width l) bytes, cut.end, cut.short);
     } in
     record {
       text = subst (λ (x : Sections). bytes ≡ share_bytes g x) (sym cut.sections) text;
@@ -76,42 +81,43 @@ cut_is_share g num bytes s small right rising cut number numbers =
 
 -- what a share's bytes are, as a reader goes over them
 pub record Parts (g : Geometry) (bytes : List ℕ) (s : Sections) : Type 0 where
-  pub header : take 36 bytes ≡ header (header_numbers g (hashes_size g))
+  pub header : take (header_size (layout_of g)) bytes ≡ header g
   pub sections : s ≡ sections_at (places_of g) bytes
-  pub tail : HasTail bytes (places_of g).extension_block s.extension_block
-  pub text : bytes ≡ take (places_of g).extension_block bytes ++ to_be_bytes w32 (length s.extension_block) ++ s.extension_block
+  pub tail : HasTail (layout_of g) bytes (places_of g).extension_block s.extension_block
+  pub text : bytes ≡ take (places_of g).extension_block bytes ++ spelled (layout_of g) (length s.extension_block) ++ s.extension_block
 
 pub parts_of : (g : Geometry) (bytes : List ℕ) (s : Sections) → bytes ≡ share_bytes g s → HaveLengths g s → Parts g bytes s
-parts_of g bytes s text l =
+parts_of g bytes s text lengths =
     let p = places_of g in
-    let h = header (header_numbers g (length s.share_hashes)) in
+    let l = layout_of g in
+    let h = header g in
     let p1 = h ++ s.blocks in
     let p2 = p1 ++ s.unused in
     let p3 = p2 ++ s.ciphertext_tree in
     let p4 = p3 ++ s.block_tree in
     let p5 = p4 ++ s.share_hashes in
-    let n0 : length h ≡ 36 = refl in
-    let n1 : length p1 ≡ p.unused = length-append h s.blocks ∙ omega (arith, l.blocks, n0) in
-    let n2 : length p2 ≡ p.ciphertext_tree = length-append p1 s.unused ∙ omega (arith, l.unused, n1) in
-    let n3 : length p3 ≡ p.block_tree = length-append p2 s.ciphertext_tree ∙ omega (arith, l.ciphertext_tree, n2) in
-    let n4 : length p4 ≡ p.share_hashes = length-append p3 s.block_tree ∙ omega (arith, l.block_tree, n3) in
-    let n5 : length p5 ≡ p.extension_block = length-append p4 s.share_hashes ∙ omega (arith, l.share_hashes, n4) in
+    let n0 : length h ≡ header_size l = length-header l g in
+    let n1 : length p1 ≡ p.unused = length-append h s.blocks ∙ omega (arith, lengths.blocks, n0) in
+    let n2 : length p2 ≡ p.ciphertext_tree = length-append p1 s.unused ∙ omega (arith, lengths.unused, n1) in
+    let n3 : length p3 ≡ p.block_tree = length-append p2 s.ciphertext_tree ∙ omega (arith, lengths.ciphertext_tree, n2) in
+    let n4 : length p4 ≡ p.share_hashes = length-append p3 s.block_tree ∙ omega (arith, lengths.block_tree, n3) in
+    let n5 : length p5 ≡ p.extension_block = length-append p4 s.share_hashes ∙ omega (arith, lengths.share_hashes, n4) in
     let t5 : take p.extension_block bytes ≡ p5 =
-    ap (take p.extension_block) (text ∙ append_assoc p5 (to_be_bytes w32 (length s.extension_block)) s.extension_block)
-    ∙ take_at p5 (to_be_bytes w32 (length s.extension_block) ++ s.extension_block) p.extension_block n5 in
+    ap (take p.extension_block) (text ∙ append_assoc p5 (spelled l (length s.extension_block)) s.extension_block)
+    ∙ take_at p5 (spelled l (length s.extension_block) ++ s.extension_block) p.extension_block n5 in
     let t4 = take_before bytes p4 s.share_hashes p.share_hashes p.extension_block t5 n4 (omega arith) in
     let t3 = take_before bytes p3 s.block_tree p.block_tree p.share_hashes t4 n3 (omega arith) in
     let t2 = take_before bytes p2 s.ciphertext_tree p.ciphertext_tree p.block_tree t3 n2 (omega arith) in
     let t1 = take_before bytes p1 s.unused p.unused p.ciphertext_tree t2 n1 (omega arith) in
-    let t0 = take_before bytes h s.blocks 36 p.unused t1 n0 (omega arith) in
-    let tail = has_tail bytes p5 s.extension_block p.extension_block text n5 (omega (arith, l.extension_block)) in
-    let s0 = between_parts bytes h s.blocks 36 p.unused t1 n0 in
+    let t0 = take_before bytes h s.blocks (header_size l) p.unused t1 n0 (omega arith) in
+    let tail = has_tail l bytes p5 s.extension_block p.extension_block text n5 (omega (arith, lengths.extension_block)) in
+    let s0 = between_parts bytes h s.blocks (header_size l) p.unused t1 n0 in
     let s1 = between_parts bytes p1 s.unused p.unused p.ciphertext_tree t2 n1 in
     let s2 = between_parts bytes p2 s.ciphertext_tree p.ciphertext_tree p.block_tree t3 n2 in
     let s3 = between_parts bytes p3 s.block_tree p.block_tree p.share_hashes t4 n3 in
     let s4 = between_parts bytes p4 s.share_hashes p.share_hashes p.extension_block t5 n4 in
     record {
-      header = t0 ∙ ap (λ n. header (header_numbers g n)) l.share_hashes;
+      header = t0;
       sections = λ i. record {
         blocks = sym s0 i;
         unused = sym s1 i;
@@ -121,16 +127,19 @@ parts_of g bytes s text l =
         extension_block = tail.tail i;
       };
       tail = tail;
-      text = text ∙ ap (λ (l : List ℕ). l ++ to_be_bytes w32 (length s.extension_block) ++ s.extension_block) (sym t5);
+      text = text ∙ ap (λ (f : List ℕ). f ++ spelled l (length s.extension_block) ++ s.extension_block) (sym t5);
     }
 
 -- a share is whole, and its hashes carry its numbers
 pub share_whole : (g : Geometry) (num : ℕ) (bytes : List ℕ) (s : Sections) → IsShare g num bytes s → IsWhole (HasHeader g bytes) (places_of g) bytes
 share_whole g num bytes s is =
     let parts = parts_of g bytes s is.text is.lengths in
-    let long : 36 ≤ length bytes = omega (arith, parts.tail.long) in
+    let l = layout_of g in
     record {
-      version = record { long = long; version = sym (take-take 4 36 bytes (omega arith)) ∙ ap (take 4) parts.header ∙ refl };
+      version = record {
+        long = omega (arith, parts.tail.long);
+        version = sym (take-take 4 (header_size l) bytes (omega arith)) ∙ ap (take 4) parts.header ∙ header_version l g;
+      };
       right = parts.header;
       short = omega (arith, parts.tail.number, is.lengths.extension_block);
       end = omega (arith, parts.tail.number, parts.tail.long);

@@ -1,38 +1,40 @@
 -- Exactly one verdict on bytes: they are what is read, or one fault comes first.
-use Rattle.std.proofs.Common.{◌≡◌, ◌≢◌, ℕ, ◌<◌, ◌≤◌, ◌↔◌, ◌⊎◌, inl, inr, List, length, take, Ok, Err, Result, MatchResult, ap, sym, refl, ◌∙◌, arith}
+use Rattle.std.proofs.Common.{◌≡◌, ◌≢◌, ℕ, ◌<◌, ◌≤◌, ◌↔◌, ◌⊎◌, inl, inr, List, length, take, Ok, Err, Result, MatchResult, ap, sym, subst, refl, ◌∙◌, arith}
 use Rattle.std.proofs.lemmas.Result.{MatchResult-at_err}
 use Rattle.std.specs.Int.{w32, to_be_bytes}
 use Rattle.share_layout.specs.declared.error.Section.{Section}
 use Rattle.share_layout.specs.declared.error.LayoutError.{LayoutError}
 use Rattle.share_layout.specs.declared.error.LayoutError.TheVariants.{BadParameters, TooLarge, TooManySegments, BadVersion, BadOffset, Truncated, BadShareHashes, WriterFault}
 use Rattle.share_layout.specs.declared.places.Places.{Places}
-use Rattle.share_layout.specs.Places.{HasVersion, HasBadEnd, section_at}
-use Rattle.share_layout.specs.Reading.{IsFault, IsWhole, LacksBytes, IsCutFault}
+use Rattle.share_layout.specs.declared.error.Section.TheVariants.{Header}
+use Rattle.share_layout.specs.declared.layout.Layout.{Layout}
+use Rattle.share_layout.specs.Layout.{header_size}
+use Rattle.share_layout.specs.Places.{HasBadEnd, HasOwnPlaces, HasVersion, IsShortHeader, layout_in, places_in, section_at}
+use Rattle.share_layout.specs.Reading.{HasOtherVersion, IsFault, IsHeaderFault, IsLocateFault, IsWhole, LacksBytes}
+use Rattle.share_layout.specs.Cutting.{IsCutFault, IsVersionFault}
+use Rattle.share_layout.proofs.LayoutLemmas.{layout_is}
+
+-- a header is cut short
+abbrev pub Short : List ℕ → Section → Type 0
+Short bytes section = IsShortHeader bytes × (section ≡ Header)
 
 -- bytes are missing
-abbrev pub Lack : Type 0 → Places → List ℕ → Type 0
-Lack R p bytes = (length bytes < 36) ⊎ LacksBytes R p bytes
-
--- the version is another one
-abbrev pub OtherVersion : List ℕ → Type 0
-OtherVersion bytes = (36 ≤ length bytes) × (take 4 bytes ≢ to_be_bytes w32 1)
+abbrev pub Lack : Type 0 → Places → List ℕ → Section → Type 0
+Lack R p bytes section = LacksBytes R p bytes × (section ≡ section_at p (length bytes))
 
 -- the header or the end is wrong
 abbrev pub OtherPlaces : Type 0 → Places → List ℕ → Type 0
-OtherPlaces R p bytes = HasVersion bytes × (¬ R ⊎ (R × HasBadEnd p bytes))
+OtherPlaces R p bytes = HasVersion p.layout bytes × (¬ R ⊎ (R × HasBadEnd p bytes))
 
-lack_version : (R : Type 0) (p : Places) (bytes : List ℕ) → Lack R p bytes → OtherVersion bytes → ⊥
-lack_version R p bytes l v = elim l [ inl short ↦ omega (arith, short, v.0) | inr lacks ↦ v.1 lacks.version.version ]
+-- a header that has a version is not cut short
+short_version : (l : Layout) (bytes : List ℕ) → IsShortHeader bytes → HasVersion l bytes → ⊥
+short_version l bytes short v = omega (arith, short, v.long, ap header_size (layout_is l bytes v.version))
 
-lack_places : (R : Type 0) (p : Places) (bytes : List ℕ) → Lack R p bytes → OtherPlaces R p bytes → ⊥
-lack_places R p bytes l o =
-    elim l [
-      | inl short ↦ omega (arith, short, o.0.long)
-      | inr lacks ↦ elim o.1 [ inl wrong ↦ wrong lacks.right | inr end ↦ lacks.end end.1 ]
-    ]
+lack_places : (R : Type 0) (p : Places) (bytes : List ℕ) → LacksBytes R p bytes → OtherPlaces R p bytes → ⊥
+lack_places R p bytes l o = elim o.1 [ inl wrong ↦ wrong l.right | inr end ↦ l.end end.1 ]
 
-lack_whole : (R : Type 0) (p : Places) (bytes : List ℕ) → Lack R p bytes → IsWhole R p bytes → ⊥
-lack_whole R p bytes l w = elim l [ inl short ↦ omega (arith, short, w.version.long) | inr lacks ↦ omega (arith, lacks.lacks, w.end) ]
+lack_whole : (R : Type 0) (p : Places) (bytes : List ℕ) → LacksBytes R p bytes → IsWhole R p bytes → ⊥
+lack_whole R p bytes l w = omega (arith, l.lacks, w.end)
 
 places_whole : (R : Type 0) (p : Places) (bytes : List ℕ) → OtherPlaces R p bytes → IsWhole R p bytes → ⊥
 places_whole R p bytes o w =
@@ -41,33 +43,47 @@ places_whole R p bytes o w =
       | inr end ↦ elim end.1.bad [ inl long ↦ omega (arith, long, w.short) | inr more ↦ omega (arith, more, w.end) ]
     ]
 
-only_truncated : (R H : Type 0) (p : Places) (bytes : List ℕ) (section : Section) → Lack R p bytes × (section ≡ section_at p (length bytes)) → (f : LayoutError) → IsFault R H p bytes f → Truncated section ≡ f
-only_truncated R H p bytes section h BadParameters f = absurd f
-only_truncated R H p bytes section h TooLarge f = absurd f
-only_truncated R H p bytes section h TooManySegments f = absurd f
-only_truncated R H p bytes section h BadVersion f = absurd (lack_version R p bytes h.0 f)
-only_truncated R H p bytes section h BadOffset f = absurd (lack_places R p bytes h.0 f)
-only_truncated R H p bytes section h (Truncated other) f = ap Truncated (h.1 ∙ sym f.1)
-only_truncated R H p bytes section h BadShareHashes f = absurd (lack_whole R p bytes h.0 f.0)
-only_truncated R H p bytes section h WriterFault f = absurd f
+only_short : (R H : Type 0) (p : Places) (bytes : List ℕ) (section : Section) → Short bytes section → (f : LayoutError) → IsFault R H p bytes f → Truncated section ≡ f
+only_short R H p bytes section h BadParameters f = absurd f
+only_short R H p bytes section h TooLarge f = absurd f
+only_short R H p bytes section h TooManySegments f = absurd f
+only_short R H p bytes section h BadVersion f = absurd (omega (arith, h.0, f.long))
+only_short R H p bytes section h BadOffset f = absurd (short_version p.layout bytes h.0 f.0)
+only_short R H p bytes section h (Truncated other) f =
+    elim f [ inl short ↦ ap Truncated (h.1 ∙ sym short.1) | inr lacks ↦ absurd (short_version p.layout bytes h.0 lacks.0.version) ]
+only_short R H p bytes section h BadShareHashes f = absurd (short_version p.layout bytes h.0 f.0.version)
+only_short R H p bytes section h WriterFault f = absurd f
 
-only_version : (R H : Type 0) (p : Places) (bytes : List ℕ) → OtherVersion bytes → (f : LayoutError) → IsFault R H p bytes f → BadVersion ≡ f
+only_lack : (R H : Type 0) (p : Places) (bytes : List ℕ) (section : Section) → Lack R p bytes section → (f : LayoutError) → IsFault R H p bytes f → Truncated section ≡ f
+only_lack R H p bytes section h BadParameters f = absurd f
+only_lack R H p bytes section h TooLarge f = absurd f
+only_lack R H p bytes section h TooManySegments f = absurd f
+only_lack R H p bytes section h BadVersion f = absurd (f.other h.0.version.version)
+only_lack R H p bytes section h BadOffset f = absurd (lack_places R p bytes h.0 f)
+only_lack R H p bytes section h (Truncated other) f =
+    elim f [ inl short ↦ absurd (short_version p.layout bytes short.0 h.0.version) | inr lacks ↦ ap Truncated (h.1 ∙ sym lacks.1) ]
+only_lack R H p bytes section h BadShareHashes f = absurd (lack_whole R p bytes h.0 f.0)
+only_lack R H p bytes section h WriterFault f = absurd f
+
+only_version : (R H : Type 0) (p : Places) (bytes : List ℕ) → HasOtherVersion p.layout bytes → (f : LayoutError) → IsFault R H p bytes f → BadVersion ≡ f
 only_version R H p bytes h BadParameters f = absurd f
 only_version R H p bytes h TooLarge f = absurd f
 only_version R H p bytes h TooManySegments f = absurd f
 only_version R H p bytes h BadVersion f = refl
-only_version R H p bytes h BadOffset f = absurd (h.1 f.0.version)
-only_version R H p bytes h (Truncated other) f = absurd (lack_version R p bytes f.0 h)
-only_version R H p bytes h BadShareHashes f = absurd (h.1 f.0.version.version)
+only_version R H p bytes h BadOffset f = absurd (h.other f.0.version)
+only_version R H p bytes h (Truncated other) f =
+    elim f [ inl short ↦ absurd (omega (arith, short.0, h.long)) | inr lacks ↦ absurd (h.other lacks.0.version.version) ]
+only_version R H p bytes h BadShareHashes f = absurd (h.other f.0.version.version)
 only_version R H p bytes h WriterFault f = absurd f
 
 only_places : (R H : Type 0) (p : Places) (bytes : List ℕ) → OtherPlaces R p bytes → (f : LayoutError) → IsFault R H p bytes f → BadOffset ≡ f
 only_places R H p bytes h BadParameters f = absurd f
 only_places R H p bytes h TooLarge f = absurd f
 only_places R H p bytes h TooManySegments f = absurd f
-only_places R H p bytes h BadVersion f = absurd (f.1 h.0.version)
+only_places R H p bytes h BadVersion f = absurd (f.other h.0.version)
 only_places R H p bytes h BadOffset f = refl
-only_places R H p bytes h (Truncated other) f = absurd (lack_places R p bytes f.0 h)
+only_places R H p bytes h (Truncated other) f =
+    elim f [ inl short ↦ absurd (short_version p.layout bytes short.0 h.0) | inr lacks ↦ absurd (lack_places R p bytes lacks.0 h) ]
 only_places R H p bytes h BadShareHashes f = absurd (places_whole R p bytes h f.0)
 only_places R H p bytes h WriterFault f = absurd f
 
@@ -75,9 +91,10 @@ only_hashes : (R H : Type 0) (p : Places) (bytes : List ℕ) → IsWhole R p byt
 only_hashes R H p bytes h BadParameters f = absurd f
 only_hashes R H p bytes h TooLarge f = absurd f
 only_hashes R H p bytes h TooManySegments f = absurd f
-only_hashes R H p bytes h BadVersion f = absurd (f.1 h.0.version.version)
+only_hashes R H p bytes h BadVersion f = absurd (f.other h.0.version.version)
 only_hashes R H p bytes h BadOffset f = absurd (places_whole R p bytes f h.0)
-only_hashes R H p bytes h (Truncated other) f = absurd (lack_whole R p bytes f.0 h.0)
+only_hashes R H p bytes h (Truncated other) f =
+    elim f [ inl short ↦ absurd (short_version p.layout bytes short.0 h.0.version) | inr lacks ↦ absurd (lack_whole R p bytes lacks.0 h.0) ]
 only_hashes R H p bytes h BadShareHashes f = refl
 only_hashes R H p bytes h WriterFault f = absurd f
 
@@ -88,7 +105,8 @@ one_fault R H p bytes TooLarge f h g = absurd h
 one_fault R H p bytes TooManySegments f h g = absurd h
 one_fault R H p bytes BadVersion f h g = only_version R H p bytes h f g
 one_fault R H p bytes BadOffset f h g = only_places R H p bytes h f g
-one_fault R H p bytes (Truncated section) f h g = only_truncated R H p bytes section h f g
+one_fault R H p bytes (Truncated section) f h g =
+    elim h [ inl short ↦ only_short R H p bytes section short f g | inr lacks ↦ only_lack R H p bytes section lacks f g ]
 one_fault R H p bytes BadShareHashes f h g = only_hashes R H p bytes h f g
 one_fault R H p bytes WriterFault f h g = absurd h
 
@@ -97,22 +115,70 @@ pub no_fault : (R H : Type 0) (p : Places) (bytes : List ℕ) → IsWhole R p by
 no_fault R H p bytes w h BadParameters f = f
 no_fault R H p bytes w h TooLarge f = f
 no_fault R H p bytes w h TooManySegments f = f
-no_fault R H p bytes w h BadVersion f = f.1 w.version.version
+no_fault R H p bytes w h BadVersion f = f.other w.version.version
 no_fault R H p bytes w h BadOffset f = places_whole R p bytes f w
-no_fault R H p bytes w h (Truncated section) f = lack_whole R p bytes f.0 w
+no_fault R H p bytes w h (Truncated section) f =
+    elim f [ inl short ↦ short_version p.layout bytes short.0 w.version | inr lacks ↦ lack_whole R p bytes lacks.0 w ]
 no_fault R H p bytes w h BadShareHashes f = f.1 h
 no_fault R H p bytes w h WriterFault f = f
 
 -- a fault behind a right header
-pub cut_fault : (R H : Type 0) (p : Places) (bytes : List ℕ) → HasVersion bytes → R → (e : LayoutError) → IsCutFault p bytes e → IsFault R H p bytes e
+pub cut_fault : (R H : Type 0) (p : Places) (bytes : List ℕ) → HasVersion p.layout bytes → R → (e : LayoutError) → IsCutFault p bytes e → IsFault R H p bytes e
 cut_fault R H p bytes v r BadParameters f = absurd f
 cut_fault R H p bytes v r TooLarge f = absurd f
 cut_fault R H p bytes v r TooManySegments f = absurd f
 cut_fault R H p bytes v r BadVersion f = absurd f
 cut_fault R H p bytes v r BadOffset f = (v, inr (r, f))
-cut_fault R H p bytes v r (Truncated section) f = (inr (record { version = v; right = r; end = f.0; lacks = f.1 }), f.2)
+cut_fault R H p bytes v r (Truncated section) f = inr (record { version = v; right = r; end = f.0; lacks = f.1 }, f.2)
 cut_fault R H p bytes v r BadShareHashes f = absurd f
 cut_fault R H p bytes v r WriterFault f = absurd f
+
+-- a fault of the header's length or version
+pub version_fault : (R H : Type 0) (p : Places) (bytes : List ℕ) (e : LayoutError) → IsVersionFault p.layout bytes e → IsFault R H p bytes e
+version_fault R H p bytes BadParameters f = absurd f
+version_fault R H p bytes TooLarge f = absurd f
+version_fault R H p bytes TooManySegments f = absurd f
+version_fault R H p bytes BadVersion f = f
+version_fault R H p bytes BadOffset f = absurd f
+version_fault R H p bytes (Truncated section) f = inl f
+version_fault R H p bytes BadShareHashes f = absurd f
+version_fault R H p bytes WriterFault f = absurd f
+
+-- a fault of the header
+pub header_fault : (bytes : List ℕ) (e : LayoutError) → IsHeaderFault bytes e → IsLocateFault bytes e
+header_fault bytes BadParameters f = absurd f
+header_fault bytes TooLarge f = absurd f
+header_fault bytes TooManySegments f = absurd f
+header_fault bytes BadVersion f = f
+header_fault bytes BadOffset f = (f.0, inl f.1)
+header_fault bytes (Truncated section) f = inl f
+header_fault bytes BadShareHashes f = absurd f
+header_fault bytes WriterFault f = absurd f
+
+pub one_header_fault : (bytes : List ℕ) (e f : LayoutError) → IsHeaderFault bytes e → IsHeaderFault bytes f → e ≡ f
+one_header_fault bytes e f h g =
+    one_fault (HasOwnPlaces bytes) (Unit {0}) (places_in bytes) bytes e f (header_fault bytes e h) (header_fault bytes f g)
+
+pub no_header_fault : (bytes : List ℕ) → HasVersion (layout_in bytes) bytes → HasOwnPlaces bytes → (e : LayoutError) → IsHeaderFault bytes e → ⊥
+no_header_fault bytes v own BadParameters f = f
+no_header_fault bytes v own TooLarge f = f
+no_header_fault bytes v own TooManySegments f = f
+no_header_fault bytes v own BadVersion f = f.other v.version
+no_header_fault bytes v own BadOffset f = f.1 own
+no_header_fault bytes v own (Truncated section) f = short_version (layout_in bytes) bytes f.0 v
+no_header_fault bytes v own BadShareHashes f = f
+no_header_fault bytes v own WriterFault f = f
+
+-- why a header tells no places, by its version first
+pub told_fault : (bytes : List ℕ) (e : LayoutError) → IsVersionFault (layout_in bytes) bytes e → IsHeaderFault bytes e
+told_fault bytes BadParameters f = absurd f
+told_fault bytes TooLarge f = absurd f
+told_fault bytes TooManySegments f = absurd f
+told_fault bytes BadVersion f = f
+told_fault bytes BadOffset f = absurd f
+told_fault bytes (Truncated section) f = f
+told_fault bytes BadShareHashes f = absurd f
+told_fault bytes WriterFault f = absurd f
 
 -- what is accepted, where nothing has a fault, in other words
 pub no_refusal : {X : Type 0} (A B : X → Type 0) (F : LayoutError → Type 0) (r : Result X LayoutError) → MatchResult r A F
@@ -125,3 +191,8 @@ pub refusal : {X : Type 0} (A : X → Type 0) (F : LayoutError → Type 0) (r : 
     → ((x : X) → A x → (e : LayoutError) → F e → ⊥) → ((e f : LayoutError) → F e → F f → e ≡ f) → (error : LayoutError) → (r ≡ Err error) ↔ F error
 refusal A F (Ok x) m none one error = (λ e. absurd (cc e), λ f. absurd (none x m error f))
 refusal A F (Err d) m none one error = (λ e. MatchResult-at_err A F error e m, λ f. ap Err (one d error m f))
+
+-- a fault that comes is the only one
+pub only_fault : {X : Type 0} (F : LayoutError → Type 0) (e : LayoutError) → F e → ((e f : LayoutError) → F e → F f → e ≡ f)
+    → (r : Result X LayoutError) → r ≡ Err e → (error : LayoutError) → (r ≡ Err error) ↔ F error
+only_fault F e fault one r is error = (λ also. subst F (cc (sym is ∙ also)) fault, λ f. is ∙ ap Err (one e error fault f))

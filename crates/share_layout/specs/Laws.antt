@@ -1,18 +1,27 @@
 -- Laws of shares.
-use Rattle.std.specs.Prelude.{◌≡◌, ℕ, List, ◌++◌, Some}
-use Rattle.share_layout.specs.declared.error.Section.TheVariants.{Data, Unused, CiphertextTree, BlockTree, ShareHashes, Ueb}
+use Rattle.std.specs.Prelude.{◌≡◌, ℕ, ◌<◌, List, ◌++◌}
+use Rattle.merkle.specs.Tree.{height, needed_numbers}
 use Rattle.share_layout.specs.Geometry.{Geometry, IsGeometry}
-use Rattle.share_layout.specs.Share.{Sections, HaveLengths, IsShare, share_bytes}
+use Rattle.share_layout.specs.Layout.{header}
+use Rattle.share_layout.specs.Share.{CarriesNumbers, HaveLengths, IsShare, Sections}
 use Rattle.share_layout.specs.Places.{LocatesUeb}
-use Rattle.share_layout.specs.Writing.{written_for}
+use Rattle.share_layout.specs.Writing.{ending}
+
+-- bytes are a share in one way
+abbrev pub HasOneReading : Type 0
+HasOneReading = (g : Geometry) (num other : ℕ) (bytes : List ℕ) (s t : Sections)
+    → IsShare g num bytes s → IsShare g other bytes t → s ≡ t
 
 -- a share's own header leads to its extension block
 abbrev pub LocateTheirBlocks : Type 0
-LocateTheirBlocks = (g : Geometry) (num : ℕ) (bytes : List ℕ) (s : Sections) → IsGeometry g → IsShare g num bytes s → LocatesUeb bytes s.extension_block
+LocateTheirBlocks = (g : Geometry) (num : ℕ) (bytes : List ℕ) (s : Sections)
+    → IsGeometry g → IsShare g num bytes s → LocatesUeb bytes s.extension_block
 
--- what a share writer writes for the six sections, one after another, is the share
+-- What a share writer writes for five sections, one after another and cut up at will, and then for the extension block, is the
+-- share of the number that the share hashes carry.
 abbrev pub SectionsMakeShare : Type 0
-SectionsMakeShare = (g : Geometry) (s : Sections) → HaveLengths g s
-    → written_for g (Some Data) s.blocks ++ written_for g (Some Unused) s.unused ++ written_for g (Some CiphertextTree) s.ciphertext_tree
-    ++ written_for g (Some BlockTree) s.block_tree ++ written_for g (Some ShareHashes) s.share_hashes ++ written_for g (Some Ueb) s.extension_block
-    ≡ share_bytes g s
+SectionsMakeShare = (g : Geometry) (num : ℕ) (s : Sections) → HaveLengths g s
+    → num < g.total → CarriesNumbers (needed_numbers (height g.total) num) s.share_hashes
+    → IsShare g num
+        (header g ++ (s.blocks ++ s.unused ++ s.ciphertext_tree ++ s.block_tree ++ s.share_hashes)
+        ++ ending g s.extension_block) s

@@ -1,7 +1,11 @@
 pub mod Geometry
+pub mod Layout
+pub mod Pieces
 pub mod Share
 pub mod Places
 pub mod Error
 pub mod Reading
 pub mod Writing
 pub mod Laws
+-- words of private clauses
+pub mod Cutting

@@ -5,11 +5,14 @@ use Rattle.merkle.specs.Tree.{height, needed_numbers}
 use Rattle.ueb.specs.declared.limits.TheConstants.{MAX_LENGTH}
 use Rattle.share_layout.specs.declared.error.LayoutError.{LayoutError}
 use Rattle.share_layout.specs.declared.error.LayoutError.TheVariants.{BadVersion, BadOffset, Truncated, BadShareHashes}
+use Rattle.share_layout.specs.declared.error.Section.TheVariants.{Header}
+use Rattle.share_layout.specs.declared.layout.Layout.{Layout}
 use Rattle.share_layout.specs.declared.view.ShareView.{ShareView}
 use Rattle.share_layout.specs.declared.places.Places.{Places}
-use Rattle.share_layout.specs.Geometry.{Geometry, hashes_size}
-use Rattle.share_layout.specs.Share.{header, header_numbers, Sections, CarriesNumbers}
-use Rattle.share_layout.specs.Places.{places_of, places_in, HasVersion, HasOwnPlaces, HasBadEnd, extension_length, end_of, section_at}
+use Rattle.share_layout.specs.Geometry.{Geometry}
+use Rattle.share_layout.specs.Layout.{header, header_size, layout_of, places_of, version, width}
+use Rattle.share_layout.specs.Share.{Sections, CarriesNumbers}
+use Rattle.share_layout.specs.Places.{places_in, layout_in, IsShortHeader, HasVersion, HasOwnPlaces, HasBadEnd, extension_length, end_of, section_at}
 
 -- the sections of a view, without where they lie in memory
 abbrev pub sections_in : ShareView → Sections
@@ -22,27 +25,34 @@ sections_in v = record {
   extension_block = v.extension_block.now;
 }
 
+-- a header is there whole, and it is not one of this layout
+pub record HasOtherVersion (layout : Layout) (bytes : List ℕ) : Type 0 where
+  pub long : header_size (layout_in bytes) ≤ length bytes
+  pub other : take 4 bytes ≢ to_be_bytes w32 (version layout)
+
 -- the header is right, and a byte is missing before the share's end
 pub record LacksBytes (RightHeader : Type 0) (p : Places) (bytes : List ℕ) : Type 0 where
-  pub version : HasVersion bytes
+  pub version : HasVersion p.layout bytes
   pub right : RightHeader
   pub end : ¬ HasBadEnd p bytes
   pub lacks : length bytes < end_of p bytes
 
 -- the header is right, and the share ends where it has to
 pub record IsWhole (RightHeader : Type 0) (p : Places) (bytes : List ℕ) : Type 0 where
-  pub version : HasVersion bytes
+  pub version : HasVersion p.layout bytes
   pub right : RightHeader
   pub short : extension_length p bytes ≤ MAX_LENGTH
   pub end : length bytes ≡ end_of p bytes
 
--- The first fault, where a header of the right version is to be as `RightHeader` says and then gives these places, and the
+-- The first fault, where a header of the places' layout is to be as `RightHeader` says and then gives these places, and the
 -- share hashes are to be as `RightHashes` says. A section is truncated where the first byte that is missing lies in it.
 abbrev pub IsFault : Type 0 → Type 0 → Places → List ℕ → LayoutError → Type 0
 IsFault RightHeader RightHashes p bytes (Truncated section) =
-    ((length bytes < 36) ⊎ LacksBytes RightHeader p bytes) × (section ≡ section_at p (length bytes))
-IsFault RightHeader RightHashes p bytes BadVersion = (36 ≤ length bytes) × (take 4 bytes ≢ to_be_bytes w32 1)
-IsFault RightHeader RightHashes p bytes BadOffset = HasVersion bytes × (¬ RightHeader ⊎ (RightHeader × HasBadEnd p bytes))
+    (IsShortHeader bytes × (section ≡ Header))
+    ⊎ (LacksBytes RightHeader p bytes × (section ≡ section_at p (length bytes)))
+IsFault RightHeader RightHashes p bytes BadVersion = HasOtherVersion p.layout bytes
+IsFault RightHeader RightHashes p bytes BadOffset =
+    HasVersion p.layout bytes × (¬ RightHeader ⊎ (RightHeader × HasBadEnd p bytes))
 IsFault RightHeader RightHashes p bytes BadShareHashes = IsWhole RightHeader p bytes × ¬ RightHashes
 IsFault RightHeader RightHashes p bytes error = ⊥
 
@@ -50,9 +60,16 @@ IsFault RightHeader RightHashes p bytes error = ⊥
 abbrev pub IsLocateFault : List ℕ → LayoutError → Type 0
 IsLocateFault bytes error = IsFault (HasOwnPlaces bytes) (Unit {0}) (places_in bytes) bytes error
 
+-- why a header tells no places
+abbrev pub IsHeaderFault : List ℕ → LayoutError → Type 0
+IsHeaderFault bytes (Truncated section) = IsShortHeader bytes × (section ≡ Header)
+IsHeaderFault bytes BadVersion = HasOtherVersion (layout_in bytes) bytes
+IsHeaderFault bytes BadOffset = HasVersion (layout_in bytes) bytes × ¬ HasOwnPlaces bytes
+IsHeaderFault bytes error = ⊥
+
 -- the header is that of each share of a file with this geometry
 abbrev pub HasHeader : Geometry → List ℕ → Type 0
-HasHeader g bytes = take 36 bytes ≡ header (header_numbers g (hashes_size g))
+HasHeader g bytes = take (header_size (layout_of g)) bytes ≡ header g
 
 -- there is such a share, and the share hashes carry its numbers
 pub record HasNumbers (g : Geometry) (num : ℕ) (bytes : List ℕ) : Type 0 where
@@ -63,26 +80,3 @@ pub record HasNumbers (g : Geometry) (num : ℕ) (bytes : List ℕ) : Type 0 whe
 -- why bytes are not share `num` of a file with this geometry
 abbrev pub IsReadFault : Geometry → ℕ → List ℕ → LayoutError → Type 0
 IsReadFault g num bytes error = IsFault (HasHeader g bytes) (HasNumbers g num bytes) (places_of g) bytes error
-
--- the sections at these places
-abbrev pub sections_at : Places → List ℕ → Sections
-sections_at p bytes = record {
-  blocks = slice_range bytes 36 p.unused;
-  unused = slice_range bytes p.unused p.ciphertext_tree;
-  ciphertext_tree = slice_range bytes p.ciphertext_tree p.block_tree;
-  block_tree = slice_range bytes p.block_tree p.share_hashes;
-  share_hashes = slice_range bytes p.share_hashes p.extension_block;
-  extension_block = drop (p.extension_block + 4) bytes;
-}
-
--- the bytes end where they have to, and these are their sections
-pub record IsCut (p : Places) (bytes : List ℕ) (s : Sections) : Type 0 where
-  pub short : extension_length p bytes ≤ MAX_LENGTH
-  pub end : length bytes ≡ end_of p bytes
-  pub sections : s ≡ sections_at p bytes
-
--- the first fault behind the header
-abbrev pub IsCutFault : Places → List ℕ → LayoutError → Type 0
-IsCutFault p bytes (Truncated section) = ¬ HasBadEnd p bytes × (length bytes < end_of p bytes) × (section ≡ section_at p (length bytes))
-IsCutFault p bytes BadOffset = HasBadEnd p bytes
-IsCutFault p bytes error = ⊥

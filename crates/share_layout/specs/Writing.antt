@@ -1,60 +1,29 @@
 -- What a share writer writes.
-use Rattle.std.specs.Prelude.{◌≡◌, ℕ, ◌≤◌, Bool, List, ◌++◌, length, [], Option, Some, None}
-use Rattle.std.specs.Int.{w32, to_be_bytes}
+use Rattle.std.specs.Prelude.{◌≡◌, ℕ, ◌+◌, ◌==◌, Bool, List, [], ◌++◌, length, Option, if◌then◌else◌}
 use Rattle.std.specs.Io.KnownBytes.{Appends}
-use Rattle.ueb.specs.declared.limits.TheConstants.{MAX_LENGTH}
-use Rattle.share_layout.specs.declared.error.Section.{Section}
-use Rattle.share_layout.specs.declared.error.Section.TheVariants.{Header, Data, Unused, CiphertextTree, BlockTree, ShareHashes, Ueb}
-use Rattle.share_layout.specs.Geometry.{Geometry, hashes_size, share_data_size, tree_size}
-use Rattle.share_layout.specs.Share.{header, header_numbers}
+use Rattle.share_layout.specs.Geometry.{Geometry}
+use Rattle.share_layout.specs.Layout.{header, header_size, layout_of, spelled, width}
 
--- A share writer: the geometry, the share's number, the section that it takes next, whether its writer has failed, and the bytes
--- that the writer holds, where they are known.
+-- A share writer: the geometry, the share's number, how many bytes of the share are written, whether its writer has failed, and
+-- the bytes that the writer holds, where they are known.
 pub record Writing : Type 0 where
   pub geometry : Geometry
   pub number : ℕ
-  pub next : Option Section
+  pub place : ℕ
   pub failed : Bool
   pub contents : Option (List ℕ)
 
--- the section behind one
-abbrev pub section_after : Section → Option Section
-section_after Header = Some Data
-section_after Data = Some Unused
-section_after Unused = Some CiphertextTree
-section_after CiphertextTree = Some BlockTree
-section_after BlockTree = Some ShareHashes
-section_after ShareHashes = Some Ueb
-section_after Ueb = None
+-- what is written before the next bytes: the header, before the first
+abbrev pub beginning : Geometry → ℕ → List ℕ
+beginning g place = if place == 0 then header g else []
 
-abbrev pub section_behind : Option Section → Option Section
-section_behind None = None
-section_behind (Some section) = section_after section
+-- where the next bytes are written
+abbrev pub next_place : Geometry → ℕ → ℕ
+next_place g place = if place == 0 then header_size (layout_of g) else place
 
--- bytes that such a section may have, by their number
-abbrev pub HasLength : Geometry → Section → List ℕ → Type 0
-HasLength g Header bytes = ⊥
-HasLength g Data bytes = length bytes ≡ share_data_size g
-HasLength g Unused bytes = length bytes ≡ tree_size g
-HasLength g CiphertextTree bytes = length bytes ≡ tree_size g
-HasLength g BlockTree bytes = length bytes ≡ tree_size g
-HasLength g ShareHashes bytes = length bytes ≡ hashes_size g
-HasLength g Ueb bytes = length bytes ≤ MAX_LENGTH
-
--- a section is still to come, and these bytes may be it
-abbrev pub IsNext : Geometry → Option Section → List ℕ → Type 0
-IsNext g None bytes = ⊥
-IsNext g (Some section) bytes = HasLength g section bytes
-
--- what is written before a section: the header before the blocks, its length before the extension block
-abbrev pub written_before : Geometry → Option Section → List ℕ → List ℕ
-written_before g (Some Data) bytes = header (header_numbers g (hashes_size g))
-written_before g (Some Ueb) bytes = to_be_bytes w32 (length bytes)
-written_before g next bytes = []
-
--- what is written for a section
-abbrev pub written_for : Geometry → Option Section → List ℕ → List ℕ
-written_for g next bytes = written_before g next bytes ++ bytes
+-- how a share ends: with the extension block, behind its length
+abbrev pub ending : Geometry → List ℕ → List ℕ
+ending g extension_block = spelled (layout_of g) (length extension_block) ++ extension_block
 
 -- a beginning of these bytes was added
 pub record AppendsBeginning (old new : Option (List ℕ)) (bytes : List ℕ) : Type 0 where

@@ -8,7 +8,7 @@ use std::fmt;
 /// A part of a share, in the order in which they stand in it.
 #[derive(Clone, Copy, Debug, PartialEq, Eq)]
 pub enum Section {
-    /// The header: nine numbers, 36 bytes.
+    /// The header: the version and eight numbers.
     Header,
     /// The blocks, one for each segment.
     Data,
@@ -33,7 +33,7 @@ pub enum LayoutError {
     TooLarge,
     /// There are more than `ueb::MAX_SEGMENTS` segments (number 31).
     TooManySegments,
-    /// The layout's version is not 1 (number 32).
+    /// The layout's version is not the one that it has to be (number 32).
     BadVersion,
     /// A number of the header is not the one that it has to be, the extension block is too long, or bytes follow it (number 33).
     BadOffset,

@@ -1,12 +1,17 @@
 //! How a file is cut up, and how long each part of its shares is.
 
-ghost use Rattle.std.specs.Prelude.{◌≡◌, ◌+◌, ◌*◌, ◌^◌, ◌<◌, ◌≤◌, ◌↔◌, Ok, Err, IfOk};
+ghost use Rattle.std.specs.Prelude.{◌≡◌, ◌+◌, ◌*◌, ◌^◌, ◌<◌, ◌≤◌, ◌↔◌, ◌++◌, Ok, Err, IfOk, take, drop};
+ghost use Rattle.std.specs.Int.{w32, to_be_bytes};
+ghost use Rattle.std.specs.List.{flat_map};
 ghost use Rattle.merkle.specs.Tree.{height};
 ghost use Rattle.ueb.specs.Shape.{rounded_up};
 ghost use Rattle.share_layout.specs.Geometry.{GivesItself};
-ghost use Rattle.share_layout.specs.Share.{header};
+ghost use Rattle.share_layout.specs.Layout.{header, header_size, layout_of, spelled, version};
+ghost use Rattle.share_layout.specs.Pieces.{SegmentsArePieces, SegmentsHaveLengths};
 
 use crate::error::LayoutError;
+use crate::layout::{Layout, spell};
+use crate::places::Places;
 use merkle::height;
 use std::marker::Model;
 use ueb::{MAX_FILE_SIZE, MAX_SEGMENT_SIZE, MAX_SEGMENTS, MAX_SHARES};
@@ -15,7 +20,7 @@ use ueb::{MAX_FILE_SIZE, MAX_SEGMENT_SIZE, MAX_SEGMENTS, MAX_SHARES};
 ///
 /// The file has 1 to `ueb::MAX_FILE_SIZE` bytes, and at most `ueb::MAX_SEGMENTS` segments. There are 1 to `ueb::MAX_SHARES` shares. The segment
 /// size is a multiple of the shares needed.
-#[derive(Clone, Copy, Debug, PartialEq, Eq)]
+#[derive(Clone, Copy, PartialEq, Eq)]
 pub struct Geometry {
     size: u64,
     needed: u16,
@@ -37,7 +42,8 @@ impl Model for Geometry {
 
 impl Geometry {
     ghost use Rattle.share_layout.specs.Geometry.{geometry_of, HasGeometry, IsGeometryFault, IsGeometry, segment_count, tail_length, block_size, tail_block_size, share_data_size, tree_size, hashes_size};
-    ghost use Rattle.share_layout.specs.Share.{header_numbers};
+    ghost use Rattle.share_layout.specs.Layout.{header_numbers};
+    ghost use Rattle.share_layout.specs.Pieces.{block_length, segment_length};
 
     /// The geometry of a file of `size` bytes, of which `k` of `n` shares are needed, with segments of at most `max` bytes, or of the least
     /// multiple of `k` from there on.
@@ -141,12 +147,34 @@ impl Geometry {
     }
 
     /// The length of a share's blocks together, in bytes.
-    pub fn share_data_size(&self) -> u32
+    pub fn share_data_size(&self) -> u64
         ensures value { result ≡ share_data_size self.now }
         ensures valid { IsGeometry self.now }
         ensures range { (0 < result) × (result ≤ MAX_FILE_SIZE) }
     {
-        self.size.div_ceil(u64::from(self.needed)) as u32
+        self.size.div_ceil(u64::from(self.needed))
+    }
+
+    /// The length of a segment, in bytes.
+    pub fn segment_length(&self, number: u32) -> u32
+        requires { number < segment_count self.now }
+        ensures value { result ≡ segment_length self.now number }
+        ensures valid { IsGeometry self.now }
+        ensures range { (0 < result) × (result ≤ self.now.segment_size) }
+    {
+        let before = u64::from(number) * u64::from(self.segment_size);
+        u64::from(self.segment_size).min(self.size - before) as u32
+    }
+
+    /// The length of each block of a segment, in bytes.
+    pub fn block_length(&self, number: u32) -> u32
+        requires { number < segment_count self.now }
+        ensures value { result ≡ block_length self.now number }
+        ensures valid { IsGeometry self.now }
+        ensures range { (0 < result) × (result ≤ block_size self.now) }
+        ensures enough { segment_length self.now number ≤ result * self.now.needed }
+    {
+        self.segment_length(number).div_ceil(u32::from(self.needed))
     }
 
     // The number of leaves of a tree with a leaf for each segment, those that fill it up to a power of two among them.
@@ -172,7 +200,7 @@ impl Geometry {
     pub fn tree_size(&self) -> u32
         ensures value { result ≡ tree_size self.now }
         ensures valid { IsGeometry self.now }
-        ensures range { (32 ≤ result) × (result < 2 ^ 22) }
+        ensures range { (32 ≤ result) × (result < 2 ^ 26) }
     {
         (2 * self.tree_width() - 1) * 32
     }
@@ -186,31 +214,42 @@ impl Geometry {
         (self.share_tree_height() + 1) * 34
     }
 
-    /// The header of each share.
-    pub fn header(&self) -> [u8; 36]
-        ensures { result ≡ header (header_numbers self.now (hashes_size self.now)) }
+    /// The layout of the file's shares: the second where a number in a header of the first does not fit its four bytes.
+    pub fn layout(&self) -> Layout
+        ensures { result ≡ layout_of self.now }
     {
-        spell(self.header_numbers())
+        if Places::by(Layout::One, self).extension_block < 1 << 32 {
+            Layout::One
+        } else {
+            Layout::Two
+        }
     }
 
-    // The numbers in the header.
-    fn header_numbers(&self) -> [u32; 9]
-        ensures { result ≡ header_numbers self.now (hashes_size self.now) }
+    /// Writes the header of each share over the first bytes of `out`, and gives its length: 36 or 68.
+    pub fn header(&self, out: &mut [u8; 68]) -> usize
+        ensures length { result ≡ header_size (layout_of self.now) }
+        ensures header { take result out.new ≡ header self.now }
+        ensures rest { drop result out.new ≡ drop result out.old }
     {
-        let tree = self.tree_size();
-        let data = self.share_data_size();
-        let unused = 36 + data;
-        let hashes = unused + 3 * tree;
+        let layout = self.layout();
+        spell_header(layout, self.header_numbers(layout), out);
+        layout.header_size()
+    }
+
+    // The numbers in a header behind the version.
+    fn header_numbers(&self, layout: Layout) -> [u64; 8]
+        ensures { result ≡ header_numbers layout self.now }
+    {
+        let places = Places::by(layout, self);
         [
-            1,
-            self.block_size(),
-            data,
-            36,
-            unused,
-            unused + tree,
-            unused + 2 * tree,
-            hashes,
-            hashes + self.hashes_size(),
+            u64::from(self.block_size()),
+            self.share_data_size(),
+            layout.header_size() as u64,
+            places.unused,
+            places.ciphertext_tree,
+            places.block_tree,
+            places.share_hashes,
+            places.extension_block,
         ]
     }
 }
@@ -226,16 +265,29 @@ fn rounded_up(n: u64, k: u16) -> u64
     n.div_ceil(u64::from(k)) * u64::from(k)
 }
 
-// Numbers in four bytes each.
-fn spell(numbers: [u32; 9]) -> [u8; 36]
-    ensures { result ≡ header numbers }
+// Writes the version and then the numbers over the first bytes.
+fn spell_header(layout: Layout, numbers: [u64; 8], out: &mut [u8; 68])
+    ensures header { take (header_size layout) out.new
+        ≡ to_be_bytes w32 (version layout) ++ flat_map (spelled layout) numbers }
+    ensures rest { drop (header_size layout) out.new ≡ drop (header_size layout) out.old }
 {
-    let mut bytes = [0; 36];
-    for i in 0..9 {
-        bytes[4 * i..4 * i + 4].copy_from_slice(&numbers[i].to_be_bytes());
+    out[..4].copy_from_slice(&layout.version().to_be_bytes());
+    let width = layout.width();
+    for i in 0..8 {
+        let place = 4 + width * i;
+        spell(layout, numbers[i], &mut out[place..place + width]);
     }
-    bytes
 }
+
+/// A law of the definitions: the lengths of a file's segments and of their blocks. The law is the contract; the call does nothing.
+pub fn segments_have_lengths()
+    ensures { SegmentsHaveLengths }
+{}
+
+/// A law of the definitions: a segment is the piece of its number. The law is the contract; the call does nothing.
+pub fn segments_are_pieces()
+    ensures { SegmentsArePieces }
+{}
 
 /// A law of the definitions: a geometry whose segment size is at most `ueb::MAX_SEGMENT_SIZE` is the one that `Geometry::of` gives for its
 /// own segment size. The law is the contract; the call does nothing.

@@ -1,113 +1,168 @@
 //! Where a share's sections stand.
 
-ghost use Rattle.std.specs.Prelude.{◌≡◌, ◌+◌, ◌≤◌, ◌↔◌, MatchOption, IsTrue, length, take};
-ghost use Rattle.std.specs.Int.{w32, to_be_bytes};
-ghost use Rattle.share_layout.specs.Places.{number_at, places_in, places_of, section_at, AreRising, HasOwnPlaces};
+ghost use Rattle.std.specs.Prelude.{◌≡◌, ◌^◌, ◌≤◌, ◌<◌, ◌↔◌, IsTrue, IsOk, Ok, Err, IfOk, length};
+ghost use Rattle.share_layout.specs.declared.error.LayoutError.{LayoutError};
+ghost use Rattle.share_layout.specs.Geometry.{IsGeometry};
+ghost use Rattle.share_layout.specs.Layout.{header_size, places_by, places_of, width};
+ghost use Rattle.share_layout.specs.Places.{header_number, layout_in, places_in, section_at, AreRising, HasOwnPlaces, HasVersion};
+ghost use Rattle.share_layout.specs.Reading.{IsHeaderFault};
+ghost use Rattle.share_layout.specs.Cutting.{IsVersionFault};
 
-use crate::error::Section;
+use crate::error::{LayoutError, Section};
 use crate::geometry::Geometry;
+use crate::layout::{Layout, number_at};
 
-/// Where the sections behind the blocks begin. The blocks begin behind the header.
-#[derive(Clone, Copy)]
-pub(crate) struct Places {
-    pub(crate) unused: u32,
-    pub(crate) ciphertext_tree: u32,
-    pub(crate) block_tree: u32,
-    pub(crate) share_hashes: u32,
-    pub(crate) extension_block: u32,
-}
-
-/// The number in the four bytes at a place.
-pub(crate) fn number_at(bytes: &[u8], place: usize) -> u32
-    requires { place + 4 ≤ length bytes.now }
-    ensures { result ≡ number_at bytes.now place }
-{
-    let number = &bytes[place..place + 4];
-    u32::from_be_bytes([number[0], number[1], number[2], number[3]])
-}
-
-/// Whether the version in a header is 1.
-pub(crate) fn has_version(bytes: &[u8]) -> bool
-    requires { 36 ≤ length bytes.now }
-    ensures { IsTrue result ↔ (take 4 bytes.now ≡ to_be_bytes w32 1) }
-{
-    bytes.starts_with(&1u32.to_be_bytes())
+/// Where the sections of a share stand: the places of their first bytes. The blocks stand behind the header.
+#[derive(Clone, Copy, PartialEq, Eq)]
+pub struct Places {
+    /// The share's layout.
+    pub layout: Layout,
+    /// The place of the tree that is no longer used.
+    pub unused: u64,
+    /// The place of the ciphertext tree.
+    pub ciphertext_tree: u64,
+    /// The place of the block tree.
+    pub block_tree: u64,
+    /// The place of the share hashes.
+    pub share_hashes: u64,
+    /// The place of the extension block's length, behind which the extension block stands.
+    pub extension_block: u64,
 }
 
 impl Places {
-    /// The places in the shares of a geometry.
-    pub(crate) fn of(geometry: &Geometry) -> Places
+    /// The places in the shares of a file with this geometry.
+    pub fn of(geometry: &Geometry) -> Places
         ensures places { result ≡ places_of geometry.now }
+        ensures valid { IsGeometry geometry.now }
         ensures rising { AreRising result }
+        ensures small { result.extension_block < 2 ^ 41 }
     {
-        let tree = geometry.tree_size();
-        let unused = 36 + geometry.share_data_size();
+        Places::by(geometry.layout(), geometry)
+    }
+
+    /// The places that a share's header tells. Bytes that follow the header are not looked at.
+    ///
+    /// Otherwise the first fault in this order: `Truncated(Header)`, where the bytes begin with version 2 and are fewer than 68, or
+    /// begin otherwise and are fewer than 36; `BadVersion`; `BadOffset`, where the blocks do not stand behind the header or a place
+    /// is not above the one before it.
+    pub fn read(bytes: &[u8]) -> Result<Places, LayoutError>
+        ensures places { IfOk result (λ places. places ≡ places_in bytes.now) }
+        ensures version { IfOk result (λ places. HasVersion places.layout bytes.now) }
+        ensures right { IfOk result (λ _. HasOwnPlaces bytes.now) }
+        // When each refusal comes.
+        ensures refused { (error : LayoutError) → (result ≡ Err error) ↔ IsHeaderFault bytes.now error }
+    {
+        let layout = Layout::in_header(bytes);
+        if let Err(error) = check_version(layout, bytes) {
+            return Err(error);
+        }
+        let places = Places::told(layout, bytes);
+        if places.are_own(bytes) {
+            Ok(places)
+        } else {
+            Err(LayoutError::BadOffset)
+        }
+    }
+
+    /// The places in a layout.
+    pub(crate) fn by(layout: Layout, geometry: &Geometry) -> Places
+        ensures places { result ≡ places_by layout geometry.now }
+        ensures valid { IsGeometry geometry.now }
+        ensures rising { AreRising result }
+        ensures small { result.extension_block < 2 ^ 41 }
+    {
+        let tree = u64::from(geometry.tree_size());
+        let unused = layout.header_size() as u64 + geometry.share_data_size();
         let share_hashes = unused + 3 * tree;
         Places {
+            layout,
             unused,
             ciphertext_tree: unused + tree,
             block_tree: unused + 2 * tree,
             share_hashes,
-            extension_block: share_hashes + geometry.hashes_size(),
+            extension_block: share_hashes + u64::from(geometry.hashes_size()),
         }
     }
 
     // The places that a header tells.
-    fn told(bytes: &[u8]) -> Places
-        requires { 36 ≤ length bytes.now }
+    fn told(layout: Layout, bytes: &[u8]) -> Places
+        requires layout { layout ≡ layout_in bytes.now }
+        requires long { header_size layout ≤ length bytes.now }
         ensures { result ≡ places_in bytes.now }
     {
         Places {
-            unused: number_at(bytes, 16),
-            ciphertext_tree: number_at(bytes, 20),
-            block_tree: number_at(bytes, 24),
-            share_hashes: number_at(bytes, 28),
-            extension_block: number_at(bytes, 32),
+            layout,
+            unused: header_number(layout, bytes, 3),
+            ciphertext_tree: header_number(layout, bytes, 4),
+            block_tree: header_number(layout, bytes, 5),
+            share_hashes: header_number(layout, bytes, 6),
+            extension_block: header_number(layout, bytes, 7),
         }
+    }
+
+    // Whether these places, which a header tells, are as they can be.
+    fn are_own(&self, bytes: &[u8]) -> bool
+        requires places { self.now ≡ places_in bytes.now }
+        requires long { header_size self.now.layout ≤ length bytes.now }
+        ensures { IsTrue result ↔ HasOwnPlaces bytes.now }
+    {
+        let data = header_number(self.layout, bytes, 2);
+        data == self.layout.header_size() as u64 && self.are_rising()
     }
 
     // Whether each place is above the one before it.
     fn are_rising(&self) -> bool
         ensures { IsTrue result ↔ AreRising self.now }
     {
-        36 < self.unused
+        (self.layout.header_size() as u64) < self.unused
             && self.unused < self.ciphertext_tree
             && self.ciphertext_tree < self.block_tree
             && self.block_tree < self.share_hashes
             && self.share_hashes < self.extension_block
     }
 
-    /// The places that a header tells, where they are as they can be.
-    pub(crate) fn in_header(bytes: &[u8]) -> Option<Places>
-        requires { 36 ≤ length bytes.now }
-        ensures { MatchOption result (¬ HasOwnPlaces bytes.now) (λ places. (places ≡ places_in bytes.now) × HasOwnPlaces bytes.now) }
-    {
-        let places = Places::told(bytes);
-        if number_at(bytes, 12) == 36 && places.are_rising() {
-            Some(places)
-        } else {
-            None
-        }
-    }
-
     /// The section in which a place of a share lies.
-    pub(crate) fn section_at(&self, place: usize) -> Section
+    pub(crate) fn section_at(&self, place: u64) -> Section
         ensures { result ≡ section_at self.now place }
     {
-        if place < 36 {
+        if place < self.layout.header_size() as u64 {
             Section::Header
-        } else if place < self.unused as usize {
+        } else if place < self.unused {
             Section::Data
-        } else if place < self.ciphertext_tree as usize {
+        } else if place < self.ciphertext_tree {
             Section::Unused
-        } else if place < self.block_tree as usize {
+        } else if place < self.block_tree {
             Section::CiphertextTree
-        } else if place < self.share_hashes as usize {
+        } else if place < self.share_hashes {
             Section::BlockTree
-        } else if place < self.extension_block as usize {
+        } else if place < self.extension_block {
             Section::ShareHashes
         } else {
             Section::Ueb
         }
     }
+}
+
+/// Whether bytes begin with a whole header of this layout, or the first fault of its length and its version.
+pub(crate) fn check_version(layout: Layout, bytes: &[u8]) -> Result<(), LayoutError>
+    ensures ok { IsOk result ↔ HasVersion layout bytes.now }
+    ensures refused { (error : LayoutError) → (result ≡ Err error) ↔ IsVersionFault layout bytes.now error }
+{
+    if bytes.len() < Layout::in_header(bytes).header_size() {
+        return Err(LayoutError::Truncated(Section::Header));
+    }
+    if !bytes.starts_with(&layout.version().to_be_bytes()) {
+        return Err(LayoutError::BadVersion);
+    }
+    Ok(())
+}
+
+// A header's number, by its place among the eight behind the version.
+fn header_number(layout: Layout, bytes: &[u8], i: usize) -> u64
+    requires layout { layout ≡ layout_in bytes.now }
+    requires long { header_size layout ≤ length bytes.now }
+    requires there { i < 8 }
+    ensures { result ≡ header_number bytes.now i }
+{
+    number_at(layout, bytes, 4 + layout.width() * i)
 }

@@ -3,14 +3,17 @@
 ghost use Rattle.std.specs.Prelude.{◌≡◌, ◌<◌, ◌≤◌, ◌↔◌, ℕ, IsTrue, List, length, IfOk, MatchResult, Err};
 ghost use Rattle.merkle.specs.Tree.{height, needed_numbers};
 ghost use Rattle.share_layout.specs.Geometry.{hashes_size};
-ghost use Rattle.share_layout.specs.Share.{CarriesNumbers, HasOneReading, IsShare, Sections};
+ghost use Rattle.share_layout.specs.Layout.{header_size};
+ghost use Rattle.share_layout.specs.Share.{CarriesNumbers, IsShare, Sections};
 ghost use Rattle.share_layout.specs.Places.{AreRising, LocatesUeb};
-ghost use Rattle.share_layout.specs.Laws.{LocateTheirBlocks};
-ghost use Rattle.share_layout.specs.Reading.{HasHeader, IsCut, IsCutFault, IsLocateFault, IsReadFault, sections_in};
+ghost use Rattle.share_layout.specs.Laws.{HasOneReading, LocateTheirBlocks};
+ghost use Rattle.share_layout.specs.Reading.{HasHeader, IsLocateFault, IsReadFault, sections_in};
+ghost use Rattle.share_layout.specs.Cutting.{IsCut, IsCutFault};
 
 use crate::error::{LayoutError, Section};
 use crate::geometry::Geometry;
-use crate::places::{Places, has_version, number_at};
+use crate::layout::number_at;
+use crate::places::{Places, check_version};
 use crate::tree::carries_numbers;
 use crate::view::ShareView;
 use ueb::MAX_LENGTH;
@@ -69,14 +72,9 @@ pub fn shares_locate_their_blocks()
 fn locate(bytes: &[u8]) -> Result<&[u8], LayoutError>
     ensures { MatchResult result (λ block. LocatesUeb bytes.now block.now) (IsLocateFault bytes.now) }
 {
-    if bytes.len() < 36 {
-        return Err(LayoutError::Truncated(Section::Header));
-    }
-    if !has_version(bytes) {
-        return Err(LayoutError::BadVersion);
-    }
-    let Some(places) = Places::in_header(bytes) else {
-        return Err(LayoutError::BadOffset);
+    let places = match Places::read(bytes) {
+        Ok(places) => places,
+        Err(error) => return Err(error),
     };
     match cut(bytes, places) {
         Ok(view) => Ok(view.extension_block),
@@ -93,11 +91,8 @@ fn read_share<'a>(
     ensures { MatchResult result (λ view. IsShare geometry.now number bytes.now (sections_in view))
         (IsReadFault geometry.now number bytes.now) }
 {
-    if bytes.len() < 36 {
-        return Err(LayoutError::Truncated(Section::Header));
-    }
-    if !has_version(bytes) {
-        return Err(LayoutError::BadVersion);
+    if let Err(error) = check_version(geometry.layout(), bytes) {
+        return Err(error);
     }
     if !has_header(bytes, geometry) {
         return Err(LayoutError::BadOffset);
@@ -113,25 +108,29 @@ fn read_share<'a>(
     }
 }
 
-// The sections at some places behind a header, or the first fault.
+// The sections at some places behind a header, or the first fault. A place and a length that a header tells may be near 2^64: what
+// is there is compared with them by what is left of it.
 fn cut(bytes: &[u8], places: Places) -> Result<ShareView<'_>, LayoutError>
-    requires long { 36 ≤ length bytes.now }
+    requires long { header_size places.layout ≤ length bytes.now }
     requires rising { AreRising places }
     ensures { MatchResult result (λ view. IsCut places bytes.now (sections_in view)) (IsCutFault places bytes.now) }
 {
-    let block = places.extension_block as usize + 4;
-    if bytes.len() < block {
-        return Err(LayoutError::Truncated(places.section_at(bytes.len())));
+    let length = bytes.len() as u64;
+    let width = places.layout.width();
+    if length - (width as u64) < places.extension_block {
+        return Err(LayoutError::Truncated(places.section_at(length)));
     }
-    let end = block + number_at(bytes, places.extension_block as usize) as usize;
-    if end > block + MAX_LENGTH || bytes.len() > end {
+    let block = places.extension_block as usize + width;
+    let told = number_at(places.layout, bytes, places.extension_block as usize);
+    let left = (bytes.len() - block) as u64;
+    if told > MAX_LENGTH as u64 || left > told {
         return Err(LayoutError::BadOffset);
     }
-    if bytes.len() < end {
+    if left < told {
         return Err(LayoutError::Truncated(Section::Ueb));
     }
     Ok(ShareView {
-        blocks: &bytes[36..places.unused as usize],
+        blocks: &bytes[places.layout.header_size()..places.unused as usize],
         unused: &bytes[places.unused as usize..places.ciphertext_tree as usize],
         ciphertext_tree: &bytes[places.ciphertext_tree as usize..places.block_tree as usize],
         block_tree: &bytes[places.block_tree as usize..places.share_hashes as usize],
@@ -144,7 +143,9 @@ fn cut(bytes: &[u8], places: Places) -> Result<ShareView<'_>, LayoutError>
 fn has_header(bytes: &[u8], geometry: &Geometry) -> bool
     ensures { IsTrue result ↔ HasHeader geometry.now bytes.now }
 {
-    bytes.starts_with(&geometry.header())
+    let mut header = [0; 68];
+    let length = geometry.header(&mut header);
+    bytes.starts_with(&header[..length])
 }
 
 // Whether there is such a share, and share hashes carry the numbers that it needs.

@@ -1,7 +1,7 @@
 //! A share's sections, as slices of its bytes.
 
 /// A share's sections, as slices of its bytes.
-#[derive(Clone, Copy, Debug, PartialEq, Eq)]
+#[derive(Clone, Copy, PartialEq, Eq)]
 pub struct ShareView<'a> {
     /// The blocks, one for each segment: `Geometry::share_data_size` bytes.
     pub blocks: &'a [u8],

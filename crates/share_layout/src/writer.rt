@@ -1,23 +1,27 @@
 //! Writing a share.
 
-ghost use Rattle.std.specs.Prelude.{◌≡◌, ◌++◌, ℕ, List, true, false, Some, Err, IsTrue, IsOkUnless, OnOk, OnErr};
+ghost use Rattle.std.specs.Prelude.{◌≡◌, ◌<◌, ◌≤◌, ◌+◌, ◌^◌, ◌++◌, false, true, Err, IsTrue, IsOkUnless, OnOk, OnErr, length, take};
 ghost use Rattle.std.specs.Io.KnownBytes.{Appends};
+ghost use Rattle.ueb.specs.declared.limits.TheConstants.{MAX_LENGTH};
+ghost use Rattle.share_layout.specs.Layout.{layout_of, places_of, spelled};
 ghost use Rattle.share_layout.specs.Laws.{SectionsMakeShare};
-ghost use Rattle.share_layout.specs.Writing.{AppendsBeginning, IsNext, section_behind, written_for};
+ghost use Rattle.share_layout.specs.Writing.{AppendsBeginning, beginning, ending, next_place};
 
-use crate::error::{LayoutError, Section};
+use crate::error::LayoutError;
 use crate::geometry::Geometry;
+use crate::layout::spell;
+use crate::places::Places;
 use std::io::{ErrorKind, Write};
 use std::marker::Model;
 
-/// Writes a share, section by section.
+/// Writes a share: first its header and five sections, one after another and cut up at will, and last the extension block.
 #[derive(Drop)]
 pub struct ShareWriter<W: Write> {
     writer: W,
     geometry: Geometry,
     number: u16,
-    // The section that comes next, where one is to come.
-    next: Option<Section>,
+    // How many bytes of the share are written.
+    place: u64,
     failed: bool,
 }
 
@@ -29,21 +33,19 @@ impl<W: Write> Model for ShareWriter<W> {
     ghost view = { λ s. record {
       geometry = s.geometry;
       number = s.number;
-      next = s.next;
+      place = s.place;
       failed = s.failed;
       contents = W.contents s.writer;
     } };
 }
 
 impl<W: Write> ShareWriter<W> {
-    ghost use Rattle.share_layout.specs.declared.error.Section.TheVariants.{Data};
-
     /// A writer of share `number` of a file with this geometry. Nothing is written yet.
     pub fn new(writer: W, geometry: &Geometry, number: u16) -> ShareWriter<W>
         ensures { result ≡ record {
           geometry = geometry.now;
           number = number;
-          next = Some Data;
+          place = 0;
           failed = false;
           contents = W.contents writer;
         } }
@@ -52,34 +54,71 @@ impl<W: Write> ShareWriter<W> {
             writer,
             geometry: *geometry,
             number,
-            next: Some(Section::Data),
+            place: 0,
             failed: false,
         }
     }
 
-    /// Writes the next section, which has its length. The header goes before the blocks, and the extension block's length before the
-    /// extension block.
+    /// Writes the next bytes of the blocks, the unused tree, the ciphertext tree, the block tree and the share hashes, which stand one
+    /// behind another: a section, a part of one or several. The header goes before the first.
     ///
     /// Where the writer fails, a beginning of this is written. This call and all later ones then answer `WriterFault`, and those write nothing.
-    pub fn put(&mut self, section: &[u8]) -> Result<(), LayoutError>
-        requires next { self.old.failed ≡ false → IsNext self.old.geometry self.old.next section.now }
+    pub fn put(&mut self, bytes: &[u8]) -> Result<(), LayoutError>
+        requires room { self.old.failed ≡ false → next_place self.old.geometry self.old.place + length bytes.now
+            ≤ (places_of self.old.geometry).extension_block }
         ensures written { OnOk result (Appends self.old.contents self.new.contents
-            (written_for self.old.geometry self.old.next section.now)) }
-        ensures ok { OnOk result (self.new ≡ record self.old { next = section_behind self.old.next; contents = self.new.contents }) }
+            (beginning self.old.geometry self.old.place ++ bytes.now)) }
+        ensures ok { OnOk result (self.new ≡ record self.old {
+          place = next_place self.old.geometry self.old.place + length bytes.now;
+          contents = self.new.contents;
+        }) }
         ensures refused { IsOkUnless result LayoutError.WriterFault }
-        ensures beginning { OnErr result (AppendsBeginning self.old.contents self.new.contents
-            (written_for self.old.geometry self.old.next section.now)) }
+        ensures begun { OnErr result (AppendsBeginning self.old.contents self.new.contents
+            (beginning self.old.geometry self.old.place ++ bytes.now)) }
         ensures err { OnErr result (self.new ≡ record self.old { failed = true; contents = self.new.contents }) }
         ensures for_good { IsTrue self.old.failed → (result ≡ Err LayoutError.WriterFault) × (self.new ≡ self.old) }
     {
         if self.failed {
             return Err(LayoutError::WriterFault);
         }
-        if write_next(&mut self.writer, &self.geometry, self.next, section).is_err() {
+        let mut header = [0; 68];
+        let length = spell_beginning(&self.geometry, self.place, &mut header);
+        if write_both(&mut self.writer, &header[..length], bytes).is_err() {
             self.failed = true;
             return Err(LayoutError::WriterFault);
         }
-        self.next = behind(self.next);
+        self.place += (length + bytes.len()) as u64;
+        Ok(())
+    }
+
+    /// Writes the extension block, behind its length, after all other bytes. Nothing follows it.
+    ///
+    /// Where the writer fails, as `put` does.
+    pub fn put_extension_block(&mut self, extension_block: &[u8]) -> Result<(), LayoutError>
+        requires last { self.old.failed ≡ false → self.old.place ≡ (places_of self.old.geometry).extension_block }
+        requires short { self.old.failed ≡ false → length extension_block.now ≤ MAX_LENGTH }
+        ensures written { OnOk result (Appends self.old.contents self.new.contents
+            (ending self.old.geometry extension_block.now)) }
+        ensures ok { OnOk result (self.new ≡ record self.old {
+          place = self.old.place + length (ending self.old.geometry extension_block.now);
+          contents = self.new.contents;
+        }) }
+        ensures refused { IsOkUnless result LayoutError.WriterFault }
+        ensures begun { OnErr result (AppendsBeginning self.old.contents self.new.contents
+            (ending self.old.geometry extension_block.now)) }
+        ensures err { OnErr result (self.new ≡ record self.old { failed = true; contents = self.new.contents }) }
+        ensures for_good { IsTrue self.old.failed → (result ≡ Err LayoutError.WriterFault) × (self.new ≡ self.old) }
+    {
+        if self.failed {
+            return Err(LayoutError::WriterFault);
+        }
+        let mut number = [0; 8];
+        let width = spell_length(&self.geometry, extension_block.len() as u64, &mut number);
+        if write_both(&mut self.writer, &number[..width], extension_block).is_err() {
+            self.failed = true;
+            return Err(LayoutError::WriterFault);
+        }
+        self.place += (width + extension_block.len()) as u64;
         Ok(())
     }
 
@@ -98,45 +137,33 @@ impl<W: Write> ShareWriter<W> {
     }
 }
 
-/// A law of the definitions: what is written for the six sections of a share, one after another, is the share. The law is the contract; the
-/// call does nothing.
+/// A law of the definitions: what is written for a share is the share, of the number that its share hashes carry. The law is the
+/// contract; the call does nothing.
 pub fn sections_make_a_share()
     ensures { SectionsMakeShare }
 {}
 
-// The section behind one, if any.
-fn behind(section: Option<Section>) -> Option<Section>
-    ensures { result ≡ section_behind section }
+// What is written before the next bytes, over the first bytes of `out`, and its length.
+fn spell_beginning(geometry: &Geometry, place: u64, out: &mut [u8; 68]) -> usize
+    ensures text { take result out.new ≡ beginning geometry.now place }
+    ensures length { next_place geometry.now place ≡ place + result }
+    ensures range { result ≤ 68 }
+    ensures small { (places_of geometry.now).extension_block < 2 ^ 41 }
 {
-    match section {
-        Some(Section::Header) => Some(Section::Data),
-        Some(Section::Data) => Some(Section::Unused),
-        Some(Section::Unused) => Some(Section::CiphertextTree),
-        Some(Section::CiphertextTree) => Some(Section::BlockTree),
-        Some(Section::BlockTree) => Some(Section::ShareHashes),
-        Some(Section::ShareHashes) => Some(Section::Ueb),
-        Some(Section::Ueb) | None => None,
-    }
+    let _ = Places::of(geometry);
+    if place == 0 { geometry.header(out) } else { 0 }
 }
 
-// Writes what is written for the next section. Where the writer fails, a beginning of it is written.
-fn write_next<W: Write>(
-    writer: &mut W,
-    geometry: &Geometry,
-    next: Option<Section>,
-    section: &[u8],
-) -> Result<(), LayoutError>
-    requires { IsNext geometry.now next section.now }
-    ensures written { OnOk result (Appends (W.contents writer.old) (W.contents writer.new) (written_for geometry.now next section.now)) }
-    ensures beginning { OnErr result (AppendsBeginning (W.contents writer.old) (W.contents writer.new)
-        (written_for geometry.now next section.now)) }
-    ensures refused { IsOkUnless result LayoutError.WriterFault }
+// A number of the geometry's layout, over the first bytes of `out`, and its length.
+fn spell_length(geometry: &Geometry, number: u64, out: &mut [u8; 8]) -> usize
+    ensures text { take result out.new ≡ spelled (layout_of geometry.now) number }
+    ensures range { result ≤ 8 }
+    ensures small { (places_of geometry.now).extension_block < 2 ^ 41 }
 {
-    match next {
-        Some(Section::Data) => write_both(writer, &geometry.header(), section),
-        Some(Section::Ueb) => write_both(writer, &(section.len() as u32).to_be_bytes(), section),
-        _ => write_whole(writer, section),
-    }
+    let layout = Places::of(geometry).layout;
+    let width = layout.width();
+    spell(layout, number, &mut out[..width]);
+    width
 }
 
 // Writes bytes and then others. Where the writer fails, a beginning of them is written.

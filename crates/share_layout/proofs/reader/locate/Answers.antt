@@ -1,14 +1,21 @@
-use Rattle.std.proofs.Common.{subst, rules, arith}
+use Rattle.std.proofs.Common.{subst, arith}
+use Rattle.share_layout.specs.declared.layout.Layout.{Layout}
 use Rattle.share_layout.specs.declared.places.Places.{Places}
-use Rattle.share_layout.specs.Places.{HasVersion}
-use Rattle.share_layout.specs.Reading.{sections_in, IsCut}
+use Rattle.share_layout.specs.Layout.{width}
+use Rattle.share_layout.specs.Places.{HasVersion, layout_in}
+use Rattle.share_layout.specs.Cutting.{IsCut}
+use Rattle.share_layout.specs.Reading.{sections_in}
 use Rattle.share_layout.proofs.ListLemmas.{bytes_between}
 use Rattle.share_layout.proofs.ShareLemmas.{located}
+use Rattle.share_layout.proofs.Verdicts.{header_fault}
 use Rattle.share_layout.proofs.reader.locate.Goals as goal
 
-pub returns-in-Ok : goal.returns-in-Ok
-returns-in-Ok c =
+pub returns-in-Err : goal.returns-in-Err
+returns-in-Err c = header_fault c.args.bytes.now c.in-Err.error ((c.read.ensures.refused c.in-Err.error).0 c.in-Err.is)
+
+pub returns-in-Ok-cut : goal.returns-in-Ok-cut
+returns-in-Ok-cut c =
     let bytes = c.args.bytes.now in
-    let version : HasVersion bytes = record { long = omega arith; version = c.has_version.ensures.0 (search rules) } in
-    located bytes (sections_in c.in-Ok.view) (bytes_between bytes _ (λ i. omega (arith, c.type_inv.bytes i))) version c.in-Some.ensures.1
-    (subst (λ (p : Places). IsCut p bytes (sections_in c.in-Ok.view)) c.in-Some.ensures.0 c.in-Ok.ensures)
+    located bytes (sections_in c.in-Ok-cut.view) (bytes_between bytes _ (width (layout_in bytes)) (λ i. omega (arith, c.type_inv.bytes i)))
+    (subst (λ (p : Places). HasVersion p.layout bytes) c.in-Ok.ensures.places c.in-Ok.ensures.version) c.in-Ok.ensures.right
+    (subst (λ (p : Places). IsCut p bytes (sections_in c.in-Ok-cut.view)) c.in-Ok.ensures.places c.in-Ok-cut.ensures)

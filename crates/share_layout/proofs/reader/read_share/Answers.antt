@@ -1,20 +1,40 @@
-use Rattle.std.proofs.Common.{subst, sym, rules, arith}
+use Rattle.std.proofs.Common.{refl, subst, sym, rules, arith}
 use Rattle.std.proofs.lemmas.Bool.{both_ways}
 use Rattle.merkle.specs.Tree.{height, needed_numbers}
+use Rattle.share_layout.specs.declared.layout.Layout.{Layout}
 use Rattle.share_layout.specs.declared.places.Places.{Places}
 use Rattle.share_layout.specs.Share.{CarriesNumbers, Sections}
-use Rattle.share_layout.specs.Places.{places_of, AreRising, HasVersion}
-use Rattle.share_layout.specs.Reading.{sections_in, HasHeader, IsCut, IsWhole}
+use Rattle.share_layout.specs.Layout.{layout_of, places_of, width}
+use Rattle.share_layout.specs.Places.{AreRising, HasVersion}
+use Rattle.share_layout.specs.Reading.{sections_in, HasHeader, HasNumbers, IsWhole}
+use Rattle.share_layout.specs.Cutting.{IsCut, IsCutFault, IsVersionFault}
 use Rattle.share_layout.proofs.ListLemmas.{bytes_between}
 use Rattle.share_layout.proofs.ShareLemmas.{cut_is_share}
+use Rattle.share_layout.proofs.Verdicts.{cut_fault, version_fault}
 use Rattle.share_layout.proofs.reader.read_share.Goals as goal
+
+pub returns-in-Err : goal.returns-in-Err
+returns-in-Err c =
+    let bytes = c.args.bytes.now in
+    let g = c.args.geometry.now in
+    version_fault (HasHeader g bytes) (HasNumbers g c.args.number bytes) (places_of g) bytes c.in-Err.error
+    (subst (λ (l : Layout). IsVersionFault l bytes c.in-Err.error) c.layout.ensures ((c.check_version.ensures.refused c.in-Err.error).0 c.in-Err.is))
+
+pub returns-in-Err-cut : goal.returns-in-Err-cut
+returns-in-Err-cut c =
+    let bytes = c.args.bytes.now in
+    let g = c.args.geometry.now in
+    let version = subst (λ (l : Layout). HasVersion l bytes) c.layout.ensures (c.in_default.ensures.ok.0 refl) in
+    cut_fault (HasHeader g bytes) (HasNumbers g c.args.number bytes) (places_of g) bytes version (c.has_header.ensures.0 (search rules))
+    c.in-Err-cut.error (subst (λ (p : Places). IsCutFault p bytes c.in-Err-cut.error) c.of.ensures.places c.in-Err-cut.ensures)
 
 pub returns-then-has_numbers : goal.returns-then-has_numbers
 returns-then-has_numbers c =
     let bytes = c.args.bytes.now in
+    let g = c.args.geometry.now in
     let s = sections_in c.in-Ok.view in
     let carried = c.has_numbers.ensures.0 (search rules) in
-    cut_is_share c.args.geometry.now c.args.number bytes s (bytes_between bytes _ (λ i. omega (arith, c.type_inv.bytes i)))
+    cut_is_share g c.args.number bytes s (bytes_between bytes _ (width (layout_of g)) (λ i. omega (arith, c.type_inv.bytes i)))
     (c.has_header.ensures.0 (search rules)) (subst AreRising c.of.ensures.places c.of.ensures.rising)
     (subst (λ (p : Places). IsCut p bytes s) c.of.ensures.places c.in-Ok.ensures) carried.0 carried.1
 
@@ -24,7 +44,7 @@ returns-else-has_numbers c =
     let g = c.args.geometry.now in
     let s = sections_in c.in-Ok.view in
     let cut = subst (λ (p : Places). IsCut p bytes s) c.of.ensures.places c.in-Ok.ensures in
-    let version : HasVersion bytes = record { long = omega arith; version = c.has_version.ensures.0 (search rules) } in
+    let version = subst (λ (l : Layout). HasVersion l bytes) c.layout.ensures (c.in_default.ensures.ok.0 refl) in
     let whole : IsWhole (HasHeader g bytes) (places_of g) bytes =
     record { version = version; right = c.has_header.ensures.0 (search rules); short = cut.short; end = cut.end } in (
       whole,

@@ -1,6 +1,6 @@
 use Rattle.std.proofs.Common.{◌≡◌}
 use Rattle.share_layout.specs.Share.{IsShare}
-use Rattle.share_layout.specs.Places.{places_of}
+use Rattle.share_layout.specs.Layout.{places_of}
 use Rattle.share_layout.specs.Reading.{sections_in, HasHeader, HasNumbers, IsReadFault}
 use Rattle.share_layout.proofs.ShareLemmas.{one_reading, share_numbers, share_whole}
 use Rattle.share_layout.proofs.Verdicts.{no_fault, no_refusal, one_fault, refusal}
