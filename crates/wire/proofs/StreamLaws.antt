@@ -1,18 +1,16 @@
 -- What stands at the front of a stream.
-use Rattle.std.proofs.Common.{◌≡◌, ℕ, ◌+◌, ◌<◌, ◌≤◌, List, [], ◌∷◌, ◌++◌, length, take, drop, Option, Some, None, Result, Ok, Err, refl, sym, ap, subst, ◌∙◌, append_assoc, arith, inl, inr}
-use Rattle.std.specs.Prelude.{◌≢◌, ◌⊎◌}
+use Rattle.std.proofs.Common.{◌≡◌, ℕ, ◌+◌, ◌≤◌, List, [], ◌∷◌, ◌++◌, length, take, drop, Result, Ok, refl, sym, ap, subst, ◌∙◌, append_assoc, arith, inl, inr}
 use Rattle.std.specs.List.{All, AllByRecursion, flat_map}
 use Rattle.std.proofs.lemmas.List.{take-append-drop, take_at, drop_at, drop-drop, length-take, length-drop, length-append}
 use Rattle.std.proofs.lemmas.List.Elements.{recursion_from_All}
 use Rattle.std.proofs.lemmas.List.Concat.{flat_map-cons}
 use Rattle.byteorder.specs.Endian.{big_number, big_bytes}
-use Rattle.byteorder.specs.Numbers.{big_from-take, big_from-append, big_number-reads_back}
+use Rattle.byteorder.specs.Numbers.{big_from-take, big_number-reads_back}
 use Rattle.wire.specs.declared.error.WireError.{WireError}
-use Rattle.wire.specs.declared.error.WireError.TheVariants.{OutOfMemory, BadLength, BadKind, BadFields}
 use Rattle.wire.specs.declared.message.Message.{Message}
 use Rattle.wire.specs.Kinds.{kind_of}
-use Rattle.wire.specs.Frames.{spelling, frame, IsMessage, HasNoKind}
-use Rattle.wire.specs.Stream.{announced, IsLength, IsFirst, IsPartial, BeginsBadLength, BeginsBadKind, BeginsBadFields, HasNoMessage, Tells, stream}
+use Rattle.wire.specs.Frames.{spelling, frame, IsMessage, IsBodyOf, HasNoKind}
+use Rattle.wire.specs.Stream.{announced, IsLength, IsFirst, HasNoMessage, stream}
 use Rattle.wire.specs.Reading.{decoded}
 use Rattle.wire.proofs.FieldLaws.{IsBytes, IsBytes-take, back_4}
 use Rattle.wire.proofs.LengthLaws.{spelling_len}
@@ -61,8 +59,17 @@ one_message m n e = cc
 pub spelled_alike : (m n : Message) → IsMessage m → IsMessage n → spelling m ≡ spelling n → m ≡ n
 spelled_alike m n m-fits n-fits same = one_message m n (sym (decoded_again m m-fits) ∙ ap decoded same ∙ decoded_again n n-fits)
 
+pub spelled_once : (m n : Message) (bytes : List ℕ) → IsBodyOf m bytes → IsBodyOf n bytes → m ≡ n
+spelled_once m n bytes m-body n-body = spelled_alike m n m-body.0 n-body.0 (sym m-body.1 ∙ n-body.1)
+
 in_range_of : (m : Message) → IsMessage m → IsLength (length (spelling m))
 in_range_of m fits = let short = spelling_len m fits in (short.some, short.most)
+
+-- two frames that begin the same bytes are one message's
+pub no_frame_begins_another : (m n : Message) (x y : List ℕ) → IsMessage m → IsMessage n → frame m ++ x ≡ frame n ++ y → (m ≡ n) × (x ≡ y)
+no_frame_begins_another m n x y m-fits n-fits e =
+    let c = cut (spelling m) (spelling n) x y (in_range_of m m-fits) (in_range_of n n-fits) e in
+    (spelled_alike m n m-fits n-fits c.0, c.1)
 
 -- a whole body at the front of a stream that begins with a message is that message's
 first_of_frame : (m : Message) (x body : List ℕ) → IsMessage m → IsFirst body (frame m ++ x) → body ≡ spelling m
@@ -96,81 +103,9 @@ one_reading_by [] (n ∷ ns) r s ms-fit ns-fit r-none s-none e = absurd (message
 one_reading_by (m ∷ ms) [] r s ms-fit ns-fit r-none s-none e = absurd (message_there m (stream ms r) ms-fit.0 (subst HasNoMessage (sym e ∙ stream_cons m ms r) s-none))
 one_reading_by (m ∷ ms) (n ∷ ns) r s ms-fit ns-fit r-none s-none e =
     let e' : frame m ++ stream ms r ≡ frame n ++ stream ns s = sym (stream_cons m ms r) ∙ e ∙ stream_cons n ns s in
-    let c = cut (spelling m) (spelling n) (stream ms r) (stream ns s) (in_range_of m ms-fit.0) (in_range_of n ns-fit.0) e' in
-    let first : m ≡ n = spelled_alike m n ms-fit.0 ns-fit.0 c.0 in
+    let c = no_frame_begins_another m n (stream ms r) (stream ns s) ms-fit.0 ns-fit.0 e' in
     let others = one_reading_by ms ns r s ms-fit.1 ns-fit.1 r-none s-none c.1 in
-    (ap (λ (k : Message). k ∷ ms) first ∙ ap (λ (ks : List Message). n ∷ ks) others.0, others.1)
+    (ap (λ (k : Message). k ∷ ms) c.0 ∙ ap (λ (ks : List Message). n ∷ ks) others.0, others.1)
 
 pub one_reading : (ms ns : List Message) (r s : List ℕ) → All IsMessage ms → All IsMessage ns → HasNoMessage r → HasNoMessage s → stream ms r ≡ stream ns s → (ms ≡ ns) × (r ≡ s)
 one_reading ms ns r s ms-fit ns-fit r-none s-none e = one_reading_by ms ns r s (recursion_from_All IsMessage ms ms-fit) (recursion_from_All IsMessage ns ns-fit) r-none s-none e
-
--- ---- a fault stays
-
--- a body at the front is there whatever follows
-first_stays : (body rest more : List ℕ) → IsFirst body rest → IsFirst body (rest ++ more)
-first_stays body rest more first =
-    let behind : List ℕ = drop (4 + length body) rest in
-    let longer : rest ++ more ≡ framed body ++ (behind ++ more) = ap (λ (r : List ℕ). r ++ more) first.1 ∙ append_assoc (framed body) behind more in
-    let dropped : drop (4 + length body) (rest ++ more) ≡ behind ++ more = ap (drop (4 + length body)) longer ∙ drop_at (framed body) (behind ++ more) (4 + length body) (framed_len body) in
-    (first.0, longer ∙ ap (λ (r : List ℕ). framed body ++ r) (sym dropped))
-
-length_stays : (rest more : List ℕ) → BeginsBadLength rest → BeginsBadLength (rest ++ more)
-length_stays rest more bad =
-    let same : announced (rest ++ more) ≡ announced rest = big_from-append 4 rest more bad.0 in
-    (omega (arith, length-append rest more, bad.0), subst (λ (n : ℕ). (n ≡ 0) ⊎ (65536 < n)) (sym same) bad.1)
-
--- what a body at the front says of the length
-first_len : (body rest : List ℕ) → IsFirst body rest → (announced rest ≡ length body) × (4 + length body ≤ length rest)
-first_len body rest first =
-    let behind : List ℕ = drop (4 + length body) rest in
-    (ap announced first.1 ∙ announced_is body behind first.0, omega (arith, ap length first.1, length-append (framed body) behind, framed_len body))
-
-not_partial : (body rest : List ℕ) → IsFirst body rest → IsPartial rest → ⊥
-not_partial body rest first partial =
-    let len = first_len body rest first in
-    elim partial [ inl short ↦ omega (arith, short, len.1) | inr less ↦ omega (arith, less.1, len.0, len.1) ]
-
-not_bad_length : (body rest : List ℕ) → IsFirst body rest → BeginsBadLength rest → ⊥
-not_bad_length body rest first bad =
-    let len = first_len body rest first in
-    elim bad.1 [ inl nothing ↦ omega (arith, nothing, len.0, first.0.0) | inr much ↦ omega (arith, much, len.0, first.0.1) ]
-
-same_body : (b c rest : List ℕ) → IsFirst b rest → IsFirst c rest → b ≡ c
-same_body b c rest b-first c-first = (cut b c (drop (4 + length b) rest) (drop (4 + length c) rest) b-first.0 c-first.0 (sym b-first.1 ∙ c-first.1)).0
-
-kind_or_fields : (rest : List ℕ) → BeginsBadKind rest → BeginsBadFields rest → ⊥
-kind_or_fields rest kind body = body.2.0 (subst HasNoKind (same_body kind.0 body.0 rest kind.1 body.1) kind.2)
-
-no_message : (rest : List ℕ) (m : Message) (more : List ℕ) → IsMessage m → rest ≡ frame m ++ more → HasNoMessage rest → ⊥
-no_message rest m more fits e none = message_there m more fits (subst HasNoMessage e none)
-
-pub told_length : (rest : List ℕ) (told : Result (Option Message) WireError) → told ≢ Err OutOfMemory → BeginsBadLength rest → Tells rest told → told ≡ Err BadLength
-told_length rest (Ok None) known bad tells = absurd (elim tells [ inl short ↦ omega (arith, short, bad.0) | inr less ↦ elim bad.1 [ inl nothing ↦ omega (arith, nothing, less.0.0) | inr much ↦ omega (arith, much, less.0.1) ] ])
-told_length rest (Ok (Some m)) known bad tells = absurd (no_message rest m tells.0 tells.1 tells.2 (inr (inl bad)))
-told_length rest (Err OutOfMemory) known bad tells = absurd (known refl)
-told_length rest (Err BadLength) known bad tells = refl
-told_length rest (Err BadKind) known bad tells = absurd (not_bad_length tells.0 rest tells.1 bad)
-told_length rest (Err BadFields) known bad tells = absurd (not_bad_length tells.0 rest tells.1 bad)
-
-pub told_kind : (rest : List ℕ) (told : Result (Option Message) WireError) → told ≢ Err OutOfMemory → BeginsBadKind rest → Tells rest told → told ≡ Err BadKind
-told_kind rest (Ok None) known bad tells = absurd (not_partial bad.0 rest bad.1 tells)
-told_kind rest (Ok (Some m)) known bad tells = absurd (no_message rest m tells.0 tells.1 tells.2 (inr (inr (inl bad))))
-told_kind rest (Err OutOfMemory) known bad tells = absurd (known refl)
-told_kind rest (Err BadLength) known bad tells = absurd (not_bad_length bad.0 rest bad.1 tells)
-told_kind rest (Err BadKind) known bad tells = refl
-told_kind rest (Err BadFields) known bad tells = absurd (kind_or_fields rest bad tells)
-
-pub told_fields : (rest : List ℕ) (told : Result (Option Message) WireError) → told ≢ Err OutOfMemory → BeginsBadFields rest → Tells rest told → told ≡ Err BadFields
-told_fields rest (Ok None) known bad tells = absurd (not_partial bad.0 rest bad.1 tells)
-told_fields rest (Ok (Some m)) known bad tells = absurd (no_message rest m tells.0 tells.1 tells.2 (inr (inr (inr bad))))
-told_fields rest (Err OutOfMemory) known bad tells = absurd (known refl)
-told_fields rest (Err BadLength) known bad tells = absurd (not_bad_length bad.0 rest bad.1 tells)
-told_fields rest (Err BadKind) known bad tells = absurd (kind_or_fields rest tells bad)
-told_fields rest (Err BadFields) known bad tells = refl
-
--- a fault that was told is told for good
-pub faults_stay : (rest more : List ℕ) (e : WireError) (told : Result (Option Message) WireError) → e ≢ OutOfMemory → told ≢ Err OutOfMemory → Tells rest (Err e) → Tells (rest ++ more) told → told ≡ Err e
-faults_stay rest more OutOfMemory told fault known was tells = absurd (fault refl)
-faults_stay rest more BadLength told fault known was tells = told_length (rest ++ more) told known (length_stays rest more was) tells
-faults_stay rest more BadKind told fault known was tells = told_kind (rest ++ more) told known (was.0, first_stays was.0 rest more was.1, was.2) tells
-faults_stay rest more BadFields told fault known was tells = told_fields (rest ++ more) told known (was.0, first_stays was.0 rest more was.1, was.2) tells

@@ -1,7 +1,10 @@
 -- The kinds of message and their numbers.
 use Rattle.std.specs.Prelude.{ℕ, ◌==◌, List, [], ◌∷◌, Option, find}
 use Rattle.wire.specs.declared.message.Body.{Body}
-use Rattle.wire.specs.declared.message.Body.TheVariants.{Ask, Have, Allocate, Granted, Already, Busy, Full, Write, Wrote, WrongOffset, Close, Closed, NotComplete, Abort, Read, Data, NoShare}
+use Rattle.wire.specs.declared.message.Body.TheVariants.{Ask, Have, Allocate, Granted, Already}
+use Rattle.wire.specs.declared.message.Body.TheVariants.{Busy, Full, Write, Wrote, WrongOffset}
+use Rattle.wire.specs.declared.message.Body.TheVariants.{Close, Closed, NotComplete, Abort, Read}
+use Rattle.wire.specs.declared.message.Body.TheVariants.{Data, NoShare}
 use Rattle.wire.specs.declared.kind.Kind.{Kind}
 use Rattle.wire.specs.declared.kind.Kind.TheVariants as kinds
 
@@ -26,8 +29,9 @@ number_of kinds.NoShare = 17
 
 abbrev pub all_kinds : List Kind
 all_kinds =
-    kinds.Ask ∷ kinds.Have ∷ kinds.Allocate ∷ kinds.Granted ∷ kinds.Already ∷ kinds.Busy ∷ kinds.Full ∷ kinds.Write ∷ kinds.Wrote ∷ kinds.WrongOffset
-    ∷ kinds.Close ∷ kinds.Closed ∷ kinds.NotComplete ∷ kinds.Abort ∷ kinds.Read ∷ kinds.Data ∷ kinds.NoShare ∷ []
+    kinds.Ask ∷ kinds.Have ∷ kinds.Allocate ∷ kinds.Granted ∷ kinds.Already ∷ kinds.Busy
+    ∷ kinds.Full ∷ kinds.Write ∷ kinds.Wrote ∷ kinds.WrongOffset ∷ kinds.Close ∷ kinds.Closed
+    ∷ kinds.NotComplete ∷ kinds.Abort ∷ kinds.Read ∷ kinds.Data ∷ kinds.NoShare ∷ []
 
 -- the kind of a number, where there is one
 abbrev pub kind_named : ℕ → Option Kind

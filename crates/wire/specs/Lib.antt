@@ -1,8 +1,12 @@
+-- What public contracts rest on.
+pub mod Limits
 pub mod Ranges
 pub mod Held
 pub mod Refusals
 pub mod Kinds
 pub mod Frames
-pub mod Reading
 pub mod Stream
 pub mod Record
+pub mod Asking
+-- The words of private clauses: reading a body from left to right.
+pub mod Reading

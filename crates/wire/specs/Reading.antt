@@ -1,21 +1,29 @@
 -- Reading the body of a frame from left to right.
-use Rattle.std.specs.Prelude.{◌≡◌, ℕ, zero, suc, Bool, true, false, List, [], ◌∷◌, length, take, drop, Option, Some, None, Result, Ok, Err, nat_lt, nat_le, ◌==◌, if◌then◌else◌}
+use Rattle.std.specs.Prelude.{◌≡◌, ℕ, zero, suc, Bool, true, false, List, [], ◌∷◌, length, take}
+use Rattle.std.specs.Prelude.{drop, Option, Some, None, Result, Ok, Err, nat_lt, nat_le, ◌==◌}
+use Rattle.std.specs.Prelude.{if◌then◌else◌}
 use Rattle.byteorder.specs.Endian.{big_number}
 use Rattle.wire.specs.declared.error.WireError.{WireError}
-use Rattle.wire.specs.declared.error.WireError.TheVariants.{OutOfMemory, BadLength, BadKind, BadFields}
+use Rattle.wire.specs.declared.error.WireError.TheVariants.{OutOfMemory, BadLength, BadKind}
+use Rattle.wire.specs.declared.error.WireError.TheVariants.{BadFields}
 use Rattle.wire.specs.declared.message.Body.{Body}
-use Rattle.wire.specs.declared.message.Body.TheVariants.{Ask, Have, Allocate, Granted, Already, Busy, Full, Write, Wrote, WrongOffset, Close, Closed, NotComplete, Abort, Read, Data, NoShare}
+use Rattle.wire.specs.declared.message.Body.TheVariants.{Ask, Have, Allocate, Granted, Already}
+use Rattle.wire.specs.declared.message.Body.TheVariants.{Busy, Full, Write, Wrote, WrongOffset}
+use Rattle.wire.specs.declared.message.Body.TheVariants.{Close, Closed, NotComplete, Abort, Read}
+use Rattle.wire.specs.declared.message.Body.TheVariants.{Data, NoShare}
 use Rattle.wire.specs.declared.message.Message.{Message}
 use Rattle.wire.specs.declared.message.ShareId.{ShareId}
 use Rattle.wire.specs.declared.message.HeldShare.{HeldShare}
 use Rattle.wire.specs.declared.kind.Kind.{Kind}
 use Rattle.wire.specs.declared.kind.Kind.TheVariants as kinds
+use Rattle.wire.specs.Limits.{most_shares}
 use Rattle.wire.specs.Kinds.{kind_named}
 use Rattle.wire.specs.Held.{held_list}
 use Rattle.wire.specs.Ranges.{share_length, read_length, write_data, read_data}
 
 infixl 10 ◌>>=◌
-abbrev pub ◌>>=◌ : {A B : Type 0} → Result A WireError → (A → Result B WireError) → Result B WireError
+abbrev pub ◌>>=◌ :
+    {A B : Type 0} → Result A WireError → (A → Result B WireError) → Result B WireError
 (Ok x) >>= f = f x
 (Err e) >>= f = Err e
 
@@ -32,10 +40,12 @@ Gives view (Err e) read = Fails e read
 
 -- A field is a value and the bytes after it.
 abbrev pub number_at : ℕ → List ℕ → Result (ℕ × List ℕ) WireError
-number_at n bytes = if nat_lt (length bytes) n then Err BadFields else Ok (big_number n bytes, drop n bytes)
+number_at n bytes =
+    if nat_lt (length bytes) n then Err BadFields else Ok (big_number n bytes, drop n bytes)
 
 abbrev pub bytes_at : ℕ → List ℕ → Result (List ℕ × List ℕ) WireError
-bytes_at n bytes = if nat_lt (length bytes) n then Err BadFields else Ok (take n bytes, drop n bytes)
+bytes_at n bytes =
+    if nat_lt (length bytes) n then Err BadFields else Ok (take n bytes, drop n bytes)
 
 -- a value that is in its range
 abbrev pub in_range : {A : Type 0} → Option A → Result A WireError
@@ -45,7 +55,7 @@ in_range (Some x) = Ok x
 unfoldable pub share_at : List ℕ → Result (ℕ × List ℕ) WireError
 share_at bytes = do
   share ← number_at 2 bytes
-  if nat_lt share.0 256 then Ok share else Err BadFields
+  if nat_lt share.0 most_shares then Ok share else Err BadFields
 
 unfoldable pub share_id_at : List ℕ → Result (ShareId × List ℕ) WireError
 share_id_at bytes = do
@@ -76,7 +86,7 @@ flag_at (suc (suc b) ∷ rest) = Err BadFields
 unfoldable pub count_at : List ℕ → Result (ℕ × List ℕ) WireError
 count_at bytes = do
   count ← number_at 2 bytes
-  if nat_le count.0 256 then Ok count else Err BadFields
+  if nat_le count.0 most_shares then Ok count else Err BadFields
 
 unfoldable pub have_at : List ℕ → Result (Body × List ℕ) WireError
 have_at bytes = do
@@ -125,10 +135,12 @@ fields_at kinds.Busy bytes = Ok (Busy, bytes)
 fields_at kinds.Full bytes = Ok (Full, bytes)
 fields_at kinds.Write bytes = write_at bytes
 fields_at kinds.Wrote bytes = number_at 8 bytes >>= λ next. Ok (Wrote next.0, next.1)
-fields_at kinds.WrongOffset bytes = number_at 8 bytes >>= λ written. Ok (WrongOffset written.0, written.1)
+fields_at kinds.WrongOffset bytes =
+    number_at 8 bytes >>= λ written. Ok (WrongOffset written.0, written.1)
 fields_at kinds.Close bytes = share_id_at bytes >>= λ id. Ok (Close id.0, id.1)
 fields_at kinds.Closed bytes = bytes_at 32 bytes >>= λ digest. Ok (Closed digest.0, digest.1)
-fields_at kinds.NotComplete bytes = number_at 8 bytes >>= λ written. Ok (NotComplete written.0, written.1)
+fields_at kinds.NotComplete bytes =
+    number_at 8 bytes >>= λ written. Ok (NotComplete written.0, written.1)
 fields_at kinds.Abort bytes = share_id_at bytes >>= λ id. Ok (Abort id.0, id.1)
 fields_at kinds.Read bytes = read_at bytes
 fields_at kinds.Data bytes = data_at bytes
@@ -140,7 +152,9 @@ message_at kind bytes = do
   session ← number_at 8 bytes
   number ← number_at 8 session.1
   body ← fields_at kind number.1
-  if length body.1 == 0 then Ok (record { session = session.0; number = number.0; body = body.0 }) else Err BadFields
+  if length body.1 == 0
+      then Ok (record { session = session.0; number = number.0; body = body.0 })
+      else Err BadFields
 
 abbrev pub message_of : Option Kind → List ℕ → Result Message WireError
 message_of None bytes = Err BadKind

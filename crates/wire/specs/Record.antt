@@ -1,15 +1,23 @@
 -- The record of what one operation asked, and what became of it.
-use Rattle.std.specs.Prelude.{◌≡◌, ℕ, ◌+◌, ◌-◌, ◌/◌, ◌<◌, ◌≤◌, ◌==◌, ◌&&◌, not, nat_lt, nat_le, min, max, List, [], ◌∷◌, ◌++◌, Bool, true, false, Option, Some, None, if◌then◌else◌, length, slice_get, slice_set, map, count_by, All}
+use Rattle.std.specs.Prelude.{◌≡◌, ℕ, ◌+◌, ◌-◌, ◌/◌, ◌<◌, ◌≤◌, ◌==◌, ◌&&◌, not, nat_lt, nat_le, min}
+use Rattle.std.specs.Prelude.{max, List, [], ◌∷◌, ◌++◌, Bool, true, false, Option, Some, None}
+use Rattle.std.specs.Prelude.{if◌then◌else◌, length, slice_get, slice_set, map, filter, take}
+use Rattle.std.specs.Prelude.{count_by, All}
 use Rattle.wire.specs.declared.message.Body.{Body}
-use Rattle.wire.specs.declared.message.Body.TheVariants.{Have, Granted, Already, Busy, Full, Wrote, WrongOffset, Closed, NotComplete, Data, NoShare}
+use Rattle.wire.specs.declared.message.Body.TheVariants.{Have, Granted, Already, Busy, Full, Wrote}
+use Rattle.wire.specs.declared.message.Body.TheVariants.{WrongOffset, Closed, NotComplete, Data}
+use Rattle.wire.specs.declared.message.Body.TheVariants.{NoShare}
 use Rattle.wire.specs.declared.message.Message.{Message}
 use Rattle.wire.specs.declared.requests.Asked.{Asked}
-use Rattle.wire.specs.declared.requests.Asked.TheVariants.{Holdings, Allocation, Writing, Closing, Reading, Aborting}
+use Rattle.wire.specs.declared.requests.Asked.TheVariants.{Holdings, Allocation, Writing, Closing}
+use Rattle.wire.specs.declared.requests.Asked.TheVariants.{Reading, Aborting}
 use Rattle.wire.specs.declared.requests.Outcome.{Outcome}
 use Rattle.wire.specs.declared.requests.Outcome.TheVariants.{Unawaited, Outstanding, Answered, Lost}
 use Rattle.wire.specs.declared.requests.Request.{Request}
+use Rattle.wire.specs.Limits.{mark_seconds, most_marks, patience}
 
--- the requests in order; request n is at place n - 1; the places still to send, in order; the latest time
+-- the requests in order; request n is at place n - 1; the places still to send, in order; the
+-- latest time
 pub record RequestsState : Type 0 where
   pub session : ℕ
   pub entries : List Request
@@ -40,8 +48,20 @@ is_outstanding Unawaited = false
 is_outstanding (Answered body) = false
 is_outstanding Lost = false
 
+-- how many requests wait for their answers
+abbrev pub outstanding_count : List Request → ℕ
+outstanding_count entries = count_by (λ (r : Request). is_outstanding r.outcome) entries
+
 abbrev pub with_outcome : Request → Outcome → Request
-with_outcome r o = record { server = r.server; asked = r.asked; first_sent = r.first_sent; sendings = r.sendings; marks = r.marks; outcome = o }
+with_outcome r o =
+    record {
+      server = r.server;
+      asked = r.asked;
+      first_sent = r.first_sent;
+      sendings = r.sendings;
+      marks = r.marks;
+      outcome = o;
+    }
 
 -- ---- asking
 
@@ -56,7 +76,15 @@ first_outcome (Aborting share) = Unawaited
 
 -- a request that is sent first at this second
 abbrev pub first_request : ℕ → Asked → ℕ → Request
-first_request server asked now = record { server = server; asked = asked; first_sent = now; sendings = 1; marks = 0; outcome = first_outcome asked }
+first_request server asked now =
+    record {
+      server = server;
+      asked = asked;
+      first_sent = now;
+      sendings = 1;
+      marks = 0;
+      outcome = first_outcome asked;
+    }
 
 -- one more request, to be sent now
 abbrev pub asked_more : ℕ → Asked → RequestsState → RequestsState
@@ -77,13 +105,26 @@ asked_all (ask ∷ asks) r = asked_all asks (asked_more ask.0 ask.1 r)
 abbrev pub TakesNext : RequestsState → Option ℕ → RequestsState → Type 0
 TakesNext old None new = (old.outgoing ≡ []) × (new ≡ old)
 TakesNext old (Some place) new =
-    (old.outgoing ≡ place ∷ new.outgoing) × (new ≡ record { session = old.session; entries = old.entries; outgoing = new.outgoing; clock = old.clock }) × (place < length old.entries)
+    (old.outgoing ≡ place ∷ new.outgoing)
+    × (new ≡ record {
+      session = old.session;
+      entries = old.entries;
+      outgoing = new.outgoing;
+      clock = old.clock;
+    })
+    × (place < length old.entries)
 
 -- ---- answers
 
 -- the record at a time; time does not go back
 abbrev pub at : ℕ → RequestsState → RequestsState
-at now r = record { session = r.session; entries = r.entries; outgoing = r.outgoing; clock = max r.clock now }
+at now r =
+    record {
+      session = r.session;
+      entries = r.entries;
+      outgoing = r.outgoing;
+      clock = max r.clock now;
+    }
 
 -- An answer counts while its request is outstanding, from the server asked, of a kind that fits.
 abbrev pub awaits : ℕ → Body → Request → Bool
@@ -96,33 +137,39 @@ awaits_at from body (Some r) = awaits from body r
 -- the place of the request that a message answers, where it counts
 abbrev pub counts_at : ℕ → Message → RequestsState → Option ℕ
 counts_at from m r =
-    if (m.session == r.session) && not (m.number == 0) && awaits_at from m.body (slice_get r.entries (m.number - 1)) then Some (m.number - 1) else None
+    if (m.session == r.session) && not (m.number == 0)
+    && awaits_at from m.body (slice_get r.entries (m.number - 1))
+    then Some (m.number - 1)
+    else None
 
 abbrev pub answered_in : List Request → ℕ → Option Request → Body → List Request
 answered_in entries place None body = entries
 answered_in entries place (Some r) body = slice_set entries place (with_outcome r (Answered body))
 
+-- these places without one
+abbrev pub without : ℕ → List ℕ → List ℕ
+without place places = filter (λ (p : ℕ). not (p == place)) places
+
+-- What is answered is kept with its answer, and is not sent any more.
 abbrev pub counted_at : Message → RequestsState → Option ℕ → RequestsState
 counted_at m r None = r
-counted_at m r (Some place) = record { session = r.session; entries = answered_in r.entries place (slice_get r.entries place) m.body; outgoing = r.outgoing; clock = r.clock }
+counted_at m r (Some place) =
+    record {
+      session = r.session;
+      entries = answered_in r.entries place (slice_get r.entries place) m.body;
+      outgoing = without place r.outgoing;
+      clock = r.clock;
+    }
 
 -- the record after a message from a server
 abbrev pub counted : ℕ → Message → RequestsState → RequestsState
 counted from m r = counted_at m r (counts_at from m r)
 
--- The record goes on from an answer; requests may be added to it.
-abbrev pub GoesOn : ℕ → Message → RequestsState → RequestsState → Type 0
-GoesOn from m old new = (asks : List (ℕ × Asked)) × (new ≡ asked_all asks (counted from m old))
-
 -- ---- ticks
 
 -- how many of the marks 5, 10 and 15 seconds lie at or before an age
 abbrev pub passed : ℕ → ℕ
-passed age = min 3 (age / 5)
-
--- the age in seconds at which a request is lost
-abbrev pub patience : ℕ
-patience = 20
+passed age = min most_marks (age / mark_seconds)
 
 abbrev pub age_of : ℕ → Request → ℕ
 age_of now r = now - r.first_sent
@@ -132,59 +179,93 @@ is_lost_at now r = is_outstanding r.outcome && nat_le patience (age_of now r)
 
 -- is it sent again at a tick?
 abbrev pub is_resent_at : ℕ → Request → Bool
-is_resent_at now r = is_outstanding r.outcome && nat_lt (age_of now r) patience && nat_lt r.marks (passed (age_of now r))
+is_resent_at now r =
+    is_outstanding r.outcome && nat_lt (age_of now r) patience
+    && nat_lt r.marks (passed (age_of now r))
 
 abbrev pub resent_one : ℕ → Request → Request
-resent_one now r = record { server = r.server; asked = r.asked; first_sent = r.first_sent; sendings = r.sendings + 1; marks = passed (age_of now r); outcome = r.outcome }
+resent_one now r =
+    record {
+      server = r.server;
+      asked = r.asked;
+      first_sent = r.first_sent;
+      sendings = r.sendings + 1;
+      marks = passed (age_of now r);
+      outcome = r.outcome;
+    }
 
 abbrev pub ticked_one : ℕ → Request → Request
-ticked_one now r = if is_lost_at now r then with_outcome r Lost else (if is_resent_at now r then resent_one now r else r)
+ticked_one now r =
+    if is_lost_at now r
+    then with_outcome r Lost
+    else (if is_resent_at now r then resent_one now r else r)
 
--- the places of those that are sent again
-abbrev pub resent_from : ℕ → ℕ → List Request → List ℕ
-resent_from now place [] = []
-resent_from now place (r ∷ rs) = if is_resent_at now r then place ∷ resent_from now (place + 1) rs else resent_from now (place + 1) rs
+-- the places of the requests that pass a test, the first of them at this place
+abbrev pub places_from : (Request → Bool) → ℕ → List Request → List ℕ
+places_from test place [] = []
+places_from test place (r ∷ rs) =
+    if test r then place ∷ places_from test (place + 1) rs else places_from test (place + 1) rs
 
--- the record after a tick
+-- the places of those that a tick sends again
+abbrev pub resent_places : ℕ → List Request → List ℕ
+resent_places now entries = places_from (is_resent_at now) 0 entries
+
+-- the places of those that a tick finds lost
+abbrev pub lost_places : ℕ → List Request → List ℕ
+lost_places now entries = places_from (is_lost_at now) 0 entries
+
+abbrev pub is_lost_in : ℕ → Option Request → Bool
+is_lost_in now None = false
+is_lost_in now (Some r) = is_lost_at now r
+
+-- these places without those of lost requests
+abbrev pub without_lost : ℕ → List Request → List ℕ → List ℕ
+without_lost now entries places =
+    filter (λ (place : ℕ). not (is_lost_in now (slice_get entries place))) places
+
+-- The record after a tick. What is lost is not sent any more.
 abbrev pub ticked : ℕ → RequestsState → RequestsState
 ticked now r =
-    record { session = r.session; entries = map (ticked_one now) r.entries; outgoing = r.outgoing ++ resent_from now 0 r.entries; clock = now }
-
--- The record goes on from a tick; what was lost may lead to further requests.
-abbrev pub TicksOn : ℕ → RequestsState → RequestsState → Type 0
-TicksOn now old new = (asks : List (ℕ × Asked)) × (new ≡ asked_all asks (ticked (max old.clock now) old))
+    record {
+      session = r.session;
+      entries = map (ticked_one now) r.entries;
+      outgoing = without_lost now r.entries (r.outgoing ++ resent_places now r.entries);
+      clock = now;
+    }
 
 -- ---- what holds of each record
 
--- A mark is used up by at most one sending, and the first is for none: a request is sent at most four times.
+-- A mark is used up by at most one sending, and the first is for none: a request is sent at most
+-- four times.
 abbrev pub IsSentFew : Request → Type 0
-IsSentFew r = (r.marks ≤ 3) × (r.sendings ≤ r.marks + 1)
+IsSentFew r = (r.marks ≤ most_marks) × (r.sendings ≤ r.marks + 1)
 
--- how many requests wait for their answers
-abbrev pub outstanding_count : List Request → ℕ
-outstanding_count entries = count_by (λ (r : Request). is_outstanding r.outcome) entries
+-- is it neither answered nor lost?
+abbrev pub is_current : Outcome → Bool
+is_current Unawaited = true
+is_current Outstanding = true
+is_current (Answered body) = false
+is_current Lost = false
 
--- Requests are sent few times, and what is to send is there.
+abbrev pub is_current_in : Option Request → Bool
+is_current_in None = false
+is_current_in (Some r) = is_current r.outcome
+
+-- Requests are sent few times, what is to send is there, and nothing is sent for a request that
+-- was answered or lost.
 pub record IsRecord (r : RequestsState) : Type 0 where
   pub few : All IsSentFew r.entries
   pub there : All (λ place. place < length r.entries) r.outgoing
+  pub current : All (λ place. is_current_in (slice_get r.entries place) ≡ true) r.outgoing
 
--- ---- at rest
+-- ---- words of private clauses
 
-abbrev pub is_aborting : Asked → Bool
-is_aborting Holdings = false
-is_aborting (Allocation share len) = false
-is_aborting (Writing share offset len) = false
-is_aborting (Closing share) = false
-is_aborting (Reading share offset len) = false
-is_aborting (Aborting share) = true
+-- no request before this place waits for an answer
+pub record AreSettled (place : ℕ) (entries : List Request) : Type 0 where
+  pub within : place ≤ length entries
+  pub settled : All (λ (r : Request). is_outstanding r.outcome ≡ false) (take place entries)
 
-abbrev pub is_abort : Option Request → Bool
-is_abort None = false
-is_abort (Some r) = is_aborting r.asked
-
--- Nothing is outstanding, and nothing is to send but Aborts, which are not waited for.
-abbrev pub IsAtRest : RequestsState → Type 0
-IsAtRest r =
-    ((place : ℕ) (q : Request) → slice_get r.entries place ≡ Some q → is_outstanding q.outcome ≡ false)
-    × ((i place : ℕ) → slice_get r.outgoing i ≡ Some place → is_abort (slice_get r.entries place) ≡ true)
+-- what is kept beside the record: how many requests wait, and a place before which none does
+pub record IsIndexed (outstanding settled : ℕ) (entries : List Request) : Type 0 where
+  pub counts : outstanding ≡ outstanding_count entries
+  pub before : AreSettled settled entries

@@ -3,7 +3,8 @@
 ghost use Rattle.std.specs.Prelude.{◌≡◌, IfOk, IsErrOf, Ok};
 ghost use Rattle.wire.specs.declared.message.Message.{Message};
 ghost use Rattle.wire.specs.Frames.{IsMessage, spelling, HasNoKind, HasBadFields};
-ghost use Rattle.wire.specs.Reading.{Gives, fields_at, have_at, allocate_at, write_at, read_at, data_at, message_at, decoded};
+ghost use Rattle.wire.specs.Reading.{Gives, fields_at, have_at, allocate_at, write_at, read_at};
+ghost use Rattle.wire.specs.Reading.{data_at, message_at, decoded};
 
 use crate::error::WireError;
 use crate::fields::{

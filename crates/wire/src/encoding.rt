@@ -2,7 +2,9 @@
 
 ghost use Rattle.std.specs.Prelude.{◌≡◌, ◌^◌, ◌<◌, ◌≤◌, ◌++◌, length, IfOk, OnOk};
 ghost use Rattle.std.specs.List.{flat_map};
-ghost use Rattle.wire.specs.Frames.{share_id, held_share, fields, spelling, frame, IsShareId, IsBody, IsMessage};
+ghost use Rattle.wire.specs.Limits.{most_body};
+ghost use Rattle.wire.specs.Frames.{share_id, held_share, fields, spelling, frame, IsShareId};
+ghost use Rattle.wire.specs.Frames.{IsBody, IsMessage, IsBodyOf};
 
 use crate::kind::Kind;
 use crate::message::{Body, HeldShare, Message, ShareId};
@@ -108,20 +110,46 @@ fn put_fields(out: &mut Vec<u8>, body: &Body) -> Result<(), AllocError>
     }
 }
 
+/// How many bytes the body of a message's frame has.
+fn body_length(message: &Message) -> usize
+    ensures value { result ≡ length (spelling message.now) }
+    ensures bound { result ≤ most_body }
+    ensures right { IsMessage message.now }
+{
+    let head = 1 + number_length(message.session) + number_length(message.number);
+    head + fields_length(&message.body)
+}
+
+/// The body of a message's frame: the kind, the session, the number and the fields.
+fn put_body(out: &mut Vec<u8>, message: &Message) -> Result<(), AllocError>
+    ensures { OnOk result (out.new.items ≡ out.old.items ++ spelling message.now) }
+{
+    out.put_u8(Kind::of(&message.body).number())?;
+    out.put_u64(message.session)?;
+    out.put_u64(message.number)?;
+    put_fields(out, &message.body)
+}
+
 impl Message {
     /// The message's frame: the length of the body in four bytes, and the body.
     pub fn encode(&self, alloc: Global) -> Result<Vec<u8>, AllocError>
         ensures right { IsMessage self.now }
         ensures frame { IfOk result (λ v. v.items ≡ frame self.now) }
     {
-        let head = 1 + number_length(self.session) + number_length(self.number);
-        let length = head + fields_length(&self.body);
+        let length = body_length(self);
         let mut out = Vec::with_capacity(alloc, 4 + length)?;
         out.put_u32(length as u32)?;
-        out.put_u8(Kind::of(&self.body).number())?;
-        out.put_u64(self.session)?;
-        out.put_u64(self.number)?;
-        put_fields(&mut out, &self.body)?;
+        put_body(&mut out, self)?;
+        Ok(out)
+    }
+
+    /// The body of the message's frame, without its length.
+    pub fn encode_body(&self, alloc: Global) -> Result<Vec<u8>, AllocError>
+        ensures right { IsMessage self.now }
+        ensures body { IfOk result (λ v. IsBodyOf self.now v.items) }
+    {
+        let mut out = Vec::with_capacity(alloc, body_length(self))?;
+        put_body(&mut out, self)?;
         Ok(out)
     }
 }

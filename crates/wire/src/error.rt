@@ -39,12 +39,13 @@ impl fmt::Display for WireError {
     ghost output = { λ e. Some (refusal_text e) };
 
     fn fmt<W: fmt::Write>(&self, f: &mut fmt::Formatter<W>) -> fmt::Result {
-        match self {
-            WireError::OutOfMemory => write!(f, "out of memory"),
-            WireError::BadLength => write!(f, "the length of a frame is 0 or above 65,536"),
-            WireError::BadKind => write!(f, "a frame is of no known kind"),
-            WireError::BadFields => write!(f, "the fields of a frame are not those of its kind"),
-        }
+        let name = match self {
+            WireError::OutOfMemory => "OutOfMemory",
+            WireError::BadLength => "BadLength",
+            WireError::BadKind => "BadKind",
+            WireError::BadFields => "BadFields",
+        };
+        f.write_str(name)
     }
 }
 

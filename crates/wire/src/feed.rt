@@ -1,10 +1,11 @@
 //! The messages of a stream that comes in pieces.
 
-ghost use Rattle.std.specs.Prelude.{◌≡◌, ◌≢◌, ◌++◌, ℕ, Option, Result, Err, List, [], All, IfOk, OnOk, OnErr, IfSome, IfNone, IsErrOf};
+ghost use Rattle.std.specs.Prelude.{◌≡◌, ◌≤◌, ◌++◌, Err, None, Some, [], drop, length, IfOk, IfErr};
+ghost use Rattle.std.specs.Prelude.{IsOk, OnOk, OnErr, IfSome, IfNone, IsErrOf};
 ghost use Rattle.wire.specs.Frames.{IsMessage, frame};
-ghost use Rattle.wire.specs.Stream.{IsFirst, IsPartial, BeginsBadLength, BeginsBadKind, BeginsBadFields, HasNoMessage, stream, Tells};
+ghost use Rattle.wire.specs.Stream.{IsFirst, IsPartial, BeginsBadLength, BeginsBadKind};
+ghost use Rattle.wire.specs.Stream.{BeginsBadFields, fed, fault_of};
 ghost use Rattle.wire.specs.declared.error.WireError.{WireError};
-ghost use Rattle.wire.specs.declared.message.Message.{Message};
 
 use crate::decoding::decode;
 use crate::error::WireError;
@@ -39,85 +40,122 @@ fn first_body(rest: &[u8]) -> Result<Option<&[u8]>, WireError>
     Ok(Some(&body[..length]))
 }
 
-/// Takes the pieces of a stream, and gives the messages whose frames are whole. It holds the bytes of the stream that
-/// follow the messages it gave; they are moved only where as many were given, and never read twice.
+/// The message whose frame comes first and is whole, and how many bytes that frame has.
+fn first_message(alloc: Global, rest: &[u8]) -> Result<Option<(Message, usize)>, WireError>
+    ensures given { IfOk result (λ o. IfSome o
+        (λ x. IsMessage x.0 × (x.1 ≤ length rest.now)
+        × (rest.now ≡ frame x.0 ++ drop x.1 rest.now))) }
+    ensures none { IfOk result (λ o. IfNone o (IsPartial rest.now)) }
+    ensures bad_length { IsErrOf result WireError.BadLength → BeginsBadLength rest.now }
+    ensures bad_kind { IsErrOf result WireError.BadKind → BeginsBadKind rest.now }
+    ensures bad_fields { IsErrOf result WireError.BadFields → BeginsBadFields rest.now }
+{
+    let Some(body) = first_body(rest)? else {
+        return Ok(None);
+    };
+    let message = decode(alloc, body)?;
+    Ok(Some((message, 4 + body.len())))
+}
+
+/// The fault that a stream keeps after a refusal: that memory ran out is none.
+fn fault_of(refusal: WireError) -> Option<WireError>
+    ensures { result ≡ fault_of refusal }
+{
+    match refusal {
+        WireError::OutOfMemory => None,
+        fault => Some(fault),
+    }
+}
+
+/// Takes the pieces of a stream, and gives the messages whose frames are whole. It holds the bytes
+/// that follow the messages given, which are moved only where room is wanted and never read twice:
+/// less than a frame and one piece, where all messages are taken before the next piece is fed.
 #[derive(Drop)]
 pub struct Feed {
     held: BytesMut,
-    /// How many bytes at the front of `held` belong to messages that were given.
-    given: usize,
+    /// The fault that was told of the stream.
+    fault: Option<WireError>,
 }
 
 impl Model for Feed {
-    ghost use Rattle.std.specs.Prelude.{◌≤◌, ℕ, List, length, drop};
+    ghost use Rattle.wire.specs.Stream.{FeedState, HasFault};
 
-    ghost Value = { List ℕ };
+    ghost Value = { FeedState };
 
-    ghost view = { λ f. drop f.given f.held.items };
+    ghost view = { λ f. record { rest = f.held.items; fault = f.fault } };
 
-    ghost invariant = { λ f. f.given ≤ length f.held.items };
+    ghost invariant = { λ f. HasFault f.fault f.held.items };
 }
 
 impl Feed {
     /// A stream of which nothing has come.
     pub fn new(alloc: Global) -> Feed
-        ensures { result ≡ [] }
+        ensures { result ≡ record { rest = []; fault = None } }
     {
         Feed {
             held: BytesMut::new(alloc),
-            given: 0,
+            fault: None,
         }
     }
 
-    /// Adds the next piece of the stream.
-    pub fn feed(&mut self, piece: &[u8]) -> Result<(), AllocError>
-        ensures ok { OnOk result (self.new ≡ self.old ++ piece.now) }
-        ensures err { OnErr result (self.new ≡ self.old) }
+    /// The fault that was told of the stream, if any.
+    pub fn fault(&self) -> Option<WireError>
+        ensures { result ≡ self.now.fault }
     {
-        if self.held.len() - self.given <= self.given {
-            self.held.advance(self.given);
-            self.given = 0;
+        self.fault
+    }
+
+    /// Adds the next piece of the stream. After a fault the pieces are not kept, and take no
+    /// memory.
+    pub fn feed(&mut self, piece: &[u8]) -> Result<(), AllocError>
+        ensures ok { OnOk result (self.new ≡ fed piece.now self.old) }
+        ensures err { OnErr result (self.new ≡ self.old) }
+        ensures past { (fault : WireError) → self.old.fault ≡ Some fault → IsOk result }
+    {
+        if self.fault.is_some() {
+            return Ok(());
         }
         self.held.extend_from_slice(piece)
     }
 
-    /// The next message, or `None` until its frame is whole. A fault stands at the front for good, so each later call
-    /// tells it again.
+    /// The next message, or `None` until its frame is whole. A fault that was told is told for
+    /// good, without memory.
     pub fn next(&mut self) -> Result<Option<Message>, WireError>
+        // What was told is told again.
+        ensures told { (fault : WireError) → self.old.fault ≡ Some fault
+            → (result ≡ Err fault) × (self.new ≡ self.old) }
+
         // The frame of a message that is given stood at the front, and is taken.
         ensures given { IfOk result (λ o. IfSome o
-            (λ m. IsMessage m × (self.old ≡ frame m ++ self.new))) }
+            (λ m. IsMessage m × (self.old.rest ≡ frame m ++ self.new.rest)
+            × (self.new.fault ≡ None))) }
 
         // With none, no whole frame and no fault stand there.
-        ensures none { IfOk result (λ o. IfNone o (IsPartial self.old × (self.new ≡ self.old))) }
+        ensures none { IfOk result
+            (λ o. IfNone o (IsPartial self.old.rest × (self.new ≡ self.old))) }
 
         // A fault stands at the front, and stays there.
-        ensures bad_length { IsErrOf result WireError.BadLength → BeginsBadLength self.old }
-        ensures bad_kind { IsErrOf result WireError.BadKind → BeginsBadKind self.old }
-        ensures bad_fields { IsErrOf result WireError.BadFields → BeginsBadFields self.old }
-        ensures err { OnErr result (self.new ≡ self.old) }
+        ensures bad_length { IsErrOf result WireError.BadLength → BeginsBadLength self.old.rest }
+        ensures bad_kind { IsErrOf result WireError.BadKind → BeginsBadKind self.old.rest }
+        ensures bad_fields { IsErrOf result WireError.BadFields → BeginsBadFields self.old.rest }
+
+        // The fault is kept. That memory ran out changes nothing.
+        ensures err { IfErr result
+            (λ e. self.new ≡ record { rest = self.old.rest; fault = fault_of e }) }
     {
-        let rest = &self.held.as_slice()[self.given..];
-        let Some(body) = first_body(rest)? else {
-            return Ok(None);
-        };
-        let message = decode(*self.held.allocator(), body)?;
-        self.given += 4 + body.len();
-        Ok(Some(message))
+        if let Some(fault) = self.fault {
+            return Err(fault);
+        }
+        match first_message(*self.held.allocator(), self.held.as_slice()) {
+            Ok(None) => Ok(None),
+            Ok(Some((message, length))) => {
+                self.held.advance(length);
+                Ok(Some(message))
+            }
+            Err(refusal) => {
+                self.fault = fault_of(refusal);
+                Err(refusal)
+            }
+        }
     }
 }
-
-/// A stream has one reading: the messages that its frames are, up to where no message follows, and what stands there,
-/// are the same whoever reads them and however the stream was cut into pieces.
-pub fn one_reading()
-    ensures { (ms ns : List Message) (r s : List ℕ) → All IsMessage ms → All IsMessage ns
-        → HasNoMessage r → HasNoMessage s → stream ms r ≡ stream ns s → (ms ≡ ns) × (r ≡ s) }
-{}
-
-/// A fault that a reader told of a stream is told for good: whatever follows, no reader tells another thing of it,
-/// unless memory runs out.
-pub fn faults_stay()
-    ensures { (rest more : List ℕ) (e : WireError) (told : Result (Option Message) WireError)
-        → e ≢ WireError.OutOfMemory → told ≢ Err WireError.OutOfMemory
-        → Tells rest (Err e) → Tells (rest ++ more) told → told ≡ Err e }
-{}

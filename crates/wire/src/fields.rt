@@ -2,7 +2,8 @@
 
 ghost use Rattle.wire.specs.Held.{held_list};
 ghost use Rattle.wire.specs.Ranges.{share_length, read_length, write_data, read_data};
-ghost use Rattle.wire.specs.Reading.{Gives, number_at, bytes_at, share_at, share_id_at, held_share_at, shares_at, flag_at, count_at, in_range};
+ghost use Rattle.wire.specs.Reading.{Gives, number_at, bytes_at, share_at, share_id_at};
+ghost use Rattle.wire.specs.Reading.{held_share_at, shares_at, flag_at, count_at, in_range};
 
 use crate::error::WireError;
 use crate::message::{

@@ -6,7 +6,7 @@ ghost use Rattle.wire.specs.Kinds.{number_of, kind_of, kind_named};
 use crate::message::Body;
 
 /// A kind of message. Its number is the first byte of a frame's body.
-#[derive(Clone, Copy, Debug, PartialEq, Eq)]
+#[derive(Clone, Copy, PartialEq, Eq)]
 pub enum Kind {
     Ask = 1,
     Have = 2,

@@ -7,5 +7,6 @@ pub mod error;
 pub mod feed;
 mod fields;
 pub mod kind;
+pub mod laws;
 pub mod message;
 pub mod requests;

@@ -1,6 +1,7 @@
 //! What clients and servers say to each other.
 
-ghost use Rattle.std.specs.Prelude.{◌≡◌, ℕ, ◌+◌, ◌≤◌, ◌^◌, List, Option, length};
+ghost use Rattle.std.specs.Prelude.{◌≡◌, ℕ, ◌+◌, ◌≤◌, List, Option, length};
+ghost use Rattle.wire.specs.Limits.{longest_share, most_data};
 ghost use Rattle.wire.specs.Ranges.{share_length, read_length, write_data, read_data};
 ghost use Rattle.wire.specs.Held.{AreHeld, IsHeldShare, held_list};
 
@@ -13,6 +14,9 @@ pub const MAX_PIECE: usize = 32_768;
 /// The most shares that a file has, and so the most that a `Have` lists.
 pub const MAX_SHARES: usize = 256;
 
+/// The number of a node of the grid, as an operation names the server that it asks.
+pub type NodeId = u16;
+
 /// The name of a file's shares at every server: the 16 bytes of its storage index.
 pub type StorageIndex = [u8; 16];
 
@@ -20,14 +24,14 @@ pub type StorageIndex = [u8; 16];
 pub type Digest = [u8; 32];
 
 /// One share of one file.
-#[derive(Clone, Copy, Debug, PartialEq, Eq)]
+#[derive(Clone, Copy, PartialEq, Eq)]
 pub struct ShareId {
     pub index: StorageIndex,
     pub share: u8,
 }
 
 /// A share that a server holds whole, and the digest of its bytes.
-#[derive(Clone, Copy, Debug, PartialEq, Eq)]
+#[derive(Clone, Copy, PartialEq, Eq)]
 pub struct HeldShare {
     pub share: u8,
     pub digest: Digest,
@@ -44,7 +48,7 @@ impl HeldShare {
 }
 
 /// The length of a share in bytes: 1 to 2^41.
-#[derive(Clone, Copy, Debug, PartialEq, Eq)]
+#[derive(Clone, Copy, PartialEq, Eq)]
 pub struct ShareLength {
     bytes: u64,
 }
@@ -54,7 +58,7 @@ impl Model for ShareLength {
 
     ghost view = { λ l. l.bytes };
 
-    ghost invariant = { λ l. (1 ≤ l.bytes) × (l.bytes ≤ 2 ^ 41) };
+    ghost invariant = { λ l. (1 ≤ l.bytes) × (l.bytes ≤ longest_share) };
 
     ghost inverse = { λ n. record { bytes = n } };
 }
@@ -77,14 +81,14 @@ impl ShareLength {
     /// The number of bytes.
     pub fn get(self) -> u64
         ensures value { result ≡ self }
-        ensures range { (1 ≤ self) × (self ≤ 2 ^ 41) }
+        ensures range { (1 ≤ self) × (self ≤ longest_share) }
     {
         self.bytes
     }
 }
 
 /// How many bytes a `Read` asks for: 1 to 32,768.
-#[derive(Clone, Copy, Debug, PartialEq, Eq)]
+#[derive(Clone, Copy, PartialEq, Eq)]
 pub struct ReadLength {
     bytes: u32,
 }
@@ -94,7 +98,7 @@ impl Model for ReadLength {
 
     ghost view = { λ l. l.bytes };
 
-    ghost invariant = { λ l. (1 ≤ l.bytes) × (l.bytes ≤ 32768) };
+    ghost invariant = { λ l. (1 ≤ l.bytes) × (l.bytes ≤ most_data) };
 
     ghost inverse = { λ n. record { bytes = n } };
 }
@@ -114,14 +118,14 @@ impl ReadLength {
     /// The number of bytes.
     pub fn get(self) -> u32
         ensures value { result ≡ self }
-        ensures range { (1 ≤ self) × (self ≤ 32768) }
+        ensures range { (1 ≤ self) × (self ≤ most_data) }
     {
         self.bytes
     }
 }
 
 /// The bytes of a `Write`: 1 to 32,768 of them.
-#[derive(Debug, Drop)]
+#[derive(Drop)]
 pub struct WriteData {
     bytes: Vec<u8>,
 }
@@ -131,7 +135,7 @@ impl Model for WriteData {
 
     ghost view = { λ d. d.bytes.items };
 
-    ghost invariant = { λ d. (1 ≤ length d.bytes.items) × (length d.bytes.items ≤ 32768) };
+    ghost invariant = { λ d. (1 ≤ length d.bytes.items) × (length d.bytes.items ≤ most_data) };
 }
 
 impl Clone for WriteData {
@@ -159,7 +163,7 @@ impl WriteData {
     /// The bytes.
     pub fn as_slice(&self) -> &[u8]
         ensures value { result.now ≡ self.now }
-        ensures range { (1 ≤ length self.now) × (length self.now ≤ 32768) }
+        ensures range { (1 ≤ length self.now) × (length self.now ≤ most_data) }
     {
         self.bytes.as_slice()
     }
@@ -173,7 +177,7 @@ impl WriteData {
 }
 
 /// The bytes of a `Data`: at most 32,768.
-#[derive(Debug, Drop)]
+#[derive(Drop)]
 pub struct ReadData {
     bytes: Vec<u8>,
 }
@@ -183,7 +187,7 @@ impl Model for ReadData {
 
     ghost view = { λ d. d.bytes.items };
 
-    ghost invariant = { λ d. length d.bytes.items ≤ 32768 };
+    ghost invariant = { λ d. length d.bytes.items ≤ most_data };
 }
 
 impl Clone for ReadData {
@@ -211,7 +215,7 @@ impl ReadData {
     /// The bytes.
     pub fn as_slice(&self) -> &[u8]
         ensures value { result.now ≡ self.now }
-        ensures range { length self.now ≤ 32768 }
+        ensures range { length self.now ≤ most_data }
     {
         self.bytes.as_slice()
     }
@@ -225,7 +229,7 @@ impl ReadData {
 }
 
 /// Shares of one file that a server holds: their numbers rise strictly, so there are at most 256.
-#[derive(Debug, Drop)]
+#[derive(Drop)]
 pub struct HeldList {
     items: Vec<HeldShare>,
 }
@@ -283,9 +287,9 @@ impl HeldList {
     }
 }
 
-/// What a message says. A server answers the requests `Ask`, `Allocate`, `Write`, `Close`, `Abort` and `Read`; the
-/// other kinds are answers.
-#[derive(Debug, Drop)]
+/// What a message says. A server answers the requests `Ask`, `Allocate`, `Write`, `Close`, `Abort`
+/// and `Read`; the other kinds are answers.
+#[derive(Drop)]
 pub enum Body {
     /// Which shares of this file does the server hold?
     Ask(StorageIndex),
@@ -350,7 +354,7 @@ impl Clone for Body {
 }
 
 /// A message of one operation. An answer repeats the session and the number of its request.
-#[derive(Debug, Drop)]
+#[derive(Drop)]
 pub struct Message {
     /// The operation that the message belongs to.
     pub session: u64,

@@ -1,10 +1,18 @@
 //! The record of what one operation asked of servers, and what became of it.
 
-ghost use Rattle.std.specs.Prelude.{◌≡◌, ◌≤◌, ◌<◌, [], List, length, map, max, slice_get, slice_set, Some, vec_len, All, IfOk, IfSome, OnOk, OnErr};
-ghost use Rattle.wire.specs.Record.{is_outstanding, with_outcome, fits, first_request, awaits, counts_at, counted, at, asked_more, age_of, passed, is_lost_at, is_resent_at, ticked_one, resent_from, ticked, TakesNext, IsSentFew, IsRecord, outstanding_count};
+ghost use Rattle.std.specs.Prelude.{◌≡◌, ◌≤◌, ◌<◌, ◌^◌, ◌+◌, ◌++◌, ◌↔◌, [], List, length, map};
+ghost use Rattle.std.specs.Prelude.{take, drop, max, slice_get, slice_set, Some, vec_len, All};
+ghost use Rattle.std.specs.Prelude.{IfOk, IfSome, IfNone, IsTrue, OnOk, OnErr};
+ghost use Rattle.wire.specs.Record.{is_outstanding, with_outcome, fits, first_request, awaits};
+ghost use Rattle.wire.specs.Record.{counts_at, counted, at, asked_more, age_of, passed, is_lost_at};
+ghost use Rattle.wire.specs.Record.{is_resent_at, is_lost_in, ticked_one, places_from, without};
+ghost use Rattle.wire.specs.Record.{without_lost, ticked, TakesNext, IsSentFew, IsRecord};
+ghost use Rattle.wire.specs.Record.{AreSettled, outstanding_count};
+ghost use Rattle.wire.specs.Asking.{fresh, begun, after_message, after_tick, lost_by_tick, HasWork};
+ghost use Rattle.wire.specs.Asking.{Spells, IsWriting, message_at};
 ghost use Rattle.wire.specs.declared.requests.Request.{Request};
 
-use crate::message::{Body, Message, ReadLength, ShareLength};
+use crate::message::{Body, Message, NodeId, ReadLength, ShareId, ShareLength, StorageIndex};
 use std::alloc::{AllocError, Global};
 use std::collections::VecDeque;
 use std::marker::Model;
@@ -18,9 +26,9 @@ const MARKS: u64 = 3;
 /// The age in seconds at which an unanswered request is lost.
 const PATIENCE: u64 = 20;
 
-/// What a request asks, of which share. The operation's file is known to it; the bytes of a `Writing` are those of the
-/// share, and are not kept.
-#[derive(Clone, Copy, Debug, PartialEq, Eq)]
+/// What a request asks, of which share. The operation's file is known to it; the bytes of a
+/// `Writing` are those of the share, and are not kept.
+#[derive(Clone, Copy, PartialEq, Eq)]
 pub enum Asked {
     /// Which shares the server holds.
     Holdings,
@@ -37,7 +45,7 @@ pub enum Asked {
 }
 
 /// What became of a request.
-#[derive(Debug, Drop)]
+#[derive(Drop)]
 pub enum Outcome {
     /// No answer is waited for: it is an `Aborting`.
     Unawaited,
@@ -50,10 +58,10 @@ pub enum Outcome {
 }
 
 /// One request. Its number is its place in the record, counted from 1.
-#[derive(Debug, Drop)]
+#[derive(Drop)]
 pub struct Request {
     /// The server asked.
-    pub server: u16,
+    pub server: NodeId,
     pub asked: Asked,
     /// The second at which it was first sent.
     pub first_sent: u64,
@@ -87,6 +95,26 @@ impl Asked {
             Asked::Aborting(_) => false,
         }
     }
+
+    /// What the request's message says, for the file of this storage index. `None` for a
+    /// `Writing`, whose message is a `Body::Write` with the bytes.
+    pub fn body(self, index: StorageIndex) -> Option<Body>
+        ensures spells { IfSome result (λ body. Spells index self body) }
+        ensures none { IfNone result (IsWriting self) }
+    {
+        match self {
+            Asked::Holdings => Some(Body::Ask(index)),
+            Asked::Allocation(share, length) => {
+                Some(Body::Allocate(ShareId { index, share }, length))
+            }
+            Asked::Writing(_, _, _) => None,
+            Asked::Closing(share) => Some(Body::Close(ShareId { index, share })),
+            Asked::Reading(share, offset, length) => {
+                Some(Body::Read(ShareId { index, share }, offset, length))
+            }
+            Asked::Aborting(share) => Some(Body::Abort(ShareId { index, share })),
+        }
+    }
 }
 
 /// How many of the marks lie at or before this age.
@@ -99,7 +127,7 @@ fn passed(age: u64) -> u8
 
 impl Request {
     /// A request that is sent first at this second.
-    fn new(server: u16, asked: Asked, now: u64) -> Request
+    fn new(server: NodeId, asked: Asked, now: u64) -> Request
         ensures { result ≡ first_request server asked now }
     {
         let outcome = match &asked {
@@ -117,7 +145,7 @@ impl Request {
     }
 
     /// Would this answer from this server count?
-    pub fn awaits(&self, from: u16, body: &Body) -> bool
+    pub fn awaits(&self, from: NodeId, body: &Body) -> bool
         ensures { result ≡ awaits from body.now self.now }
     {
         self.is_outstanding() && self.server == from && self.asked.fits(body)
@@ -164,37 +192,63 @@ impl Request {
     }
 }
 
-/// The places of the requests that are sent again at a tick at this second.
-fn places_to_resend(
-    alloc: Global,
-    entries: &[Request],
-    now: u64,
-) -> Result<VecDeque<usize>, AllocError>
-    ensures { IfOk result (λ q. q.items ≡ resent_from now 0 entries.now) }
-{
-    let mut places = VecDeque::new(alloc);
-    for (place, request) in entries.iter().enumerate() {
-        if request.is_resent_at(now) {
-            places.push_back(place)?;
-        }
-    }
-    Ok(places)
+/// What a tick finds due: the places of the requests that are sent again, and of the lost ones.
+#[derive(Drop)]
+struct Due {
+    resent: VecDeque<usize>,
+    lost: Vec<usize>,
 }
 
-/// Each request takes note of a tick at this second. Counts those that still wait for an answer.
-fn tick_each(entries: &mut [Request], now: u64) -> usize
-    requires { All IsSentFew entries.old }
-    ensures ticked { entries.new ≡ map (ticked_one now) entries.old }
-    ensures count { result ≡ outstanding_count entries.new }
+/// What a tick at this second finds due among these requests, the first of them at this place.
+fn find_due(alloc: Global, entries: &[Request], from: usize, now: u64) -> Result<Due, AllocError>
+    requires { from + length entries.now < 2 ^ 64 }
+    ensures resent { IfOk result
+        (λ due. due.resent.items ≡ places_from (is_resent_at now) from entries.now) }
+    ensures lost { IfOk result
+        (λ due. due.lost.items ≡ places_from (is_lost_at now) from entries.now) }
 {
-    let mut outstanding: usize = 0;
-    for request in entries.iter_mut() {
-        request.tick(now);
-        if request.is_outstanding() {
-            outstanding += 1;
+    let mut resent = VecDeque::new(alloc);
+    let mut lost = Vec::new(alloc);
+    for (at, request) in entries.iter().enumerate() {
+        if request.is_lost_at(now) {
+            lost.push(from + at)?;
+        }
+        if request.is_resent_at(now) {
+            resent.push_back(from + at)?;
         }
     }
-    outstanding
+    Ok(Due { resent, lost })
+}
+
+/// Each request takes note of a tick at this second.
+fn tick_each(entries: &mut [Request], now: u64)
+    requires { All IsSentFew entries.old }
+    ensures { entries.new ≡ map (ticked_one now) entries.old }
+{
+    for request in entries.iter_mut() {
+        request.tick(now);
+    }
+}
+
+/// Each request from this place on takes note of a tick at this second.
+fn tick_from(entries: &mut [Request], from: usize, now: u64)
+    requires few { All IsSentFew entries.old }
+    requires there { from ≤ length entries.old }
+    ensures { entries.new ≡ take from entries.old ++ map (ticked_one now) (drop from entries.old) }
+{
+    tick_each(&mut entries[from..], now);
+}
+
+/// The first place from this one on whose request waits for an answer, or the end.
+fn first_waiting(entries: &[Request], from: usize) -> usize
+    requires { AreSettled from entries.now }
+    ensures { AreSettled result entries.now }
+{
+    let mut place = from;
+    while place < entries.len() && !entries[place].is_outstanding() {
+        place += 1;
+    }
+    place
 }
 
 /// The request at this place is settled so.
@@ -206,7 +260,34 @@ fn settle(entries: &mut Vec<Request>, place: usize, outcome: Outcome)
     entries[place].outcome = outcome;
 }
 
+/// Is the request at this place lost at a tick at this second?
+fn is_lost_in(entries: &[Request], place: usize, now: u64) -> bool
+    ensures { result ≡ is_lost_in now (slice_get entries.now place) }
+{
+    match entries.get(place) {
+        Some(request) => request.is_lost_at(now),
+        None => false,
+    }
+}
+
+/// A place is not to be sent any more.
+fn drop_place(outgoing: &mut VecDeque<usize>, place: usize)
+    ensures { outgoing.new.items ≡ without place outgoing.old.items }
+{
+    outgoing.retain(|p| !(*p == place));
+}
+
+/// What is lost at a tick at this second is not to be sent any more.
+fn drop_lost(outgoing: &mut VecDeque<usize>, entries: &[Request], now: u64)
+    ensures { outgoing.new.items ≡ without_lost now entries.now outgoing.old.items }
+{
+    outgoing.retain(|place| !is_lost_in(entries, *place, now));
+}
+
 /// The record of one operation: what it asked in order, and which requests are still to be sent.
+///
+/// A message costs what is outstanding or to send, and a tick what was asked since the first
+/// request that still waits: neither grows with all that was asked.
 #[derive(Drop)]
 pub struct Requests {
     session: u64,
@@ -215,24 +296,37 @@ pub struct Requests {
     clock: u64,
     /// How many requests wait for their answers.
     outstanding: usize,
+    /// No request before this place waits for its answer.
+    settled: usize,
 }
 
 impl Model for Requests {
     ghost use Rattle.std.specs.Prelude.{◌≡◌};
-    ghost use Rattle.wire.specs.Record.{RequestsState, IsRecord, outstanding_count};
+    ghost use Rattle.wire.specs.Record.{RequestsState, IsRecord, IsIndexed};
 
     ghost Value = { RequestsState };
 
-    ghost view = { λ r. record { session = r.session; entries = r.entries.items; outgoing = r.outgoing.items; clock = r.clock } };
+    ghost view = { λ r. record {
+      session = r.session;
+      entries = r.entries.items;
+      outgoing = r.outgoing.items;
+      clock = r.clock;
+    } };
 
-    ghost invariant = { λ r. IsRecord (record { session = r.session; entries = r.entries.items; outgoing = r.outgoing.items; clock = r.clock })
-        × (r.outstanding ≡ outstanding_count r.entries.items) };
+    ghost invariant = { λ r.
+        IsRecord (record {
+          session = r.session;
+          entries = r.entries.items;
+          outgoing = r.outgoing.items;
+          clock = r.clock;
+        })
+        × IsIndexed r.outstanding r.settled r.entries.items };
 }
 
 impl Requests {
     /// The record of an operation that asked nothing yet.
     pub fn new(alloc: Global, session: u64, now: u64) -> Requests
-        ensures { result ≡ record { session = session; entries = []; outgoing = []; clock = now } }
+        ensures { result ≡ fresh session now }
     {
         Requests {
             session,
@@ -240,7 +334,24 @@ impl Requests {
             outgoing: VecDeque::new(alloc),
             clock: now,
             outstanding: 0,
+            settled: 0,
         }
+    }
+
+    /// The record of an operation that asks each of these servers which shares it holds.
+    pub fn begin(
+        alloc: Global,
+        servers: &[NodeId],
+        session: u64,
+        now: u64,
+    ) -> Result<Requests, AllocError>
+        ensures { IfOk result (λ r. r ≡ begun servers.now session now) }
+    {
+        let mut requests = Requests::new(alloc, session, now);
+        for server in servers {
+            requests.ask(*server, Asked::Holdings)?;
+        }
+        Ok(requests)
     }
 
     /// The operation's session.
@@ -248,6 +359,13 @@ impl Requests {
         ensures { result ≡ self.now.session }
     {
         self.session
+    }
+
+    /// The latest second that the operation was told.
+    pub fn clock(&self) -> u64
+        ensures { result ≡ self.now.clock }
+    {
+        self.clock
     }
 
     /// The requests in order: request `n` is at place `n - 1`.
@@ -259,7 +377,7 @@ impl Requests {
     }
 
     /// Records a request, and puts it at the end of those to send.
-    pub fn ask(&mut self, server: u16, asked: Asked) -> Result<(), AllocError>
+    pub fn ask(&mut self, server: NodeId, asked: Asked) -> Result<(), AllocError>
         ensures ok { OnOk result (self.new ≡ asked_more server asked self.old) }
         ensures err { OnErr result (self.new ≡ self.old) }
     {
@@ -274,7 +392,7 @@ impl Requests {
     }
 
     /// The place of the request that a message from a server answers, where the answer counts.
-    pub fn counts_at(&self, from: u16, message: &Message) -> Option<usize>
+    pub fn counts_at(&self, from: NodeId, message: &Message) -> Option<usize>
         ensures value { result ≡ counts_at from message.now self.now }
         ensures there { IfSome result (λ place. place < length self.now.entries) }
     {
@@ -288,15 +406,16 @@ impl Requests {
         }
     }
 
-    /// Takes a message from a server: keeps it where it answers a request and counts, and says at which place.
+    /// Takes a message from a server: keeps it where it answers a request and counts, and says at
+    /// which place. The request is not sent any more.
     pub fn answer(
         &mut self,
-        from: u16,
+        from: NodeId,
         message: &Message,
         now: u64,
     ) -> Result<Option<usize>, AllocError>
         ensures place { IfOk result (λ p. p ≡ counts_at from message.now self.old) }
-        ensures ok { OnOk result (self.new ≡ counted from message.now (at now self.old)) }
+        ensures ok { OnOk result (self.new ≡ after_message from message.now now self.old) }
         ensures err { OnErr result (self.new ≡ self.old) }
     {
         let clock = self.clock.max(now);
@@ -306,23 +425,31 @@ impl Requests {
         };
         let body = message.body.clone()?;
         settle(&mut self.entries, place, Outcome::Answered(body));
+        drop_place(&mut self.outgoing, place);
         self.outstanding -= 1;
         self.clock = clock;
         Ok(Some(place))
     }
 
-    /// Takes note of a tick: a request that is due is sent again, one that is 20 seconds old is lost.
-    pub fn tick(&mut self, now: u64) -> Result<(), AllocError>
-        ensures ok { OnOk result (self.new ≡ ticked (max self.old.clock now) self.old) }
+    /// Takes note of a tick: a request that is due is sent again, one that is 20 seconds old is
+    /// lost, and not sent any more. Gives the places of those that it finds lost.
+    pub fn tick(&mut self, now: u64) -> Result<Vec<usize>, AllocError>
+        ensures lost { IfOk result (λ places. places.items ≡ lost_by_tick now self.old) }
+        ensures ok { OnOk result (self.new ≡ after_tick now self.old) }
         ensures err { OnErr result (self.new ≡ self.old) }
     {
         let now = self.clock.max(now);
         let alloc = *self.entries.allocator();
-        let mut places = places_to_resend(alloc, self.entries.as_slice(), now)?;
-        self.outgoing.append(&mut places)?;
-        self.outstanding = tick_each(self.entries.as_mut_slice(), now);
+        let waiting = &self.entries.as_slice()[self.settled..];
+        let mut due = find_due(alloc, waiting, self.settled, now)?;
+        self.outgoing.append(&mut due.resent)?;
+        drop_lost(&mut self.outgoing, self.entries.as_slice(), now);
+        tick_from(self.entries.as_mut_slice(), self.settled, now);
+        self.settled = first_waiting(self.entries.as_slice(), self.settled);
+        self.outstanding -= due.lost.len();
         self.clock = now;
-        Ok(())
+        let Due { resent: _, lost } = due;
+        Ok(lost)
     }
 
     /// How many requests wait for their answers.
@@ -330,6 +457,13 @@ impl Requests {
         ensures { result ≡ outstanding_count self.now.entries }
     {
         self.outstanding
+    }
+
+    /// Does a request wait for its answer, or is one to be sent?
+    pub fn has_work(&self) -> bool
+        ensures { IsTrue result ↔ HasWork self.now }
+    {
+        0 < self.outstanding || 0 < self.outgoing.len()
     }
 
     /// The place of the first request to send.
@@ -352,5 +486,17 @@ impl Requests {
         ensures { result ≡ length self.now.outgoing }
     {
         self.outgoing.len()
+    }
+
+    /// The message of the request at a place, which says this.
+    pub fn message_at(&self, place: usize, body: Body) -> Message
+        requires { place < length self.now.entries }
+        ensures { result ≡ message_at place body self.now }
+    {
+        Message {
+            session: self.session,
+            number: place as u64 + 1,
+            body,
+        }
     }
 }

@@ -1,9 +1,7 @@
-use Rattle.std.proofs.Common.{◌≡◌, ◌<◌, List, Some, length, sym, ap, subst, ◌∙◌, arith}
-use Rattle.std.proofs.lemmas.List.{length-set}
+use Rattle.std.proofs.Common.{◌≡◌, ◌+◌, ◌-◌, ◌<◌, List, Some, length, sym, ap, subst, ◌∙◌, arith}
 use Rattle.wire.specs.declared.requests.Request.{Request}
-use Rattle.wire.specs.declared.requests.Outcome.TheVariants.{Answered}
-use Rattle.wire.specs.Record.{RequestsState, counts_at, with_outcome}
-use Rattle.wire.proofs.RecordLaws.{Awaits, settled, counts_is, count_settled, few_settled, there_same}
+use Rattle.wire.specs.Record.{RequestsState, IsIndexed, counts_at}
+use Rattle.wire.proofs.RecordLaws.{Awaits, settled, counts_is, count_settled, answered_right, answered_indexed}
 use Rattle.wire.proofs.requests.Requests.answer.Goals as goal
 
 pub overflow_sub-self : goal.overflow_sub-self
@@ -12,7 +10,7 @@ overflow_sub-self c =
     let found : counts_at c.args.from c.args.message.now state ≡ Some c.in-Some.place = ap (counts_at c.args.from c.args.message.now) c.self.view_is ∙ sym c.in-Some.ensures.value in
     let a : Awaits c.self.inside.entries.items c.in-Some.place = counts_is c.args.from c.args.message.now state c.in-Some.place found in
     let there : c.in-Some.place < length c.self.inside.entries.items = subst (λ (s : RequestsState). c.in-Some.place < length s.entries) (sym c.self.view_is) c.in-Some.ensures.there in
-    omega (arith, count_settled c.self.inside.entries.items c.in-Some.place a c.in_ok-body.body there, c.self.invariant.1)
+    omega (arith, count_settled c.self.inside.entries.items c.in-Some.place a c.in_ok-body.body there, c.self.invariant.1.counts)
 
 pub invariant_of-self-2 : goal.invariant_of-self-2
 invariant_of-self-2 c =
@@ -22,11 +20,7 @@ invariant_of-self-2 c =
     let a : Awaits entries c.in-Some.place = counts_is c.args.from c.args.message.now state c.in-Some.place found in
     let there : c.in-Some.place < length entries = subst (λ (s : RequestsState). c.in-Some.place < length s.entries) (sym c.self.view_is) c.in-Some.ensures.there in
     let new : c.settle.new.entries.items ≡ settled entries c.in-Some.place a c.in_ok-body.body = c.settle.ensures a.request a.there in
-    let len : length (settled entries c.in-Some.place a c.in_ok-body.body) ≡ length entries = length-set entries c.in-Some.place (with_outcome a.request (Answered c.in_ok-body.body)) in
-    rw new (
-      record {
-        few = few_settled entries c.in-Some.place a c.in_ok-body.body there c.self.invariant.0.few;
-        there = there_same entries (settled entries c.in-Some.place a c.in_ok-body.body) c.self.inside.outgoing.items len c.self.invariant.0.there;
-      },
-      omega (arith, count_settled entries c.in-Some.place a c.in_ok-body.body there, c.self.invariant.1),
+    let fewer : c.self.inside.outstanding ≡ c.self.inside.outstanding - 1 + 1 = omega (arith, count_settled entries c.in-Some.place a c.in_ok-body.body there, c.self.invariant.1.counts) in (
+      answered_right state c.in-Some.place a c.in_ok-body.body there c.self.invariant.0 _ new c.drop_place.ensures,
+      rw new (answered_indexed (c.self.inside.outstanding - 1) c.self.inside.settled c.in-Some.place entries a c.in_ok-body.body there (subst (λ k. IsIndexed k c.self.inside.settled entries) fewer c.self.invariant.1)),
     )
