@@ -120,7 +120,7 @@ fn pad(row: &mut [[u8; 32]], leaves: &[[u8; 32]])
 }
 
 // The numbers of the nodes that lead from a leaf to the root of a tree of this height.
-fn needed_in(alloc: Global, height: u32, leaf: u32) -> Result<Vec<u32>, AllocError>
+pub(crate) fn needed_in(alloc: Global, height: u32, leaf: u32) -> Result<Vec<u32>, AllocError>
     requires low { height ≤ 20 }
     requires inside { leaf < 2 ^ height }
     ensures { IfOk result (λ numbers. numbers.items ≡ needed_numbers height leaf) }

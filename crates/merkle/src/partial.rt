@@ -1,0 +1,152 @@
+//! Trees of which some nodes are known.
+
+ghost use Rattle.std.specs.Prelude.{◌≡◌, ◌<◌, ◌≤◌, ◌^◌, ℕ, List, Some, Err, is_some};
+ghost use Rattle.std.specs.Prelude.{IfOk, IfSome, IsOkUnless, OnErr, OnOk};
+ghost use Rattle.merkle.specs.Path.{LeadsBy};
+ghost use Rattle.merkle.specs.Partial.{IsNotConsistent, IsPartial, KnownLeavesGiveTheRoot};
+ghost use Rattle.merkle.specs.Partial.{KnownLeavesLead, PartialState, Takes, known_at};
+ghost use Rattle.merkle.specs.Partial.{known_siblings, leaf_number, missing_numbers, starting};
+ghost use Rattle.merkle.specs.Tree.{max_leaves};
+
+use crate::error::{OfferError, TreeError};
+use crate::numbers::{height, node_number, sibling_number};
+use crate::taking::{known_node, take, take_out};
+use crate::tree::needed_in;
+use std::alloc::Global;
+use std::collections::HashMap;
+use std::marker::Model;
+
+/// A hash tree of which the root is given, and other nodes as they are offered. Each node that is
+/// known leads to the root. It takes memory for the nodes that were offered and those above them,
+/// and none for others.
+#[derive(Drop)]
+pub struct Partial {
+    root: [u8; 32],
+    leaf_count: u32,
+    alloc: Global,
+    // The root, the nodes that were offered and those above them. Nodes over empty leaves alone are
+    // computed where they are wanted.
+    nodes: HashMap<u32, [u8; 32]>,
+}
+
+impl Model for Partial {
+    ghost use Rattle.std.specs.Prelude.{◌<◌, ◌≤◌, nat_eq};
+    ghost use Rattle.std.specs.HashMap.{get};
+    ghost use Rattle.merkle.specs.Partial.{PartialState, all_known, known_by, padding};
+    ghost use Rattle.merkle.specs.Taking.{IsKept};
+    ghost use Rattle.merkle.specs.Tree.{max_leaves};
+
+    ghost Value = { PartialState };
+
+    ghost view = { λ p. record {
+      root = p.root;
+      leaf_count = p.leaf_count;
+      nodes = all_known p.leaf_count (known_by (padding p.leaf_count) (get nat_eq p.nodes));
+    } };
+
+    ghost invariant = { λ p. (0 < p.leaf_count) × (p.leaf_count ≤ max_leaves)
+        × IsKept p.leaf_count (padding p.leaf_count) p.root (get nat_eq p.nodes) };
+}
+
+impl Partial {
+    /// The tree with this root over `leaves` leaves, which are 1 to 2^20.
+    pub fn new(alloc: Global, root: &[u8; 32], leaves: u32) -> Result<Partial, TreeError>
+        requires some { 0 < leaves }
+        requires few { leaves ≤ max_leaves }
+        ensures tree { IfOk result (λ p. p ≡ starting root.now leaves) }
+        ensures refused { IsOkUnless result TreeError.OutOfMemory }
+    {
+        let mut nodes = HashMap::new(alloc);
+        nodes.insert(0, *root)?;
+        Ok(Partial {
+            root: *root,
+            leaf_count: leaves,
+            alloc,
+            nodes,
+        })
+    }
+
+    /// What is known of the node of this number.
+    pub fn node(&self, number: u32) -> Option<[u8; 32]>
+        ensures value { result ≡ known_at self.now number }
+        ensures right { IsPartial self.now }
+    {
+        known_node(&self.nodes, self.leaf_count, number)
+    }
+
+    /// Takes nodes, each a number and a hash, where they and the nodes above them go with what is
+    /// known: each of them but the root has a sibling that is known, offered or above an offered
+    /// node, and each parent is the hash of its two children. Otherwise, and where a number is not
+    /// one of the tree's, they are refused, and nothing changes.
+    pub fn offer(&mut self, offers: &[(u32, [u8; 32])]) -> Result<(), OfferError>
+        ensures taken { OnOk result (Takes self.old offers.now self.new) }
+        ensures not_consistent { result ≡ Err OfferError.NotConsistent
+            → IsNotConsistent self.old offers.now }
+        ensures unchanged { OnErr result (self.new ≡ self.old) }
+    {
+        let mut added = Vec::new(self.alloc);
+        match take(&mut self.nodes, self.leaf_count, offers, &mut added) {
+            Ok(()) => Ok(()),
+            Err(error) => {
+                take_out(&mut self.nodes, &added);
+                Err(error)
+            }
+        }
+    }
+
+    /// The numbers of the nodes that lead from a leaf to the root and are not known yet, rising.
+    /// There is such a leaf.
+    pub fn needed(&self, leaf: u32) -> Result<Vec<u32>, TreeError>
+        requires { leaf < self.now.leaf_count }
+        ensures numbers { IfOk result (λ numbers. numbers.items ≡ missing_numbers self.now leaf) }
+        ensures refused { IsOkUnless result TreeError.OutOfMemory }
+    {
+        let numbers = needed_in(self.alloc, height(self.leaf_count), leaf)?;
+        let mut missing = Vec::new(self.alloc);
+        for number in &numbers {
+            if self.node(*number).is_none() {
+                missing.push(*number)?;
+            }
+        }
+        Ok(missing)
+    }
+
+    /// The siblings of a leaf that is known and of the nodes above it, from the leaf upward, as
+    /// `check_path` takes them. There is such a leaf.
+    pub fn path(&self, leaf: u32) -> Result<Option<Vec<[u8; 32]>>, TreeError>
+        requires { leaf < self.now.leaf_count }
+        ensures known { IfOk result (λ path. is_some path
+            ≡ is_some (known_at self.now (leaf_number self.now.leaf_count leaf))) }
+        ensures siblings { IfOk result (λ path. IfSome path (λ siblings.
+            siblings.items ≡ known_siblings self.now leaf)) }
+        ensures leads { IfOk result (λ path. IfSome path (λ siblings. (hash : List ℕ)
+            → known_at self.now (leaf_number self.now.leaf_count leaf) ≡ Some hash
+            → LeadsBy self.now.leaf_count self.now.root leaf hash siblings.items)) }
+        ensures refused { IsOkUnless result TreeError.OutOfMemory }
+    {
+        let height = height(self.leaf_count);
+        if self.node(node_number(height, leaf)).is_none() {
+            return Ok(None);
+        }
+        let mut siblings = Vec::with_capacity(self.alloc, height as usize)?;
+        for i in 0..height {
+            let Some(hash) = self.node(sibling_number(height, leaf, i)) else {
+                unreachable!();
+            };
+            siblings.push(hash)?;
+        }
+        Ok(Some(siblings))
+    }
+}
+
+/// A law of the definitions: each leaf that is known leads to the root by siblings that are known.
+/// The law is the contract; the call does nothing.
+pub fn known_leaves_lead()
+    ensures { KnownLeavesLead }
+{}
+
+/// A law of the definitions: where all leaves are known, the root is that of the tree over them.
+/// The law is the contract; the call does nothing.
+pub fn known_leaves_give_the_root()
+    ensures { KnownLeavesGiveTheRoot }
+{}

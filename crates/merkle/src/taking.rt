@@ -1,0 +1,143 @@
+//! How nodes that are offered are taken into what was told of a tree.
+
+ghost use Rattle.std.specs.Prelude.{◌≡◌, ◌+◌, ◌-◌, ◌*◌, ◌<◌, ◌≤◌, ◌⊎◌, ℕ, List, [], None, Err};
+ghost use Rattle.std.specs.Prelude.{nat_eq, OnOk};
+ghost use Rattle.std.specs.HashMap.{get};
+ghost use Rattle.merkle.specs.Partial.{IsExtended, Known, known_by, node_count, padding, parent};
+ghost use Rattle.merkle.specs.Taking.{Adds, GrowsBy, IsGrown, IsKept, IsListed, IsOther};
+ghost use Rattle.merkle.specs.Taking.{IsUnjoinable, Joins};
+ghost use Rattle.merkle.specs.Tree.{max_leaves};
+
+use crate::error::OfferError;
+use crate::numbers::height;
+use crate::padding::padding;
+use std::collections::HashMap;
+use tagged_hash::pair;
+
+// Takes the nodes that are offered and those above them, and lists the numbers of those that were
+// not told before.
+pub(crate) fn take(
+    nodes: &mut HashMap<u32, [u8; 32]>,
+    leaf_count: u32,
+    offers: &[(u32, [u8; 32])],
+    added: &mut Vec<u32>,
+) -> Result<(), OfferError>
+    requires few { leaf_count ≤ max_leaves }
+    requires some { 0 < leaf_count }
+    requires kept { (root : List ℕ)
+        × IsKept leaf_count (padding leaf_count) root (get nat_eq nodes.old) }
+    requires none { added.old.items ≡ [] }
+    ensures grown { IsGrown (get nat_eq nodes.old) added.new.items (get nat_eq nodes.new) }
+    ensures taken { OnOk result (IsExtended leaf_count
+        (known_by (padding leaf_count) (get nat_eq nodes.old)) offers.now
+        (known_by (padding leaf_count) (get nat_eq nodes.new))) }
+    ensures kept { OnOk result ((root : List ℕ)
+        → IsKept leaf_count (padding leaf_count) root (get nat_eq nodes.old)
+        → IsKept leaf_count (padding leaf_count) root (get nat_eq nodes.new)) }
+    ensures refused { result ≡ Err OfferError.NotConsistent → (new : Known)
+        → ¬ IsExtended leaf_count (known_by (padding leaf_count) (get nat_eq nodes.old))
+            offers.now new }
+{
+    let height = height(leaf_count);
+    for offer in offers {
+        let (number, hash) = *offer;
+        if number >= (1 << (height + 1)) - 1 {
+            return Err(OfferError::NotConsistent);
+        }
+        add(nodes, leaf_count, number, &hash, added)?;
+    }
+    let mut row = height;
+    while row > 0 {
+        let listed = added.len();
+        for i in 0..listed {
+            let number = added[i];
+            if (number + 1) >> row == 1 {
+                join(nodes, leaf_count, number, added)?;
+            }
+        }
+        row -= 1;
+    }
+    Ok(())
+}
+
+// Adds the node above another, which is the hash of its two children.
+fn join(
+    nodes: &mut HashMap<u32, [u8; 32]>,
+    leaf_count: u32,
+    number: u32,
+    added: &mut Vec<u32>,
+) -> Result<(), OfferError>
+    requires few { leaf_count ≤ max_leaves }
+    requires below { 0 < number }
+    requires inside { number < node_count leaf_count }
+    ensures joins { OnOk result
+        (Joins (padding leaf_count) (get nat_eq nodes.old) number (get nat_eq nodes.new)) }
+    ensures refused { result ≡ Err OfferError.NotConsistent
+        → IsUnjoinable (padding leaf_count) (get nat_eq nodes.old) number }
+    ensures grows { GrowsBy (get nat_eq nodes.old) added.old.items (parent number)
+        (get nat_eq nodes.new) added.new.items }
+{
+    let above = (number - 1) / 2;
+    let left = known_node(nodes, leaf_count, 2 * above + 1);
+    let right = known_node(nodes, leaf_count, 2 * above + 2);
+    let (Some(left), Some(right)) = (left, right) else {
+        return Err(OfferError::NotConsistent);
+    };
+    let hash = pair(&left, &right);
+    add(nodes, leaf_count, above, &hash, added)
+}
+
+// Adds a node, and lists its number, where it was not told before.
+fn add(
+    nodes: &mut HashMap<u32, [u8; 32]>,
+    leaf_count: u32,
+    number: u32,
+    hash: &[u8; 32],
+    added: &mut Vec<u32>,
+) -> Result<(), OfferError>
+    requires few { leaf_count ≤ max_leaves }
+    ensures adds { OnOk result (Adds (padding leaf_count)
+        (get nat_eq nodes.old) number hash.now (get nat_eq nodes.new)) }
+    ensures refused { result ≡ Err OfferError.NotConsistent
+        → IsOther (padding leaf_count) (get nat_eq nodes.old) number hash.now }
+    ensures grows { GrowsBy (get nat_eq nodes.old) added.old.items number
+        (get nat_eq nodes.new) added.new.items }
+{
+    if let Some(known) = known_node(nodes, leaf_count, number) {
+        if known != *hash {
+            return Err(OfferError::NotConsistent);
+        }
+    }
+    if !nodes.contains_key(&number) {
+        added.push(number)?;
+        nodes.insert(number, *hash)?;
+    }
+    Ok(())
+}
+
+// Takes nodes of these numbers out again.
+pub(crate) fn take_out(nodes: &mut HashMap<u32, [u8; 32]>, numbers: &[u32])
+    ensures out { (number : ℕ) → IsListed numbers.now number
+        → get nat_eq nodes.new number ≡ None }
+    ensures rest { (number : ℕ) → (get nat_eq nodes.new number ≡ get nat_eq nodes.old number)
+        ⊎ IsListed numbers.now number }
+{
+    for number in numbers {
+        nodes.remove(number);
+    }
+}
+
+// What is known of the node of this number, where these nodes were told.
+pub(crate) fn known_node(
+    nodes: &HashMap<u32, [u8; 32]>,
+    leaf_count: u32,
+    number: u32,
+) -> Option<[u8; 32]>
+    requires few { leaf_count ≤ max_leaves }
+    ensures { result ≡ known_by (padding leaf_count) (get nat_eq nodes.now) number }
+{
+    match nodes.get(&number) {
+        Some(hash) => Some(*hash),
+        None => padding(leaf_count, number),
+    }
+}
