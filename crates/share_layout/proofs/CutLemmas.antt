@@ -1,7 +1,7 @@
 -- The lengths of segments and blocks.
-use Rattle.std.proofs.Common.{◌≡◌, ℕ, zero, suc, ◌+◌, ◌-◌, ◌*◌, ◌/◌, ◌%◌, ◌<◌, ◌≤◌, false, List, [], take, drop, min, get_or, inl, inr, ap, sym, subst, refl, ◌∙◌, arith}
+use Rattle.std.proofs.Common.{◌≡◌, ℕ, zero, suc, ◌+◌, ◌-◌, ◌*◌, ◌/◌, ◌%◌, ◌<◌, ◌≤◌, false, List, [], take, drop, min, get_or, inl, inr, ap, sym, refl, ◌∙◌, arith}
 use Rattle.std.specs.Int.{div_ceil}
-use Rattle.std.proofs.Math.Nat.{add-mul-div_right, add-mul-mod_self_right, mul-le-mul_right, mul_comm, mul_assoc, add-mul, div-mul_cancel, dvd_of_mod-eq-zero, suc-mul, mod-lt}
+use Rattle.std.proofs.Math.Nat.{add-mul-div_right, add-mul-mod_self_right, mul-le-mul_right, mul_assoc, add-mul, div-mul_cancel, dvd_of_mod-eq-zero, suc-mul, mod-lt}
 use Rattle.std.specs.Prelude.{◌==◌, if◌then◌else◌}
 use Rattle.std.proofs.lemmas.Bool.{cases_lt}
 use Rattle.std.proofs.lemmas.Bool.Decides.{nat_tests}
@@ -9,8 +9,8 @@ use Rattle.std.proofs.lemmas.Grind.{div_ceil_times}
 use Rattle.std.proofs.lemmas.List.{drop-drop}
 use Rattle.std.proofs.lemmas.Nat.{div-add-mod'}
 use Rattle.ueb.specs.Shape.{tail_size}
-use Rattle.share_layout.specs.Geometry.{Geometry, IsGeometry, block_size, segment_count, share_data_size, tail_block_size, tail_length}
-use Rattle.share_layout.specs.Pieces.{HaveCutLengths, SegmentsArePieces, block_length, pieces, segment_at, segment_length, segments_of}
+use Rattle.share_layout.specs.Geometry.{Geometry, IsGeometry, block_size, segment_count, share_data_size, tail_length}
+use Rattle.share_layout.specs.Pieces.{HaveCutLengths, block_length, pieces, segment_length}
 use Rattle.share_layout.proofs.GeometryLemmas.{div_ceil_le, rounded_up-div}
 
 -- so many whole segments are fewer bytes than the file has

@@ -6,7 +6,7 @@ use Rattle.std.proofs.lemmas.Bool.{cases_lt}
 use Rattle.std.proofs.lemmas.Nat.{div-add-mod'}
 use Rattle.std.proofs.lemmas.Grind.{div_ceil_times}
 use Rattle.ueb.specs.Shape.{rounded_up}
-use Rattle.ueb.specs.declared.limits.TheConstants.{MAX_FILE_SIZE, MAX_SEGMENT_SIZE, MAX_SEGMENTS}
+use Rattle.ueb.specs.Limits.{max_file_size, max_segment_size, max_segments}
 use Rattle.share_layout.specs.Geometry.{Geometry, geometry_of, segment_count, AreParameters, HasGeometry, IsGeometry}
 
 -- more is rounded up to no less
@@ -41,17 +41,17 @@ is_geometry size needed total max h =
       shares = h.parameters.shares;
       some_segment = omega (arith, (div_ceil_times (min max size) needed some).0, h.parameters.some, h.parameters.some_max);
       multiple = mul-mod_left (div_ceil (min max size) needed) needed;
-      segment_not_large = rounded_up_le (min max size) MAX_SEGMENT_SIZE needed some (omega (arith, h.parameters.max_not_large));
+      segment_not_large = rounded_up_le (min max size) max_segment_size needed some (omega (arith, h.parameters.max_not_large));
       within = rounded_up_le (min max size) size needed some (omega arith);
       few = h.few;
     }
 
 -- the same of a segment size that is found to be that
-pub is_geometry_with : (size needed total max segment : ℕ) → AreParameters size needed total max → size ≤ MAX_FILE_SIZE
-    → segment ≡ rounded_up (min max size) needed → div_ceil size segment ≤ MAX_SEGMENTS
+pub is_geometry_with : (size needed total max segment : ℕ) → AreParameters size needed total max → size ≤ max_file_size
+    → segment ≡ rounded_up (min max size) needed → div_ceil size segment ≤ max_segments
     → IsGeometry (record { size = size; needed = needed; total = total; segment_size = segment })
 is_geometry_with size needed total max segment p large same few =
-    let few' : div_ceil size (rounded_up (min max size) needed) ≤ MAX_SEGMENTS = subst (λ s. div_ceil size s ≤ MAX_SEGMENTS) same few in
+    let few' : div_ceil size (rounded_up (min max size) needed) ≤ max_segments = subst (λ s. div_ceil size s ≤ max_segments) same few in
     subst (λ s. IsGeometry (record { size = size; needed = needed; total = total; segment_size = s })) (sym same)
     (is_geometry size needed total max (record { parameters = p; not_large = large; few = few' }))
 
@@ -67,7 +67,7 @@ same_segment_size g v =
       | inr long ↦ ap (λ n. rounded_up n g.needed) (min-eq_left long) ∙ rounded_up_multiple g.segment_size g.needed v.multiple
     ]
 
-pub gives_itself : (g : Geometry) → IsGeometry g → g.segment_size ≤ MAX_SEGMENT_SIZE
+pub gives_itself : (g : Geometry) → IsGeometry g → g.segment_size ≤ max_segment_size
     → HasGeometry g.size g.needed g.total g.segment_size × (geometry_of g.size g.needed g.total g.segment_size ≡ g)
 gives_itself g v low =
     let e = same_segment_size g v in

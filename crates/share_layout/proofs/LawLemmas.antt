@@ -10,13 +10,12 @@ use Rattle.std.proofs.lemmas.Nat.{pow_pos}
 use Rattle.merkle.specs.Tree.{height, needed_numbers}
 use Rattle.share_layout.specs.Geometry.{Geometry, hashes_size, segment_count, share_data_size, tree_size, IsGeometry}
 use Rattle.share_layout.specs.declared.layout.Layout.{Layout}
-use Rattle.share_layout.specs.declared.layout.Layout.TheVariants.{One, Two}
 use Rattle.share_layout.specs.Layout.{header, header_numbers, header_size, layout_of, number_in, places_by, places_of, spelled, version, width}
-use Rattle.share_layout.specs.Share.{CarriesNumbers, HaveLengths, IsShare, Sections, share_bytes}
+use Rattle.share_layout.specs.Share.{CarriesNumbers, HaveLengths, IsShare, Sections}
 use Rattle.share_layout.specs.Places.{AreRising, EndsWith, HasVersion, LocatesUeb, header_number, layout_in, places_in}
 use Rattle.share_layout.specs.declared.places.Places.{Places}
 use Rattle.merkle.proofs.HeightLemmas.{height_below}
-use Rattle.share_layout.proofs.LayoutLemmas.{fits_layout, inside_header, layout_is, limit, read_back, spelled_at, width_8}
+use Rattle.share_layout.proofs.LayoutLemmas.{fits_layout, inside_header, layout_is, limit, read_back, spelled_at}
 use Rattle.share_layout.proofs.ShareLemmas.{parts_of, share_whole}
 
 -- something is left of something

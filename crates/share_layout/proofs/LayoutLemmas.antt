@@ -1,9 +1,9 @@
 -- The two layouts: numbers in four bytes or eight, the header, and which layout a geometry has.
-use Rattle.std.proofs.Common.{◌≡◌, ◌≢◌, ◌↔◌, ℕ, zero, suc, ◌+◌, ◌-◌, ◌*◌, ◌^◌, ◌<◌, ◌≤◌, Bool, true, false, List, [], ◌∷◌, ◌++◌, length, take, drop, get_or, ◌⊎◌, inl, inr, ap, sym, subst, refl, ◌∙◌, ◌&&◌, length-append, length-drop, arith}
+use Rattle.std.proofs.Common.{◌≡◌, ◌↔◌, ℕ, zero, suc, ◌+◌, ◌-◌, ◌*◌, ◌^◌, ◌<◌, ◌≤◌, Bool, true, false, List, [], ◌∷◌, ◌++◌, length, take, drop, get_or, ◌⊎◌, inl, inr, ap, sym, refl, ◌∙◌, ◌&&◌, length-append, length-drop, arith}
 use Rattle.std.specs.Prelude.{nat_lt, nat_eq, IsTrue}
-use Rattle.std.specs.Int.{w32, w64, to_be_bytes, from_be_bytes}
+use Rattle.std.specs.Int.{w32, to_be_bytes}
 use Rattle.std.specs.List.{flat_map, list_all, starts_with}
-use Rattle.std.proofs.lemmas.Bool.{cases_lt, true≢false}
+use Rattle.std.proofs.lemmas.Bool.{cases_lt}
 use Rattle.std.proofs.lemmas.Bool.Decides.{nat_tests}
 use Rattle.std.proofs.Math.Nat.{mul-add}
 use Rattle.std.proofs.lemmas.List.{take_at, drop_at, drop-drop, flat_map_more, length-take-le, take-append-drop, take_more}
@@ -13,10 +13,9 @@ use Rattle.std.proofs.lemmas.Nat.{be_bytes_4, be_bytes_8, from_be_bytes-to_be_by
 use Rattle.std.proofs.lemmas.Slice.Eq.{bytes_eq-Decides}
 use Rattle.share_layout.specs.declared.layout.Layout.{Layout}
 use Rattle.share_layout.specs.declared.layout.Layout.TheVariants.{One, Two}
-use Rattle.share_layout.specs.declared.places.Places.{Places}
-use Rattle.share_layout.specs.Geometry.{Geometry, block_size, hashes_size, share_data_size, tree_size}
-use Rattle.share_layout.specs.Layout.{header_by, header_numbers, header_size, layout_of, number_in, places_by, spelled, version, width}
-use Rattle.share_layout.specs.Places.{layout_in, number_at, HasVersion}
+use Rattle.share_layout.specs.Geometry.{Geometry, block_size, share_data_size}
+use Rattle.share_layout.specs.Layout.{header_by, header_size, layout_of, number_in, places_by, spelled, version, width}
+use Rattle.share_layout.specs.Places.{layout_in}
 
 -- the widths
 pub width_4 : (l : Layout) → 4 ≤ width l
@@ -163,8 +162,8 @@ spelled_more l front numbers out old ys i w same inside long eight written rest 
       size,
       eight,
       begun ∙ (λ j. take (sym place j) out ++ is j) ∙ ap (λ (f : List ℕ). f ++ spelled l (get_or numbers i 0)) written
-      ∙ flat_map_more (spelled l) front (take i numbers) (get_or numbers i 0)
-      ∙ ap (λ (ns : List ℕ). front ++ flat_map (spelled l) ns) (sym (take_more numbers i 0 (omega (arith, inside, eight)))),
+          ∙ flat_map_more (spelled l) front (take i numbers) (get_or numbers i 0)
+          ∙ ap (λ (ns : List ℕ). front ++ flat_map (spelled l) ns) (sym (take_more numbers i 0 (omega (arith, inside, eight)))),
       left ∙ ap (λ m. drop m out) (next ∙ omega (arith, place, same)) ∙ sym (drop-drop (width l) (4 + width l * i) out)
-      ∙ ap (drop (width l)) rest ∙ drop-drop (width l) (4 + width l * i) old ∙ ap (λ m. drop m old) (sym (next ∙ omega (arith, place, same))),
+          ∙ ap (drop (width l)) rest ∙ drop-drop (width l) (4 + width l * i) old ∙ ap (λ m. drop m old) (sym (next ∙ omega (arith, place, same))),
     )

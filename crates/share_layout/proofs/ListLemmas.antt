@@ -1,5 +1,5 @@
 -- Parts of a list, between two places.
-use Rattle.std.proofs.Common.{◌≡◌, ℕ, ◌+◌, ◌^◌, ◌<◌, ◌≤◌, List, ◌++◌, length, take, drop, get_or, inl, inr, ap, sym, refl, ◌∙◌, append_assoc, length-append, arith}
+use Rattle.std.proofs.Common.{◌≡◌, ℕ, ◌+◌, ◌^◌, ◌<◌, ◌≤◌, List, ◌++◌, length, take, drop, get_or, inl, inr, ap, sym, ◌∙◌, append_assoc, length-append, arith}
 use Rattle.std.specs.Prelude.{slice_range}
 use Rattle.std.proofs.lemmas.List.{take-append-drop, take-take, take_at, drop_at, drop-drop, length-take-le, length-drop, get_or-take, get_or-drop, get_or_past, length-take}
 use Rattle.std.proofs.lemmas.Bool.{cases_lt}
@@ -58,7 +58,7 @@ has_tail l xs front ys e text long short =
     let wide : length number ≡ w = length-spelled l (length ys) in
     let behind : drop e xs ≡ number ++ ys = ap (drop e) (text ∙ append_assoc front number ys) ∙ drop_at front (number ++ ys) e long in record {
       number = ap (λ n. number_in l (take w n)) behind ∙ ap (number_in l) (take_at number ys w wide)
-      ∙ read_back l (length ys) (small_fits l (length ys) short);
+          ∙ read_back l (length ys) (small_fits l (length ys) short);
       long = ap length text ∙ length-append (front ++ number) ys ∙ omega (arith, length-append front number, long, wide);
       tail = sym (sym (drop-drop w e xs) ∙ ap (drop w) behind ∙ drop_at number ys w wide);
     }

@@ -1,17 +1,15 @@
 -- The sections of a share, at their places.
-use Rattle.std.proofs.Common.{◌≡◌, ℕ, ◌+◌, ◌<◌, ◌≤◌, List, ◌++◌, length, take, drop, get_or, ap, sym, subst, refl, ◌∙◌, length-append, append_assoc, arith}
-use Rattle.std.specs.Int.{w32, to_be_bytes}
+use Rattle.std.proofs.Common.{◌≡◌, ℕ, ◌+◌, ◌<◌, ◌≤◌, List, ◌++◌, length, take, drop, get_or, ap, sym, subst, ◌∙◌, length-append, append_assoc, arith}
 use Rattle.std.proofs.lemmas.List.{take_at, take-take, length-take-le, length-drop}
 use Rattle.std.proofs.lemmas.List.Edits.{length-between}
 use Rattle.merkle.specs.Tree.{height, needed_numbers}
 use Rattle.share_layout.specs.Geometry.{Geometry, hashes_size}
-use Rattle.share_layout.specs.declared.layout.Layout.{Layout}
 use Rattle.share_layout.specs.Layout.{header, header_size, layout_of, places_of, spelled, version, width}
 use Rattle.share_layout.specs.Share.{share_bytes, CarriesNumbers, HaveLengths, IsShare, Sections}
 use Rattle.share_layout.specs.Places.{AreRising, EndsWith, HasOwnPlaces, HasVersion, LocatesUeb, layout_in, places_in}
 use Rattle.share_layout.specs.Reading.{HasHeader, HasNumbers, IsWhole}
 use Rattle.share_layout.specs.Cutting.{IsCut, sections_at}
-use Rattle.share_layout.proofs.LayoutLemmas.{header_version, length-header, length-spelled}
+use Rattle.share_layout.proofs.LayoutLemmas.{header_version, length-header}
 use Rattle.share_layout.proofs.ListLemmas.{take_between, take_before, between_parts, tail_text, HasTail, has_tail}
 
 -- an extension block that is cut out

@@ -1,7 +1,6 @@
 -- Exactly one verdict on bytes: they are what is read, or one fault comes first.
-use Rattle.std.proofs.Common.{◌≡◌, ◌≢◌, ℕ, ◌<◌, ◌≤◌, ◌↔◌, ◌⊎◌, inl, inr, List, length, take, Ok, Err, Result, MatchResult, ap, sym, subst, refl, ◌∙◌, arith}
+use Rattle.std.proofs.Common.{◌≡◌, ℕ, ◌↔◌, ◌⊎◌, inl, inr, List, length, Ok, Err, Result, MatchResult, ap, sym, subst, refl, ◌∙◌, arith}
 use Rattle.std.proofs.lemmas.Result.{MatchResult-at_err}
-use Rattle.std.specs.Int.{w32, to_be_bytes}
 use Rattle.share_layout.specs.declared.error.Section.{Section}
 use Rattle.share_layout.specs.declared.error.LayoutError.{LayoutError}
 use Rattle.share_layout.specs.declared.error.LayoutError.TheVariants.{BadParameters, TooLarge, TooManySegments, BadVersion, BadOffset, Truncated, BadShareHashes, WriterFault}

@@ -1,14 +1,16 @@
 -- Words of the private clauses of the reader: the sections at some places.
-use Rattle.std.specs.Prelude.{◌≡◌, ◌≢◌, ℕ, ◌+◌, ◌<◌, ◌≤◌, List, length, take, drop, slice_range}
-use Rattle.ueb.specs.declared.limits.TheConstants.{MAX_LENGTH}
+use Rattle.std.specs.Prelude.{◌≡◌, ℕ, ◌+◌, ◌<◌, ◌≤◌, List, length, drop, slice_range}
+use Rattle.ueb.specs.Limits.{max_length}
 use Rattle.share_layout.specs.declared.error.LayoutError.{LayoutError}
-use Rattle.share_layout.specs.declared.error.LayoutError.TheVariants.{BadVersion, BadOffset, Truncated}
+use Rattle.share_layout.specs.declared.error.LayoutError.TheVariants.{BadVersion, BadOffset}
+use Rattle.share_layout.specs.declared.error.LayoutError.TheVariants.{Truncated}
 use Rattle.share_layout.specs.declared.error.Section.TheVariants.{Header}
 use Rattle.share_layout.specs.declared.layout.Layout.{Layout}
 use Rattle.share_layout.specs.declared.places.Places.{Places}
 use Rattle.share_layout.specs.Layout.{header_size, width}
 use Rattle.share_layout.specs.Share.{Sections}
-use Rattle.share_layout.specs.Places.{IsShortHeader, HasBadEnd, extension_length, end_of, section_at}
+use Rattle.share_layout.specs.Places.{IsShortHeader, HasBadEnd, extension_length, end_of}
+use Rattle.share_layout.specs.Places.{section_at}
 use Rattle.share_layout.specs.Reading.{HasOtherVersion}
 
 -- why a header is not one of this layout
@@ -30,7 +32,7 @@ sections_at p bytes = record {
 
 -- the bytes end where they have to, and these are their sections
 pub record IsCut (p : Places) (bytes : List ℕ) (s : Sections) : Type 0 where
-  pub short : extension_length p bytes ≤ MAX_LENGTH
+  pub short : extension_length p bytes ≤ max_length
   pub end : length bytes ≡ end_of p bytes
   pub sections : s ≡ sections_at p bytes
 

@@ -1,9 +1,14 @@
 -- The refusals' numbers and names.
 use Rattle.std.specs.Prelude.{ℕ, List, ◌++◌, codes}
 use Rattle.share_layout.specs.declared.error.LayoutError.{LayoutError}
-use Rattle.share_layout.specs.declared.error.LayoutError.TheVariants.{BadParameters, TooLarge, TooManySegments, BadVersion, BadOffset, Truncated, BadShareHashes, WriterFault}
+use Rattle.share_layout.specs.declared.error.LayoutError.TheVariants.{BadParameters, TooLarge}
+use Rattle.share_layout.specs.declared.error.LayoutError.TheVariants.{TooManySegments, BadVersion}
+use Rattle.share_layout.specs.declared.error.LayoutError.TheVariants.{BadOffset, Truncated}
+use Rattle.share_layout.specs.declared.error.LayoutError.TheVariants.{BadShareHashes, WriterFault}
 use Rattle.share_layout.specs.declared.error.Section.{Section}
-use Rattle.share_layout.specs.declared.error.Section.TheVariants.{Header, Data, Unused, CiphertextTree, BlockTree, ShareHashes, Ueb}
+use Rattle.share_layout.specs.declared.error.Section.TheVariants.{Header, Data, Unused}
+use Rattle.share_layout.specs.declared.error.Section.TheVariants.{CiphertextTree, BlockTree}
+use Rattle.share_layout.specs.declared.error.Section.TheVariants.{ShareHashes, Ueb}
 
 abbrev pub number_of : LayoutError → ℕ
 number_of BadParameters = 2

@@ -1,11 +1,13 @@
--- The geometry of an encoded file: how it is cut into segments, and these into blocks. Sizes are in bytes.
+-- The geometry of an encoded file: how it is cut into segments, and these into blocks. Sizes are in
+-- bytes.
 use Rattle.std.specs.Prelude.{◌≡◌, ℕ, ◌+◌, ◌-◌, ◌*◌, ◌/◌, ◌%◌, ◌^◌, ◌<◌, ◌≤◌, min}
 use Rattle.std.specs.Int.{div_ceil}
 use Rattle.merkle.specs.Tree.{height}
 use Rattle.ueb.specs.Shape.{num_segments, rounded_up, tail_size}
-use Rattle.ueb.specs.declared.limits.TheConstants.{MAX_FILE_SIZE, MAX_SHARES, MAX_SEGMENT_SIZE, MAX_SEGMENTS}
+use Rattle.ueb.specs.Limits.{max_file_size, max_shares, max_segment_size, max_segments}
 use Rattle.share_layout.specs.declared.error.LayoutError.{LayoutError}
-use Rattle.share_layout.specs.declared.error.LayoutError.TheVariants.{BadParameters, TooLarge, TooManySegments}
+use Rattle.share_layout.specs.declared.error.LayoutError.TheVariants.{BadParameters, TooLarge}
+use Rattle.share_layout.specs.declared.error.LayoutError.TheVariants.{TooManySegments}
 
 pub record Geometry : Type 0 where
   pub size : ℕ
@@ -13,10 +15,16 @@ pub record Geometry : Type 0 where
   pub total : ℕ
   pub segment_size : ℕ
 
--- of a file of this size, of which `needed` of `total` shares are needed, with segments of at most `max` bytes
+-- of a file of this size, of which `needed` of `total` shares are needed, with segments of at most
+-- `max` bytes
 abbrev pub geometry_of : ℕ → ℕ → ℕ → ℕ → Geometry
 geometry_of size needed total max =
-    record { size = size; needed = needed; total = total; segment_size = rounded_up (min max size) needed }
+    record {
+      size = size;
+      needed = needed;
+      total = total;
+      segment_size = rounded_up (min max size) needed;
+    }
 
 -- the number of segments
 abbrev pub segment_count : Geometry → ℕ
@@ -51,39 +59,43 @@ pub record AreParameters (size needed total max : ℕ) : Type 0 where
   pub some : 0 < size
   pub some_needed : 0 < needed
   pub enough : needed ≤ total
-  pub shares : total ≤ MAX_SHARES
+  pub shares : total ≤ max_shares
   pub some_max : 0 < max
-  pub max_not_large : max ≤ MAX_SEGMENT_SIZE
+  pub max_not_large : max ≤ max_segment_size
 
 -- a file with these numbers has a geometry
 pub record HasGeometry (size needed total max : ℕ) : Type 0 where
   pub parameters : AreParameters size needed total max
-  pub not_large : size ≤ MAX_FILE_SIZE
-  pub few : segment_count (geometry_of size needed total max) ≤ MAX_SEGMENTS
+  pub not_large : size ≤ max_file_size
+  pub few : segment_count (geometry_of size needed total max) ≤ max_segments
 
 -- why a file with these numbers has none: the first fault
 abbrev pub IsGeometryFault : ℕ → ℕ → ℕ → ℕ → LayoutError → Type 0
 IsGeometryFault size needed total max BadParameters = ¬ AreParameters size needed total max
-IsGeometryFault size needed total max TooLarge = AreParameters size needed total max × (MAX_FILE_SIZE < size)
+IsGeometryFault size needed total max TooLarge =
+    AreParameters size needed total max × (max_file_size < size)
 IsGeometryFault size needed total max TooManySegments =
-    AreParameters size needed total max × (size ≤ MAX_FILE_SIZE) × (MAX_SEGMENTS < segment_count (geometry_of size needed total max))
+    AreParameters size needed total max × (size ≤ max_file_size)
+    × (max_segments < segment_count (geometry_of size needed total max))
 IsGeometryFault size needed total max error = ⊥
 
--- The geometry of some file. Its segment size is that of some greatest length: a multiple of the shares needed, and no more than the
--- file's size or the greatest length that there is, each rounded up to such a multiple.
+-- The geometry of some file. Its segment size is that of some greatest length: a multiple of the
+-- shares needed, and no more than the file's size or the greatest length that there is, each
+-- rounded up to such a multiple.
 pub record IsGeometry (g : Geometry) : Type 0 where
   pub some : 0 < g.size
-  pub not_large : g.size ≤ MAX_FILE_SIZE
+  pub not_large : g.size ≤ max_file_size
   pub some_needed : 0 < g.needed
   pub enough : g.needed ≤ g.total
-  pub shares : g.total ≤ MAX_SHARES
+  pub shares : g.total ≤ max_shares
   pub some_segment : 0 < g.segment_size
   pub multiple : g.segment_size % g.needed ≡ 0
-  pub segment_not_large : g.segment_size ≤ rounded_up MAX_SEGMENT_SIZE g.needed
+  pub segment_not_large : g.segment_size ≤ rounded_up max_segment_size g.needed
   pub within : g.segment_size ≤ rounded_up g.size g.needed
-  pub few : segment_count g ≤ MAX_SEGMENTS
+  pub few : segment_count g ≤ max_segments
 
 -- a law: a geometry is the one that its own segment size gives, where that may be a greatest length
 abbrev pub GivesItself : Type 0
-GivesItself = (g : Geometry) → IsGeometry g → g.segment_size ≤ MAX_SEGMENT_SIZE
-    → HasGeometry g.size g.needed g.total g.segment_size × (geometry_of g.size g.needed g.total g.segment_size ≡ g)
+GivesItself = (g : Geometry) → IsGeometry g → g.segment_size ≤ max_segment_size
+    → HasGeometry g.size g.needed g.total g.segment_size
+    × (geometry_of g.size g.needed g.total g.segment_size ≡ g)

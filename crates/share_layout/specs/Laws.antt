@@ -17,11 +17,11 @@ abbrev pub LocateTheirBlocks : Type 0
 LocateTheirBlocks = (g : Geometry) (num : ℕ) (bytes : List ℕ) (s : Sections)
     → IsGeometry g → IsShare g num bytes s → LocatesUeb bytes s.extension_block
 
--- What a share writer writes for five sections, one after another and cut up at will, and then for the extension block, is the
--- share of the number that the share hashes carry.
+-- What a share writer writes for five sections, one after another and cut up at will, and then for
+-- the extension block, is the share of the number that the share hashes carry.
 abbrev pub SectionsMakeShare : Type 0
 SectionsMakeShare = (g : Geometry) (num : ℕ) (s : Sections) → HaveLengths g s
     → num < g.total → CarriesNumbers (needed_numbers (height g.total) num) s.share_hashes
     → IsShare g num
-        (header g ++ (s.blocks ++ s.unused ++ s.ciphertext_tree ++ s.block_tree ++ s.share_hashes)
-        ++ ending g s.extension_block) s
+    (header g ++ (s.blocks ++ s.unused ++ s.ciphertext_tree ++ s.block_tree ++ s.share_hashes)
+    ++ ending g s.extension_block) s

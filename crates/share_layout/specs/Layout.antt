@@ -1,11 +1,13 @@
--- The two layouts of a share, and its header. They differ in their version, and in how many bytes each number behind it has.
+-- The two layouts of a share, and its header. They differ in their version, and in how many bytes
+-- each number behind it has.
 use Rattle.std.specs.Prelude.{ℕ, ◌+◌, ◌*◌, ◌^◌, List, [], ◌∷◌, ◌++◌, nat_lt, if◌then◌else◌}
 use Rattle.std.specs.Int.{w32, w64, to_be_bytes, from_be_bytes}
 use Rattle.std.specs.List.{flat_map, list_all}
 use Rattle.share_layout.specs.declared.layout.Layout.{Layout}
 use Rattle.share_layout.specs.declared.layout.Layout.TheVariants.{One, Two}
 use Rattle.share_layout.specs.declared.places.Places.{Places}
-use Rattle.share_layout.specs.Geometry.{Geometry, block_size, hashes_size, share_data_size, tree_size}
+use Rattle.share_layout.specs.Geometry.{Geometry, block_size, hashes_size, share_data_size}
+use Rattle.share_layout.specs.Geometry.{tree_size}
 
 -- the version, with which a share begins, in four bytes
 abbrev pub version : Layout → ℕ
@@ -42,20 +44,24 @@ places_by layout g = let unused = header_size layout + share_data_size g in reco
   extension_block = unused + 3 * tree_size g + hashes_size g;
 }
 
--- the numbers of a header behind the version: the lengths of a block and of the data, and the places of the six sections
+-- the numbers of a header behind the version: the lengths of a block and of the data, and the
+-- places of the six sections
 abbrev pub header_numbers : Layout → Geometry → List ℕ
 header_numbers layout g =
     let p = places_by layout g in
-    block_size g ∷ share_data_size g ∷ header_size layout ∷ p.unused ∷ p.ciphertext_tree ∷ p.block_tree
-    ∷ p.share_hashes ∷ p.extension_block ∷ []
+    block_size g ∷ share_data_size g ∷ header_size layout ∷ p.unused ∷ p.ciphertext_tree
+    ∷ p.block_tree ∷ p.share_hashes ∷ p.extension_block ∷ []
 
 -- the header in a layout
 abbrev pub header_by : Layout → Geometry → List ℕ
-header_by layout g = to_be_bytes w32 (version layout) ++ flat_map (spelled layout) (header_numbers layout g)
+header_by layout g =
+    to_be_bytes w32 (version layout) ++ flat_map (spelled layout) (header_numbers layout g)
 
--- the layout of a file's shares: the second where a number in a header of the first does not fit its four bytes
+-- the layout of a file's shares: the second where a number in a header of the first does not fit
+-- its four bytes
 abbrev pub layout_of : Geometry → Layout
-layout_of g = if list_all (λ number. nat_lt number (2 ^ 32)) (header_numbers One g) then One else Two
+layout_of g =
+    if list_all (λ number. nat_lt number (2 ^ 32)) (header_numbers One g) then One else Two
 
 -- the places in the shares of a file with this geometry, and their header
 abbrev pub places_of : Geometry → Places

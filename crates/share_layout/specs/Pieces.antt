@@ -1,7 +1,9 @@
 -- How a file is cut into segments, and the blocks of a share stand one after another.
-use Rattle.std.specs.Prelude.{◌≡◌, ℕ, zero, suc, ◌+◌, ◌-◌, ◌*◌, ◌<◌, List, [], ◌∷◌, take, drop, min, slice_index_or}
+use Rattle.std.specs.Prelude.{◌≡◌, ℕ, zero, suc, ◌+◌, ◌-◌, ◌*◌, ◌<◌, List, [], ◌∷◌, take, drop, min}
+use Rattle.std.specs.Prelude.{slice_index_or}
 use Rattle.std.specs.Int.{div_ceil}
-use Rattle.share_layout.specs.Geometry.{Geometry, IsGeometry, block_size, segment_count, share_data_size, tail_block_size, tail_length}
+use Rattle.share_layout.specs.Geometry.{Geometry, IsGeometry, block_size, segment_count}
+use Rattle.share_layout.specs.Geometry.{share_data_size, tail_block_size, tail_length}
 
 -- so many pieces of this length, the last perhaps shorter
 abbrev pub pieces : ℕ → ℕ → List ℕ → List (List ℕ)
@@ -26,8 +28,8 @@ block_at g number blocks = take (block_size g) (drop (number * block_size g) blo
 abbrev pub block_length : Geometry → ℕ → ℕ
 block_length g number = min (block_size g) (share_data_size g - number * block_size g)
 
--- the lengths of a segment and of its blocks: those of all but the last segment are the same, and a block has a share of its
--- segment, rounded up
+-- the lengths of a segment and of its blocks: those of all but the last segment are the same, and a
+-- block has a share of its segment, rounded up
 pub record HaveCutLengths (g : Geometry) (number : ℕ) : Type 0 where
   pub segment : number + 1 < segment_count g → segment_length g number ≡ g.segment_size
   pub last_segment : number + 1 ≡ segment_count g → segment_length g number ≡ tail_length g
@@ -37,7 +39,8 @@ pub record HaveCutLengths (g : Geometry) (number : ℕ) : Type 0 where
 
 -- a law: so are the lengths of all segments
 abbrev pub SegmentsHaveLengths : Type 0
-SegmentsHaveLengths = (g : Geometry) (number : ℕ) → IsGeometry g → number < segment_count g → HaveCutLengths g number
+SegmentsHaveLengths = (g : Geometry) (number : ℕ)
+    → IsGeometry g → number < segment_count g → HaveCutLengths g number
 
 -- a law: a segment is the piece of its number
 abbrev pub SegmentsArePieces : Type 0

@@ -1,16 +1,20 @@
 -- The places of a share's sections, where its own header says that they are.
-use Rattle.std.specs.Prelude.{◌≡◌, ℕ, ◌+◌, ◌*◌, ◌<◌, ◌≤◌, List, ◌++◌, length, take, drop, nat_eq, nat_lt, if◌then◌else◌, ◌⊎◌}
+use Rattle.std.specs.Prelude.{◌≡◌, ℕ, ◌+◌, ◌*◌, ◌<◌, ◌≤◌, List, ◌++◌, length, take, drop, nat_eq}
+use Rattle.std.specs.Prelude.{nat_lt, if◌then◌else◌, ◌⊎◌}
 use Rattle.std.specs.Int.{w32, to_be_bytes}
 use Rattle.std.specs.List.{starts_with}
-use Rattle.ueb.specs.declared.limits.TheConstants.{MAX_LENGTH}
+use Rattle.ueb.specs.Limits.{max_length}
 use Rattle.share_layout.specs.declared.error.Section.{Section}
-use Rattle.share_layout.specs.declared.error.Section.TheVariants.{Header, Data, Unused, CiphertextTree, BlockTree, ShareHashes, Ueb}
+use Rattle.share_layout.specs.declared.error.Section.TheVariants.{Header, Data, Unused}
+use Rattle.share_layout.specs.declared.error.Section.TheVariants.{CiphertextTree, BlockTree}
+use Rattle.share_layout.specs.declared.error.Section.TheVariants.{ShareHashes, Ueb}
 use Rattle.share_layout.specs.declared.layout.Layout.{Layout}
 use Rattle.share_layout.specs.declared.layout.Layout.TheVariants.{One, Two}
 use Rattle.share_layout.specs.declared.places.Places.{Places}
 use Rattle.share_layout.specs.Layout.{header_size, number_in, spelled, version, width}
 
--- The layout by which a header is measured: the second where the bytes begin with its version, and the first for any others.
+-- The layout by which a header is measured: the second where the bytes begin with its version, and
+-- the first for any others.
 abbrev pub layout_in : List ℕ → Layout
 layout_in bytes = if starts_with nat_eq bytes (to_be_bytes w32 (version Two)) then Two else One
 
@@ -63,10 +67,11 @@ extension_length p bytes = number_at p.layout bytes p.extension_block
 abbrev pub end_of : Places → List ℕ → ℕ
 end_of p bytes = p.extension_block + width p.layout + extension_length p bytes
 
--- the length of the extension block is there, and it is too great, or bytes follow the extension block
+-- the length of the extension block is there, and it is too great, or bytes follow the extension
+-- block
 pub record HasBadEnd (p : Places) (bytes : List ℕ) : Type 0 where
   pub there : p.extension_block + width p.layout ≤ length bytes
-  pub bad : (MAX_LENGTH < extension_length p bytes) ⊎ (end_of p bytes < length bytes)
+  pub bad : (max_length < extension_length p bytes) ⊎ (end_of p bytes < length bytes)
 
 -- the section in which a place lies; the length of the extension block belongs to that
 abbrev pub section_at : Places → ℕ → Section
@@ -81,9 +86,10 @@ section_at p place =
 
 -- the bytes end with this extension block, which stands at its place, behind its length
 pub record EndsWith (p : Places) (bytes extension_block : List ℕ) : Type 0 where
-  pub text : bytes ≡ take p.extension_block bytes ++ spelled p.layout (length extension_block) ++ extension_block
+  pub text : bytes ≡ take p.extension_block bytes
+      ++ spelled p.layout (length extension_block) ++ extension_block
   pub place : p.extension_block ≤ length bytes
-  pub short : length extension_block ≤ MAX_LENGTH
+  pub short : length extension_block ≤ max_length
 
 -- by the header's own numbers, this is the extension block
 pub record LocatesUeb (bytes extension_block : List ℕ) : Type 0 where

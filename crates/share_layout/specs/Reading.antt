@@ -1,18 +1,21 @@
 -- The first fault of bytes that are no share.
-use Rattle.std.specs.Prelude.{◌≡◌, ◌≢◌, ℕ, ◌+◌, ◌<◌, ◌≤◌, List, ◌⊎◌, length, take, drop, slice_range}
+use Rattle.std.specs.Prelude.{◌≡◌, ◌≢◌, ℕ, ◌<◌, ◌≤◌, List, ◌⊎◌, length, take}
+use Rattle.std.specs.Prelude.{slice_range}
 use Rattle.std.specs.Int.{w32, to_be_bytes}
 use Rattle.merkle.specs.Tree.{height, needed_numbers}
-use Rattle.ueb.specs.declared.limits.TheConstants.{MAX_LENGTH}
+use Rattle.ueb.specs.Limits.{max_length}
 use Rattle.share_layout.specs.declared.error.LayoutError.{LayoutError}
-use Rattle.share_layout.specs.declared.error.LayoutError.TheVariants.{BadVersion, BadOffset, Truncated, BadShareHashes}
+use Rattle.share_layout.specs.declared.error.LayoutError.TheVariants.{BadVersion, BadOffset}
+use Rattle.share_layout.specs.declared.error.LayoutError.TheVariants.{Truncated, BadShareHashes}
 use Rattle.share_layout.specs.declared.error.Section.TheVariants.{Header}
 use Rattle.share_layout.specs.declared.layout.Layout.{Layout}
 use Rattle.share_layout.specs.declared.view.ShareView.{ShareView}
 use Rattle.share_layout.specs.declared.places.Places.{Places}
 use Rattle.share_layout.specs.Geometry.{Geometry}
-use Rattle.share_layout.specs.Layout.{header, header_size, layout_of, places_of, version, width}
+use Rattle.share_layout.specs.Layout.{header, header_size, layout_of, places_of, version}
 use Rattle.share_layout.specs.Share.{Sections, CarriesNumbers}
-use Rattle.share_layout.specs.Places.{places_in, layout_in, IsShortHeader, HasVersion, HasOwnPlaces, HasBadEnd, extension_length, end_of, section_at}
+use Rattle.share_layout.specs.Places.{places_in, layout_in, IsShortHeader, HasVersion, HasOwnPlaces}
+use Rattle.share_layout.specs.Places.{HasBadEnd, extension_length, end_of, section_at}
 
 -- the sections of a view, without where they lie in memory
 abbrev pub sections_in : ShareView → Sections
@@ -41,11 +44,12 @@ pub record LacksBytes (RightHeader : Type 0) (p : Places) (bytes : List ℕ) : T
 pub record IsWhole (RightHeader : Type 0) (p : Places) (bytes : List ℕ) : Type 0 where
   pub version : HasVersion p.layout bytes
   pub right : RightHeader
-  pub short : extension_length p bytes ≤ MAX_LENGTH
+  pub short : extension_length p bytes ≤ max_length
   pub end : length bytes ≡ end_of p bytes
 
--- The first fault, where a header of the places' layout is to be as `RightHeader` says and then gives these places, and the
--- share hashes are to be as `RightHashes` says. A section is truncated where the first byte that is missing lies in it.
+-- The first fault, where a header of the places' layout is to be as `RightHeader` says and then
+-- gives these places, and the share hashes are to be as `RightHashes` says. A section is truncated
+-- where the first byte that is missing lies in it.
 abbrev pub IsFault : Type 0 → Type 0 → Places → List ℕ → LayoutError → Type 0
 IsFault RightHeader RightHashes p bytes (Truncated section) =
     (IsShortHeader bytes × (section ≡ Header))
@@ -79,4 +83,5 @@ pub record HasNumbers (g : Geometry) (num : ℕ) (bytes : List ℕ) : Type 0 whe
 
 -- why bytes are not share `num` of a file with this geometry
 abbrev pub IsReadFault : Geometry → ℕ → List ℕ → LayoutError → Type 0
-IsReadFault g num bytes error = IsFault (HasHeader g bytes) (HasNumbers g num bytes) (places_of g) bytes error
+IsReadFault g num bytes error =
+    IsFault (HasHeader g bytes) (HasNumbers g num bytes) (places_of g) bytes error

@@ -2,7 +2,7 @@
 use Rattle.std.specs.Prelude.{◌≡◌, ℕ, ◌<◌, ◌≤◌, List, [], ◌∷◌, ◌++◌, length, take, drop}
 use Rattle.std.specs.Int.{w16, to_be_bytes}
 use Rattle.merkle.specs.Tree.{height, needed_numbers}
-use Rattle.ueb.specs.declared.limits.TheConstants.{MAX_LENGTH}
+use Rattle.ueb.specs.Limits.{max_length}
 use Rattle.share_layout.specs.Geometry.{Geometry, hashes_size, share_data_size, tree_size}
 use Rattle.share_layout.specs.Layout.{header, layout_of, spelled}
 
@@ -28,12 +28,14 @@ pub record HaveLengths (g : Geometry) (s : Sections) : Type 0 where
   pub ciphertext_tree : length s.ciphertext_tree ≡ tree_size g
   pub block_tree : length s.block_tree ≡ tree_size g
   pub share_hashes : length s.share_hashes ≡ hashes_size g
-  pub extension_block : length s.extension_block ≤ MAX_LENGTH
+  pub extension_block : length s.extension_block ≤ max_length
 
--- the hashes in the section, 34 bytes each, begin with these numbers in two bytes each, and no more follows
+-- the hashes in the section, 34 bytes each, begin with these numbers in two bytes each, and no more
+-- follows
 abbrev pub CarriesNumbers : List ℕ → List ℕ → Type 0
 CarriesNumbers [] hashes = hashes ≡ []
-CarriesNumbers (n ∷ ns) hashes = (take 2 hashes ≡ to_be_bytes w16 n) × CarriesNumbers ns (drop 34 hashes)
+CarriesNumbers (n ∷ ns) hashes =
+    (take 2 hashes ≡ to_be_bytes w16 n) × CarriesNumbers ns (drop 34 hashes)
 
 -- the bytes are share `num` of a file with this geometry, and these are its sections
 pub record IsShare (g : Geometry) (num : ℕ) (bytes : List ℕ) (s : Sections) : Type 0 where

@@ -1,11 +1,12 @@
 -- What a share writer writes.
-use Rattle.std.specs.Prelude.{◌≡◌, ℕ, ◌+◌, ◌==◌, Bool, List, [], ◌++◌, length, Option, if◌then◌else◌}
+use Rattle.std.specs.Prelude.{◌≡◌, ℕ, ◌==◌, Bool, List, [], ◌++◌, length, Option}
+use Rattle.std.specs.Prelude.{if◌then◌else◌}
 use Rattle.std.specs.Io.KnownBytes.{Appends}
 use Rattle.share_layout.specs.Geometry.{Geometry}
-use Rattle.share_layout.specs.Layout.{header, header_size, layout_of, spelled, width}
+use Rattle.share_layout.specs.Layout.{header, header_size, layout_of, spelled}
 
--- A share writer: the geometry, the share's number, how many bytes of the share are written, whether its writer has failed, and
--- the bytes that the writer holds, where they are known.
+-- A share writer: the geometry, the share's number, how many bytes of the share are written,
+-- whether its writer has failed, and the bytes that the writer holds, where they are known.
 pub record Writing : Type 0 where
   pub geometry : Geometry
   pub number : ℕ

@@ -24,7 +24,8 @@ pub enum Section {
     Ueb,
 }
 
-/// Why a share was not laid out, read or written. Each call tells the first fault, in the order of its documentation.
+/// Why a share was not laid out, read or written. Each call tells the first fault, in the order of
+/// its documentation.
 #[derive(Clone, Copy, Debug, PartialEq, Eq)]
 pub enum LayoutError {
     /// A parameter lies outside its range (number 2).
@@ -35,9 +36,11 @@ pub enum LayoutError {
     TooManySegments,
     /// The layout's version is not the one that it has to be (number 32).
     BadVersion,
-    /// A number of the header is not the one that it has to be, the extension block is too long, or bytes follow it (number 33).
+    /// A number of the header is not the one that it has to be, the extension block is too long, or
+    /// bytes follow it (number 33).
     BadOffset,
-    /// The share ends too early: the first byte that is missing belongs to this section (number 34).
+    /// The share ends too early: the first byte that is missing belongs to this section (number
+    /// 34).
     Truncated(Section),
     /// The share hashes are of other nodes than the share's, or there is no such share (number 35).
     BadShareHashes,
@@ -91,20 +94,17 @@ impl fmt::Display for LayoutError {
     ghost output = { λ error. Some (name_of error) };
 
     fn fmt<W: fmt::Write>(&self, f: &mut fmt::Formatter<W>) -> fmt::Result {
-        f.write_str(match self {
-            LayoutError::BadParameters => "BadParameters",
-            LayoutError::TooLarge => "TooLarge",
-            LayoutError::TooManySegments => "TooManySegments",
-            LayoutError::BadVersion => "BadVersion",
-            LayoutError::BadOffset => "BadOffset",
-            LayoutError::Truncated(_) => "Truncated",
-            LayoutError::BadShareHashes => "BadShareHashes",
-            LayoutError::WriterFault => "WriterFault",
-        })?;
-        match self {
-            LayoutError::Truncated(section) => write!(f, " {}", section.name()),
-            _ => Ok(()),
-        }
+        let (name, section) = match self {
+            LayoutError::BadParameters => ("BadParameters", ""),
+            LayoutError::TooLarge => ("TooLarge", ""),
+            LayoutError::TooManySegments => ("TooManySegments", ""),
+            LayoutError::BadVersion => ("BadVersion", ""),
+            LayoutError::BadOffset => ("BadOffset", ""),
+            LayoutError::Truncated(section) => ("Truncated ", section.name()),
+            LayoutError::BadShareHashes => ("BadShareHashes", ""),
+            LayoutError::WriterFault => ("WriterFault", ""),
+        };
+        write!(f, "{name}{section}")
     }
 }
 

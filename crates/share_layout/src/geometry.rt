@@ -1,9 +1,11 @@
 //! How a file is cut up, and how long each part of its shares is.
 
-ghost use Rattle.std.specs.Prelude.{◌≡◌, ◌+◌, ◌*◌, ◌^◌, ◌<◌, ◌≤◌, ◌↔◌, ◌++◌, Ok, Err, IfOk, take, drop};
+ghost use Rattle.std.specs.Prelude.{◌≡◌, ◌+◌, ◌*◌, ◌^◌, ◌<◌, ◌≤◌, ◌↔◌, ◌++◌, Ok, Err, IfOk, take};
+ghost use Rattle.std.specs.Prelude.{drop};
 ghost use Rattle.std.specs.Int.{w32, to_be_bytes};
 ghost use Rattle.std.specs.List.{flat_map};
 ghost use Rattle.merkle.specs.Tree.{height};
+ghost use Rattle.ueb.specs.Limits.{max_file_size, max_segment_size, max_segments};
 ghost use Rattle.ueb.specs.Shape.{rounded_up};
 ghost use Rattle.share_layout.specs.Geometry.{GivesItself};
 ghost use Rattle.share_layout.specs.Layout.{header, header_size, layout_of, spelled, version};
@@ -16,10 +18,11 @@ use merkle::height;
 use std::marker::Model;
 use ueb::{MAX_FILE_SIZE, MAX_SEGMENT_SIZE, MAX_SEGMENTS, MAX_SHARES};
 
-/// How a file of some size is cut into segments, and these into blocks, of which any `needed` of `total` give a segment back.
+/// How a file of some size is cut into segments, and these into blocks, of which any `needed` of
+/// `total` give a segment back.
 ///
-/// The file has 1 to `ueb::MAX_FILE_SIZE` bytes, and at most `ueb::MAX_SEGMENTS` segments. There are 1 to `ueb::MAX_SHARES` shares. The segment
-/// size is a multiple of the shares needed.
+/// The file has 1 to `ueb::MAX_FILE_SIZE` bytes, and at most `ueb::MAX_SEGMENTS` segments. There
+/// are 1 to `ueb::MAX_SHARES` shares. The segment size is a multiple of the shares needed.
 #[derive(Clone, Copy, PartialEq, Eq)]
 pub struct Geometry {
     size: u64,
@@ -33,23 +36,41 @@ impl Model for Geometry {
 
     ghost Value = { Geometry };
 
-    ghost view = { λ g. record { size = g.size; needed = g.needed; total = g.total; segment_size = g.segment_size } };
+    ghost view = { λ g. record {
+      size = g.size;
+      needed = g.needed;
+      total = g.total;
+      segment_size = g.segment_size;
+    } };
 
-    ghost invariant = { λ g. IsGeometry (record { size = g.size; needed = g.needed; total = g.total; segment_size = g.segment_size }) };
+    ghost invariant = { λ g. IsGeometry (record {
+      size = g.size;
+      needed = g.needed;
+      total = g.total;
+      segment_size = g.segment_size;
+    }) };
 
-    ghost inverse = { λ g. record { size = g.size; needed = g.needed; total = g.total; segment_size = g.segment_size } };
+    ghost inverse = { λ g. record {
+      size = g.size;
+      needed = g.needed;
+      total = g.total;
+      segment_size = g.segment_size;
+    } };
 }
 
 impl Geometry {
-    ghost use Rattle.share_layout.specs.Geometry.{geometry_of, HasGeometry, IsGeometryFault, IsGeometry, segment_count, tail_length, block_size, tail_block_size, share_data_size, tree_size, hashes_size};
+    ghost use Rattle.share_layout.specs.Geometry.{geometry_of, HasGeometry, IsGeometryFault};
+    ghost use Rattle.share_layout.specs.Geometry.{IsGeometry, segment_count, tail_length};
+    ghost use Rattle.share_layout.specs.Geometry.{block_size, tail_block_size, share_data_size};
+    ghost use Rattle.share_layout.specs.Geometry.{tree_size, hashes_size};
     ghost use Rattle.share_layout.specs.Layout.{header_numbers};
     ghost use Rattle.share_layout.specs.Pieces.{block_length, segment_length};
 
-    /// The geometry of a file of `size` bytes, of which `k` of `n` shares are needed, with segments of at most `max` bytes, or of the least
-    /// multiple of `k` from there on.
+    /// The geometry of a file of `size` bytes, of which `k` of `n` shares are needed, with segments
+    /// of at most `max` bytes, or of the least multiple of `k` from there on.
     ///
-    /// Otherwise the first fault in this order: `BadParameters` (size 0, not 1 <= k <= n <= 256, or `max` not 1 to `ueb::MAX_SEGMENT_SIZE`),
-    /// `TooLarge`, `TooManySegments`.
+    /// Otherwise the first fault in this order: `BadParameters` (size 0, not 1 <= k <= n <= 256, or
+    /// `max` not 1 to `ueb::MAX_SEGMENT_SIZE`), `TooLarge`, `TooManySegments`.
     pub fn of(size: u64, k: u16, n: u16, max: u32) -> Result<Geometry, LayoutError>
         ensures given { IfOk result (λ g. g ≡ geometry_of size k n max) }
         ensures parameters { IfOk result (λ _. HasGeometry size k n max) }
@@ -57,7 +78,8 @@ impl Geometry {
         // What has a geometry is given it.
         ensures complete { HasGeometry size k n max → result ≡ Ok (geometry_of size k n max) }
         // When each refusal comes.
-        ensures refused { (error : LayoutError) → (result ≡ Err error) ↔ IsGeometryFault size k n max error }
+        ensures refused { (error : LayoutError)
+            → (result ≡ Err error) ↔ IsGeometryFault size k n max error }
     {
         if size == 0 || k == 0 || k > n || n > MAX_SHARES || max == 0 || max > MAX_SEGMENT_SIZE {
             return Err(LayoutError::BadParameters);
@@ -113,7 +135,7 @@ impl Geometry {
     pub fn segment_count(&self) -> u32
         ensures value { result ≡ segment_count self.now }
         ensures valid { IsGeometry self.now }
-        ensures range { (0 < result) × (result ≤ MAX_SEGMENTS) }
+        ensures range { (0 < result) × (result ≤ max_segments) }
     {
         self.size.div_ceil(u64::from(self.segment_size)) as u32
     }
@@ -150,7 +172,7 @@ impl Geometry {
     pub fn share_data_size(&self) -> u64
         ensures value { result ≡ share_data_size self.now }
         ensures valid { IsGeometry self.now }
-        ensures range { (0 < result) × (result ≤ MAX_FILE_SIZE) }
+        ensures range { (0 < result) × (result ≤ max_file_size) }
     {
         self.size.div_ceil(u64::from(self.needed))
     }
@@ -177,11 +199,12 @@ impl Geometry {
         self.segment_length(number).div_ceil(u32::from(self.needed))
     }
 
-    // The number of leaves of a tree with a leaf for each segment, those that fill it up to a power of two among them.
+    // The number of leaves of a tree with a leaf for each segment, those that fill it up to a power
+    // of two among them.
     fn tree_width(&self) -> u32
         ensures value { result ≡ 2 ^ height (segment_count self.now) }
         ensures valid { IsGeometry self.now }
-        ensures range { (0 < result) × (result ≤ MAX_SEGMENTS) }
+        ensures range { (0 < result) × (result ≤ max_segments) }
     {
         1 << height(self.segment_count())
     }
@@ -214,7 +237,8 @@ impl Geometry {
         (self.share_tree_height() + 1) * 34
     }
 
-    /// The layout of the file's shares: the second where a number in a header of the first does not fit its four bytes.
+    /// The layout of the file's shares: the second where a number in a header of the first does not
+    /// fit its four bytes.
     pub fn layout(&self) -> Layout
         ensures { result ≡ layout_of self.now }
     {
@@ -225,7 +249,8 @@ impl Geometry {
         }
     }
 
-    /// Writes the header of each share over the first bytes of `out`, and gives its length: 36 or 68.
+    /// Writes the header of each share over the first bytes of `out`, and gives its length: 36 or
+    /// 68.
     pub fn header(&self, out: &mut [u8; 68]) -> usize
         ensures length { result ≡ header_size (layout_of self.now) }
         ensures header { take result out.new ≡ header self.now }
@@ -257,7 +282,7 @@ impl Geometry {
 // The least multiple of `k` that is `n` or more.
 fn rounded_up(n: u64, k: u16) -> u64
     requires some { 0 < k }
-    requires low { n ≤ MAX_SEGMENT_SIZE }
+    requires low { n ≤ max_segment_size }
     ensures value { result ≡ rounded_up n k }
     ensures above { n ≤ result }
     ensures low { result < n + k }
@@ -279,18 +304,21 @@ fn spell_header(layout: Layout, numbers: [u64; 8], out: &mut [u8; 68])
     }
 }
 
-/// A law of the definitions: the lengths of a file's segments and of their blocks. The law is the contract; the call does nothing.
+/// A law of the definitions: the lengths of a file's segments and of their blocks. The law is the
+/// contract; the call does nothing.
 pub fn segments_have_lengths()
     ensures { SegmentsHaveLengths }
 {}
 
-/// A law of the definitions: a segment is the piece of its number. The law is the contract; the call does nothing.
+/// A law of the definitions: a segment is the piece of its number. The law is the contract; the
+/// call does nothing.
 pub fn segments_are_pieces()
     ensures { SegmentsArePieces }
 {}
 
-/// A law of the definitions: a geometry whose segment size is at most `ueb::MAX_SEGMENT_SIZE` is the one that `Geometry::of` gives for its
-/// own segment size. The law is the contract; the call does nothing.
+/// A law of the definitions: a geometry whose segment size is at most `ueb::MAX_SEGMENT_SIZE` is
+/// the one that `Geometry::of` gives for its own segment size. The law is the contract; the call
+/// does nothing.
 pub fn geometry_gives_itself()
     ensures { GivesItself }
 {}

@@ -4,8 +4,8 @@ ghost use Rattle.std.specs.Prelude.{◌≡◌, ◌+◌, ◌≤◌, length, nat_e
 ghost use Rattle.share_layout.specs.Places.{number_at};
 ghost use Rattle.share_layout.specs.Layout.{spelled, width};
 
-/// A layout of a share. Its header is a version in four bytes and eight numbers, and the length of the extension block is one more
-/// such number.
+/// A layout of a share. Its header is a version in four bytes and eight numbers, and the length of
+/// the extension block is one more such number.
 #[derive(Clone, Copy, PartialEq, Eq)]
 pub enum Layout {
     /// Version 1, numbers of four bytes, a header of 36.
@@ -47,7 +47,8 @@ impl Layout {
         4 + 8 * self.width()
     }
 
-    /// The layout by which a header is measured: the second where bytes begin with its version, and the first for any others.
+    /// The layout by which a header is measured: the second where bytes begin with its version, and
+    /// the first for any others.
     pub fn in_header(bytes: &[u8]) -> Layout
         ensures { result ≡ layout_in bytes.now }
     {

@@ -4,7 +4,8 @@ ghost use Rattle.std.specs.Prelude.{◌≡◌, ◌^◌, ◌≤◌, ◌<◌, ◌�
 ghost use Rattle.share_layout.specs.declared.error.LayoutError.{LayoutError};
 ghost use Rattle.share_layout.specs.Geometry.{IsGeometry};
 ghost use Rattle.share_layout.specs.Layout.{header_size, places_by, places_of, width};
-ghost use Rattle.share_layout.specs.Places.{header_number, layout_in, places_in, section_at, AreRising, HasOwnPlaces, HasVersion};
+ghost use Rattle.share_layout.specs.Places.{header_number, layout_in, places_in, section_at};
+ghost use Rattle.share_layout.specs.Places.{AreRising, HasOwnPlaces, HasVersion};
 ghost use Rattle.share_layout.specs.Reading.{IsHeaderFault};
 ghost use Rattle.share_layout.specs.Cutting.{IsVersionFault};
 
@@ -12,7 +13,8 @@ use crate::error::{LayoutError, Section};
 use crate::geometry::Geometry;
 use crate::layout::{Layout, number_at};
 
-/// Where the sections of a share stand: the places of their first bytes. The blocks stand behind the header.
+/// Where the sections of a share stand: the places of their first bytes. The blocks stand behind
+/// the header.
 #[derive(Clone, Copy, PartialEq, Eq)]
 pub struct Places {
     /// The share's layout.
@@ -42,15 +44,17 @@ impl Places {
 
     /// The places that a share's header tells. Bytes that follow the header are not looked at.
     ///
-    /// Otherwise the first fault in this order: `Truncated(Header)`, where the bytes begin with version 2 and are fewer than 68, or
-    /// begin otherwise and are fewer than 36; `BadVersion`; `BadOffset`, where the blocks do not stand behind the header or a place
-    /// is not above the one before it.
+    /// Otherwise the first fault in this order: `Truncated(Header)`, where the bytes begin with
+    /// version 2 and are fewer than 68, or begin otherwise and are fewer than 36; `BadVersion`;
+    /// `BadOffset`, where the blocks do not stand behind the header or a place is not above the one
+    /// before it.
     pub fn read(bytes: &[u8]) -> Result<Places, LayoutError>
         ensures places { IfOk result (λ places. places ≡ places_in bytes.now) }
         ensures version { IfOk result (λ places. HasVersion places.layout bytes.now) }
         ensures right { IfOk result (λ _. HasOwnPlaces bytes.now) }
         // When each refusal comes.
-        ensures refused { (error : LayoutError) → (result ≡ Err error) ↔ IsHeaderFault bytes.now error }
+        ensures refused { (error : LayoutError)
+            → (result ≡ Err error) ↔ IsHeaderFault bytes.now error }
     {
         let layout = Layout::in_header(bytes);
         if let Err(error) = check_version(layout, bytes) {
@@ -143,10 +147,12 @@ impl Places {
     }
 }
 
-/// Whether bytes begin with a whole header of this layout, or the first fault of its length and its version.
+/// Whether bytes begin with a whole header of this layout, or the first fault of its length and its
+/// version.
 pub(crate) fn check_version(layout: Layout, bytes: &[u8]) -> Result<(), LayoutError>
     ensures ok { IsOk result ↔ HasVersion layout bytes.now }
-    ensures refused { (error : LayoutError) → (result ≡ Err error) ↔ IsVersionFault layout bytes.now error }
+    ensures refused { (error : LayoutError)
+        → (result ≡ Err error) ↔ IsVersionFault layout bytes.now error }
 {
     if bytes.len() < Layout::in_header(bytes).header_size() {
         return Err(LayoutError::Truncated(Section::Header));

@@ -1,10 +1,8 @@
 //! Reading a share.
 
-ghost use Rattle.std.specs.Prelude.{◌≡◌, ◌<◌, ◌≤◌, ◌↔◌, ℕ, IsTrue, List, length, IfOk, MatchResult, Err};
-ghost use Rattle.merkle.specs.Tree.{height, needed_numbers};
-ghost use Rattle.share_layout.specs.Geometry.{hashes_size};
+ghost use Rattle.std.specs.Prelude.{◌≡◌, ◌≤◌, ◌↔◌, ℕ, IsTrue, List, length, IfOk, MatchResult, Err};
 ghost use Rattle.share_layout.specs.Layout.{header_size};
-ghost use Rattle.share_layout.specs.Share.{CarriesNumbers, IsShare, Sections};
+ghost use Rattle.share_layout.specs.Share.{IsShare, Sections};
 ghost use Rattle.share_layout.specs.Places.{AreRising, LocatesUeb};
 ghost use Rattle.share_layout.specs.Laws.{HasOneReading, LocateTheirBlocks};
 ghost use Rattle.share_layout.specs.Reading.{HasHeader, IsLocateFault, IsReadFault, sections_in};
@@ -14,22 +12,25 @@ use crate::error::{LayoutError, Section};
 use crate::geometry::Geometry;
 use crate::layout::number_at;
 use crate::places::{Places, check_version};
-use crate::tree::carries_numbers;
+use crate::share_hashes::carries_numbers;
 use crate::view::ShareView;
 use ueb::MAX_LENGTH;
 
 /// The extension block of a share, by the places that the share's own header tells.
 ///
-/// Otherwise the first fault in this order: `Truncated(Header)`; `BadVersion`; `BadOffset`, where the blocks do not begin at 36 or a place
-/// in the header is not above the one before it, and where the extension block's length is there and is over `ueb::MAX_LENGTH` or bytes follow
-/// the extension block; `Truncated` with the section that the first missing byte belongs to.
+/// Otherwise the first fault in this order: `Truncated(Header)`; `BadVersion`; `BadOffset`, where
+/// the blocks do not begin at 36 or a place in the header is not above the one before it, and where
+/// the extension block's length is there and is over `ueb::MAX_LENGTH` or bytes follow the
+/// extension block; `Truncated` with the section that the first missing byte belongs to.
 pub fn locate_ueb(bytes: &[u8]) -> Result<&[u8], LayoutError>
     // What is found is the extension block.
     ensures accepted { IfOk result (λ block. LocatesUeb bytes.now block.now) }
     // An extension block that stands there is found.
-    ensures complete { (block : List ℕ) → LocatesUeb bytes.now block → MatchResult result (λ found. found.now ≡ block) (λ _. ⊥) }
+    ensures complete { (block : List ℕ) → LocatesUeb bytes.now block
+        → MatchResult result (λ found. found.now ≡ block) (λ _. ⊥) }
     // When each refusal comes.
-    ensures refused { (error : LayoutError) → (result ≡ Err error) ↔ IsLocateFault bytes.now error }
+    ensures refused { (error : LayoutError)
+        → (result ≡ Err error) ↔ IsLocateFault bytes.now error }
 {
     locate(bytes)
 }
@@ -37,40 +38,46 @@ pub fn locate_ueb(bytes: &[u8]) -> Result<&[u8], LayoutError>
 impl<'a> ShareView<'a> {
     /// The sections of share `number` of a file with this geometry.
     ///
-    /// Otherwise the first fault in this order: `Truncated(Header)`; `BadVersion`; `BadOffset`, where a number in the header is not the
-    /// geometry's, and where the extension block's length is there and is over `ueb::MAX_LENGTH` or bytes follow the extension block; `Truncated`
-    /// with the section that the first missing byte belongs to; `BadShareHashes`, where the file has no such share or the share hashes
-    /// carry other numbers than it needs.
+    /// Otherwise the first fault in this order: `Truncated(Header)`; `BadVersion`; `BadOffset`,
+    /// where a number in the header is not the geometry's, and where the extension block's length
+    /// is there and is over `ueb::MAX_LENGTH` or bytes follow the extension block; `Truncated` with
+    /// the section that the first missing byte belongs to; `BadShareHashes`, where the file has no
+    /// such share or the share hashes carry other numbers than it needs.
     pub fn read(
         bytes: &'a [u8],
         number: u16,
         geometry: &Geometry,
     ) -> Result<ShareView<'a>, LayoutError>
         // What is read is such a share.
-        ensures accepted { IfOk result (λ view. IsShare geometry.now number bytes.now (sections_in view)) }
+        ensures accepted { IfOk result
+            (λ view. IsShare geometry.now number bytes.now (sections_in view)) }
         // Such a share is read.
         ensures complete { (sections : Sections) → IsShare geometry.now number bytes.now sections
             → MatchResult result (λ view. sections_in view ≡ sections) (λ _. ⊥) }
         // When each refusal comes.
-        ensures refused { (error : LayoutError) → (result ≡ Err error) ↔ IsReadFault geometry.now number bytes.now error }
+        ensures refused { (error : LayoutError)
+            → (result ≡ Err error) ↔ IsReadFault geometry.now number bytes.now error }
     {
         read_share(bytes, number, geometry)
     }
 }
 
-/// A law of the definitions: bytes are a share in one way at most. The law is the contract; the call does nothing.
+/// A law of the definitions: bytes are a share in one way at most. The law is the contract; the
+/// call does nothing.
 pub fn shares_have_one_reading()
     ensures { HasOneReading }
 {}
 
-/// A law of the definitions: the header of a share leads to the share's extension block. The law is the contract; the call does nothing.
+/// A law of the definitions: the header of a share leads to the share's extension block. The law is
+/// the contract; the call does nothing.
 pub fn shares_locate_their_blocks()
     ensures { LocateTheirBlocks }
 {}
 
 // The extension block, or the first fault.
 fn locate(bytes: &[u8]) -> Result<&[u8], LayoutError>
-    ensures { MatchResult result (λ block. LocatesUeb bytes.now block.now) (IsLocateFault bytes.now) }
+    ensures { MatchResult result (λ block. LocatesUeb bytes.now block.now)
+        (IsLocateFault bytes.now) }
 {
     let places = match Places::read(bytes) {
         Ok(places) => places,
@@ -101,19 +108,20 @@ fn read_share<'a>(
         Ok(view) => view,
         Err(error) => return Err(error),
     };
-    if has_numbers(view.share_hashes, number, geometry) {
+    if carries_numbers(geometry, number, view.share_hashes) {
         Ok(view)
     } else {
         Err(LayoutError::BadShareHashes)
     }
 }
 
-// The sections at some places behind a header, or the first fault. A place and a length that a header tells may be near 2^64: what
-// is there is compared with them by what is left of it.
+// The sections at some places behind a header, or the first fault. A place and a length that a
+// header tells may be near 2^64: what is there is compared with them by what is left of it.
 fn cut(bytes: &[u8], places: Places) -> Result<ShareView<'_>, LayoutError>
     requires long { header_size places.layout ≤ length bytes.now }
     requires rising { AreRising places }
-    ensures { MatchResult result (λ view. IsCut places bytes.now (sections_in view)) (IsCutFault places bytes.now) }
+    ensures { MatchResult result (λ view. IsCut places bytes.now (sections_in view))
+        (IsCutFault places bytes.now) }
 {
     let length = bytes.len() as u64;
     let width = places.layout.width();
@@ -146,13 +154,4 @@ fn has_header(bytes: &[u8], geometry: &Geometry) -> bool
     let mut header = [0; 68];
     let length = geometry.header(&mut header);
     bytes.starts_with(&header[..length])
-}
-
-// Whether there is such a share, and share hashes carry the numbers that it needs.
-fn has_numbers(hashes: &[u8], number: u16, geometry: &Geometry) -> bool
-    requires { length hashes.now ≡ hashes_size geometry.now }
-    ensures { IsTrue result
-        ↔ ((number < geometry.now.total) × CarriesNumbers (needed_numbers (height geometry.now.total) number) hashes.now) }
-{
-    number < geometry.total() && carries_numbers(hashes, geometry.share_tree_height(), number)
 }

@@ -1,8 +1,9 @@
 //! Writing a share.
 
-ghost use Rattle.std.specs.Prelude.{◌≡◌, ◌<◌, ◌≤◌, ◌+◌, ◌^◌, ◌++◌, false, true, Err, IsTrue, IsOkUnless, OnOk, OnErr, length, take};
+ghost use Rattle.std.specs.Prelude.{◌≡◌, ◌<◌, ◌≤◌, ◌+◌, ◌^◌, ◌++◌, false, true, Err, IsTrue};
+ghost use Rattle.std.specs.Prelude.{IsOkUnless, OnOk, OnErr, length, take};
 ghost use Rattle.std.specs.Io.KnownBytes.{Appends};
-ghost use Rattle.ueb.specs.declared.limits.TheConstants.{MAX_LENGTH};
+ghost use Rattle.ueb.specs.Limits.{max_length};
 ghost use Rattle.share_layout.specs.Layout.{layout_of, places_of, spelled};
 ghost use Rattle.share_layout.specs.Laws.{SectionsMakeShare};
 ghost use Rattle.share_layout.specs.Writing.{AppendsBeginning, beginning, ending, next_place};
@@ -14,7 +15,8 @@ use crate::places::Places;
 use std::io::{ErrorKind, Write};
 use std::marker::Model;
 
-/// Writes a share: first its header and five sections, one after another and cut up at will, and last the extension block.
+/// Writes a share: first its header and five sections, one after another and cut up at will, and
+/// last the extension block.
 #[derive(Drop)]
 pub struct ShareWriter<W: Write> {
     writer: W,
@@ -59,12 +61,15 @@ impl<W: Write> ShareWriter<W> {
         }
     }
 
-    /// Writes the next bytes of the blocks, the unused tree, the ciphertext tree, the block tree and the share hashes, which stand one
-    /// behind another: a section, a part of one or several. The header goes before the first.
+    /// Writes the next bytes of the blocks, the unused tree, the ciphertext tree, the block tree
+    /// and the share hashes, which stand one behind another: a section, a part of one or several.
+    /// The header goes before the first.
     ///
-    /// Where the writer fails, a beginning of this is written. This call and all later ones then answer `WriterFault`, and those write nothing.
+    /// Where the writer fails, a beginning of this is written. This call and all later ones then
+    /// answer `WriterFault`, and those write nothing.
     pub fn put(&mut self, bytes: &[u8]) -> Result<(), LayoutError>
-        requires room { self.old.failed ≡ false → next_place self.old.geometry self.old.place + length bytes.now
+        requires room { self.old.failed ≡ false
+            → next_place self.old.geometry self.old.place + length bytes.now
             ≤ (places_of self.old.geometry).extension_block }
         ensures written { OnOk result (Appends self.old.contents self.new.contents
             (beginning self.old.geometry self.old.place ++ bytes.now)) }
@@ -75,8 +80,12 @@ impl<W: Write> ShareWriter<W> {
         ensures refused { IsOkUnless result LayoutError.WriterFault }
         ensures begun { OnErr result (AppendsBeginning self.old.contents self.new.contents
             (beginning self.old.geometry self.old.place ++ bytes.now)) }
-        ensures err { OnErr result (self.new ≡ record self.old { failed = true; contents = self.new.contents }) }
-        ensures for_good { IsTrue self.old.failed → (result ≡ Err LayoutError.WriterFault) × (self.new ≡ self.old) }
+        ensures err { OnErr result (self.new ≡ record self.old {
+          failed = true;
+          contents = self.new.contents;
+        }) }
+        ensures for_good { IsTrue self.old.failed
+            → (result ≡ Err LayoutError.WriterFault) × (self.new ≡ self.old) }
     {
         if self.failed {
             return Err(LayoutError::WriterFault);
@@ -95,8 +104,9 @@ impl<W: Write> ShareWriter<W> {
     ///
     /// Where the writer fails, as `put` does.
     pub fn put_extension_block(&mut self, extension_block: &[u8]) -> Result<(), LayoutError>
-        requires last { self.old.failed ≡ false → self.old.place ≡ (places_of self.old.geometry).extension_block }
-        requires short { self.old.failed ≡ false → length extension_block.now ≤ MAX_LENGTH }
+        requires last { self.old.failed ≡ false
+            → self.old.place ≡ (places_of self.old.geometry).extension_block }
+        requires short { self.old.failed ≡ false → length extension_block.now ≤ max_length }
         ensures written { OnOk result (Appends self.old.contents self.new.contents
             (ending self.old.geometry extension_block.now)) }
         ensures ok { OnOk result (self.new ≡ record self.old {
@@ -106,8 +116,12 @@ impl<W: Write> ShareWriter<W> {
         ensures refused { IsOkUnless result LayoutError.WriterFault }
         ensures begun { OnErr result (AppendsBeginning self.old.contents self.new.contents
             (ending self.old.geometry extension_block.now)) }
-        ensures err { OnErr result (self.new ≡ record self.old { failed = true; contents = self.new.contents }) }
-        ensures for_good { IsTrue self.old.failed → (result ≡ Err LayoutError.WriterFault) × (self.new ≡ self.old) }
+        ensures err { OnErr result (self.new ≡ record self.old {
+          failed = true;
+          contents = self.new.contents;
+        }) }
+        ensures for_good { IsTrue self.old.failed
+            → (result ≡ Err LayoutError.WriterFault) × (self.new ≡ self.old) }
     {
         if self.failed {
             return Err(LayoutError::WriterFault);
@@ -137,8 +151,8 @@ impl<W: Write> ShareWriter<W> {
     }
 }
 
-/// A law of the definitions: what is written for a share is the share, of the number that its share hashes carry. The law is the
-/// contract; the call does nothing.
+/// A law of the definitions: what is written for a share is the share, of the number that its share
+/// hashes carry. The law is the contract; the call does nothing.
 pub fn sections_make_a_share()
     ensures { SectionsMakeShare }
 {}
@@ -168,18 +182,24 @@ fn spell_length(geometry: &Geometry, number: u64, out: &mut [u8; 8]) -> usize
 
 // Writes bytes and then others. Where the writer fails, a beginning of them is written.
 fn write_both<W: Write>(writer: &mut W, before: &[u8], bytes: &[u8]) -> Result<(), LayoutError>
-    ensures written { OnOk result (Appends (W.contents writer.old) (W.contents writer.new) (before.now ++ bytes.now)) }
-    ensures beginning { OnErr result (AppendsBeginning (W.contents writer.old) (W.contents writer.new) (before.now ++ bytes.now)) }
+    ensures written { OnOk result (Appends (W.contents writer.old) (W.contents writer.new)
+        (before.now ++ bytes.now)) }
+    ensures beginning { OnErr result
+        (AppendsBeginning (W.contents writer.old) (W.contents writer.new)
+        (before.now ++ bytes.now)) }
     ensures refused { IsOkUnless result LayoutError.WriterFault }
 {
     write_whole(writer, before)?;
     write_whole(writer, bytes)
 }
 
-// Writes bytes. Where the writer fails, a beginning of them is written. A writer that was interrupted is asked again.
+// Writes bytes. Where the writer fails, a beginning of them is written. A writer that was
+// interrupted is asked again.
 fn write_whole<W: Write>(writer: &mut W, bytes: &[u8]) -> Result<(), LayoutError>
-    ensures written { OnOk result (Appends (W.contents writer.old) (W.contents writer.new) bytes.now) }
-    ensures beginning { OnErr result (AppendsBeginning (W.contents writer.old) (W.contents writer.new) bytes.now) }
+    ensures written { OnOk result
+        (Appends (W.contents writer.old) (W.contents writer.new) bytes.now) }
+    ensures beginning { OnErr result
+        (AppendsBeginning (W.contents writer.old) (W.contents writer.new) bytes.now) }
     ensures refused { IsOkUnless result LayoutError.WriterFault }
 {
     let mut rest = bytes;

@@ -1,4 +1,4 @@
-use Rattle.std.proofs.Common.{◌∙◌, ap, sym, take}
+use Rattle.std.proofs.Common.{take}
 use Rattle.share_layout.specs.Layout.{header, header_size, layout_of}
 use Rattle.share_layout.proofs.LayoutLemmas.{begins, length-header}
 use Rattle.share_layout.proofs.reader.has_header.Goals as goal

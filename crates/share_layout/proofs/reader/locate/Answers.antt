@@ -1,5 +1,4 @@
 use Rattle.std.proofs.Common.{subst, arith}
-use Rattle.share_layout.specs.declared.layout.Layout.{Layout}
 use Rattle.share_layout.specs.declared.places.Places.{Places}
 use Rattle.share_layout.specs.Layout.{width}
 use Rattle.share_layout.specs.Places.{HasVersion, layout_in}

@@ -28,18 +28,18 @@ returns-in-Err-cut c =
     cut_fault (HasHeader g bytes) (HasNumbers g c.args.number bytes) (places_of g) bytes version (c.has_header.ensures.0 (search rules))
     c.in-Err-cut.error (subst (λ (p : Places). IsCutFault p bytes c.in-Err-cut.error) c.of.ensures.places c.in-Err-cut.ensures)
 
-pub returns-then-has_numbers : goal.returns-then-has_numbers
-returns-then-has_numbers c =
+pub returns-then-carries_numbers : goal.returns-then-carries_numbers
+returns-then-carries_numbers c =
     let bytes = c.args.bytes.now in
     let g = c.args.geometry.now in
     let s = sections_in c.in-Ok.view in
-    let carried = c.has_numbers.ensures.0 (search rules) in
+    let carried = c.carries_numbers.ensures.0 (search rules) in
     cut_is_share g c.args.number bytes s (bytes_between bytes _ (width (layout_of g)) (λ i. omega (arith, c.type_inv.bytes i)))
     (c.has_header.ensures.0 (search rules)) (subst AreRising c.of.ensures.places c.of.ensures.rising)
     (subst (λ (p : Places). IsCut p bytes s) c.of.ensures.places c.in-Ok.ensures) carried.0 carried.1
 
-pub returns-else-has_numbers : goal.returns-else-has_numbers
-returns-else-has_numbers c =
+pub returns-else-carries_numbers : goal.returns-else-carries_numbers
+returns-else-carries_numbers c =
     let bytes = c.args.bytes.now in
     let g = c.args.geometry.now in
     let s = sections_in c.in-Ok.view in
@@ -48,6 +48,6 @@ returns-else-has_numbers c =
     let whole : IsWhole (HasHeader g bytes) (places_of g) bytes =
     record { version = version; right = c.has_header.ensures.0 (search rules); short = cut.short; end = cut.end } in (
       whole,
-      λ h. both_ways _ c.if-has_numbers.false (c.has_numbers.ensures.1
+      λ h. both_ways _ c.if-carries_numbers.false (c.carries_numbers.ensures.1
           (h.number, subst (λ (t : Sections). CarriesNumbers (needed_numbers (height g.total) c.args.number) t.share_hashes) (sym cut.sections) h.numbers)),
     )

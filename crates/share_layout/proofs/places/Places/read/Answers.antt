@@ -1,8 +1,8 @@
-use Rattle.std.proofs.Common.{refl, subst, sym, rules}
+use Rattle.std.proofs.Common.{refl, subst, rules}
 use Rattle.std.proofs.lemmas.Bool.{both_ways}
 use Rattle.share_layout.specs.declared.error.LayoutError.TheVariants.{BadOffset}
 use Rattle.share_layout.specs.declared.layout.Layout.{Layout}
-use Rattle.share_layout.specs.Places.{HasVersion, HasOwnPlaces, layout_in}
+use Rattle.share_layout.specs.Places.{HasVersion, HasOwnPlaces}
 use Rattle.share_layout.specs.Reading.{IsHeaderFault}
 use Rattle.share_layout.specs.Cutting.{IsVersionFault}
 use Rattle.share_layout.proofs.Verdicts.{no_header_fault, one_header_fault, only_fault, told_fault}
