@@ -2,7 +2,7 @@
 use Rattle.std.proofs.Common.{ℕ, ◌<◌, ◌≤◌, arith}
 use Rattle.std.proofs.lemmas.Grind.{div_ceil_times}
 use Rattle.ueb.specs.Shape.{AreContents, Contents, rounded_up}
-use Rattle.ueb.specs.declared.limits.TheConstants.{MAX_SEGMENT_SIZE}
+use Rattle.ueb.specs.Limits.{max_segment_size}
 use Rattle.share_layout.specs.Geometry.{IsGeometry}
 use Rattle.share_verify.specs.CapBlock.{geometry_by}
 
@@ -23,7 +23,7 @@ is_geometry u valid =
       shares = file.shares;
       some_segment = segments.some;
       multiple = segments.multiple;
-      segment_not_large = omega (arith, segments.not_large, rounded_up_above MAX_SEGMENT_SIZE u.needed_shares file.some_needed);
+      segment_not_large = omega (arith, segments.not_large, rounded_up_above max_segment_size u.needed_shares file.some_needed);
       within = segments.within;
       few = segments.few;
     }

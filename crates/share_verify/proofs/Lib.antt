@@ -1,7 +1,7 @@
 pub mod ChunkLemmas
-pub mod TreeSectionLemmas
 pub mod SectionLemmas
 pub mod ShareHashLemmas
 pub mod UebFaults
 pub mod GeometryOfUeb
 pub mod FirstFault
+pub mod Passing

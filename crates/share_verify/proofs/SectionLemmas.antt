@@ -11,9 +11,11 @@ use Rattle.merkle.proofs.HeightLemmas.{height_room}
 use Rattle.merkle.proofs.TreeLemmas.{length-tree_nodes, node-leaf, node_split, padded_to-empty, padded_to-leaf, tree_nodes_first, tree_nodes_leaves, tree_nodes_node}
 use Rattle.merkle.specs.Tree.{height, leaves_among, node, node_number, padded, tree_nodes, tree_root}
 use Rattle.share_verify.specs.Pieces.{block_hashes, joined, pieces}
-use Rattle.share_verify.specs.TreeSection.{AreBlockHashes, AreHashes, AreTreeNodes, HoldsTree, IsTreeSection, IsTreeWithRoot, hashes_in, root_in}
+use Rattle.merkle.specs.Nodes.{AreTreeNodes}
+use Rattle.share_verify.specs.Leaves.{AreBlockHashes}
+use Rattle.share_verify.specs.TreeSection.{AreHashes, HoldsTree, IsTreeSection, IsTreeWithRoot, hashes_in, root_in}
 use Rattle.share_verify.proofs.ChunkLemmas.{first_chunk, first_chunks-joined, get_or-first_chunks, pieces_are_chunks, joined-first_chunks, length-chunk, length-first_chunks, length-joined}
-use Rattle.share_verify.proofs.TreeSectionLemmas.{inner_place, leaf_count_is, next_power}
+use Rattle.merkle.proofs.NodesLemmas.{inner_place, leaf_count_is, next_power}
 
 -- each node of a tree of hashes is a hash
 pub length-tree_node : (leaves : List (List ℕ)) → AreHashes leaves → (row place : ℕ) → row ≤ height (length leaves) → place < 2 ^ row

@@ -3,7 +3,8 @@ use Rattle.std.proofs.Common.{◌≡◌, ℕ, ◌<◌, ◌≤◌, List, [], Some
 use Rattle.std.proofs.lemmas.List.{ext_get_or, get_or-take, length-take-le}
 use Rattle.merkle.specs.Path.{LeadsBy}
 use Rattle.merkle.specs.Tree.{height, node_number}
-use Rattle.share_verify.specs.ShareHashes.{LeadsByEntries, carried_hash, sibling_number}
+use Rattle.merkle.specs.Tree.{sibling_number}
+use Rattle.share_verify.specs.ShareHashes.{LeadsByEntries, carried_hash}
 
 -- what an option holds
 same_some : (a b : List ℕ) → Some a ≡ Some b → a ≡ b

@@ -1,4 +1,5 @@
--- Which extension block is the one of a cap's file, whoever sends it, and the geometry that it tells.
+-- Which extension block is the one of a cap's file, whoever sends it, and the geometry that it
+-- tells.
 use Rattle.std.specs.Prelude.{◌≡◌, ℕ, List}
 use Rattle.tagged_hash.specs.TaggedHash.{tagged_hash}
 use Rattle.tagged_hash.specs.declared.tag.Tag.TheVariants.{ExtensionBlock}
@@ -7,7 +8,8 @@ use Rattle.ueb.specs.Block.{IsUeb}
 use Rattle.ueb.specs.Shape.{Contents}
 use Rattle.share_layout.specs.Geometry.{Geometry}
 
--- these bytes are the extension block of the cap's file, with these contents, which agree with the cap
+-- these bytes are the extension block of the cap's file, with these contents, which agree with the
+-- cap
 pub record IsUebFor (cap : VerifyCapValue) (extension_block : List ℕ) (u : Contents) : Type 0 where
   pub hash : tagged_hash ExtensionBlock extension_block ≡ cap.ueb_hash
   pub grammar : IsUeb extension_block u
@@ -17,4 +19,9 @@ pub record IsUebFor (cap : VerifyCapValue) (extension_block : List ℕ) (u : Con
 
 -- the geometry of a file with this extension block
 abbrev pub geometry_by : Contents → Geometry
-geometry_by u = record { size = u.size; needed = u.needed_shares; total = u.total_shares; segment_size = u.segment_size }
+geometry_by u = record {
+  size = u.size;
+  needed = u.needed_shares;
+  total = u.total_shares;
+  segment_size = u.segment_size;
+}

@@ -1,5 +1,9 @@
+-- what public contracts rest on
 pub mod CapBlock
 pub mod Pieces
 pub mod TreeSection
 pub mod ShareHashes
 pub mod Verify
+pub mod Checks
+-- words of private clauses
+pub mod Leaves

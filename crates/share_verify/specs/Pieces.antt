@@ -1,13 +1,9 @@
--- Texts that are cut into pieces, lists that are joined, and the hashes of a share's blocks.
-use Rattle.std.specs.Prelude.{ℕ, zero, suc, List, [], ◌∷◌, take, drop, map}
+-- Lists that are joined, and the hashes of a share's blocks.
+use Rattle.std.specs.Prelude.{ℕ, List, map}
 use Rattle.std.specs.List.{flat_map}
 use Rattle.tagged_hash.specs.TaggedHash.{tagged_hash}
 use Rattle.tagged_hash.specs.declared.tag.Tag.TheVariants.{Block}
-
--- so many pieces of this length, the last perhaps shorter
-abbrev pub pieces : ℕ → ℕ → List ℕ → List (List ℕ)
-pieces zero size text = []
-pieces (suc n) size text = take size text ∷ pieces n size (drop size text)
+pub use Rattle.share_layout.specs.Pieces.{pieces}
 
 -- lists of bytes, one after another
 abbrev pub joined : List (List ℕ) → List ℕ

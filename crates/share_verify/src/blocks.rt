@@ -3,11 +3,12 @@
 ghost use Rattle.std.specs.Prelude.{◌≡◌, ◌<◌, ◌↔◌, IsTrue, length};
 ghost use Rattle.tagged_hash.specs.TaggedHash.{tagged_hash};
 ghost use Rattle.tagged_hash.specs.declared.tag.Tag.TheVariants.{Block};
-ghost use Rattle.share_verify.specs.TreeSection.{AreBlockHashes};
+ghost use Rattle.share_verify.specs.Leaves.{AreBlockHashes};
 
 use tagged_hash::{Tag, tagged};
 
-/// Whether the leaves are the hashes of the blocks, which have `block_size` bytes each, the last one perhaps fewer.
+/// Whether the leaves are the hashes of the blocks, which have `block_size` bytes each, the last
+/// one perhaps fewer.
 pub(crate) fn are_hashes_of(leaves: &[[u8; 32]], block_size: usize, blocks: &[u8]) -> bool
     ensures { IsTrue result ↔ AreBlockHashes leaves.now block_size blocks.now }
 {

@@ -1,12 +1,13 @@
 //! The hashes of the share tree that a share carries.
 
-ghost use Rattle.std.specs.Prelude.{◌≡◌, ℕ, take, drop, ◌+◌, ◌-◌, ◌/◌, ◌^◌, ◌<◌, ◌≤◌, ◌↔◌, IsTrue, [], length, slice_index_or, Some, None, IfNone, IfSome};
+ghost use Rattle.std.specs.Prelude.{◌≡◌, ℕ, take, drop, ◌+◌, ◌-◌, ◌/◌, ◌^◌, ◌<◌, ◌≤◌, ◌↔◌, IsTrue};
+ghost use Rattle.std.specs.Prelude.{[], length, slice_index_or, Some, None, IfNone, IfSome};
 ghost use Rattle.std.specs.Int.{w16, to_be_bytes};
 ghost use Rattle.std.specs.Str.{bytes_eq};
-ghost use Rattle.merkle.specs.Tree.{height, node_number, sibling};
-ghost use Rattle.share_verify.specs.ShareHashes.{LeadsByEntries, carried_hash, entries_in, sibling_number};
+ghost use Rattle.merkle.specs.Tree.{height, sibling_number};
+ghost use Rattle.share_verify.specs.ShareHashes.{LeadsByEntries, carried_hash, entries_in};
 
-use merkle::check_path;
+use merkle::{check_path, node_number, sibling_number};
 
 /// The length of a share hash: two bytes for the number of its node, and the hash.
 pub(crate) const ENTRY_LENGTH: usize = 34;
@@ -22,8 +23,8 @@ pub(crate) fn entries_in(section: &[u8]) -> &[[u8; ENTRY_LENGTH]]
     entries
 }
 
-/// Whether the share hashes lead from this hash, that of a leaf of the tree over `total` shares, to its root. There are as many
-/// as that tree has rows.
+/// Whether the share hashes lead from this hash, that of a leaf of the tree over `total` shares, to
+/// its root. There are as many as that tree has rows.
 pub(crate) fn leads_by_entries(
     total: u16,
     root: &[u8; 32],
@@ -37,7 +38,8 @@ pub(crate) fn leads_by_entries(
     ensures { IsTrue result ↔ LeadsByEntries total root.now leaf hash.now entries.now }
 {
     let height = height_of(total, entries);
-    if !carries(entries, node_number(height, leaf), hash) {
+    let own = node_number(height, u32::from(leaf)) as u16;
+    if !carries(entries, own, hash) {
         return false;
     }
     let Some(siblings) = sibling_hashes(entries, height, leaf) else {
@@ -52,7 +54,8 @@ pub(crate) fn leads_by_entries(
     )
 }
 
-// The height of the tree over `total` shares, which is one less than the share hashes that each carries.
+// The height of the tree over `total` shares, which is one less than the share hashes that each
+// carries.
 fn height_of(total: u16, entries: &[[u8; ENTRY_LENGTH]]) -> u32
     requires few { total ≤ 256 }
     requires entries { length entries.now ≡ height total + 1 }
@@ -63,7 +66,8 @@ fn height_of(total: u16, entries: &[[u8; ENTRY_LENGTH]]) -> u32
     (entries.len() - 1) as u32
 }
 
-// The hashes of the siblings of a leaf and of the nodes above it, from the leaf upward, in a tree of this height.
+// The hashes of the siblings of a leaf and of the nodes above it, from the leaf upward, in a tree
+// of this height.
 fn sibling_hashes(
     entries: &[[u8; ENTRY_LENGTH]],
     height: u32,
@@ -73,13 +77,15 @@ fn sibling_hashes(
     requires inside { leaf < 2 ^ height }
     ensures size { IfSome result (λ siblings. length siblings ≡ 8) }
     ensures all { IfSome result (λ siblings. (i : ℕ) → i < height
-        → carried_hash entries.now (sibling_number height leaf i) ≡ Some (slice_index_or siblings i [])) }
-    ensures missing { IfNone result ((i : ℕ) × (i < height) × (carried_hash entries.now (sibling_number height leaf i) ≡ None)) }
+        → carried_hash entries.now (sibling_number height leaf i)
+        ≡ Some (slice_index_or siblings i [])) }
+    ensures missing { IfNone result ((i : ℕ) × (i < height)
+        × (carried_hash entries.now (sibling_number height leaf i) ≡ None)) }
 {
     let mut siblings = [[0u8; 32]; MAX_HEIGHT];
     for i in 0..height {
-        let number = node_number(height - i, sibling(leaf >> i));
-        let Some(hash) = carried_hash(entries, number) else {
+        let number = sibling_number(height, u32::from(leaf), i);
+        let Some(hash) = carried_hash(entries, number as u16) else {
             return None;
         };
         siblings[i as usize] = hash;
@@ -123,21 +129,4 @@ fn hash_of(entry: &[u8; ENTRY_LENGTH]) -> [u8; 32]
     let mut hash = [0; 32];
     hash.copy_from_slice(&entry[2..]);
     hash
-}
-
-// The number of the node at a place of a row.
-fn node_number(row: u32, place: u16) -> u16
-    requires low { row ≤ 8 }
-    requires inside { place < 2 ^ row }
-    ensures { result ≡ node_number row place }
-{
-    (1 << row) - 1 + place
-}
-
-// The place of the other child of one parent.
-fn sibling(place: u16) -> u16
-    requires { place < 2 ^ 8 }
-    ensures { result ≡ sibling place }
-{
-    if place % 2 == 0 { place + 1 } else { place - 1 }
 }

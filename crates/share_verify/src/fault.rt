@@ -6,9 +6,9 @@ ghost use Rattle.share_verify.specs.Verify.{fault_number};
 use share_layout::LayoutError;
 use ueb::UebError;
 
-/// Why a share is not the one that its cap and number ask for. `verify_share` tells the first fault, in the order of its
-/// documentation.
-#[derive(Clone, Copy, Debug, PartialEq, Eq)]
+/// Why a share is not the one that its cap and number ask for. `verify_share` tells the first
+/// fault, in the order of its documentation.
+#[derive(Clone, Copy, PartialEq, Eq)]
 pub enum ShareFault {
     /// It is not laid out as a share (number 40).
     Layout(LayoutError),
@@ -18,11 +18,13 @@ pub enum ShareFault {
     Ueb(UebError),
     /// The place of the tree that is no longer used holds other bytes than zeros (number 41).
     Unused,
-    /// The ciphertext tree has wrong inner nodes or padding, or another root than the extension block's (number 43).
+    /// The ciphertext tree has wrong inner nodes or padding, or another root than the extension
+    /// block's (number 43).
     CiphertextTree,
     /// The block tree has wrong inner nodes or padding (number 44).
     BlockTree,
-    /// The share hashes do not lead from the block tree's root to the extension block's share root (number 45).
+    /// The share hashes do not lead from the block tree's root to the extension block's share root
+    /// (number 45).
     ShareHashes,
     /// The hash of a block is not its leaf in the block tree (number 46).
     Data,

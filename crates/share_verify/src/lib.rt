@@ -3,13 +3,15 @@
 
 mod blocks;
 mod chain;
+mod check;
 mod fault;
 mod reading;
 mod sections;
 mod tree;
 mod verify;
 
+pub use check::{Check, sound_shares_pass};
 pub use fault::ShareFault;
-pub use reading::{ReadShare, read_share};
+pub use reading::{ReadShare, geometry_of, read_share, read_ueb};
 pub use tree::leaves_in;
 pub use verify::verify_share;

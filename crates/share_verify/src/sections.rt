@@ -1,6 +1,7 @@
 //! The sections of a share, against its extension block.
 
-ghost use Rattle.std.specs.Prelude.{◌≡◌, ◌<◌, ◌≤◌, ◌↔◌, ◌*◌, ◌+◌, ◌-◌, ◌^◌, IsTrue, IsOk, Err, length, replicate};
+ghost use Rattle.std.specs.Prelude.{◌≡◌, ◌<◌, ◌≤◌, ◌↔◌, ◌*◌, ◌+◌, ◌-◌, ◌^◌, IsTrue, IsOk, Err};
+ghost use Rattle.std.specs.Prelude.{length, replicate};
 ghost use Rattle.merkle.specs.Tree.{height};
 ghost use Rattle.share_layout.specs.Reading.{sections_in};
 ghost use Rattle.share_layout.specs.Share.{HaveLengths};
@@ -17,8 +18,8 @@ use crate::tree::{is_tree_section, is_tree_with_root, leaves_in, root_in};
 use share_layout::{Geometry, ShareView};
 use ueb::Ueb;
 
-/// Whether the sections of share `num` are as the extension block asks, or their first fault. They have the lengths of the extension
-/// block's geometry.
+/// Whether the sections of share `num` are as the extension block asks, or their first fault. They
+/// have the lengths of the extension block's geometry.
 pub(crate) fn check_sections(
     ueb: &Ueb,
     geometry: &Geometry,
@@ -29,7 +30,8 @@ pub(crate) fn check_sections(
     requires number { num < ueb.now.total_shares }
     requires lengths { HaveLengths geometry.now (sections_in view.now) }
     ensures sound { IsOk result ↔ AreSound ueb.now num (sections_in view.now) }
-    ensures refused { (fault : ShareFault) → (result ≡ Err fault) ↔ IsSectionFault ueb.now num (sections_in view.now) fault }
+    ensures refused { (fault : ShareFault) → (result ≡ Err fault)
+        ↔ IsSectionFault ueb.now num (sections_in view.now) fault }
 {
     let segments = geometry.segment_count();
     if !is_zero(view.unused) {
@@ -66,7 +68,8 @@ fn is_zero(bytes: &[u8]) -> bool
 fn has_share_hashes(ueb: &Ueb, num: u16, view: &ShareView<'_>) -> bool
     requires number { num < ueb.now.total_shares }
     requires tree { 32 ≤ length (sections_in view.now).block_tree }
-    requires hashes { length (sections_in view.now).share_hashes ≡ (height ueb.now.total_shares + 1) * 34 }
+    requires hashes { length (sections_in view.now).share_hashes
+        ≡ (height ueb.now.total_shares + 1) * 34 }
     ensures { IsTrue result ↔ HasShareHashes ueb.now num (sections_in view.now) }
 {
     leads_by_entries(
@@ -78,12 +81,13 @@ fn has_share_hashes(ueb: &Ueb, num: u16, view: &ShareView<'_>) -> bool
     )
 }
 
-// Whether the tree in a section is the one over the hashes of the blocks, which have `block_size` bytes each, the last one perhaps
-// fewer. It is a tree over as many leaves as there are blocks.
+// Whether the tree in a section is the one over the hashes of the blocks, which have `block_size`
+// bytes each, the last one perhaps fewer. It is a tree over as many leaves as there are blocks.
 fn is_tree_of(section: &[u8], block_count: u32, block_size: usize, blocks: &[u8]) -> bool
     requires long { length section.now ≡ (2 * 2 ^ height block_count - 1) * 32 }
     requires tree { IsTreeSection block_count section.now }
-    ensures { IsTrue result ↔ HoldsTree section.now (block_hashes (pieces block_count block_size blocks.now)) }
+    ensures { IsTrue result ↔ HoldsTree section.now (block_hashes
+        (pieces block_count block_size blocks.now)) }
 {
     are_hashes_of(leaves_in(section, block_count), block_size, blocks)
 }

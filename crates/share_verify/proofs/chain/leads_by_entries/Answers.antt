@@ -1,7 +1,8 @@
 use Rattle.std.proofs.Common.{◌≡◌, ℕ, ◌<◌, ◌≤◌, [], Some, length, get_or, take, ap, rules, subst, sym, ◌∙◌, arith}
 use Rattle.merkle.specs.Path.{LeadsBy}
 use Rattle.merkle.specs.Tree.{height, node_number}
-use Rattle.share_verify.specs.ShareHashes.{carried_hash, sibling_number}
+use Rattle.merkle.specs.Tree.{sibling_number}
+use Rattle.share_verify.specs.ShareHashes.{carried_hash}
 use Rattle.share_verify.proofs.ShareHashLemmas.{entries_lead, siblings_lead}
 use Rattle.share_verify.proofs.chain.leads_by_entries.Goals as goal
 
@@ -16,12 +17,13 @@ returns c =
     let same = c.height_of-height.ensures.value in
     let long : height total ≤ length siblings = omega (arith, c.height_of-height.ensures.low, c.in-Some.ensures.size, same) in
     let all = subst (λ (m : ℕ). (i : ℕ) → i < m → carried_hash entries (sibling_number m leaf i) ≡ Some (get_or siblings i [])) same c.in-Some.ensures.all in
-    let carries : carried_hash entries c.node_number.result ≡ Some hash = search rules in
+    let carries : carried_hash entries c.node_number-own.result ≡ Some hash = search rules in
     let own : carried_hash entries (node_number (height total) leaf) ≡ Some hash =
-    ap (carried_hash entries) (ap (λ (m : ℕ). node_number m leaf) (sym same) ∙ sym c.node_number.ensures) ∙ carries in
+    ap (carried_hash entries) (ap (λ (m : ℕ). node_number m leaf) (sym same)
+    ∙ ap (λ (l : ℕ). node_number c.height_of-height.result l) (sym c.from.ensures) ∙ sym c.node_number-own.ensures.value) ∙ carries in
     let numbers : ℕ → ℕ → ℕ → Type 0 = λ n place m. LeadsBy n root place hash (take m siblings) in (
       λ yes. entries_lead total root leaf hash entries siblings long all own
-          (subst (λ (m : ℕ). numbers total leaf m) same (subst (λ (place : ℕ). numbers total place c.height_of-height.result) c.from-2.ensures (subst (λ (n : ℕ). numbers n c.from-2.result c.height_of-height.result) c.from.ensures (c.check_path.ensures.0 yes)))),
+          (subst (λ (m : ℕ). numbers total leaf m) same (subst (λ (place : ℕ). numbers total place c.height_of-height.result) c.from-3.ensures (subst (λ (n : ℕ). numbers n c.from-3.result c.height_of-height.result) c.from-2.ensures (c.check_path.ensures.0 yes)))),
       λ held. c.check_path.ensures.1
-          (subst (λ (n : ℕ). numbers n c.from-2.result c.height_of-height.result) (sym c.from.ensures) (subst (λ (place : ℕ). numbers total place c.height_of-height.result) (sym c.from-2.ensures) (subst (λ (m : ℕ). numbers total leaf m) (sym same) (siblings_lead total root leaf hash entries siblings long all held)))),
+          (subst (λ (n : ℕ). numbers n c.from-3.result c.height_of-height.result) (sym c.from-2.ensures) (subst (λ (place : ℕ). numbers total place c.height_of-height.result) (sym c.from-3.ensures) (subst (λ (m : ℕ). numbers total leaf m) (sym same) (siblings_lead total root leaf hash entries siblings long all held)))),
     )

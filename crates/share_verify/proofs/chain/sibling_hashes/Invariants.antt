@@ -1,5 +1,6 @@
 use Rattle.std.proofs.Common.{◌≡◌, ℕ, ◌<◌, [], Some, length, slice_index_or}
-use Rattle.share_verify.specs.ShareHashes.{carried_hash, sibling_number}
+use Rattle.merkle.specs.Tree.{sibling_number}
+use Rattle.share_verify.specs.ShareHashes.{carried_hash}
 use Rattle.share_verify.proofs.chain.sibling_hashes.Given as goal
 
 abbrev pub invariant-loop-i : goal.invariant-loop-i

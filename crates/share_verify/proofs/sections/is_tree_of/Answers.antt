@@ -1,5 +1,5 @@
 use Rattle.std.proofs.Common.{ℕ, List, subst, sym}
-use Rattle.share_verify.specs.TreeSection.{AreBlockHashes}
+use Rattle.share_verify.specs.Leaves.{AreBlockHashes}
 use Rattle.share_verify.proofs.SectionLemmas.{blocks_of_tree, tree_of_blocks}
 use Rattle.share_verify.proofs.sections.is_tree_of.Goals as goal
 

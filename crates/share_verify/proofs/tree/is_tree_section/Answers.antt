@@ -1,5 +1,5 @@
 use Rattle.std.proofs.Common.{length, ap, subst, sym, ◌∙◌}
-use Rattle.share_verify.specs.TreeSection.{AreTreeNodes}
+use Rattle.merkle.specs.Nodes.{AreTreeNodes}
 use Rattle.share_verify.proofs.SectionLemmas.{node_count, nodes_are, section_holds}
 use Rattle.share_verify.proofs.tree.is_tree_section.Goals as goal
 

@@ -1,0 +1,48 @@
+//! The checks of a share.
+
+ghost use Rattle.std.specs.Prelude.{◌≡◌};
+ghost use Rattle.share_verify.specs.Checks.{SoundSharesPass, check_of};
+
+use crate::fault::ShareFault;
+
+/// A check of a share, by what it is about.
+#[derive(Clone, Copy, PartialEq, Eq)]
+pub enum Check {
+    /// The layout: the header, the places of the sections and the numbers of the share hashes.
+    Layout,
+    /// The extension block, against the cap.
+    Ueb,
+    /// The place of the tree that is no longer used.
+    Unused,
+    /// The ciphertext tree, against the extension block's root.
+    CiphertextTree,
+    /// The block tree.
+    BlockTree,
+    /// The share hashes, from the block tree's root to the extension block's share root.
+    ShareHashes,
+    /// The blocks, against the block tree.
+    Data,
+}
+
+impl ShareFault {
+    /// The check that the fault is of.
+    pub fn check(&self) -> Check
+        ensures { result ≡ check_of self.now }
+    {
+        match self {
+            ShareFault::Layout(_) => Check::Layout,
+            ShareFault::OtherUeb | ShareFault::Ueb(_) => Check::Ueb,
+            ShareFault::Unused => Check::Unused,
+            ShareFault::CiphertextTree => Check::CiphertextTree,
+            ShareFault::BlockTree => Check::BlockTree,
+            ShareFault::ShareHashes => Check::ShareHashes,
+            ShareFault::Data => Check::Data,
+        }
+    }
+}
+
+/// A law of the definitions: a share that passes `verify_share` passes each check. The law is the
+/// contract; the call does nothing.
+pub fn sound_shares_pass()
+    ensures { SoundSharesPass }
+{}
