@@ -1,5 +1,7 @@
--- What a store over files does, as far as its table tells. What the files hold is for the folder to keep.
-use Rattle.std.specs.Prelude.{◌≡◌, ℕ, ◌+◌, ◌-◌, ◌^◌, ◌==◌, min, List, [], length, false, Option, Result, Ok, Err, if◌then◌else◌, option_map, unwrap_or, OnOk}
+-- What a store over files does, as far as its table tells. What the files hold is for the folder to
+-- keep.
+use Rattle.std.specs.Prelude.{◌≡◌, ℕ, ◌+◌, ◌-◌, ◌^◌, ◌==◌, min, List, [], length, false, Option}
+use Rattle.std.specs.Prelude.{Result, Ok, Err, if◌then◌else◌, option_map, unwrap_or, OnOk}
 use Rattle.std.specs.BTreeMap.{insert_entry}
 use Rattle.wire.specs.declared.message.ShareId.{ShareId}
 use Rattle.wire.specs.declared.message.HeldShare.{HeldShare}
@@ -7,8 +9,11 @@ use Rattle.share_store.specs.declared.table.KeptShare.{KeptShare}
 use Rattle.share_store.specs.declared.error.StoreError.{StoreError}
 use Rattle.share_store.specs.declared.error.StoreError.TheVariants.{OutOfMemory, StoreFault}
 use Rattle.share_store.specs.Shelf.{Place, place_of, order, same_place, at, held_by}
+use Rattle.share_store.specs.Calls.{Calls}
+use Rattle.share_store.specs.Table.{kept_bytes}
 
--- the folder's path, the closed shares, the open ones with the number of bytes written to them, and the faults so far
+-- the folder's path, the closed shares, the open ones with the number of bytes written to them, and
+-- the faults so far
 pub record FolderState : Type 0 where
   pub folder : List ℕ
   pub closed : List (Place × KeptShare)
@@ -33,7 +38,8 @@ length_at place opened = unwrap_or (at place opened) 0
 
 -- every open share at another place is as long as it was
 abbrev pub IsOpenedAt : Place → List (Place × ℕ) → List (Place × ℕ) → Type 0
-IsOpenedAt place old new = (other : Place) → same_place place other ≡ false → length_at other new ≡ length_at other old
+IsOpenedAt place old new =
+    (other : Place) → same_place place other ≡ false → length_at other new ≡ length_at other old
 
 abbrev pub OthersStay : ShareId → List (Place × ℕ) → List (Place × ℕ) → Type 0
 OthersStay id = IsOpenedAt (place_of id)
@@ -46,29 +52,59 @@ counted (Err StoreFault) n = min (n + 1) (2 ^ 64 - 1)
 
 -- the same store with one more fault
 abbrev pub faulted : FolderState → FolderState
-faulted s = record { folder = s.folder; closed = s.closed; opened = s.opened; failures = min (s.failures + 1) (2 ^ 64 - 1) }
+faulted s =
+    record {
+      folder = s.folder;
+      closed = s.closed;
+      opened = s.opened;
+      failures = min (s.failures + 1) (2 ^ 64 - 1);
+    }
 
-abbrev pub FolderWrites : FolderState → ShareId → ℕ → List ℕ → Result Unit StoreError → FolderState → Type 0
-FolderWrites s id offset bytes r t = (t.folder ≡ s.folder) × (t.closed ≡ s.closed) × (t.failures ≡ counted r s.failures) × OthersStay id s.opened t.opened
-    × OnOk r (length_at (place_of id) t.opened ≡ (if offset == 0 then 0 else length_at (place_of id) s.opened) + length bytes)
+abbrev pub FolderWrites : FolderState → ShareId → ℕ → List ℕ → Result Unit StoreError
+    → FolderState → Type 0
+FolderWrites s id offset bytes r t =
+    (t.folder ≡ s.folder) × (t.closed ≡ s.closed) × (t.failures ≡ counted r s.failures)
+    × OthersStay id s.opened t.opened
+    × OnOk r (length_at (place_of id) t.opened
+    ≡ (if offset == 0 then 0 else length_at (place_of id) s.opened) + length bytes)
 
-abbrev pub FolderCloses : FolderState → ShareId → List ℕ → Result Unit StoreError → FolderState → Type 0
+abbrev pub FolderCloses : FolderState → ShareId → List ℕ → Result Unit StoreError
+    → FolderState → Type 0
 FolderCloses s id digest (Ok u) t =
-    (t.closed ≡ insert_entry order s.closed (place_of id) (record { length = length_at (place_of id) s.opened; digest = digest }))
+    (t.closed ≡ insert_entry order s.closed (place_of id)
+    (record { length = length_at (place_of id) s.opened; digest = digest }))
     × (t.folder ≡ s.folder) × (t.failures ≡ s.failures) × OthersStay id s.opened t.opened
 FolderCloses s id digest (Err OutOfMemory) t = t ≡ s
 FolderCloses s id digest (Err StoreFault) t = t ≡ faulted s
 
--- As many bytes as the share has there, up to as many as asked for: a file that is too short is a fault.
-abbrev pub FolderReads : FolderState → ShareId → ℕ → ℕ → Result (List ℕ) StoreError → FolderState → Type 0
-FolderReads s id offset len (Ok bytes) t = (length bytes ≡ min len (kept_length id s - offset)) × (t ≡ s)
+-- As many bytes as the share has there, up to as many as asked for: a file that is too short is a
+-- fault.
+abbrev pub FolderReads : FolderState → ShareId → ℕ → ℕ → Result (List ℕ) StoreError
+    → FolderState → Type 0
+FolderReads s id offset len (Ok bytes) t =
+    (length bytes ≡ min len (kept_length id s - offset)) × (t ≡ s)
 FolderReads s id offset len (Err OutOfMemory) t = t ≡ s
 FolderReads s id offset len (Err StoreFault) t = t ≡ faulted s
 
-abbrev pub FolderLists : FolderState → List ℕ → Result (List HeldShare) StoreError → FolderState → Type 0
-FolderLists s index (Ok found) t = (found ≡ held_by (λ (k : KeptShare). k.digest) index s.closed) × (t ≡ s)
+abbrev pub FolderLists : FolderState → List ℕ → Result (List HeldShare) StoreError
+    → FolderState → Type 0
+FolderLists s index (Ok found) t =
+    (found ≡ held_by (λ (k : KeptShare). k.digest) index s.closed) × (t ≡ s)
 FolderLists s index (Err OutOfMemory) t = t ≡ s
 FolderLists s index (Err StoreFault) t = ⊥
 
 abbrev pub FolderRestarts : FolderState → FolderState → Type 0
-FolderRestarts s t = t ≡ record { folder = s.folder; closed = s.closed; opened = []; failures = s.failures }
+FolderRestarts s t =
+    t ≡ record { folder = s.folder; closed = s.closed; opened = []; failures = s.failures }
+
+abbrev pub folder_calls : Calls FolderState
+folder_calls =
+    record {
+      told = λ s id. kept_digest id s;
+      used = λ s. kept_bytes s.closed;
+      write_gives = FolderWrites;
+      close_gives = FolderCloses;
+      read_gives = FolderReads;
+      list_gives = FolderLists;
+      restart_gives = FolderRestarts;
+    }

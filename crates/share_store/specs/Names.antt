@@ -5,7 +5,8 @@ use Rattle.share_store.specs.Shelf.{Place}
 
 -- storage index, share number and digest
 abbrev pub closed_name : Place → List ℕ → List ℕ
-closed_name place digest = base32 place.0 ++ codes "." ++ decimal place.1 ++ codes "." ++ base32 digest
+closed_name place digest =
+    base32 place.0 ++ codes "." ++ decimal place.1 ++ codes "." ++ base32 digest
 
 -- storage index and share number, and that it is open
 abbrev pub open_name : Place → List ℕ

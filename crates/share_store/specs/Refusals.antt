@@ -10,8 +10,8 @@ refusal_number OutOfMemory = 1
 refusal_number StoreFault = 60
 
 abbrev pub refusal_text : StoreError → List ℕ
-refusal_text OutOfMemory = codes "out of memory"
-refusal_text StoreFault = codes "the store failed"
+refusal_text OutOfMemory = codes "OutOfMemory"
+refusal_text StoreFault = codes "StoreFault"
 
 -- a call on a file fails for want of memory, or it is a fault
 abbrev pub refusal_of : ErrorKind → StoreError

@@ -1,9 +1,13 @@
--- A shelf, which is what a store that keeps is to its server: closed shares, which stay, and open ones.
-use Rattle.std.specs.Prelude.{◌≡◌, ◌⊎◌, ℕ, ◌==◌, ◌&&◌, nat_le, List, [], ◌++◌, Bool, false, Option, Result, Ok, Err, if◌then◌else◌, length, take, drop, sum_by, map, filter, option_map, unwrap_or}
+-- A shelf, which is what a store that keeps is to its server: closed shares, which stay, and open
+-- ones.
+use Rattle.std.specs.Prelude.{◌≡◌, ◌⊎◌, ℕ, ◌==◌, ◌&&◌, nat_le, List, [], ◌++◌, Bool, false, Option}
+use Rattle.std.specs.Prelude.{Result, Ok, Err, if◌then◌else◌, length, take, drop, sum_by, map}
+use Rattle.std.specs.Prelude.{filter, option_map, unwrap_or}
 use Rattle.std.specs.Ordering.{nat_cmp, ordering_then, is_eq}
 use Rattle.std.specs.declared.cmp.Ordering.{Ordering}
 use Rattle.std.specs.Cmp.Lexicographic.{slice_cmp}
-use Rattle.std.specs.Map.{lookup, values_of}
+use Rattle.std.specs.Map.{keys_of, lookup, values_of}
+use Rattle.std.specs.List.Sorted.{IsStrictlySortedBy}
 use Rattle.std.specs.BTreeMap.{insert_entry}
 use Rattle.wire.specs.declared.message.ShareId.{ShareId}
 use Rattle.wire.specs.declared.message.HeldShare.{HeldShare}
@@ -28,6 +32,10 @@ same_place a b = is_eq (order a b)
 pub record Shelf : Type 0 where
   pub closed : List (Place × ClosedShare)
   pub opened : List (Place × List ℕ)
+
+-- The places of the shares rise, so that no share stands twice.
+abbrev pub AreRising : List (Place × ClosedShare) → Type 0
+AreRising closed = IsStrictlySortedBy order (keys_of closed)
 
 -- what stands at a place
 abbrev pub at : {A : Type 0} → Place → List (Place × A) → Option A
@@ -56,7 +64,9 @@ is_under index place = is_eq (slice_cmp nat_cmp index place.0) && nat_le place.1
 
 -- the entries under a storage index with their digests, lowest number first
 abbrev pub held_by : {A : Type 0} → (A → List ℕ) → List ℕ → List (Place × A) → List HeldShare
-held_by {A} digest_of index es = map (λ (e : Place × A). record { share = e.0.1; digest = digest_of e.1 }) (filter (λ (e : Place × A). is_under index e.0) es)
+held_by {A} digest_of index es =
+    map (λ (e : Place × A). record { share = e.0.1; digest = digest_of e.1 })
+    (filter (λ (e : Place × A). is_under index e.0) es)
 
 -- the closed shares under a storage index, lowest number first
 abbrev pub held : List ℕ → List (Place × ClosedShare) → List HeldShare
@@ -68,7 +78,9 @@ used cs = sum_by (λ (c : ClosedShare). length c.bytes) (values_of cs)
 
 -- every open share at another place is as it was
 abbrev pub IsPutAt : Place → List (Place × List ℕ) → List (Place × List ℕ) → Type 0
-IsPutAt place old new = (other : Place) → same_place place other ≡ false → written_at other new ≡ written_at other old
+IsPutAt place old new =
+    (other : Place) → same_place place other ≡ false
+    → written_at other new ≡ written_at other old
 
 -- every other open share is as it was
 abbrev pub OthersStay : ShareId → List (Place × List ℕ) → List (Place × List ℕ) → Type 0
@@ -80,23 +92,33 @@ written_after id offset bytes os = if offset == 0 then bytes else written id os 
 
 -- After a fault the open share may hold anything.
 abbrev pub Writes : Shelf → ShareId → ℕ → List ℕ → Result Unit StoreError → Shelf → Type 0
-Writes old id offset bytes (Ok u) new = (written id new.opened ≡ written_after id offset bytes old.opened) × OthersStay id old.opened new.opened × (new.closed ≡ old.closed)
+Writes old id offset bytes (Ok u) new =
+    (written id new.opened ≡ written_after id offset bytes old.opened)
+    × OthersStay id old.opened new.opened
+    × (new.closed ≡ old.closed)
 Writes old id offset bytes (Err OutOfMemory) new = new ≡ old
-Writes old id offset bytes (Err StoreFault) new = OthersStay id old.opened new.opened × (new.closed ≡ old.closed)
+Writes old id offset bytes (Err StoreFault) new =
+    OthersStay id old.opened new.opened × (new.closed ≡ old.closed)
 
 -- the closed shares, with exactly the bytes that were written to one more under its digest
 abbrev pub with_closed : Shelf → ShareId → List ℕ → List (Place × ClosedShare)
-with_closed old id digest = insert_entry order old.closed (place_of id) (record { bytes = written id old.opened; digest = digest })
+with_closed old id digest =
+    insert_entry order old.closed (place_of id)
+    (record { bytes = written id old.opened; digest = digest })
 
 -- After a fault the share is closed as it was to be, or not at all.
 abbrev pub Closes : Shelf → ShareId → List ℕ → Result Unit StoreError → Shelf → Type 0
-Closes old id digest (Ok u) new = (new.closed ≡ with_closed old id digest) × OthersStay id old.opened new.opened
+Closes old id digest (Ok u) new =
+    (new.closed ≡ with_closed old id digest) × OthersStay id old.opened new.opened
 Closes old id digest (Err OutOfMemory) new = new ≡ old
-Closes old id digest (Err StoreFault) new = ((new.closed ≡ with_closed old id digest) ⊎ (new.closed ≡ old.closed)) × OthersStay id old.opened new.opened
+Closes old id digest (Err StoreFault) new =
+    ((new.closed ≡ with_closed old id digest) ⊎ (new.closed ≡ old.closed))
+    × OthersStay id old.opened new.opened
 
 -- The bytes from an offset on, as many as asked for, and fewer at the share's end.
 abbrev pub Reads : Shelf → ShareId → ℕ → ℕ → Result (List ℕ) StoreError → Shelf → Type 0
-Reads old id offset len (Ok bytes) new = (bytes ≡ take len (drop offset (bytes_at id old.closed))) × (new ≡ old)
+Reads old id offset len (Ok bytes) new =
+    (bytes ≡ take len (drop offset (bytes_at id old.closed))) × (new ≡ old)
 Reads old id offset len (Err e) new = new ≡ old
 
 abbrev pub Lists : Shelf → List ℕ → Result (List HeldShare) StoreError → Shelf → Type 0

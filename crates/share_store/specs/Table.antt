@@ -1,5 +1,6 @@
 -- A folder's table of closed shares.
-use Rattle.std.specs.Prelude.{ℕ, ◌-◌, ◌^◌, min, List, Bool, Option, Some, None, if◌then◌else◌, sum_by}
+use Rattle.std.specs.Prelude.{ℕ, ◌-◌, ◌^◌, min, List, Bool, Option, Some, None, if◌then◌else◌}
+use Rattle.std.specs.Prelude.{sum_by}
 use Rattle.std.specs.Cmp.Lexicographic.{slice_cmp}
 use Rattle.std.specs.Ordering.{nat_cmp, is_lt}
 use Rattle.std.specs.Map.{values_of}

@@ -32,10 +32,11 @@ impl fmt::Display for StoreError {
     ghost output = { λ e. Some (refusal_text e) };
 
     fn fmt<W: fmt::Write>(&self, f: &mut fmt::Formatter<W>) -> fmt::Result {
-        match self {
-            StoreError::OutOfMemory => write!(f, "out of memory"),
-            StoreError::StoreFault => write!(f, "the store failed"),
-        }
+        let name = match self {
+            StoreError::OutOfMemory => "OutOfMemory",
+            StoreError::StoreFault => "StoreFault",
+        };
+        f.write_str(name)
     }
 }
 

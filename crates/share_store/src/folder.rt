@@ -1,15 +1,20 @@
 //! A store over the files of a folder.
 
-ghost use Rattle.std.specs.Prelude.{◌≡◌, ◌+◌, ◌-◌, ◌==◌, ◌<◌, ◌≤◌, ◌^◌, ◌⊎◌, [], None, false, length, min, if◌then◌else◌, IfOk, IsErrOf, IsOkUnless, OnOk, OnErr};
+ghost use Rattle.std.specs.Prelude.{◌≡◌, ◌+◌, ◌-◌, ◌==◌, ◌<◌, ◌≤◌, ◌^◌, ◌⊎◌, [], None, false};
+ghost use Rattle.std.specs.Prelude.{length, min, if◌then◌else◌, IfOk, IsErrOf, IsOkUnless, OnOk};
+ghost use Rattle.std.specs.Prelude.{OnErr};
 ghost use Rattle.std.specs.BTreeMap.{insert_entry, IsOrdered};
 ghost use Rattle.share_store.specs.declared.error.StoreError.{StoreError};
+ghost use Rattle.wire.specs.Limits.{most_data};
 ghost use Rattle.share_store.specs.Shelf.{Place, at, order};
 ghost use Rattle.share_store.specs.Table.{kept_bytes};
-ghost use Rattle.share_store.specs.Folder.{FolderState, counted, kept_digest, kept_length, length_of, length_at, IsOpenedAt, OthersStay, FolderWrites, FolderCloses, FolderReads, FolderLists, FolderRestarts};
+ghost use Rattle.share_store.specs.Folder.{FolderState, counted, kept_digest, kept_length};
+ghost use Rattle.share_store.specs.Folder.{length_of, length_at, IsOpenedAt, OthersStay};
+ghost use Rattle.share_store.specs.Folder.{folder_calls};
 
 use crate::error::StoreError;
 use crate::files::{read_at, write_at};
-use crate::names::{closed_path, open_path, read_name};
+use crate::names::{ClosedName, closed_path, open_path};
 use crate::shelf::{Place, place_of};
 use crate::store::Store;
 use crate::table::{KeptShare, held_under, keep_lower, total};
@@ -22,7 +27,8 @@ use std::rt::Files;
 use std::{fs, io};
 use wire::message::{Digest, HeldList, ReadData, ReadLength, ShareId, StorageIndex};
 
-/// A store over the files of a folder. Its table of the closed shares is read once, when it is opened.
+/// A store over the files of a folder. Its table of the closed shares is read once, when it is
+/// opened. Of a share's file no more is read at a time than a call asks for.
 #[derive(Drop)]
 pub struct FolderStore<R> {
     rt: R,
@@ -40,7 +46,12 @@ impl<R> Model for FolderStore<R> {
 
     ghost Value = { FolderState };
 
-    ghost view = { λ m. record { folder = string_bytes m.folder; closed = m.closed.entries; opened = m.opened.entries; failures = m.failures } };
+    ghost view = { λ m. record {
+      folder = string_bytes m.folder;
+      closed = m.closed.entries;
+      opened = m.opened.entries;
+      failures = m.failures;
+    } };
 
     ghost use Rattle.std.specs.Prelude.{◌≡◌};
     ghost use Rattle.share_store.specs.Table.{kept_bytes};
@@ -49,8 +60,9 @@ impl<R> Model for FolderStore<R> {
 }
 
 impl<R: Files + AllocGlobal + Clone + Drop> FolderStore<R> {
-    /// Opens the store of a folder, which is made where it is not there. Files of open shares are ignored, and so are files with
-    /// other names. Of two closed files of one share the one with the lower digest text counts.
+    /// Opens the store of a folder, which is made where it is not there. Files of open shares are
+    /// ignored, and so are files with other names and what is no regular file. Of two closed files
+    /// of one share the one with the lower digest text counts.
     ///
     /// `StoreFault` where the folder cannot be made or read.
     pub fn open(rt: &R, folder: &str) -> Result<FolderStore<R>, StoreError>
@@ -92,16 +104,26 @@ fn keep_entry<R: Files>(
     closed: &mut BTreeMap<Place, KeptShare>,
     entry: &DirEntry<R>,
 ) -> Result<(), StoreError> {
-    let Some(name) = read_name(entry.file_name().as_bytes()) else {
+    let Some(name) = ClosedName::read(entry.file_name().as_bytes()) else {
         return Ok(());
     };
-    let file = entry.metadata()?;
-    if file.is_file() {
-        let length = file.len();
-        let digest = name.digest;
-        keep_lower(alloc, closed, &name.place, &KeptShare { length, digest })?;
+    let Some(length) = regular_length(entry)? else {
+        return Ok(());
+    };
+    let digest = name.digest;
+    keep_lower(alloc, closed, &name.place, &KeptShare { length, digest })
+}
+
+// The length of a regular file; `None` for what else has a name, or is gone meanwhile.
+fn regular_length<R: Files>(entry: &DirEntry<R>) -> Result<Option<u64>, StoreError> {
+    match entry.metadata() {
+        Ok(file) if file.is_file() => Ok(Some(file.len())),
+        Ok(_) => Ok(None),
+        Err(error) => match StoreError::from(error) {
+            StoreError::OutOfMemory => Err(StoreError::OutOfMemory),
+            StoreError::StoreFault => Ok(None),
+        },
     }
-    Ok(())
 }
 
 // How many bytes were written to an open share.
@@ -151,7 +173,8 @@ fn rename_closed<R: Files>(
     share: &KeptShare,
 ) -> Result<(), StoreError>
     requires { at place.now closed.old.entries ≡ None }
-    ensures closed { OnOk result (closed.new.entries ≡ insert_entry order closed.old.entries place.now share.now) }
+    ensures closed { OnOk result
+        (closed.new.entries ≡ insert_entry order closed.old.entries place.now share.now) }
     ensures ordered { IsOrdered order closed.old }
     ensures err { OnErr result (closed.new.entries ≡ closed.old.entries) }
 {
@@ -167,8 +190,14 @@ impl<R: Files + AllocGlobal + Drop> FolderStore<R> {
     // Hands a call's outcome on, and counts it where it is a fault.
     fn count<T: Drop>(&mut self, outcome: Result<T, StoreError>) -> Result<T, StoreError>
         ensures same { result ≡ outcome }
-        ensures counts { self.new ≡ record { folder = self.old.folder; closed = self.old.closed; opened = self.old.opened; failures = counted outcome self.old.failures } }
-        ensures cause { IsErrOf result StoreError.StoreFault → (self.old.failures < self.new.failures) ⊎ (self.old.failures ≡ 2 ^ 64 - 1) }
+        ensures counts { self.new ≡ record {
+          folder = self.old.folder;
+          closed = self.old.closed;
+          opened = self.old.opened;
+          failures = counted outcome self.old.failures;
+        } }
+        ensures cause { IsErrOf result StoreError.StoreFault
+            → (self.old.failures < self.new.failures) ⊎ (self.old.failures ≡ 2 ^ 64 - 1) }
         ensures count { self.old.failures ≤ self.new.failures }
     {
         if let Err(StoreError::StoreFault) = &outcome {
@@ -183,7 +212,9 @@ impl<R: Files + AllocGlobal + Drop> FolderStore<R> {
         ensures failures { self.new.failures ≡ self.old.failures }
         ensures others { OthersStay id.now self.old.opened self.new.opened }
         ensures written { OnOk result (length_at (id.now.index, id.now.share) self.new.opened
-            ≡ (if offset == 0 then 0 else length_at (id.now.index, id.now.share) self.old.opened) + length bytes.now) }
+            ≡ (if offset == 0
+            then 0 else length_at (id.now.index, id.now.share) self.old.opened)
+            + length bytes.now) }
     {
         let place = place_of(id);
         let position = next_position(&self.opened, &place, offset);
@@ -199,8 +230,11 @@ impl<R: Files + AllocGlobal + Drop> FolderStore<R> {
         requires { kept_digest id.now self.old ≡ None }
         ensures folder { self.new.folder ≡ self.old.folder }
         ensures failures { self.new.failures ≡ self.old.failures }
-        ensures closed { OnOk result (self.new.closed ≡ insert_entry order self.old.closed (id.now.index, id.now.share)
-            (record { length = length_at (id.now.index, id.now.share) self.old.opened; digest = digest.now })) }
+        ensures closed { OnOk result (self.new.closed
+            ≡ insert_entry order self.old.closed (id.now.index, id.now.share) (record {
+              length = length_at (id.now.index, id.now.share) self.old.opened;
+              digest = digest.now;
+            })) }
         ensures others { OthersStay id.now self.old.opened self.new.opened }
         ensures err { OnErr result (self.new ≡ self.old) }
     {
@@ -234,7 +268,8 @@ impl<R: Files + AllocGlobal + Drop> FolderStore<R> {
         offset: u64,
         count: ReadLength,
     ) -> Result<ReadData, StoreError>
-        ensures { IfOk result (λ bytes. length bytes ≡ min count (kept_length id.now self.now - offset)) }
+        ensures { IfOk result
+            (λ bytes. length bytes ≡ min count (kept_length id.now self.now - offset)) }
     {
         let place = place_of(id);
         let left = bytes_left(kept_length(&self.closed, &place), offset, count);
@@ -249,7 +284,7 @@ impl<R: Files + AllocGlobal + Drop> FolderStore<R> {
         offset: u64,
         count: u32,
     ) -> Result<ReadData, StoreError>
-        requires { count ≤ 32768 }
+        requires { count ≤ most_data }
         ensures { IfOk result (λ bytes. length bytes ≡ count) }
     {
         if count == 0 {
@@ -277,27 +312,15 @@ fn kept_length(closed: &BTreeMap<Place, KeptShare>, place: &Place) -> u64
 // How many bytes of so many there are from an offset on, up to as many as asked for.
 fn bytes_left(whole: u64, offset: u64, count: ReadLength) -> u32
     ensures value { result ≡ min count (whole - offset) }
-    ensures bound { result ≤ 32768 }
+    ensures bound { result ≤ most_data }
 {
     whole.saturating_sub(offset).min(u64::from(count.get())) as u32
 }
 
 impl<R: Files + AllocGlobal + Drop> Store for FolderStore<R> {
-    ghost told = { λ s id. kept_digest id s };
-
-    ghost used_bytes = { λ s. kept_bytes s.closed };
+    ghost calls = { folder_calls };
 
     ghost fault_count = { λ s. s.failures };
-
-    ghost write_gives = { FolderWrites };
-
-    ghost close_gives = { FolderCloses };
-
-    ghost read_gives = { FolderReads };
-
-    ghost list_gives = { FolderLists };
-
-    ghost restart_gives = { FolderRestarts };
 
     fn closed(&self, id: &ShareId) -> Option<Digest> {
         match self.closed.get(&place_of(id)) {

@@ -5,7 +5,7 @@ pub mod error;
 mod files;
 pub mod folder;
 pub mod memory;
-mod names;
+pub mod names;
 pub mod shelf;
 pub mod store;
 pub mod table;

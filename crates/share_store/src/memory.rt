@@ -1,10 +1,13 @@
 //! A store in memory.
 
-ghost use Rattle.std.specs.Prelude.{◌≡◌, ◌++◌, ◌==◌, ◌+◌, ◌-◌, ◌<◌, ◌≤◌, ◌^◌, ◌⊎◌, [], length, true, false, None, refl, if◌then◌else◌, IfOk, IfErr, IsErr, IsSome, IsOkUnless, OnOk, OnErr};
+ghost use Rattle.std.specs.Prelude.{◌≡◌, ◌++◌, ◌==◌, ◌+◌, ◌-◌, ◌<◌, ◌≤◌, ◌^◌, ◌⊎◌, [], length};
+ghost use Rattle.std.specs.Prelude.{true, false, None, refl, if◌then◌else◌, IfOk, IfErr, IsErr};
+ghost use Rattle.std.specs.Prelude.{IsSome, IsOkUnless, OnOk, OnErr};
 ghost use Rattle.std.specs.BTreeMap.{insert_entry, IsOrdered};
 ghost use Rattle.share_store.specs.declared.error.StoreError.{StoreError};
-ghost use Rattle.share_store.specs.Shelf.{at, digest_at, used, order, written_at, IsPutAt};
-ghost use Rattle.share_store.specs.Memory.{MemoryState, faulted, MemoryWrites, MemoryCloses, MemoryReads, MemoryLists, MemoryRestarts, memory_writes, memory_closes, memory_reads, memory_lists};
+ghost use Rattle.share_store.specs.Shelf.{at, order, written_at, AreRising, IsPutAt};
+ghost use Rattle.share_store.specs.Memory.{MemoryState, faulted, memory_calls};
+ghost use Rattle.share_store.specs.MemoryKeeps.{memory_keeps};
 
 use crate::error::StoreError;
 use crate::shelf::{ClosedShare, Place, ShareBytes, place_of};
@@ -33,7 +36,11 @@ impl Model for MemoryStore {
 
     ghost Value = { MemoryState };
 
-    ghost view = { λ m. record { shelf = record { closed = m.closed.entries; opened = m.opened.entries }; failures = m.failures; failing = m.failing } };
+    ghost view = { λ m. record {
+      shelf = record { closed = m.closed.entries; opened = m.opened.entries };
+      failures = m.failures;
+      failing = m.failing;
+    } };
 
     ghost use Rattle.std.specs.Prelude.{◌≡◌};
     ghost use Rattle.share_store.specs.Shelf.{used};
@@ -44,7 +51,11 @@ impl Model for MemoryStore {
 impl MemoryStore {
     /// An empty store.
     pub fn new(alloc: Global) -> MemoryStore
-        ensures { result ≡ record { shelf = record { closed = []; opened = [] }; failures = 0; failing = false } }
+        ensures { result ≡ record {
+          shelf = record { closed = []; opened = [] };
+          failures = 0;
+          failing = false;
+        } }
     {
         MemoryStore {
             alloc,
@@ -58,7 +69,11 @@ impl MemoryStore {
 
     /// The next write, close, read or list answers `StoreFault`.
     pub fn fail_next(&mut self)
-        ensures { self.new ≡ record { shelf = self.old.shelf; failures = self.old.failures; failing = true } }
+        ensures { self.new ≡ record {
+          shelf = self.old.shelf;
+          failures = self.old.failures;
+          failing = true;
+        } }
     {
         self.failing = true;
     }
@@ -66,8 +81,10 @@ impl MemoryStore {
     // Begins a call that can fail: it does where that was asked for.
     fn begin(&mut self) -> Result<(), StoreError>
         ensures ok { OnOk result ((self.old.failing ≡ false) × (self.new ≡ self.old)) }
-        ensures err { IfErr result (λ e. (e ≡ StoreError.StoreFault) × (self.old.failing ≡ true) × (self.new ≡ faulted self.old)) }
-        ensures cause { IsErr result → (self.old.failures < self.new.failures) ⊎ (self.old.failures ≡ 2 ^ 64 - 1) }
+        ensures err { IfErr result (λ e. (e ≡ StoreError.StoreFault)
+            × (self.old.failing ≡ true) × (self.new ≡ faulted self.old)) }
+        ensures cause { IsErr result → (self.old.failures < self.new.failures)
+            ⊎ (self.old.failures ≡ 2 ^ 64 - 1) }
         ensures count { self.old.failures ≤ self.new.failures }
     {
         if !self.failing {
@@ -88,7 +105,8 @@ fn begin_written(
 ) -> Result<(), StoreError>
     ensures written { OnOk result (written_at place.now opened.new.entries ≡ bytes.now) }
     ensures others { IsPutAt place.now opened.old.entries opened.new.entries }
-    ensures err { IfErr result (λ e. (e ≡ StoreError.OutOfMemory) × (opened.new.entries ≡ opened.old.entries)) }
+    ensures err { IfErr result
+        (λ e. (e ≡ StoreError.OutOfMemory) × (opened.new.entries ≡ opened.old.entries)) }
 {
     opened.insert(*place, ShareBytes::from_slice(alloc, bytes)?)?;
     Ok(())
@@ -101,7 +119,8 @@ fn extend_written(
     bytes: &[u8],
 ) -> Result<(), StoreError>
     requires { IsSome (at place.now opened.old.entries) }
-    ensures written { OnOk result (written_at place.now opened.new.entries ≡ written_at place.now opened.old.entries ++ bytes.now) }
+    ensures written { OnOk result (written_at place.now opened.new.entries
+        ≡ written_at place.now opened.old.entries ++ bytes.now) }
     ensures others { IsPutAt place.now opened.old.entries opened.new.entries }
     ensures memory { IsOkUnless result StoreError.OutOfMemory }
     ensures err { OnErr result (opened.new.entries ≡ opened.old.entries) }
@@ -121,9 +140,11 @@ fn put_written(
     bytes: &[u8],
 ) -> Result<(), StoreError>
     ensures written { OnOk result (written_at place.now opened.new.entries
-        ≡ (if offset == 0 then bytes.now else written_at place.now opened.old.entries ++ bytes.now)) }
+        ≡ (if offset == 0
+        then bytes.now else written_at place.now opened.old.entries ++ bytes.now)) }
     ensures others { IsPutAt place.now opened.old.entries opened.new.entries }
-    ensures err { IfErr result (λ e. (e ≡ StoreError.OutOfMemory) × (opened.new.entries ≡ opened.old.entries)) }
+    ensures err { IfErr result
+        (λ e. (e ≡ StoreError.OutOfMemory) × (opened.new.entries ≡ opened.old.entries)) }
 {
     if offset == 0 || !opened.contains_key(place) {
         return begin_written(alloc, opened, place, bytes);
@@ -151,10 +172,15 @@ fn move_closed(
 ) -> Result<(), StoreError>
     requires { at place.now closed.old.entries ≡ None }
     ensures closed { OnOk result (closed.new.entries
-        ≡ insert_entry order closed.old.entries place.now (record { bytes = written_at place.now opened.old.entries; digest = digest.now })) }
+        ≡ insert_entry order closed.old.entries place.now (record {
+          bytes = written_at place.now opened.old.entries;
+          digest = digest.now;
+        })) }
     ensures opened { IsPutAt place.now opened.old.entries opened.new.entries }
     ensures ordered { IsOrdered order closed.old }
-    ensures err { IfErr result (λ e. (e ≡ StoreError.OutOfMemory) × (closed.new.entries ≡ closed.old.entries) × (opened.new.entries ≡ opened.old.entries)) }
+    ensures err { IfErr result (λ e. (e ≡ StoreError.OutOfMemory)
+        × (closed.new.entries ≡ closed.old.entries)
+        × (opened.new.entries ≡ opened.old.entries)) }
 {
     if let Entry::Vacant(room) = closed.entry(*place)? {
         let bytes = match opened.remove(place) {
@@ -169,22 +195,17 @@ fn move_closed(
     Ok(())
 }
 
-impl Store for MemoryStore {
-    ghost told = { λ s id. digest_at id s.shelf.closed };
+// The closed shares stand in the order of their places.
+fn rises(closed: &BTreeMap<Place, ClosedShare>)
+    ensures { AreRising closed.now.entries }
+{
+    let _ = closed.len();
+}
 
-    ghost used_bytes = { λ s. used s.shelf.closed };
+impl Store for MemoryStore {
+    ghost calls = { memory_calls };
 
     ghost fault_count = { λ s. s.failures };
-
-    ghost write_gives = { MemoryWrites };
-
-    ghost close_gives = { MemoryCloses };
-
-    ghost read_gives = { MemoryReads };
-
-    ghost list_gives = { MemoryLists };
-
-    ghost restart_gives = { MemoryRestarts };
 
     fn closed(&self, id: &ShareId) -> Option<Digest> {
         match self.closed.get(&place_of(id)) {
@@ -206,7 +227,8 @@ impl Store for MemoryStore {
         put_written(self.alloc, &mut self.opened, &place_of(id), offset, bytes)
     }
 
-    // The sum of the closed lengths stays below 2^64: a share for which it would not is refused as one too many for the memory.
+    // The sum of the closed lengths stays below 2^64: a share for which it would not is refused as
+    // one too many for the memory.
     fn close(&mut self, id: &ShareId, digest: &Digest) -> Result<(), StoreError> {
         self.begin()?;
         let place = place_of(id);
@@ -254,17 +276,9 @@ impl Store for MemoryStore {
 impl Keeping for MemoryStore {
     ghost shelf = { λ s. s.shelf };
 
-    ghost tells = { λ s id. refl };
+    fn stands_in_order(&self) {
+        rises(&self.closed);
+    }
 
-    ghost sums = { λ s. refl };
-
-    ghost writes = { memory_writes };
-
-    ghost closes = { memory_closes };
-
-    ghost reads = { memory_reads };
-
-    ghost lists = { memory_lists };
-
-    ghost restarts = { λ s t h i. (h i).shelf.closed };
+    ghost kept = { memory_keeps };
 }

@@ -1,10 +1,11 @@
-//! The names of a folder's files: `INDEX.SHARE.DIGEST` of a closed share and `INDEX.SHARE.open` of an open one. Storage index and
-//! digest are in base32, in 26 and 52 letters, and the share number is in decimal without leading zeros.
+//! The names of a folder's files: `INDEX.SHARE.DIGEST` of a closed share and `INDEX.SHARE.open` of
+//! an open one. Storage index and digest are in base32, in 26 and 52 letters, and the share number
+//! is in decimal without leading zeros. No other file has such a name.
 
-ghost use Rattle.std.specs.Prelude.{◌≡◌, ◌++◌, ◌<◌, ◌^◌, ℕ, List, codes, decimal, IfOk, IfSome, IfNone, IsSome, IsSomeAnd, IsOkUnless};
+ghost use Rattle.std.specs.Prelude.{◌≡◌, ◌++◌, ◌<◌, ℕ, List, codes, decimal, IfOk, IfSome, IsSome};
+ghost use Rattle.std.specs.Prelude.{IsSomeAnd, IsOkUnless};
 ghost use Rattle.std.specs.String.{string_bytes};
 ghost use Rattle.cap_text.specs.Base32.{base32};
-ghost use Rattle.cap_text.specs.CapText.{IsDecimal};
 ghost use Rattle.share_store.specs.Names.{IsNamed, closed_name, open_name, in_folder};
 ghost use Rattle.share_store.specs.Shelf.{Place};
 
@@ -12,13 +13,59 @@ use crate::error::StoreError;
 use crate::shelf::Place;
 use cap_text::{from_base32, to_base32};
 use std::alloc::Global;
-use std::str;
+use tagged_hash::read_decimal;
 use wire::message::Digest;
 
 // The letters of a storage index, and of a digest.
 const INDEX_LETTERS: usize = 26;
 
 const DIGEST_LETTERS: usize = 52;
+
+/// What a closed share's file is named by.
+#[derive(Clone, Copy)]
+pub struct ClosedName {
+    /// The storage index and the number of the share.
+    pub place: Place,
+    /// The digest that the share was closed with.
+    pub digest: Digest,
+}
+
+impl ClosedName {
+    /// The share and the digest of a closed share's file, by its name; `None` for every other name.
+    pub fn read(name: &[u8]) -> Option<ClosedName>
+        ensures value { IfSome result (λ named. name.now ≡ closed_name named.place named.digest) }
+        ensures only { (place : Place) (digest : List ℕ) → IsNamed place digest
+            → name.now ≡ closed_name place digest → IsSome result }
+    {
+        if name.len() < INDEX_LETTERS + DIGEST_LETTERS + 2 {
+            return None;
+        }
+        let (index_text, rest) = name.split_at(INDEX_LETTERS);
+        let (share_text, digest_text) = rest.split_at(rest.len() - DIGEST_LETTERS);
+        let share = read_between(share_text)?;
+        let mut index = [0; 16];
+        let mut digest = [0; 32];
+        if !from_base32(index_text, &mut index) {
+            return None;
+        }
+        if !from_base32(digest_text, &mut digest) {
+            return None;
+        }
+        let place = (index, share);
+        Some(ClosedName { place, digest })
+    }
+
+    /// The name of the closed share's file.
+    pub fn text(&self, alloc: Global) -> Result<String, StoreError>
+        ensures text { IfOk result
+            (λ text. string_bytes text ≡ closed_name self.now.place self.now.digest) }
+        ensures memory { IsOkUnless result StoreError.OutOfMemory }
+    {
+        let index = base32_of(alloc, &self.place.0)?;
+        let digest = base32_of(alloc, &self.digest)?;
+        Ok(format!(in alloc; "{index}.{}.{digest}", self.place.1)?)
+    }
+}
 
 /// The path of a closed share's file.
 pub(crate) fn closed_path(
@@ -27,17 +74,22 @@ pub(crate) fn closed_path(
     place: &Place,
     digest: &Digest,
 ) -> Result<String, StoreError>
-    ensures path { IfOk result (λ path. string_bytes path ≡ in_folder folder.now (closed_name place.now digest.now)) }
+    ensures path { IfOk result
+        (λ path. string_bytes path ≡ in_folder folder.now (closed_name place.now digest.now)) }
     ensures memory { IsOkUnless result StoreError.OutOfMemory }
 {
-    let index = base32_of(alloc, &place.0)?;
-    let digest = base32_of(alloc, digest)?;
-    Ok(format!(in alloc; "{folder}/{index}.{}.{digest}", place.1)?)
+    let named = ClosedName {
+        place: *place,
+        digest: *digest,
+    };
+    let name = named.text(alloc)?;
+    Ok(format!(in alloc; "{folder}/{name}")?)
 }
 
 /// The path of an open share's file.
 pub(crate) fn open_path(alloc: Global, folder: &str, place: &Place) -> Result<String, StoreError>
-    ensures path { IfOk result (λ path. string_bytes path ≡ in_folder folder.now (open_name place.now)) }
+    ensures path { IfOk result
+        (λ path. string_bytes path ≡ in_folder folder.now (open_name place.now)) }
     ensures memory { IsOkUnless result StoreError.OutOfMemory }
 {
     let index = base32_of(alloc, &place.0)?;
@@ -55,40 +107,11 @@ pub(crate) fn base32_of(alloc: Global, bytes: &[u8]) -> Result<String, StoreErro
     }
 }
 
-/// What a closed share's file is named by.
-#[derive(Clone, Copy)]
-pub(crate) struct ClosedName {
-    pub(crate) place: Place,
-    pub(crate) digest: Digest,
-}
-
-/// The share and the digest that a closed share's file is named by; `None` for every other name.
-pub(crate) fn read_name(name: &[u8]) -> Option<ClosedName>
-    ensures value { IfSome result (λ named. name.now ≡ closed_name named.place named.digest) }
-    ensures only { (place : Place) (digest : List ℕ) → IsNamed place digest → name.now ≡ closed_name place digest → IsSome result }
-{
-    if name.len() < INDEX_LETTERS + DIGEST_LETTERS + 2 {
-        return None;
-    }
-    let (index_text, rest) = name.split_at(INDEX_LETTERS);
-    let (share_text, digest_text) = rest.split_at(rest.len() - DIGEST_LETTERS);
-    let share = read_between(share_text)?;
-    let mut index = [0; 16];
-    let mut digest = [0; 32];
-    if !from_base32(index_text, &mut index) {
-        return None;
-    }
-    if !from_base32(digest_text, &mut digest) {
-        return None;
-    }
-    let place = (index, share);
-    Some(ClosedName { place, digest })
-}
-
 // The share number between two dots.
 fn read_between(text: &[u8]) -> Option<u8>
     ensures value { IfSome result (λ n. text.now ≡ codes "." ++ decimal n ++ codes ".") }
-    ensures only { (n : ℕ) → n < 256 → text.now ≡ codes "." ++ decimal n ++ codes "." → IsSome result }
+    ensures only { (n : ℕ) → n < 256
+        → text.now ≡ codes "." ++ decimal n ++ codes "." → IsSome result }
 {
     u8::try_from(read_decimal(between_dots(text)?)?).ok()
 }
@@ -96,28 +119,8 @@ fn read_between(text: &[u8]) -> Option<u8>
 // What stands between two dots.
 fn between_dots(text: &[u8]) -> Option<&[u8]>
     ensures value { IfSome result (λ inner. text.now ≡ codes "." ++ inner.now ++ codes ".") }
-    ensures only { (inner : List ℕ) → text.now ≡ codes "." ++ inner ++ codes "." → IsSomeAnd result (λ found. found.now ≡ inner) }
+    ensures only { (inner : List ℕ) → text.now ≡ codes "." ++ inner ++ codes "."
+        → IsSomeAnd result (λ found. found.now ≡ inner) }
 {
     text.strip_prefix(b".")?.strip_suffix(b".")
-}
-
-// The number that a text is in decimal, if it is one below 2^64 without a leading zero or a sign.
-fn read_decimal(text: &[u8]) -> Option<u64>
-    ensures value { IfSome result (λ n. text.now ≡ decimal n) }
-    ensures none { IfNone result (¬ (IsDecimal text.now)) }
-    ensures fits { IfSome result (λ n. n < 2 ^ 64) }
-{
-    if text.is_empty() {
-        return None;
-    }
-    if text[0] == b'0' {
-        return if text.len() == 1 { Some(0) } else { None };
-    }
-    if text[0] == b'+' {
-        return None;
-    }
-    let Ok(digits) = str::from_utf8(text) else {
-        return None;
-    };
-    digits.parse().ok()
 }

@@ -1,6 +1,7 @@
 //! What a store holds in memory.
 
 ghost use Rattle.std.specs.Prelude.{◌≡◌, ◌≤◌, ◌++◌, [], length, take, drop, IfOk, OnOk, OnErr};
+ghost use Rattle.wire.specs.Limits.{most_data};
 ghost use Rattle.share_store.specs.Shelf as shelf;
 
 use std::alloc::{AllocError, Global};
@@ -18,7 +19,7 @@ pub fn place_of(id: &ShareId) -> Place
 }
 
 /// The bytes of a share.
-#[derive(Debug, Drop)]
+#[derive(Drop)]
 pub struct ShareBytes {
     bytes: Vec<u8>,
 }
@@ -82,7 +83,7 @@ impl ShareBytes {
 // The bytes from an offset on: as many as asked for, or fewer at the end.
 fn piece_of(bytes: &[u8], offset: u64, count: ReadLength) -> &[u8]
     ensures value { result.now ≡ take count (drop offset bytes.now) }
-    ensures bound { length result.now ≤ 32768 }
+    ensures bound { length result.now ≤ most_data }
 {
     let start = (offset as usize).min(bytes.len());
     let rest = &bytes[start..];
@@ -90,7 +91,7 @@ fn piece_of(bytes: &[u8], offset: u64, count: ReadLength) -> &[u8]
 }
 
 /// A closed share: its bytes, and the digest that it was closed with.
-#[derive(Debug, Drop)]
+#[derive(Drop)]
 pub struct ClosedShare {
     pub bytes: ShareBytes,
     pub digest: Digest,

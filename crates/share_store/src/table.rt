@@ -1,6 +1,7 @@
 //! Tables of closed shares in the order of their places.
 
-ghost use Rattle.std.specs.Prelude.{◌≡◌, ◌-◌, ◌^◌, ℕ, List, Some, false, IfOk, OnOk, OnErr, IsOkUnless};
+ghost use Rattle.std.specs.Prelude.{◌≡◌, ◌-◌, ◌^◌, ℕ, List, Some, false, IfOk, OnOk, OnErr};
+ghost use Rattle.std.specs.Prelude.{IsOkUnless};
 ghost use Rattle.std.specs.declared.ops.Bound.TheVariants.{Included};
 ghost use Rattle.share_store.specs.Shelf.{Place, at, held_by, same_place};
 ghost use Rattle.share_store.specs.Table.{has_lower_text, kept_bytes, lower_of};
@@ -14,7 +15,7 @@ use std::ops::Bound;
 use wire::message::{Digest, HeldList, HeldShare, StorageIndex};
 
 /// A closed share of which the bytes are kept elsewhere.
-#[derive(Clone, Copy, Debug, PartialEq, Eq)]
+#[derive(Clone, Copy, PartialEq, Eq)]
 pub struct KeptShare {
     /// How many bytes the share has.
     pub length: u64,
@@ -62,7 +63,8 @@ pub(crate) fn held_under<T: HasDigest>(
     closed: &BTreeMap<Place, T>,
     index: &StorageIndex,
 ) -> Result<HeldList, StoreError>
-    ensures value { IfOk result (λ found. found ≡ held_by T.digest_of index.now closed.now.entries) }
+    ensures value { IfOk result
+        (λ found. found ≡ held_by T.digest_of index.now closed.now.entries) }
     ensures memory { IsOkUnless result StoreError.OutOfMemory }
 {
     let mut found = Vec::new(alloc);
@@ -86,15 +88,18 @@ pub(crate) fn total(closed: &BTreeMap<Place, KeptShare>) -> u64
     total
 }
 
-/// Puts a closed share into the table. Where there is one at its place, the one with the lower digest text counts.
+/// Puts a closed share into the table. Where there is one at its place, the one with the lower
+/// digest text counts.
 pub(crate) fn keep_lower(
     alloc: Global,
     closed: &mut BTreeMap<Place, KeptShare>,
     place: &Place,
     share: &KeptShare,
 ) -> Result<(), StoreError>
-    ensures kept { OnOk result (at place.now closed.new.entries ≡ Some (lower_of (at place.now closed.old.entries) share.now)) }
-    ensures others { OnOk result ((other : Place) → same_place place.now other ≡ false → at other closed.new.entries ≡ at other closed.old.entries) }
+    ensures kept { OnOk result (at place.now closed.new.entries
+        ≡ Some (lower_of (at place.now closed.old.entries) share.now)) }
+    ensures others { OnOk result ((other : Place) → same_place place.now other ≡ false
+        → at other closed.new.entries ≡ at other closed.old.entries) }
     ensures err { OnErr result (closed.new.entries ≡ closed.old.entries) }
     ensures memory { IsOkUnless result StoreError.OutOfMemory }
 {

@@ -1,7 +1,7 @@
 use Rattle.std.proofs.Common.{rules, ◌∙◌, ◌-◌, ℕ, List, length, take, drop, sym, ap}
 use mathlib.Core.Bool.{true≢false}
 use Rattle.share_store.proofs.NameLaws.{long_enough, index_part, share_part, digest_part}
-use Rattle.share_store.proofs.names.read_name.Goals as goal
+use Rattle.share_store.proofs.names.ClosedName.read.Goals as goal
 
 pub returns-then-name-clause-only : goal.returns-then-name-clause-only
 returns-then-name-clause-only c = λ place digest named is. absurd (long_enough c.args.name.now place digest named is c.if-name.true)
