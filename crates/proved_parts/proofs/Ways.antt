@@ -1,0 +1,38 @@
+-- One step of a way to a root.
+use Rattle.std.proofs.Common.{◌≡◌, ℕ, suc, ◌/◌, ◌%◌, ◌^◌, List, [], length, inl, inr, slice_index_or, ap, refl, sym, ◌∙◌, arith}
+use Rattle.std.proofs.lemmas.Bool.{cases_eq}
+use Rattle.tagged_hash.specs.TaggedHash.{double_sha256}
+use Rattle.merkle.specs.Path.{path_root}
+use Rattle.merkle.proofs.PathLemmas.{path_root-left, path_root-right}
+use Rattle.proved_parts.specs.Steps.{step_input}
+use Rattle.proved_parts.specs.TreeInputs.{node_input}
+use Rattle.proved_parts.proofs.Paths.{pair_same}
+
+step_even : (place : ℕ) (a s : List ℕ) → place % 2 ≡ 0 → step_input place a s ≡ node_input a s
+step_even place a s even = rw even refl
+
+step_odd : (place : ℕ) (a s : List ℕ) → place % 2 ≡ 1 → step_input place a s ≡ node_input s a
+step_odd place a s odd = rw odd refl
+
+-- the node one row higher is the hash of the step's input
+pub path_step : (t leaf : ℕ) (hash : List ℕ) (siblings : List (List ℕ))
+    → path_root (suc t) (leaf % 2 ^ suc t) hash siblings
+    ≡ double_sha256 (step_input (leaf / 2 ^ t) (path_root t (leaf % 2 ^ t) hash siblings) (slice_index_or siblings t []))
+path_step t leaf hash siblings =
+    elim (cases_eq (leaf / 2 ^ t % 2) 0) [
+      | inl even ↦ path_root-left t leaf hash siblings even ∙ ap double_sha256 (sym (step_even (leaf / 2 ^ t) _ _ even))
+      | inr more ↦
+          let odd : leaf / 2 ^ t % 2 ≡ 1 = omega arith in
+          path_root-right t leaf hash siblings odd ∙ ap double_sha256 (sym (step_odd (leaf / 2 ^ t) _ _ odd))
+    ]
+
+-- the input of a step tells the node
+pub step_same : (place : ℕ) (a b s t : List ℕ) → length a ≡ 32 → length b ≡ 32 → length s ≡ 32 → length t ≡ 32
+    → step_input place a s ≡ step_input place b t → a ≡ b
+step_same place a b s t la lb ls lt e =
+    elim (cases_eq (place % 2) 0) [
+      | inl even ↦ (pair_same a b s t la lb ls lt (sym (step_even place a s even) ∙ e ∙ step_even place b t even)).0
+      | inr more ↦
+          let odd : place % 2 ≡ 1 = omega arith in
+          (pair_same s t a b ls lt la lb (sym (step_odd place a s odd) ∙ e ∙ step_odd place b t odd)).1
+    ]

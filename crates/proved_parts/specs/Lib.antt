@@ -1,0 +1,7 @@
+pub mod TreeInputs
+pub mod FileOf
+pub mod Parts
+pub mod Evidence
+pub mod Laws
+-- words of private clauses
+pub mod Steps

@@ -1,0 +1,26 @@
+-- The steps of a way to a root.
+use Rattle.std.specs.Prelude.{◌≡◌, ◌≢◌, ℕ, ◌%◌, ◌==◌, List, if◌then◌else◌}
+use Rattle.tagged_hash.specs.TaggedHash.{tagged_hash}
+use Rattle.tagged_hash.specs.declared.tag.Tag.TheVariants.{CiphertextSegment}
+use Rattle.merkle.specs.Path.{LeadsBy}
+use Rattle.proved_parts.specs.TreeInputs.{node_input}
+use Rattle.proved_parts.specs.declared.evidence.EvidencePart.{EvidencePart}
+
+-- the hash input of the node above one at this place and its sibling
+abbrev pub step_input : ℕ → List ℕ → List ℕ → List ℕ
+step_input place node sibling = if place % 2 == 0 then node_input node sibling else node_input sibling node
+
+-- no tree has both, by these paths, at one place
+abbrev pub NeverMeet : ℕ → List ℕ → List ℕ → List (List ℕ) → List (List ℕ) → Type 0
+NeverMeet place first second these those = (count : ℕ) (root : List ℕ)
+    → LeadsBy count root place first these → ¬ LeadsBy count root place second those
+
+-- the two parts have one number, and not one segment
+pub record Differ (p q : EvidencePart) : Type 0 where
+  pub number : p.number ≡ q.number
+  pub segment : p.segment ≢ q.segment
+
+-- no tree has both parts
+abbrev pub PartsNeverMeet : EvidencePart → EvidencePart → Type 0
+PartsNeverMeet p q = NeverMeet p.number (tagged_hash CiphertextSegment p.segment)
+    (tagged_hash CiphertextSegment q.segment) p.path q.path
