@@ -1,79 +1,56 @@
-// `grid get`: the file of a cap, from the shares that the servers hold.
+//! `grid get`: the file of a cap, from the shares that the servers hold.
 
-use crate::fault::Fault;
-use crate::folders::{MAX_SERVERS, at_path, read_file, server_folder, share_files};
+use crate::folders::is_grid;
+use crate::share_files::share_files;
 use crate::words::GetWords;
-use cap_text::{Cap, ReadCap, to_base32};
-use file_encoding::read_from;
-use std::alloc::Global;
-use std::fs;
+use cap_text::{Cap, ReadCap};
+use file_encoding::{read_from, verify_share};
+use grid_rules::Fault;
 use std::rt::Files;
 use tagged_hash::storage_index;
 
-// A share as a server holds it: its number by its name, and its bytes, whatever they are.
-#[derive(Drop)]
-struct HeldShare {
-    number: u16,
-    bytes: Vec<u8>,
-}
-
-/// Reads the file of a cap: from the cap itself where it holds the file, else from the shares of all servers.
+/// Reads the file of a cap: from the cap itself where it holds the file, else from shares of the
+/// servers.
 pub(crate) fn get<R>(rt: &R, words: &GetWords) -> Result<Vec<u8>, Fault>
 where
     R: Files + AllocGlobal + Clone + Drop,
 {
     match Cap::parse(words.cap.as_bytes())? {
         Cap::Chk(cap) => {
-            let shares = all_shares(rt, words.grid, &cap)?;
-            read_shares(rt.alloc(), &cap, &shares)
+            is_grid(rt, words.grid)?;
+            read_shares(rt, words.grid, &cap)
         }
         Cap::Verify(_) => Err(Fault::NeedsReadCap),
         Cap::Lit(cap) => Ok(Vec::from_slice(rt.alloc(), cap.data())?),
     }
 }
 
-// The file of a cap, from these shares.
-fn read_shares(alloc: Global, cap: &ReadCap, shares: &[HeldShare]) -> Result<Vec<u8>, Fault> {
-    let mut strings = Vec::with_capacity(alloc, shares.len())?;
-    for share in shares {
-        strings.push((share.number, share.bytes.as_slice()))?;
-    }
-    Ok(read_from(alloc, cap, &strings)?)
-}
-
-// All shares of a cap's file that can be read: in the order of the servers, and at one server in the order of their numbers.
-fn all_shares<R>(rt: &R, grid: &str, cap: &ReadCap) -> Result<Vec<HeldShare>, Fault>
+// The file of a cap, from the shares of the lowest numbers that pass every check: one file after
+// another is read, and only those that pass are kept.
+fn read_shares<R>(rt: &R, grid: &str, cap: &ReadCap) -> Result<Vec<u8>, Fault>
 where
     R: Files + AllocGlobal + Clone + Drop,
 {
     let alloc = rt.alloc();
-    at_path(alloc, fs::read_dir(rt, grid), grid)?;
-    let index = to_base32(alloc, &storage_index(cap.key()))?;
-    let mut shares = Vec::new(alloc);
-    for server in 0..MAX_SERVERS {
-        let folder = server_folder(alloc, grid, server)?;
-        push_shares(rt, folder.as_str(), index.as_str(), &mut shares)?;
-    }
-    Ok(shares)
-}
-
-// Adds the shares of a storage index that a server's folder holds.
-fn push_shares<R>(
-    rt: &R,
-    folder: &str,
-    index: &str,
-    shares: &mut Vec<HeldShare>,
-) -> Result<(), Fault>
-where
-    R: Files + AllocGlobal + Clone + Drop,
-{
-    for file in share_files(rt, folder, index)? {
-        if let Some(bytes) = read_file(rt, folder, file.name.as_str())? {
-            shares.push(HeldShare {
-                number: u16::from(file.number),
-                bytes,
-            })?;
+    let verify_cap = cap.to_verify();
+    let mut kept: Vec<(u16, Vec<u8>)> = Vec::with_capacity(alloc, usize::from(cap.k()))?;
+    for file in share_files(rt, grid, &storage_index(cap.key()))? {
+        let number = u16::from(file.number);
+        if kept.len() == usize::from(cap.k()) {
+            break;
+        }
+        if kept.last().is_some_and(|last| last.0 == number) {
+            continue;
+        }
+        if let Some(bytes) = file.read(rt, 1 << 31)? {
+            if verify_share(&verify_cap, number, &bytes).is_ok() {
+                kept.push((number, bytes))?;
+            }
         }
     }
-    Ok(())
+    let mut strings = Vec::with_capacity(alloc, kept.len())?;
+    for (number, bytes) in &kept {
+        strings.push((*number, bytes.as_slice()))?;
+    }
+    Ok(read_from(alloc, cap, &strings)?)
 }

@@ -1,22 +1,22 @@
 //! The commands of `grid`, which keeps files on a grid of servers that need not be trusted.
 //!
-//! `grid` takes the words of the command line and two writers, and gives the exit status. Files are encoded and read back by
-//! `file_encoding`; what stands here is which words there are, where shares lie in folders, and how faults are told.
+//! `grid` takes the words of the command line and two writers, and gives the exit status. Files are
+//! encoded and read back by `file_encoding`, and what is told stands in `grid_rules`; what stands here
+//! is which words there are, and where shares lie in folders.
 #![tactic(auto)]
 
-mod describe;
-mod fault;
+mod files;
 mod folders;
 mod get;
-mod names;
-mod placing;
 mod put;
+mod share_files;
 mod words;
 
 ghost use Rattle.std.specs.Prelude.{◌≡◌};
 
+use cap_text::Cap;
 use clap::error::ErrorKind;
-use fault::Fault;
+use grid_rules::{Fault, cap_lines};
 use std::alloc::Global;
 use std::convert::AsStr;
 use std::io;
@@ -46,11 +46,12 @@ impl From<Fault> for Failure {
     }
 }
 
-/// Runs the command that `words` asks for, of which the first is the program's name. Its result goes to `out`, and a fault, as one
-/// line with its number and name, to `err`.
+/// Runs the command that `words` asks for, of which the first is the program's name. Its result goes
+/// to `out`, and a fault, as one line with its number and name, to `err`.
 ///
-/// The exit status is 0 where it is done, 2 for wrong words, 3 for refused input, 4 for an unhappy upload, 5 for too few shares, 6
-/// for inconsistent ones, and 7 for a file or folder, memory, or a fault of `out` or `err`, after which nothing more is written.
+/// The exit status is 0 where it is done, 2 for wrong words, 3 for refused input, 4 for an unhappy
+/// upload, 5 for too few shares, 6 for inconsistent ones, and 7 for a file or folder, memory, or a
+/// fault of `out` or `err`, after which nothing more is written.
 pub fn grid<R, S, O, E>(rt: &R, words: &[S], out: &mut O, err: &mut E) -> u8
 where
     R: Files + AllocGlobal + Clone + Drop,
@@ -69,6 +70,18 @@ where
     }
 }
 
+/// What `grid` does where the words of the command line could not be read, and gives the same exit
+/// statuses: a word that is not UTF-8 is a wrong word, and else memory was refused.
+pub fn refuse_words<E: io::Write>(alloc: Global, error: &io::Error, err: &mut E) -> u8 {
+    match error.kind() {
+        io::ErrorKind::InvalidData => write(err, NOT_UTF8, WRONG_WORDS),
+        _ => report(alloc, err, &Fault::OutOfMemory),
+    }
+}
+
+const NOT_UTF8: &[u8] = b"error: invalid UTF-8 was detected in one or more arguments\n\n\
+For more information, try '--help'.\n";
+
 // Runs a command, and gives what goes to standard output.
 fn run<R, S>(rt: &R, words: &[S]) -> Result<Vec<u8>, Failure>
 where
@@ -79,13 +92,19 @@ where
         Err(error) => Err(Failure::Words(error)),
         Ok(Request::Put(words)) => Ok(put::put(rt, &words)?),
         Ok(Request::Get(words)) => Ok(get::get(rt, &words)?),
-        Ok(Request::Describe(text)) => Ok(describe::describe(rt.alloc(), text)?),
+        Ok(Request::Describe(text)) => Ok(describe(rt.alloc(), text)?),
     }
+}
+
+// The lines that tell what the cap says that this text spells.
+fn describe(alloc: Global, text: &str) -> Result<Vec<u8>, Fault> {
+    let cap = Cap::parse(text.as_bytes())?;
+    Ok(cap_lines(alloc, &cap)?.into_bytes())
 }
 
 // Writes a fault's line, and gives its exit status.
 fn report<E: io::Write>(alloc: Global, err: &mut E, fault: &Fault) -> u8 {
-    match format!(in alloc; "grid: {fault}\n") {
+    match format!(in alloc; "grid: {} {fault}\n", fault.number()) {
         Ok(line) => write(err, line.as_bytes(), fault.status()),
         Err(_) => write(err, b"grid: 1 OutOfMemory\n", FAILED),
     }

@@ -1,21 +1,28 @@
-// `grid put`: a file becomes shares on servers, and a cap.
+//! `grid put`: a file becomes shares on servers, and a cap.
 
 ghost use Rattle.std.specs.Prelude.{◌≤◌, ◌<◌, length, IfOk};
 
-use crate::fault::Fault;
-use crate::folders::{MAX_SERVERS, at_path, make_folders, server_folder, write_share};
-use crate::placing::{happiness, server_of};
+use crate::files::{at_path, read_at_most};
+use crate::folders::{MAX_SERVERS, can_be_grid, make_folders, server_folder};
+use crate::share_files::write_share;
 use crate::words::PutWords;
 use cap_text::{Cap, ReadCap};
 use file_encoding::{Encoded, Params, Share, encode_all};
-use std::fs;
+use grid_rules::{Fault, happiness, server_of};
 use std::rt::Files;
 use tagged_hash::storage_index;
 
 /// The greatest convergence secret, in bytes.
 const MAX_SECRET_SIZE: usize = 64;
 
-/// Stores a file, and gives the lines with its cap and its happiness. The cap of a small file holds it, and no server is needed.
+/// The greatest file, in bytes.
+const MAX_FILE_SIZE: u64 = 1 << 30;
+
+/// The greatest file that its cap holds, in bytes.
+const MAX_LITERAL_SIZE: usize = 55;
+
+/// Stores a file, and gives the lines with its cap and its happiness. The cap of a small file holds
+/// it, and no server is needed.
 pub(crate) fn put<R>(rt: &R, words: &PutWords) -> Result<Vec<u8>, Fault>
 where
     R: Files + AllocGlobal + Clone + Drop,
@@ -45,14 +52,22 @@ fn server_count(servers: u64) -> Result<u16, Fault>
     Ok(servers as u16)
 }
 
-// Reads the file and encodes it. Its bytes are let go before the shares are written.
+// Reads the file and encodes it. Its bytes are let go before the shares are written. A fault of the
+// file comes first, then one of the grid's folder, which a small file does not need.
 fn encode_file<R>(rt: &R, words: &PutWords, params: &Params) -> Result<Encoded, Fault>
 where
     R: Files + AllocGlobal + Clone + Drop,
     requires { length words.now.secret.now ≤ 64 }
 {
     let alloc = rt.alloc();
-    let file = at_path(alloc, fs::read(rt, words.file), words.file)?;
+    let read = read_at_most(rt, words.file, MAX_FILE_SIZE);
+    let file = at_path(alloc, read, words.file)?;
+    if !file.as_ref().is_some_and(|bytes| bytes.len() <= MAX_LITERAL_SIZE) {
+        can_be_grid(rt, words.grid)?;
+    }
+    let Some(file) = file else {
+        return Err(Fault::TooLarge);
+    };
     Ok(encode_all(alloc, &file, words.secret.as_bytes(), params)?)
 }
 
@@ -70,8 +85,9 @@ where
 {
     make_folders(rt, grid, servers)?;
     let index = storage_index(cap.key());
-    for (number, share) in shares.iter().enumerate() {
-        let folder = server_folder(rt.alloc(), grid, server_of(number, servers))?;
+    for (share, number) in shares.iter().zip(0..=u8::MAX) {
+        let server = server_of(usize::from(number), servers);
+        let folder = server_folder(rt.alloc(), grid, server)?;
         write_share(rt, folder.as_str(), &index, number, share.as_slice())?;
     }
     Ok(())

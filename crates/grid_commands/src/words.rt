@@ -1,4 +1,4 @@
-// The words of the command line, read by `clap`.
+//! The words of the command line, read by `clap`.
 
 use clap::{Arg, ArgMatches, Command, Error, value_parser};
 use std::alloc::{AllocError, Global};
@@ -49,11 +49,16 @@ pub(crate) fn read_words<'a, S: AsStr>(
     })
 }
 
+/// The program's version.
+const VERSION: &str = "0.1.0";
+
 fn grid_command<'a>(alloc: Global) -> Result<Command<'a>, AllocError> {
     Command::new(alloc, "grid")
         .bin_name("grid")?
+        .version(VERSION)
         .about(
-            "Keeps files on a grid of servers that need not be trusted: encrypted, erasure-coded and checked.",
+            "Keeps files on a grid of servers that need not be trusted: \
+encrypted, erasure-coded and checked.",
         )
         .after_help(STATUSES)
         .subcommand_required(true)
@@ -67,40 +72,32 @@ const STATUSES: &str =
 6 inconsistent, 7 file or memory. A refusal is one line on standard error, with its number and name.";
 
 fn put_command<'a>(alloc: Global) -> Result<Command<'a>, AllocError> {
-    Command::new(alloc, "put")
+    let mut command = Command::new(alloc, "put")
         .about(
-            "Stores a file and prints its cap, which gives it back, and how many servers hold shares of their own.",
+            "Stores a file and prints its cap, which gives it back, and how many servers hold \
+shares of their own.",
         )
         .after_help(STATUSES)
         .arg(required(alloc, "FILE", "The file to store"))?
-        .arg(grid_folder(alloc))?
-        .arg(number(
-            alloc,
-            "k",
-            "3",
-            "How many shares give the file back, 1 to n",
-        ))?
-        .arg(number(
-            alloc,
-            "happy",
-            "7",
-            "How many servers must hold a share of their own, 1 to n",
-        ))?
-        .arg(number(alloc, "n", "10", "How many shares are made, 1 to 256"))?
-        .arg(number(
-            alloc,
-            "segment",
-            "131072",
-            "The greatest segment in bytes, 1 to 1048576",
-        ))?
-        .arg(number(
-            alloc,
-            "servers",
-            "10",
-            "How many server folders are used, 1 to 256",
-        ))?
-        .arg(secret(alloc))
+        .arg(grid_folder(alloc))?;
+    for &(name, default, help) in &NUMBERS {
+        command = command.arg(number(alloc, name, default, help))?;
+    }
+    command.arg(secret(alloc))
 }
+
+// The numbers of `put`: name, default, and what it is.
+const NUMBERS: [(&str, &str, &str); 5] = [
+    ("k", "3", "How many shares give the file back, 1 to n"),
+    (
+        "happy",
+        "7",
+        "How many servers must hold a share of their own, 1 to n",
+    ),
+    ("n", "10", "How many shares are made, 1 to 256"),
+    ("segment", "131072", "The greatest segment in bytes, 1 to 1048576"),
+    ("servers", "10", "How many server folders are used, 1 to 256"),
+];
 
 fn get_command<'a>(alloc: Global) -> Result<Command<'a>, AllocError> {
     Command::new(alloc, "get")
@@ -113,7 +110,8 @@ fn get_command<'a>(alloc: Global) -> Result<Command<'a>, AllocError> {
 fn cap_command<'a>(alloc: Global) -> Result<Command<'a>, AllocError> {
     Command::new(alloc, "cap")
         .about(
-            "Prints what a cap says: its kind, its numbers, and the verify cap that checks without reading.",
+            "Prints what a cap says: its kind, its numbers, and the verify cap that checks without \
+reading.",
         )
         .after_help(STATUSES)
         .arg(required(alloc, "CAP", "The cap"))

@@ -1,0 +1,67 @@
+// Shares of zfec's matrix over the field modulo 0x11D, computed by Python.
+
+use std::alloc::Global;
+use zfec_code::{Code, CodeError};
+
+// Share values of the matrix that zfec makes of the field modulo 0x11D: k, n, column, share and value.
+const SHARES: [(u16, u16, &[u8], u16, u8); 11] = [
+    (2, 4, &[0x01, 0x02], 0, 0x01),
+    (2, 4, &[0x01, 0x02], 1, 0x02),
+    (2, 4, &[0x01, 0x02], 2, 0x07),
+    (2, 4, &[0x01, 0x02], 3, 0x0d),
+    (3, 4, &[0x01, 0x02, 0x03], 3, 0x15),
+    (3, 4, &[0x01, 0x00, 0x00], 3, 0x0f),
+    (3, 4, &[0x00, 0x01, 0x00], 3, 0x08),
+    (3, 4, &[0x00, 0x00, 0x01], 3, 0x06),
+    (2, 10, &[0x01, 0x02], 8, 0x9c),
+    (2, 10, &[0x01, 0x02], 9, 0x26),
+    (1, 256, &[0x5a], 255, 0x5a),
+];
+
+#[test]
+fn shares_have_the_known_values(rt: HostRuntime) -> Result<(), CodeError> {
+    for &(k, n, column, share, value) in &SHARES {
+        let code = Code::new(rt.alloc(), k, n)?;
+        let mut out = [0u8; 1];
+        code.encode(column, share, &mut out);
+        assert!(rt; out[0] == value, "share {share} of {n}");
+    }
+    Ok(())
+}
+
+// The number of the refusal of shares of two of four, which leaves `out` as it was; 0 where they decode to the blocks 01 and 02, and
+// 255 where they do otherwise.
+fn decoded(alloc: Global, shares: &[(u16, &[u8])]) -> u8 {
+    let Ok(code) = Code::new(alloc, 2, 4) else {
+        return 1;
+    };
+    let mut out = [9u8; 2];
+    let (number, wanted) = match code.decode(alloc, shares, &mut out) {
+        Ok(()) => (0, [1, 2]),
+        Err(error) => (error.number(), [9, 9]),
+    };
+    if out == wanted { number } else { 255 }
+}
+
+#[test]
+fn any_shares_give_the_blocks_back(rt: HostRuntime) {
+    assert!(rt; decoded(rt.alloc(), &[(2, &[0x07]), (3, &[0x0d])]) == 0);
+    assert!(rt; decoded(rt.alloc(), &[(3, &[0x0d]), (0, &[0x01])]) == 0);
+}
+
+#[test]
+fn refusals_come_in_their_order(rt: HostRuntime) {
+    let alloc = rt.alloc();
+    assert!(rt; decoded(alloc, &[(3, &[1]), (3, &[2])]) == 3);
+    assert!(rt; decoded(alloc, &[(4, &[1]), (3, &[2])]) == 4);
+    assert!(rt; decoded(alloc, &[(4, &[1]), (4, &[2]), (1, &[2])]) == 5);
+    assert!(rt; decoded(alloc, &[(4, &[1]), (4, &[2, 3])]) == 5);
+    assert!(rt; Code::new(alloc, 0, 4).is_err());
+    assert!(rt; Code::new(alloc, 5, 4).is_err());
+    assert!(rt; Code::new(alloc, 1, 257).is_err());
+}
+
+#[test]
+fn refused_memory_in_decoding(rt: HostRuntime) {
+    assert!(rt; decoded(rt.alloc(), &[(2, &[0x07]), (3, &[0x0d])]) <= 1);
+}

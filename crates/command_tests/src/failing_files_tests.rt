@@ -1,0 +1,334 @@
+// The commands, over a file system of the tests' own in which one call on a file or folder fails, each in turn.
+//
+// The failed call is told as a file fault, or its share counts as missing, or it changes nothing: never does another answer come, or a
+// part of one. Files are read and written in short pieces, so that calls fail in mid-stream too.
+
+use crate::grid_commands_tests::{
+    CLOSED, ONES, ZEROS_CAP, ZEROS_PUT, get_gives, get_line, has_share, makes_file, put_gives,
+    put_line, removes_all, words_of, zeros_go_round,
+};
+use grid_commands::grid;
+use std::alloc::{Allocator, Global};
+use std::cell::Cell;
+use std::fs::{File, Metadata, OpenFile, OpenOptions};
+use std::io::{Read, Seek, SeekFrom, Write};
+use std::rt::Files;
+use std::{io, str};
+
+// The most bytes that one call reads or writes: a file of 56 bytes is read by two calls and its end by a third.
+const PIECE: usize = 40;
+
+// How many calls go well before the one that fails, and which calls failed in mid-stream.
+#[derive(Drop)]
+struct Calls {
+    left: Cell<u64>,
+    has_cut_read: Cell<bool>,
+    has_cut_write: Cell<bool>,
+}
+
+impl Calls {
+    fn new() -> Calls {
+        Calls {
+            left: Cell::new(0),
+            has_cut_read: Cell::new(false),
+            has_cut_write: Cell::new(false),
+        }
+    }
+
+    // Counts a call, which fails where none is left. The calls after it go well again.
+    fn count(&self) -> io::Result<()> {
+        let left = self.left.get();
+        self.left.set(left.wrapping_sub(1));
+        if left == 0 {
+            return Err(io::Error::from(io::ErrorKind::BrokenPipe));
+        }
+        Ok(())
+    }
+
+    // The same of a call in a stream, which is noted where it fails in the middle.
+    fn count_in(&self, is_middle: bool, has_cut: &Cell<bool>) -> io::Result<()> {
+        let outcome = self.count();
+        if is_middle && outcome.is_err() {
+            has_cut.set(true);
+        }
+        outcome
+    }
+}
+
+// The host's file system, with a call that fails.
+#[derive(Clone, Copy)]
+struct FailingFiles<'a> {
+    rt: HostRuntime,
+    calls: &'a Calls,
+}
+
+// A file of it, and whether bytes were read from it or written to it.
+#[derive(Drop)]
+struct FailingFile<'a> {
+    file: File,
+    calls: &'a Calls,
+    is_begun: bool,
+}
+
+// The names in a folder of it.
+#[derive(Drop)]
+struct FailingNames<'a> {
+    names: <HostRuntime as Files>::Dir,
+    calls: &'a Calls,
+}
+
+impl<'a> Alloc for FailingFiles<'a> {
+    type A = Global;
+
+    fn alloc(&self) -> Global {
+        self.rt.alloc()
+    }
+}
+
+impl<'a> Files for FailingFiles<'a> {
+    type File = FailingFile<'a>;
+
+    type Dir = FailingNames<'a>;
+
+    fn open_file(&self, how: &OpenOptions, path: &str) -> io::Result<FailingFile<'a>> {
+        self.calls.count()?;
+        let file = self.rt.open_file(how, path)?;
+        Ok(FailingFile {
+            file,
+            calls: self.calls,
+            is_begun: false,
+        })
+    }
+
+    fn open_dir(&self, path: &str) -> io::Result<FailingNames<'a>> {
+        self.calls.count()?;
+        let names = self.rt.open_dir(path)?;
+        Ok(FailingNames {
+            names,
+            calls: self.calls,
+        })
+    }
+
+    fn metadata(&self, path: &str) -> io::Result<Metadata> {
+        self.calls.count()?;
+        self.rt.metadata(path)
+    }
+
+    fn symlink_metadata(&self, path: &str) -> io::Result<Metadata> {
+        self.calls.count()?;
+        self.rt.symlink_metadata(path)
+    }
+
+    fn copy(&self, from: &str, to: &str) -> io::Result<u64> {
+        self.calls.count()?;
+        self.rt.copy(from, to)
+    }
+
+    fn rename(&self, from: &str, to: &str) -> io::Result<()> {
+        self.calls.count()?;
+        self.rt.rename(from, to)
+    }
+
+    fn remove_file(&self, path: &str) -> io::Result<()> {
+        self.calls.count()?;
+        self.rt.remove_file(path)
+    }
+
+    fn create_dir(&self, path: &str) -> io::Result<()> {
+        self.calls.count()?;
+        self.rt.create_dir(path)
+    }
+
+    fn remove_dir(&self, path: &str) -> io::Result<()> {
+        self.calls.count()?;
+        self.rt.remove_dir(path)
+    }
+
+    fn remove_dir_all<B: Allocator>(&self, alloc: B, path: &str) -> io::Result<()> {
+        self.calls.count()?;
+        self.rt.remove_dir_all(alloc, path)
+    }
+}
+
+impl<'a> Read for FailingFile<'a> {
+    fn read(&mut self, buf: &mut [u8]) -> io::Result<usize> {
+        self.calls
+            .count_in(self.is_begun, &self.calls.has_cut_read)?;
+        self.is_begun = true;
+        let len = buf.len().min(PIECE);
+        self.file.read(&mut buf[..len])
+    }
+}
+
+impl<'a> Write for FailingFile<'a> {
+    fn write(&mut self, buf: &[u8]) -> io::Result<usize> {
+        self.calls
+            .count_in(self.is_begun, &self.calls.has_cut_write)?;
+        self.is_begun = true;
+        let len = buf.len().min(PIECE);
+        self.file.write(&buf[..len])
+    }
+
+    fn flush(&mut self) -> io::Result<()> {
+        self.calls.count()?;
+        self.file.flush()
+    }
+}
+
+impl<'a> Seek for FailingFile<'a> {
+    fn seek(&mut self, to: SeekFrom) -> io::Result<u64> {
+        self.calls.count()?;
+        self.file.seek(to)
+    }
+}
+
+impl<'a> OpenFile for FailingFile<'a> {
+    fn metadata(&self) -> io::Result<Metadata> {
+        self.calls.count()?;
+        self.file.metadata()
+    }
+
+    fn set_len(&self, size: u64) -> io::Result<()> {
+        self.calls.count()?;
+        self.file.set_len(size)
+    }
+
+    fn sync_all(&self) -> io::Result<()> {
+        self.calls.count()?;
+        self.file.sync_all()
+    }
+
+    fn sync_data(&self) -> io::Result<()> {
+        self.calls.count()?;
+        self.file.sync_data()
+    }
+}
+
+impl<'a> Read for FailingNames<'a> {
+    fn read(&mut self, buf: &mut [u8]) -> io::Result<usize> {
+        self.calls.count()?;
+        self.names.read(buf)
+    }
+}
+
+// How a run of a command ended.
+#[derive(Clone, Copy, PartialEq, Eq)]
+enum Ending {
+    // The whole answer, as without a failed call.
+    Whole,
+    // A file fault, and nothing else.
+    FileFault,
+    // Too few shares, and nothing else.
+    NotEnoughShares,
+    Other,
+}
+
+// The ending that a status, standard output and standard error tell, where this is the whole answer.
+fn told_ending(status: u8, out: &[u8], err: &[u8], whole: &[u8]) -> Ending {
+    match status {
+        0 if out == whole && err.is_empty() => Ending::Whole,
+        5 if out.is_empty() && err == b"grid: 71 NotEnoughShares\n".as_slice() => {
+            Ending::NotEnoughShares
+        }
+        7 if out.is_empty() && is_file_fault(err) => Ending::FileFault,
+        _ => Ending::Other,
+    }
+}
+
+// Whether this is the one line of a file fault with a path.
+fn is_file_fault(err: &[u8]) -> bool {
+    match str::from_utf8(err) {
+        Ok(text) => {
+            text.starts_with("grid: 90 FileFault /")
+                && text.ends_with('\n')
+                && text.lines().count() == 1
+        }
+        Err(_) => false,
+    }
+}
+
+// How the words of a line end where the call after so many fails.
+fn ending_of(rt: &HostRuntime, calls: &Calls, left: u64, line: &str, whole: &[u8]) -> Ending {
+    let Ok(words) = words_of(rt, line) else {
+        return Ending::Other;
+    };
+    calls.left.set(left);
+    let files = FailingFiles { rt: *rt, calls };
+    let mut out = Vec::new(rt.alloc());
+    let mut err = Vec::new(rt.alloc());
+    let status = grid(&files, words.as_slice(), &mut out, &mut err);
+    told_ending(status, &out, &err, whole)
+}
+
+// How `put` of 56 zero bytes ends so.
+fn put_ending(rt: &HostRuntime, calls: &Calls, left: u64) -> Ending {
+    match put_line(rt, ONES) {
+        Ok(line) if makes_file(rt, &[0; 56]) => {
+            ending_of(rt, calls, left, line.as_str(), ZEROS_PUT.as_bytes())
+        }
+        _ => Ending::Other,
+    }
+}
+
+// How `get` of them ends so.
+fn get_ending(rt: &HostRuntime, calls: &Calls, left: u64) -> Ending {
+    match get_line(rt, ZEROS_CAP) {
+        Ok(line) => ending_of(rt, calls, left, line.as_str(), &[0; 56]),
+        Err(_) => Ending::Other,
+    }
+}
+
+// Whether `put` goes well where no call fails.
+fn puts_again(rt: &HostRuntime) -> bool {
+    put_gives(rt, ONES, 0, ZEROS_PUT, "") && has_share(rt, CLOSED, true)
+}
+
+// Whether `put` may end so: a fault leaves no closed share, and nothing in the way of a second try.
+fn is_put_ending(rt: &HostRuntime, ending: Ending) -> bool {
+    match ending {
+        Ending::Whole => has_share(rt, CLOSED, true),
+        Ending::FileFault => has_share(rt, CLOSED, false) && puts_again(rt),
+        _ => false,
+    }
+}
+
+// More calls than `put` makes here: in the last run none fails.
+const PUT_CALLS: u64 = 40;
+
+#[test]
+fn put_tells_each_failed_call(rt: HostRuntime) {
+    let calls = Calls::new();
+    let (mut has_fault, mut is_whole) = (false, false);
+    for left in 0..PUT_CALLS {
+        let ending = put_ending(&rt, &calls, left);
+        assert!(rt; is_put_ending(&rt, ending), "{left}");
+        has_fault |= ending == Ending::FileFault;
+        is_whole = ending == Ending::Whole;
+    }
+    assert!(rt; has_fault && is_whole && calls.left.get() < PUT_CALLS);
+    assert!(rt; calls.has_cut_read.get() && calls.has_cut_write.get() && removes_all(&rt));
+}
+
+// More calls than `get` makes here on the grid's folder, those of 256 servers and the share's file.
+const GET_CALLS: u64 = 300;
+
+// Whether `get` goes well where no call fails.
+fn gets_again(rt: &HostRuntime) -> bool {
+    get_gives(rt, ZEROS_CAP, 0, &[0; 56], "")
+}
+
+#[test]
+fn get_gives_the_whole_file_or_none(rt: HostRuntime) {
+    assert!(rt; zeros_go_round(&rt));
+    let calls = Calls::new();
+    let (mut has_fault, mut has_missed, mut is_whole) = (false, false, false);
+    for left in 0..GET_CALLS {
+        let ending = get_ending(&rt, &calls, left);
+        assert!(rt; ending != Ending::Other && gets_again(&rt), "{left}");
+        has_fault |= ending == Ending::FileFault;
+        has_missed |= ending == Ending::NotEnoughShares;
+        is_whole = ending == Ending::Whole;
+    }
+    assert!(rt; has_fault && has_missed && is_whole && calls.has_cut_read.get());
+    assert!(rt; removes_all(&rt));
+}

@@ -1,0 +1,12 @@
+//! The tests of shares and of whole files: what no contract says, values from outside, and calls on
+//! their happy paths.
+#![tactic(auto)]
+
+#[cfg(test)]
+mod faulty_io_tests;
+#[cfg(test)]
+mod file_encoding_tests;
+#[cfg(test)]
+mod share_layout_tests;
+#[cfg(test)]
+mod verify_tests;

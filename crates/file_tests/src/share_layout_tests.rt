@@ -1,0 +1,489 @@
+// Geometries and shares of worked examples, and shares with one fault.
+
+ghost use Rattle.std.specs.Prelude.{◌≡◌, ◌≤◌, false, length, IsTrue, OnErr, OnOk, Some};
+ghost use Rattle.ueb.specs.declared.limits.TheConstants.{MAX_LENGTH};
+ghost use Rattle.share_layout.specs.Geometry.{share_data_size, tree_size, hashes_size};
+ghost use Rattle.share_layout.specs.declared.error.Section.TheVariants.{Data, ShareHashes};
+
+use file_encoding::{Encoded, Params, Share, encode_all};
+use share_layout::{Geometry, LayoutError, Section, ShareView, ShareWriter, locate_ueb};
+use std::alloc::Global;
+use std::io;
+use std::test::Fail;
+
+// Size, k, N and greatest segment; segment size, segments, tail, block, tail's block; the header's numbers.
+const GEOMETRIES: [((u64, u16, u16, u32), [u32; 5], [u32; 9]); 6] = [
+    (
+        (56, 3, 10, 131_072),
+        [57, 1, 56, 19, 19],
+        [1, 19, 19, 36, 55, 87, 119, 151, 321],
+    ),
+    (
+        (56, 1, 1, 131_072),
+        [56, 1, 56, 56, 56],
+        [1, 56, 56, 36, 92, 124, 156, 188, 222],
+    ),
+    (
+        (131_073, 3, 10, 131_072),
+        [131_073, 1, 131_073, 43_691, 43_691],
+        [
+            1, 43_691, 43_691, 36, 43_727, 43_759, 43_791, 43_823, 43_993,
+        ],
+    ),
+    (
+        (131_074, 3, 10, 131_072),
+        [131_073, 2, 1, 43_691, 1],
+        [
+            1, 43_691, 43_692, 36, 43_728, 43_824, 43_920, 44_016, 44_186,
+        ],
+    ),
+    (
+        (256, 256, 256, 131_072),
+        [256, 1, 256, 1, 1],
+        [1, 1, 1, 36, 37, 69, 101, 133, 439],
+    ),
+    (
+        (300, 3, 10, 100),
+        [102, 3, 96, 34, 32],
+        [1, 34, 100, 36, 136, 360, 584, 808, 978],
+    ),
+];
+
+#[test]
+fn geometries_have_their_sizes(rt: HostRuntime) -> Result<(), Fail> {
+    for &((size, k, n, max), sizes, numbers) in &GEOMETRIES {
+        let geometry = Geometry::of(size, k, n, max)?;
+        assert!(rt; (geometry.size(), geometry.needed(), geometry.total()) == (size, k, n));
+        let [segment, segments, tail, block, tail_block] = sizes;
+        assert!(rt; geometry.segment_size() == segment, "at {size}");
+        assert!(rt; geometry.segment_count() == segments, "at {size}");
+        assert!(rt; geometry.tail_length() == tail, "at {size}");
+        assert!(rt; geometry.block_size() == block, "at {size}");
+        assert!(rt; geometry.tail_block_size() == tail_block, "at {size}");
+        assert!(rt; geometry.share_data_size() == numbers[2], "at {size}");
+        let header = geometry.header();
+        for i in 0..9 {
+            assert!(rt; header.get(4 * i..4 * i + 4) == Some(&numbers[i].to_be_bytes()[..]));
+        }
+    }
+    Ok(())
+}
+
+#[test]
+fn a_geometry_gives_itself(rt: HostRuntime) -> Result<(), Fail> {
+    for &((size, k, n, max), _, _) in &GEOMETRIES {
+        let geometry = Geometry::of(size, k, n, max)?;
+        let again = Geometry::of(size, k, n, geometry.segment_size())?;
+        assert!(rt; geometry == again, "at {size}");
+    }
+    Ok(())
+}
+
+// Size, k, N and greatest segment, and the refusal's number, or 0.
+const LIMITS: [((u64, u16, u16, u32), u8); 18] = [
+    ((0, 3, 10, 131_072), 2),
+    ((1, 3, 10, 131_072), 0),
+    ((56, 0, 10, 131_072), 2),
+    ((56, 3, 2, 131_072), 2),
+    ((56, 3, 3, 131_072), 0),
+    ((56, 3, 257, 131_072), 2),
+    ((56, 256, 256, 131_072), 0),
+    ((56, 1, 1, 0), 2),
+    ((56, 1, 1, 1), 0),
+    ((56, 1, 1, 1_048_831), 0),
+    ((56, 1, 1, 1_048_832), 2),
+    ((1 << 30, 256, 256, 1_048_831), 0),
+    ((1 << 30, 1, 1, 16_384), 0),
+    ((1 << 30, 1, 1, 16_383), 31),
+    (((1 << 30) + 1, 1, 1, 16_383), 30),
+    (((1 << 30) + 1, 0, 1, 16_383), 2),
+    ((u64::MAX, 1, 1, 1), 30),
+    ((65_537, 1, 1, 1), 31),
+];
+
+#[test]
+fn geometries_have_limits(rt: HostRuntime) {
+    for &((size, k, n, max), number) in &LIMITS {
+        let found = match Geometry::of(size, k, n, max) {
+            Ok(_) => 0,
+            Err(error) => error.number(),
+        };
+        assert!(rt; found == number, "at {size} {k} {n} {max}");
+    }
+}
+
+#[test]
+fn refusals_have_numbers_and_names(rt: HostRuntime) -> Result<(), Fail> {
+    let rows = [
+        (LayoutError::BadParameters, 2, "BadParameters"),
+        (LayoutError::TooLarge, 30, "TooLarge"),
+        (LayoutError::TooManySegments, 31, "TooManySegments"),
+        (LayoutError::BadVersion, 32, "BadVersion"),
+        (LayoutError::BadOffset, 33, "BadOffset"),
+        (
+            LayoutError::Truncated(Section::CiphertextTree),
+            34,
+            "Truncated CiphertextTree",
+        ),
+        (LayoutError::BadShareHashes, 35, "BadShareHashes"),
+        (LayoutError::WriterFault, 36, "WriterFault"),
+    ];
+    for (error, number, text) in rows {
+        assert!(rt; error.number() == number);
+        assert!(rt; format!(in rt.alloc(); "{error}")?.as_str() == text);
+    }
+    Ok(())
+}
+
+// Writes the first four sections of a share.
+fn put_first<W: io::Write>(share: &mut ShareWriter<W>, view: &ShareView) -> Result<(), LayoutError>
+    requires next { share.old.next ≡ Some Data }
+    requires failed { share.old.failed ≡ false }
+    requires blocks { length view.now.blocks.now ≡ share_data_size share.old.geometry }
+    requires unused { length view.now.unused.now ≡ tree_size share.old.geometry }
+    requires ciphertext_tree { length view.now.ciphertext_tree.now ≡ tree_size share.old.geometry }
+    requires block_tree { length view.now.block_tree.now ≡ tree_size share.old.geometry }
+    ensures geometry { OnOk result (share.new.geometry ≡ share.old.geometry) }
+    ensures next { OnOk result (share.new.next ≡ Some ShareHashes) }
+    ensures ok { OnOk result (share.new.failed ≡ false) }
+    ensures err { OnErr result (IsTrue share.new.failed) }
+{
+    share.put(view.blocks)?;
+    share.put(view.unused)?;
+    share.put(view.ciphertext_tree)?;
+    share.put(view.block_tree)
+}
+
+// Writes the six sections of a share.
+fn put_all<W: io::Write>(share: &mut ShareWriter<W>, view: &ShareView) -> Result<(), LayoutError>
+    requires next { share.old.next ≡ Some Data }
+    requires failed { share.old.failed ≡ false }
+    requires blocks { length view.now.blocks.now ≡ share_data_size share.old.geometry }
+    requires unused { length view.now.unused.now ≡ tree_size share.old.geometry }
+    requires ciphertext_tree { length view.now.ciphertext_tree.now ≡ tree_size share.old.geometry }
+    requires block_tree { length view.now.block_tree.now ≡ tree_size share.old.geometry }
+    requires hashes { length view.now.share_hashes.now ≡ hashes_size share.old.geometry }
+    requires extension_block { length view.now.extension_block.now ≤ MAX_LENGTH }
+    ensures { OnErr result (IsTrue share.new.failed) }
+{
+    put_first(share, view)?;
+    share.put(view.share_hashes)?;
+    share.put(view.extension_block)
+}
+
+// Whether the sections have their lengths.
+fn fits(geometry: &Geometry, view: &ShareView) -> bool
+    ensures { IsTrue result → (length view.now.blocks.now ≡ share_data_size geometry.now)
+        × (length view.now.unused.now ≡ tree_size geometry.now)
+        × (length view.now.ciphertext_tree.now ≡ tree_size geometry.now)
+        × (length view.now.block_tree.now ≡ tree_size geometry.now)
+        × (length view.now.share_hashes.now ≡ hashes_size geometry.now)
+        × (length view.now.extension_block.now ≤ MAX_LENGTH) }
+{
+    let tree = geometry.tree_size() as usize;
+    view.blocks.len() == geometry.share_data_size() as usize
+        && view.unused.len() == tree
+        && view.ciphertext_tree.len() == tree
+        && view.block_tree.len() == tree
+        && view.share_hashes.len() == geometry.hashes_size() as usize
+        && view.extension_block.len() <= ueb::MAX_LENGTH
+}
+
+// A writer that takes so many bytes, at most seven a call, then fails once, and then takes all.
+#[derive(Drop)]
+struct Short {
+    taken: Vec<u8>,
+    left: usize,
+}
+
+impl io::Write for Short {
+    fn write(&mut self, buf: &[u8]) -> io::Result<usize> {
+        if self.left == 0 {
+            self.left = usize::MAX;
+            return Err(io::Error::from(io::ErrorKind::BrokenPipe));
+        }
+        let count = buf.len().min(self.left).min(7);
+        self.taken.extend_from_slice(&buf[..count])?;
+        self.left -= count;
+        Ok(count)
+    }
+
+    fn flush(&mut self) -> io::Result<()> {
+        Ok(())
+    }
+}
+
+// What went out of a share to a writer that takes so many bytes and then fails, and whether the share writer failed, for good.
+fn written(alloc: Global, view: &ShareView, number: u16, left: usize) -> Option<(Vec<u8>, bool)> {
+    let writer = Short {
+        taken: Vec::new(alloc),
+        left,
+    };
+    let geometry = geometry()?;
+    if !fits(&geometry, view) {
+        return None;
+    }
+    let mut share = ShareWriter::new(writer, &geometry, number);
+    let mut failed = false;
+    if put_all(&mut share, view).is_err() {
+        failed = share.put(&[]) == Err(LayoutError::WriterFault);
+    }
+    Some((share.into_inner().taken, failed))
+}
+
+// Whether the sections of a share, written to a writer that fails after so many bytes, give a beginning of it, and the share
+// writer fails where that is not all.
+fn is_beginning(alloc: Global, share: &[u8], number: u16, left: usize) -> bool {
+    let Some(geometry) = geometry() else {
+        return false;
+    };
+    let Ok(view) = ShareView::read(share, number, &geometry) else {
+        return false;
+    };
+    match written(alloc, &view, number, left) {
+        Some((taken, failed)) => {
+            failed == (left < share.len())
+                && Some(taken.as_slice()) == share.get(..left.min(share.len()))
+        }
+        None => false,
+    }
+}
+
+// The shares of the file of 56 bytes at 3 of 10, whose byte i is i.
+fn shares_of_ten(alloc: Global) -> Option<Vec<Share>> {
+    let mut file = [0u8; 56];
+    for i in 0..56 {
+        file[i] = i as u8;
+    }
+    let params = Params::new(3, 1, 10, 131_072).ok()?;
+    let Encoded { cap: _, shares } = encode_all(alloc, &file, b"", &params).ok()?;
+    Some(shares)
+}
+
+// Share 3 of that file.
+fn share_three(alloc: Global) -> Option<Vec<u8>> {
+    let shares = shares_of_ten(alloc)?;
+    Vec::from_slice(alloc, shares.get(3)?.as_slice()).ok()
+}
+
+fn geometry() -> Option<Geometry> {
+    Geometry::of(56, 3, 10, 131_072).ok()
+}
+
+// The sections of each share of a file make the share.
+#[test]
+fn sections_make_each_share(rt: HostRuntime) {
+    let Some(shares) = shares_of_ten(rt.alloc()) else {
+        assert!(rt; false);
+        return;
+    };
+    assert!(rt; shares.len() == 10);
+    let mut number = 0u16;
+    for share in &shares {
+        assert!(rt;
+            is_beginning(rt.alloc(), share.as_slice(), number, 1000),
+            "{number}"
+        );
+        number = number.wrapping_add(1);
+    }
+}
+
+#[test]
+fn a_failed_writer_ends_a_share(rt: HostRuntime) {
+    let Some(share) = share_three(rt.alloc()) else {
+        assert!(rt; false);
+        return;
+    };
+    assert!(rt; share.len() == 633);
+    for left in 0..=633 {
+        assert!(rt; is_beginning(rt.alloc(), &share, 3, left), "at {left}");
+    }
+}
+
+// The header of a share at 3 of 10.
+const HEADER: [u8; 36] = [
+    0, 0, 0, 1, 0, 0, 0, 19, 0, 0, 0, 19, 0, 0, 0, 36, 0, 0, 0, 55, 0, 0, 0, 87, 0, 0, 0, 119, 0,
+    0, 0, 151, 0, 0, 1, 65,
+];
+
+// Whether the sections of a share stand at their places.
+fn has_sections(share: &[u8], geometry: &Geometry) -> bool {
+    let Ok(view) = ShareView::read(share, 3, geometry) else {
+        return false;
+    };
+    Some(view.blocks) == share.get(36..55)
+        && Some(view.unused) == share.get(55..87)
+        && Some(view.ciphertext_tree) == share.get(87..119)
+        && Some(view.block_tree) == share.get(119..151)
+        && Some(view.share_hashes) == share.get(151..321)
+        && Some(view.extension_block) == share.get(325..)
+        && locate_ueb(share).ok() == share.get(325..)
+}
+
+#[test]
+fn a_share_has_its_sections(rt: HostRuntime) {
+    let (Some(geometry), Some(share)) = (geometry(), share_three(rt.alloc())) else {
+        assert!(rt; false);
+        return;
+    };
+    assert!(rt; share.starts_with(&HEADER));
+    assert!(rt; share.get(321..325) == Some(&[0u8, 0, 1, 52][..]));
+    assert!(rt; has_sections(&share, &geometry));
+}
+
+// The number of the refusal of share 3, or 0.
+fn read_number(share: &[u8], number: u16, geometry: &Geometry) -> u8 {
+    match ShareView::read(share, number, geometry) {
+        Ok(_) => 0,
+        Err(error) => error.number(),
+    }
+}
+
+// The number of the refusal, or 0.
+fn locate_number(share: &[u8]) -> u8 {
+    match locate_ueb(share) {
+        Ok(_) => 0,
+        Err(error) => error.number(),
+    }
+}
+
+#[test]
+fn shares_carry_the_numbers_of_their_nodes(rt: HostRuntime) {
+    let (Some(geometry), Some(mut share)) = (geometry(), share_three(rt.alloc())) else {
+        assert!(rt; false);
+        return;
+    };
+    for (number, refusal) in [(2, 0), (3, 0), (4, 35), (1, 35), (10, 35), (u16::MAX, 35)] {
+        assert!(rt;
+            read_number(&share, number, &geometry) == refusal,
+            "at {number}"
+        );
+    }
+    for (place, refusal) in [
+        (151, 35),
+        (152, 35),
+        (153, 0),
+        (184, 0),
+        (186, 35),
+        (288, 35),
+    ] {
+        if place < share.len() {
+            share[place] ^= 1;
+            assert!(rt; read_number(&share, 3, &geometry) == refusal, "at {place}");
+            assert!(rt; locate_number(&share) == 0);
+            share[place] ^= 1;
+        }
+    }
+}
+
+// The section of the first byte that is missing from a share of 633 bytes that is cut to this length.
+fn section_of(len: usize) -> Section {
+    match len {
+        0..=35 => Section::Header,
+        36..=54 => Section::Data,
+        55..=86 => Section::Unused,
+        87..=118 => Section::CiphertextTree,
+        119..=150 => Section::BlockTree,
+        151..=320 => Section::ShareHashes,
+        _ => Section::Ueb,
+    }
+}
+
+#[test]
+fn a_cut_share_names_its_section(rt: HostRuntime) {
+    let (Some(geometry), Some(share)) = (geometry(), share_three(rt.alloc())) else {
+        assert!(rt; false);
+        return;
+    };
+    for len in 0..share.len() {
+        let cut = &share[..len];
+        let fault = LayoutError::Truncated(section_of(len));
+        assert!(rt;
+            ShareView::read(cut, 3, &geometry) == Err(fault),
+            "at {len}"
+        );
+        assert!(rt; has_fault(cut, fault), "at {len}");
+    }
+}
+
+#[test]
+fn a_changed_header_is_refused(rt: HostRuntime) {
+    let (Some(geometry), Some(mut share)) = (geometry(), share_three(rt.alloc())) else {
+        assert!(rt; false);
+        return;
+    };
+    for place in 0..36 {
+        if place < share.len() {
+            share[place] ^= 1;
+            let refusal = if place < 4 { 32 } else { 33 };
+            assert!(rt; read_number(&share, 3, &geometry) == refusal, "at {place}");
+            let located = match place {
+                0..=3 => 32,
+                4..=11 => 0,
+                _ => 33,
+            };
+            if place < 16 {
+                assert!(rt; locate_number(&share) == located, "at {place}");
+            }
+            share[place] ^= 1;
+        }
+    }
+}
+
+#[test]
+fn a_share_ends_with_its_extension_block(rt: HostRuntime) {
+    let (Some(geometry), Some(mut share)) = (geometry(), share_three(rt.alloc())) else {
+        assert!(rt; false);
+        return;
+    };
+    assert!(rt; share.push(0).is_ok());
+    assert!(rt; read_number(&share, 3, &geometry) == 33);
+    assert!(rt; locate_number(&share) == 33);
+    share.pop();
+    // The length of the extension block, its two low bytes.
+    for (high, low, refusal) in [
+        (1, 52, 0),
+        (1, 51, 33),
+        (1, 53, 34),
+        (16, 0, 34),
+        (16, 1, 33),
+        (0, 0, 33),
+    ] {
+        if share.len() > 324 {
+            share[323] = high;
+            share[324] = low;
+            assert!(rt;
+                read_number(&share, 3, &geometry) == refusal,
+                "at {high} {low}"
+            );
+            assert!(rt; locate_number(&share) == refusal, "at {high} {low}");
+        }
+    }
+}
+
+// Whether this is the first fault of a share, by its header's own numbers.
+fn has_fault(bytes: &[u8], fault: LayoutError) -> bool {
+    locate_ueb(bytes) == Err(fault)
+}
+
+#[test]
+fn places_of_a_lying_header_do_not_wrap(rt: HostRuntime) {
+    let mut bytes = [0u8; 40];
+    let numbers = [
+        1,
+        0,
+        0,
+        36,
+        u32::MAX - 4,
+        u32::MAX - 3,
+        u32::MAX - 2,
+        u32::MAX - 1,
+        u32::MAX,
+    ];
+    for i in 0..9 {
+        bytes[4 * i..4 * i + 4].copy_from_slice(&numbers[i].to_be_bytes());
+    }
+    assert!(rt; has_fault(&bytes, LayoutError::Truncated(Section::Data)));
+    bytes[34] = 0;
+    assert!(rt; has_fault(&bytes, LayoutError::BadOffset));
+}

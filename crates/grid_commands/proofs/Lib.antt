@@ -1,3 +1,0 @@
-mod SmallDecimal
-mod Dots
-mod Numbered

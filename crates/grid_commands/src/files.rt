@@ -1,0 +1,56 @@
+//! Files, read to an end that is known before.
+
+use grid_rules::{Fault, is_memory};
+use std::alloc::Global;
+use std::fs::{File, OpenFile};
+use std::io;
+use std::io::Read;
+use std::rt::Files;
+
+/// The bytes of a file, where there are at most `limit`, and none where there are more. No more than
+/// that and one byte is read, and memory is asked for once, by the file's length.
+pub(crate) fn read_at_most<R: Files + AllocGlobal>(
+    rt: &R,
+    path: &str,
+    limit: u64,
+) -> io::Result<Option<Vec<u8>>> {
+    let file = File::open(rt, path)?;
+    let length = file.metadata()?.len();
+    if length > limit {
+        return Ok(None);
+    }
+    read_to_limit(rt.alloc(), file, length, limit)
+}
+
+// The same of a file that is open, and has so many bytes by what its folder says.
+fn read_to_limit<F: Read + Drop>(
+    alloc: Global,
+    file: F,
+    length: u64,
+    limit: u64,
+) -> io::Result<Option<Vec<u8>>> {
+    let mut bytes = Vec::with_capacity(alloc, (length as usize).saturating_add(1))?;
+    file.take(limit.saturating_add(1)).read_to_end(&mut bytes)?;
+    if bytes.len() as u64 > limit {
+        return Ok(None);
+    }
+    Ok(Some(bytes))
+}
+
+/// The result of a call on a path, with a fault that names the path.
+pub(crate) fn at_path<T>(alloc: Global, outcome: io::Result<T>, path: &str) -> Result<T, Fault> {
+    match outcome {
+        Ok(value) => Ok(value),
+        Err(error) => Err(Fault::of_path(alloc, &error, path)),
+    }
+}
+
+/// The result of a call on what a server keeps, where a failed call counts as nothing found: a server
+/// is not trusted to answer.
+pub(crate) fn if_there<T: Drop>(outcome: io::Result<T>) -> Result<Option<T>, Fault> {
+    match outcome {
+        Ok(value) => Ok(Some(value)),
+        Err(error) if is_memory(&error) => Err(Fault::OutOfMemory),
+        Err(_) => Ok(None),
+    }
+}

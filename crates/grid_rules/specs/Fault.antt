@@ -1,0 +1,60 @@
+-- The numbers and the exit statuses of the faults, and which fault an error becomes.
+use Rattle.std.specs.Prelude.{ℕ}
+use Rattle.cap_text.specs.CapError.{number_of}
+use Rattle.cap_text.specs.declared.error.CapError.{CapError}
+use Rattle.cap_text.specs.declared.error.CapError.TheVariants as caps
+use Rattle.file_encoding.specs.declared.error.EncodeError.{EncodeError}
+use Rattle.file_encoding.specs.declared.error.EncodeError.TheVariants as encodings
+use Rattle.file_encoding.specs.declared.reading.ReadError.{ReadError}
+use Rattle.file_encoding.specs.declared.reading.ReadError.TheVariants as readings
+use Rattle.grid_rules.specs.declared.fault.Fault.{Fault}
+use Rattle.grid_rules.specs.declared.fault.Fault.TheVariants.{OutOfMemory, BadParameters, Cap, TooLarge, TooManySegments, Unhappy, NotEnoughShares, Inconsistent, File, NeedsReadCap}
+
+-- the number of a fault
+abbrev pub fault_number : Fault → ℕ
+fault_number OutOfMemory = 1
+fault_number BadParameters = 2
+fault_number (Cap error) = number_of error
+fault_number TooLarge = 30
+fault_number TooManySegments = 31
+fault_number (Unhappy _ _) = 70
+fault_number NotEnoughShares = 71
+fault_number Inconsistent = 72
+fault_number (File _) = 90
+fault_number NeedsReadCap = 94
+
+-- the exit status that it gives
+abbrev pub fault_status : Fault → ℕ
+fault_status OutOfMemory = 7
+fault_status BadParameters = 3
+fault_status (Cap _) = 3
+fault_status TooLarge = 3
+fault_status TooManySegments = 3
+fault_status (Unhappy _ _) = 4
+fault_status NotEnoughShares = 5
+fault_status Inconsistent = 6
+fault_status (File _) = 7
+fault_status NeedsReadCap = 3
+
+-- the fault that a cap's error becomes
+abbrev pub fault_of_cap : CapError → Fault
+fault_of_cap caps.OutOfMemory = OutOfMemory
+fault_of_cap caps.UnknownKind = Cap caps.UnknownKind
+fault_of_cap caps.BadBase32 = Cap caps.BadBase32
+fault_of_cap caps.BadNumber = Cap caps.BadNumber
+fault_of_cap caps.BadParameters = Cap caps.BadParameters
+fault_of_cap caps.WrongParts = Cap caps.WrongParts
+fault_of_cap caps.LitTooLong = Cap caps.LitTooLong
+
+-- the fault that an error of encoding becomes
+abbrev pub fault_of_encoding : EncodeError → Fault
+fault_of_encoding encodings.OutOfMemory = OutOfMemory
+fault_of_encoding encodings.BadParameters = BadParameters
+fault_of_encoding encodings.TooLarge = TooLarge
+fault_of_encoding encodings.TooManySegments = TooManySegments
+
+-- the fault that an error of reading becomes
+abbrev pub fault_of_reading : ReadError → Fault
+fault_of_reading readings.OutOfMemory = OutOfMemory
+fault_of_reading readings.NotEnoughShares = NotEnoughShares
+fault_of_reading readings.Inconsistent = Inconsistent

@@ -1,0 +1,155 @@
+//! Why a command ended without its result: each fault has a number, an exit status and a text.
+
+ghost use Rattle.std.specs.Prelude.{◌≡◌};
+ghost use Rattle.grid_rules.specs.Fault.{fault_number, fault_of_cap, fault_of_encoding, fault_of_reading, fault_status};
+
+use cap_text::CapError;
+use file_encoding::{EncodeError, ReadError};
+use std::alloc::{AllocError, AllocFailed, Global};
+use std::io;
+use thiserror::Error;
+
+/// A fault. Its text is its name and what belongs to it.
+#[derive(Debug, Drop, Error)]
+pub enum Fault {
+    /// An allocation was refused.
+    #[error("OutOfMemory")]
+    OutOfMemory,
+    /// A number or the secret is outside its range.
+    #[error("BadParameters")]
+    BadParameters,
+    /// The text is no cap.
+    #[error("{0}")]
+    Cap(CapError),
+    /// The file has too many bytes.
+    #[error("TooLarge")]
+    TooLarge,
+    /// The file has too many segments of the size that was asked for.
+    #[error("TooManySegments")]
+    TooManySegments,
+    /// Fewer servers than were wanted hold a share of their own.
+    #[error("Unhappy reached {reached} wanted {wanted}")]
+    Unhappy { reached: u16, wanted: u16 },
+    /// Fewer shares pass their checks than are needed.
+    #[error("NotEnoughShares")]
+    NotEnoughShares,
+    /// The shares pass their checks, and yet are not those of one file.
+    #[error("Inconsistent")]
+    Inconsistent,
+    /// The file or the folder of this path could not be read or written.
+    #[error("FileFault {0}")]
+    File(String),
+    /// The cap has no key, and the command needs one.
+    #[error("NeedsReadCap")]
+    NeedsReadCap,
+}
+
+impl Fault {
+    /// The number of the fault.
+    pub fn number(&self) -> u8
+        ensures { result ≡ fault_number self.now }
+    {
+        match self {
+            Fault::OutOfMemory => 1,
+            Fault::BadParameters => 2,
+            Fault::Cap(error) => error.number(),
+            Fault::TooLarge => 30,
+            Fault::TooManySegments => 31,
+            Fault::Unhappy { .. } => 70,
+            Fault::NotEnoughShares => 71,
+            Fault::Inconsistent => 72,
+            Fault::File(_) => 90,
+            Fault::NeedsReadCap => 94,
+        }
+    }
+
+    /// The exit status: 3 for refused input, 4 for an unhappy upload, 5 for too few shares, 6 for
+    /// inconsistent ones, and 7 for memory, a file or a folder.
+    pub fn status(&self) -> u8
+        ensures { result ≡ fault_status self.now }
+    {
+        match self {
+            Fault::BadParameters
+            | Fault::Cap(_)
+            | Fault::TooLarge
+            | Fault::TooManySegments
+            | Fault::NeedsReadCap => 3,
+            Fault::Unhappy { .. } => 4,
+            Fault::NotEnoughShares => 5,
+            Fault::Inconsistent => 6,
+            Fault::OutOfMemory | Fault::File(_) => 7,
+        }
+    }
+
+    /// The fault of a file or folder, whose failure may be one of memory.
+    pub fn of_path(alloc: Global, error: &io::Error, path: &str) -> Fault {
+        if is_memory(error) {
+            return Fault::OutOfMemory;
+        }
+        match String::from_str(alloc, path) {
+            Ok(path) => Fault::File(path),
+            Err(_) => Fault::OutOfMemory,
+        }
+    }
+}
+
+/// Whether a call on a file failed for want of memory.
+pub fn is_memory(error: &io::Error) -> bool {
+    error.kind() == io::ErrorKind::OutOfMemory
+}
+
+impl From<CapError> for Fault {
+    ghost from_gives = { λ error fault. fault ≡ fault_of_cap error };
+
+    fn from(error: CapError) -> Fault {
+        match error {
+            CapError::OutOfMemory => Fault::OutOfMemory,
+            _ => Fault::Cap(error),
+        }
+    }
+}
+
+impl From<EncodeError> for Fault {
+    ghost from_gives = { λ error fault. fault ≡ fault_of_encoding error };
+
+    fn from(error: EncodeError) -> Fault {
+        match error {
+            EncodeError::OutOfMemory => Fault::OutOfMemory,
+            EncodeError::BadParameters => Fault::BadParameters,
+            EncodeError::TooLarge => Fault::TooLarge,
+            EncodeError::TooManySegments => Fault::TooManySegments,
+        }
+    }
+}
+
+impl From<ReadError> for Fault {
+    ghost from_gives = { λ error fault. fault ≡ fault_of_reading error };
+
+    fn from(error: ReadError) -> Fault {
+        match error {
+            ReadError::OutOfMemory => Fault::OutOfMemory,
+            ReadError::NotEnoughShares => Fault::NotEnoughShares,
+            ReadError::Inconsistent => Fault::Inconsistent,
+        }
+    }
+}
+
+impl From<AllocError> for Fault {
+    ghost use Rattle.grid_rules.specs.declared.fault.Fault.TheVariants.{OutOfMemory};
+
+    ghost from_gives = { λ _ fault. fault ≡ OutOfMemory };
+
+    fn from(_error: AllocError) -> Fault {
+        Fault::OutOfMemory
+    }
+}
+
+impl<T: Drop> From<AllocFailed<T>> for Fault {
+    ghost use Rattle.grid_rules.specs.declared.fault.Fault.TheVariants.{OutOfMemory};
+
+    ghost from_gives = { λ _ fault. fault ≡ OutOfMemory };
+
+    fn from(_error: AllocFailed<T>) -> Fault {
+        Fault::OutOfMemory
+    }
+}

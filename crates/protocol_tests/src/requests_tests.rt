@@ -1,0 +1,257 @@
+//! The record of requests, against the times at which silent servers are asked again.
+
+use std::alloc::Global;
+use wire::message::{Body, HeldList, HeldShare, Message, ReadData, ReadLength, ShareLength};
+use wire::requests::{Asked, Outcome, Requests};
+
+// The seconds of the ticks, and those at which one request is sent. At the last tick it is lost.
+const SILENT: [(&[u64], &[u64]); 4] = [
+    (&[4, 5, 10, 15, 20], &[0, 5, 10, 15]),
+    (&[12, 15, 25], &[0, 12, 15]),
+    (&[20], &[0]),
+    (
+        &[1, 6, 7, 9, 11, 16, 19, 18_446_744_073_709_551_615],
+        &[0, 6, 11, 16],
+    ),
+];
+
+// Who answers, in which session, to which number, and whether a Closed then counts.
+const ANSWERS: [(&str, u16, u64, u64, bool); 7] = [
+    ("another server", 8, 7, 2, false),
+    ("another session", 9, 8, 2, false),
+    ("no number", 9, 7, 0, false),
+    ("a number that was not asked", 9, 7, 4, false),
+    ("a request of another kind", 9, 7, 1, false),
+    ("an abort", 9, 7, 3, false),
+    ("the request", 9, 7, 2, true),
+];
+
+fn closed(session: u64, number: u64) -> Message {
+    Message {
+        session,
+        number,
+        body: Body::Closed([5; 32]),
+    }
+}
+
+fn is_lost(requests: &Requests, place: usize) -> bool {
+    match requests.entries().get(place) {
+        Some(request) => matches!(request.outcome, Outcome::Lost),
+        None => false,
+    }
+}
+
+// The times at which a request to a silent server is sent, and that it is lost at the last tick and not before. `None` where
+// that is not so, or memory is out.
+fn sent_times(alloc: Global, ticks: &[u64]) -> Option<Vec<u64>> {
+    let mut requests = Requests::new(alloc, 7, 0);
+    requests.ask(9, Asked::Holdings).ok()?;
+    let mut sent = Vec::new(alloc);
+    note_sent(&mut sent, &mut requests, 0)?;
+    for tick in ticks {
+        if is_lost(&requests, 0) {
+            return None;
+        }
+        requests.tick(*tick).ok()?;
+        note_sent(&mut sent, &mut requests, *tick)?;
+    }
+    if is_lost(&requests, 0) && is_ended(&mut requests) {
+        Some(sent)
+    } else {
+        None
+    }
+}
+
+// Notes the time where the first request is sent, with no other behind it.
+fn note_sent(sent: &mut Vec<u64>, requests: &mut Requests, now: u64) -> Option<()> {
+    if requests.take_next() == Some(0) {
+        sent.push(now).ok()?;
+    }
+    if requests.outgoing_len() == 0 {
+        Some(())
+    } else {
+        None
+    }
+}
+
+// Whether no request waits, and an answer that comes late does not count.
+fn is_ended(requests: &mut Requests) -> bool {
+    requests.outstanding() == 0 && matches!(requests.answer(9, &closed(7, 1), 30), Ok(None))
+}
+
+#[test]
+fn silent_servers(rt: HostRuntime) {
+    for &(ticks, times) in &SILENT {
+        let is_right = match sent_times(rt.alloc(), ticks) {
+            Some(sent) => sent.as_slice() == times,
+            None => false,
+        };
+        assert!(rt; is_right);
+    }
+}
+
+// An operation of session 7 that asked server 9 for its shares, to keep share 3, and to give share 4 up.
+fn asked(alloc: Global) -> Option<Requests> {
+    let mut requests = Requests::new(alloc, 7, 0);
+    requests.ask(9, Asked::Holdings).ok()?;
+    requests.ask(9, Asked::Closing(3)).ok()?;
+    requests.ask(9, Asked::Aborting(4)).ok()?;
+    Some(requests)
+}
+
+// Whether a Closed from there counts as the answer to the second request, or does not count.
+fn is_counted(alloc: Global, from: u16, session: u64, number: u64, counts: bool) -> bool {
+    let Some(mut requests) = asked(alloc) else {
+        return false;
+    };
+    let Ok(place) = requests.answer(from, &closed(session, number), 1) else {
+        return false;
+    };
+    if counts {
+        place == Some(1) && requests.outstanding() == 1
+    } else {
+        place == None && requests.outstanding() == 2
+    }
+}
+
+#[test]
+fn answers(rt: HostRuntime) {
+    for &(what, from, session, number, counts) in &ANSWERS {
+        assert!(rt;
+            is_counted(rt.alloc(), from, session, number, counts),
+            "{what}"
+        );
+    }
+}
+
+// Whether both requests that wait are sent again after five seconds, the abort not, and the answer to one counts the first time alone.
+fn counts_once(alloc: Global) -> bool {
+    let Some(mut requests) = asked(alloc) else {
+        return false;
+    };
+    requests.session() == 7
+        && requests.first() == Some(0)
+        && requests.outgoing_len() == 3
+        && requests.tick(5).is_ok()
+        && requests.outgoing_len() == 5
+        && answers_at(&mut requests, Some(1))
+        && answers_at(&mut requests, None)
+}
+
+// Whether a Closed for the second request counts at this place.
+fn answers_at(requests: &mut Requests, place: Option<usize>) -> bool {
+    if requests.counts_at(9, &closed(7, 2)) != place {
+        return false;
+    }
+    match requests.answer(9, &closed(7, 2), 6) {
+        Ok(found) => found == place,
+        Err(_) => false,
+    }
+}
+
+#[test]
+fn an_answer_counts_once(rt: HostRuntime) {
+    assert!(rt; counts_once(rt.alloc()));
+}
+
+// Whether a request is recorded and sent again after five seconds, where a call that was refused memory changes nothing and is made
+// again.
+fn is_recorded_and_sent(alloc: Global) -> bool {
+    let mut requests = Requests::new(alloc, 7, 0);
+    if requests.ask(9, Asked::Holdings).is_err() {
+        if requests.outgoing_len() != 0 || requests.ask(9, Asked::Holdings).is_err() {
+            return false;
+        }
+    }
+    if requests.tick(5).is_err() {
+        if requests.outgoing_len() != 1 || requests.tick(5).is_err() {
+            return false;
+        }
+    }
+    requests.outgoing_len() == 2
+        && requests.outstanding() == 1
+        && keeps_answer(alloc, &mut requests)
+}
+
+// Whether a Have with one share is kept as the answer to the first request, where a call that was refused memory is made again.
+fn keeps_answer(alloc: Global, requests: &mut Requests) -> bool {
+    let Some(message) = have(alloc) else {
+        return true;
+    };
+    for _ in 0..2 {
+        if let Ok(place) = requests.answer(9, &message, 6) {
+            return place == Some(0) && requests.outstanding() == 0;
+        }
+    }
+    false
+}
+
+fn have(alloc: Global) -> Option<Message> {
+    let share = HeldShare {
+        share: 3,
+        digest: [5; 32],
+    };
+    let held = HeldList::from_vec(vec![in alloc; share].ok()?)?;
+    Some(Message {
+        session: 7,
+        number: 1,
+        body: Body::Have(true, held),
+    })
+}
+
+#[test]
+fn refused_memory_in_a_record(rt: HostRuntime) {
+    assert!(rt; is_recorded_and_sent(rt.alloc()));
+}
+
+// Which answers fit a request: Have, Granted, Already, Busy, Full, Wrote, WrongOffset, Closed, NotComplete, Data, NoShare.
+fn answer_kinds(alloc: Global) -> Option<Vec<Body>> {
+    let held = HeldList::from_vec(Vec::new(alloc))?;
+    let data = ReadData::from_vec(Vec::new(alloc))?;
+    let kinds = vec![in alloc;
+        Body::Have(true, held),
+        Body::Granted,
+        Body::Already([1; 32]),
+        Body::Busy,
+        Body::Full,
+        Body::Wrote(1),
+        Body::WrongOffset(1),
+        Body::Closed([1; 32]),
+        Body::NotComplete(1),
+        Body::Data(data),
+        Body::NoShare,
+        Body::Ask([0; 16]),
+    ];
+    kinds.ok()
+}
+
+// Whether just the kinds marked `y` fit.
+fn fit(asked: &Asked, kinds: &[Body], fitting: &str) -> bool {
+    let mut fit = kinds.len() == fitting.len();
+    for (body, mark) in kinds.iter().zip(fitting.chars()) {
+        fit &= asked.fits(body) == (mark == 'y');
+    }
+    fit
+}
+
+#[test]
+fn fitting_kinds(rt: HostRuntime) {
+    let (Some(kinds), Some(length), Some(piece)) = (
+        answer_kinds(rt.alloc()),
+        ShareLength::new(9),
+        ReadLength::new(9),
+    ) else {
+        assert!(rt; false);
+        return;
+    };
+    for (asked, fitting) in [
+        (Asked::Holdings, "y..........."),
+        (Asked::Allocation(1, length), ".yyyy......."),
+        (Asked::Writing(1, 0, 9), "..y..yy...y."),
+        (Asked::Closing(1), ".......yy.y."),
+        (Asked::Reading(1, 0, piece), ".........yy."),
+        (Asked::Aborting(1), "............"),
+    ] {
+        assert!(rt; fit(&asked, &kinds, fitting), "{fitting}");
+    }
+}
