@@ -1,16 +1,16 @@
 # Read by the scripts of benchmarks, which set `here` to their own folder and call
 #
-#     prepare LIBRARIES CRATE..
+#     prepare LIBRARIES
 #
-# It makes a folder for one run, with these crates of the repository and, as the crate `bench` over these libraries, the benchmark's
-# sources, which end in .txt so that they are no part of the crates here. It goes to that crate, and the folder is removed at the end.
+# It makes a folder for one run, with the crates of the repository that these libraries are or stand on
+# and, as the crate `bench` over these libraries, the benchmark's sources, which end in .txt so that they
+# are no part of the crates here. It goes to that crate, and the folder is removed at the end.
 prepare() {
     libraries=$1
-    shift
     root=$(cd "$here/../.." && pwd)
     work=$(mktemp -d)
     trap 'rm -rf "$work"' EXIT
-    for name in "$@"; do
+    for name in $(crates_below $libraries); do
         mkdir -p "$work/crates/$name"
         (cd "$root/crates/$name" && tar cf - --exclude=./out .) | tar xf - -C "$work/crates/$name"
         grep "^$name:" "$root/crates.txt" >> "$work/crates.txt"
@@ -22,4 +22,19 @@ prepare() {
     done
     (cd "$work" && git init -q .)
     cd "$work/crates/bench"
+}
+
+# The crates of the repository that these libraries are or stand on.
+crates_below() {
+    awk -F: -v libraries="$*" '
+        function visit(crate,    i, count, below) {
+            if (!(crate in deps) || crate in seen) return
+            seen[crate] = 1
+            count = split(deps[crate], below, " ")
+            for (i = 1; i <= count; i++) visit(below[i])
+            print crate
+        }
+        !/^#/ && NF > 1 { deps[$1] = $2 }
+        END { count = split(libraries, all, " "); for (i = 1; i <= count; i++) visit(all[i]) }' \
+        "$root/crates.txt"
 }

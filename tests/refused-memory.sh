@@ -1,51 +1,57 @@
 #!/bin/sh
-# What the commands and the crates below them do where memory is refused, or a file's read or write fails, at each call in turn.
+# What the commands and the crates below them do where memory is refused, or a file's read or write
+# fails, at each call in turn.
 #
-#     tests/refused-memory.sh [PROGRAM [TESTS]]
+#     tests/refused-memory.sh [PROGRAM]
 #
-# PROGRAM is the built program, TESTS the built tests of crates/grid_tests. Without them those of this repository are taken, and first
-# built where they are missing or older than a source: the tests take up to half an hour. Run by hand: once both are built it takes
-# a few minutes, and needs a C compiler `cc` and glibc. No proof speaks of what is seen here: that the programs as they were built
-# tell each such failure.
+# PROGRAM is the built program. Without it that of this repository is taken, and first built where it is
+# missing or older than a source; so are the tests of all crates. Run by hand: once they are built it
+# takes a few minutes, and needs a C compiler `cc` and glibc. No proof speaks of what is seen here: that
+# the programs as they were built tell each such failure.
 #
-# A file of 56 bytes is put and got at 1 of 1 and at 3 of 10. Once as it is; then the first call fails, then the second alone, and so
-# on to a run that makes no such call any more:
-#   memory  malloc, calloc, realloc, reallocarray, memalign, aligned_alloc, posix_memalign: the run ends with status 7 and the line
-#           `grid: 1 OutOfMemory` on standard error, and nothing on standard output; or exactly as without.
-#   files   open, read, write, rename, mkdir, stat, the reading of folders and their like, which answer EIO: the run ends with status
-#           7 and `grid: 90 FileFault PATH`; with status 7 alone where the write to standard output itself failed; or exactly as
-#           without. At 1 of 1, `get` may also end with status 5 and `grid: 71 NotEnoughShares` where the call was on a server's
-#           folder: what a server does not give counts as not there.
-# After each `put` a file under a closed name is, byte by byte, the share that stands there without a fault.
+# A file of 56 bytes is put and got at 1 of 1 and at 3 of 10. Once as it is; then the first call fails,
+# then the second alone, and so on to a run that makes no such call any more:
+#   memory  malloc, calloc, realloc, reallocarray, memalign, aligned_alloc, posix_memalign: the run ends
+#           with status 7 and the line `grid: 1 OutOfMemory` on standard error, and nothing on standard
+#           output; or exactly as without.
+#   files   open, read, write, rename, mkdir, stat, the reading of folders and their like, which answer
+#           EIO: the run ends with status 7 and `grid: 90 FileFault PATH`; with status 7 alone where the
+#           write to standard output itself failed; or exactly as without. At 1 of 1, `get` may also end
+#           with status 5 and `grid: 71 NotEnoughShares` where the call was on a server's folder: what a
+#           server does not give counts as not there.
+# After each `put` a file under a closed name is, byte by byte, the share that stands there without a
+# fault.
 #
-# Each test whose name begins with `refused_memory_` is run alone in the same way, with one allocation after another refused. Such a
-# test passes where the calls that it makes tell that memory is out, or answer as they do without; a run that fails counts.
+# Each test whose name begins with `refused_memory_` is run alone in the same way, with one allocation
+# after another refused. Such a test passes where the calls that it makes tell that memory is out, or
+# answer as they do without; a run that fails counts.
 #
-# The last line counts the runs and those that differed. The status is 0 where none did, else 1; 2 where nothing could be run.
+# The last line counts the runs and those that differed. The status is 0 where none did, else 1; 2 where
+# nothing could be run.
 
 here=$(cd "$(dirname "$0")/.." && pwd) || exit 2
 program=${1:-$here/crates/grid_main/out/grid_main}
-tests=${2:-$here/crates/grid_tests/out/grid_tests_tests}
+test_crates='base_tests text_tests file_tests protocol_tests command_tests'
 
-# Whether the built tests are missing, or older than a source.
+# Whether a crate's built tests are missing, or older than a source.
 are_tests_old() {
-    [ ! -x "$tests" ] || [ -n "$(find "$here/crates.txt" "$here/crates" -name out -prune -o \
-        \( -name '*.rt' -o -name '*.antt' -o -name crates.txt \) -newer "$tests" -print | head -n 1)" ]
+    [ ! -x "$1" ] || [ -n "$(find "$here/crates.txt" "$here/crates" -name out -prune -o \
+        \( -name '*.rt' -o -name '*.antt' -o -name crates.txt \) -newer "$1" -print | head -n 1)" ]
 }
 
 if [ $# = 0 ]; then
-    "$here/grid" --help > /dev/null || exit 2
+    "$here/grid" cap URI:LIT: > /dev/null || exit 2
 fi
-if [ $# -lt 2 ] && are_tests_old; then
-    echo "proving and building the tests; this takes up to half an hour" >&2
-    (cd "$here/crates/grid_tests" && rt test) >&2 || exit 2
-    touch "$tests"
-fi
-for built in "$program" "$tests"; do
-    [ -x "$built" ] || { echo "$built: no program" >&2; exit 2; }
+for crate in $test_crates; do
+    tests=$here/crates/$crate/out/${crate}_tests
+    if are_tests_old "$tests"; then
+        echo "proving and building $crate" >&2
+        (cd "$here/crates/$crate" && rt test) >&2 || exit 2
+        touch "$tests"
+    fi
 done
+[ -x "$program" ] || { echo "$program: no program" >&2; exit 2; }
 case $program in /*) ;; *) program=$PWD/$program ;; esac
-case $tests in /*) ;; *) tests=$PWD/$tests ;; esac
 
 room=$(mktemp -d) || exit 2
 trap 'rm -rf "$room"' EXIT
@@ -59,8 +65,8 @@ while [ $i -lt 56 ]; do printf '\000'; i=$((i + 1)); done > file
 runs=0
 differed=0
 
-# Runs a program with these words; of the calls of kind $1, call $2 fails. The folders that an ended test left are removed: they are
-# named by its process.
+# Runs a program with these words; of the calls of kind $1, call $2 fails. The folders that an ended
+# test left are removed: they are named by its process.
 run() {
     of=$1 at=$2
     shift 2
@@ -104,8 +110,8 @@ is_whole() {
     done < names
 }
 
-# Counts the runs of a command or a test of which call after call failed: up to call $at, which no run made any more, of which $wrong
-# runs ended otherwise than they may.
+# Counts the runs of a command or a test of which call after call failed: up to call $at, which no run
+# made any more, of which $wrong runs ended otherwise than they may.
 count() {
     runs=$((runs + at - 1))
     differed=$((differed + wrong))
@@ -179,10 +185,12 @@ for numbers in '1 1' '3 10'; do
     each files get "$needed" "$total"
 done
 
-"$tests" --list | sed -n 's/^\(.*::refused_memory_[^:]*\): test$/\1/p' > chosen
-[ -s chosen ] || { echo "$tests has no test whose name begins with refused_memory_"; differed=$((differed + 1)); }
-while read -r name; do
-    each_of_test "$name" < /dev/null
-done < chosen
+for crate in $test_crates; do
+    tests=$here/crates/$crate/out/${crate}_tests
+    "$tests" --list | sed -n 's/^\(.*::refused_memory_[^:]*\): test$/\1/p' > chosen
+    while read -r name; do
+        each_of_test "$name" < /dev/null
+    done < chosen
+done
 echo "$runs runs, $differed differed"
 [ $differed = 0 ]

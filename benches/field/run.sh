@@ -3,5 +3,5 @@
 set -e
 here=$(cd "$(dirname "$0")" && pwd)
 . "$here/../prepare.sh"
-prepare "gf256 zfec_code" gf256 zfec_code
+prepare "gf256 zfec_code"
 rt run "$@"

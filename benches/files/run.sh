@@ -1,11 +1,10 @@
 #!/bin/sh
-# Proves and runs the benchmark of whole files, in a folder of its own. It is built and run as `grid` builds and runs its program: for
-# the processor of this machine, and with huge pages.
+# Proves and runs the benchmark of whole files, in a folder of its own. It is built and run as `grid`
+# builds and runs its program: for the processor of this machine, and with huge pages.
 set -e
 here=$(cd "$(dirname "$0")" && pwd)
 . "$here/../prepare.sh"
-prepare "tagged_hash cap_text file_encoding sha2" \
-    tagged_hash aes_ctr gf256 zfec_code merkle cap_text ueb share_layout share_verify file_encoding
+prepare "tagged_hash cap_text file_encoding sha2"
 export GLIBC_TUNABLES="glibc.malloc.hugetlb=1${GLIBC_TUNABLES:+:$GLIBC_TUNABLES}"
 echo "Each run takes fresh memory from the system:"
 rt run --cpu "$("$root/processor")"

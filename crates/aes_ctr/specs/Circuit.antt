@@ -1,9 +1,12 @@
--- Circuits of exclusive ors and ands, and the one of Boyar and Peralta for the byte substitution (A depth-16 circuit for the AES S-box,
+-- Circuits of exclusive ors and ands, and the one of Boyar and Peralta for the byte substitution (A
+-- depth-16 circuit for the AES S-box,
 -- 2012), in four steps.
-use Rattle.std.specs.Prelude.{ℕ, ◌+◌, ◌%◌, List, [], ◌∷◌, bit_and, bit_xor, min, replicate, slice_index, slice_index_or}
+use Rattle.std.specs.Prelude.{ℕ, ◌+◌, ◌%◌, List, [], ◌∷◌, bit_and, bit_xor, min, replicate}
+use Rattle.std.specs.Prelude.{slice_index, slice_index_or}
 use Rattle.std.specs.Simd.Lanes.{zip2}
 
--- what goes into a step, by its place, and what was made of it before; a bit that is always set; the exclusive or; the and
+-- what goes into a step, by its place, and what was made of it before; a bit that is always set;
+-- the exclusive or; the and
 pub data Gate : Type 0 where
   wire : ℕ → Gate
   inner : ℕ → Gate
@@ -61,7 +64,8 @@ sums =
     let y16 : Gate = sum t0 y11 in
     let y21 : Gate = sum y13 y16 in
     let y18 : Gate = sum x0 y16 in
-    y1 ∷ y2 ∷ y3 ∷ y4 ∷ y5 ∷ y6 ∷ y7 ∷ y8 ∷ y9 ∷ y10 ∷ y11 ∷ y12 ∷ y13 ∷ y14 ∷ y15 ∷ y16 ∷ y17 ∷ y18 ∷ y19 ∷ y20 ∷ y21 ∷ x7 ∷ []
+    y1 ∷ y2 ∷ y3 ∷ y4 ∷ y5 ∷ y6 ∷ y7 ∷ y8 ∷ y9 ∷ y10 ∷ y11 ∷ y12 ∷ y13 ∷ y14 ∷ y15 ∷ y16 ∷ y17 ∷ y18
+    ∷ y19 ∷ y20 ∷ y21 ∷ x7 ∷ []
 
 -- four bits, made of their products
 abbrev pub products : List Gate

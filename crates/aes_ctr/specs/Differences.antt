@@ -1,4 +1,5 @@
--- The counters 0 to 255 in sixteen groups of sixteen, as slices after their first round, each kept as what it differs by from the first group.
+-- The counters 0 to 255 in sixteen groups of sixteen, as slices after their first round, each kept
+-- as what it differs by from the first group.
 use Rattle.std.specs.Prelude.{◌≡◌, ◌<◌, ℕ, ◌+◌, ◌*◌, List, [], slice_index_or}
 use Rattle.std.specs.Int.{w128, to_be_bytes}
 use Rattle.aes_ctr.specs.Aes.{rounds, xor_bytes}
@@ -11,7 +12,8 @@ counter_round key n = rounds key (to_be_bytes w128 n) 1
 -- group g
 pub record IsDifference (key : List ℕ) (g : ℕ) (slices : List (List ℕ)) : Type 0 where
   pub are : AreSlices slices
-  pub blocks : (j : ℕ) → j < 16 → block_in slices j ≡ xor_bytes (counter_round key (16 * g + j)) (counter_round key j)
+  pub blocks : (j : ℕ) → j < 16
+      → block_in slices j ≡ xor_bytes (counter_round key (16 * g + j)) (counter_round key j)
 
 -- all sixteen
 abbrev pub AreDifferences : List ℕ → List (List (List ℕ)) → Type 0

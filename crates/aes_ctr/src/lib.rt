@@ -1,16 +1,18 @@
 //! AES-128 (FIPS 197) in counter mode (NIST SP 800-38A, 6.5).
 //!
 //! The key stream is the encrypted counters 0, 1, 2, .., each a block of 16 bytes, high byte first;
-//! so any part of a text can be encrypted or decrypted alone, by its place in the text. No call takes
-//! memory.
+//! so any part of a text can be encrypted or decrypted alone, by its place in the text. No call
+//! takes memory.
 //!
-//! Sixteen blocks are encrypted at once, cut into slices of one bit of each byte, by exclusive ors, ands and moves
-//! of whole vectors of 32 bytes alone: no look-up and no branch depends on the key or the text. In a long text, how the first
-//! round of a counter changes with its last byte is computed once for all. That is how the code is written, and nothing is proved
-//! of the time that a call takes.
+//! Sixteen blocks are encrypted at once, cut into slices of one bit of each byte, by exclusive ors,
+//! ands and moves of whole vectors of 32 bytes alone: no look-up and no branch depends on the key
+//! or the text. In a long text, how the first round of a counter changes with its last byte is
+//! computed once for all. That is how the code is written, and nothing is proved of the time that a
+//! call takes.
 #![tactic(auto)]
 
-ghost use Rattle.std.specs.Prelude.{◌≡◌, ◌+◌, ◌*◌, ◌/◌, ◌%◌, ◌<◌, ◌≤◌, ◌^◌, ℕ, List, [], length, bit_xor, slice_index, slice_index_or};
+ghost use Rattle.std.specs.Prelude.{◌≡◌, ◌+◌, ◌*◌, ◌/◌, ◌%◌, ◌<◌, ◌≤◌, ◌^◌, ℕ, List, [], length};
+ghost use Rattle.std.specs.Prelude.{bit_xor, slice_index, slice_index_or};
 ghost use Rattle.aes_ctr.specs.Aes.{AreKeys, encrypted, round_key, rounds, xor_bytes};
 ghost use Rattle.aes_ctr.specs.CounterMode.{stream_byte, xored_from};
 ghost use Rattle.aes_ctr.specs.Slices.{AreSlices, block_in};
@@ -30,7 +32,8 @@ mod substitution;
 // How many bytes of the key stream are made at once: sixteen blocks of 16.
 const STREAM_LEN: usize = 256;
 
-// How many such pieces make a stretch of the stream: its 256 counters differ in their last byte alone.
+// How many such pieces make a stretch of the stream: its 256 counters differ in their last byte
+// alone.
 const GROUPS: usize = 16;
 
 // How many bytes a stretch has.
@@ -88,7 +91,8 @@ impl Aes128 {
         }
     }
 
-    // The same, stretch by stretch, with a table of the differences that a counter's last byte makes after the first round.
+    // The same, stretch by stretch, with a table of the differences that a counter's last byte
+    // makes after the first round.
     fn xor_stretches(&self, offset: u64, text: &mut [u8])
         requires { offset + length text.old < 2 ^ 64 }
         ensures { text.new ≡ xored_from self.now offset text.old }
@@ -133,7 +137,8 @@ impl Aes128 {
         }
     }
 
-    // For each group of sixteen counters below 256, what its first round differs by from that of the first group.
+    // For each group of sixteen counters below 256, what its first round differs by from that of
+    // the first group.
     fn differences(&self) -> [Slices; GROUPS]
         ensures { AreDifferences self.now result }
     {
@@ -180,7 +185,8 @@ impl Aes128 {
     // Piece `index` of the key stream: what it makes of zeros.
     fn stream(&self, index: u64) -> [u8; STREAM_LEN]
         requires { index < 2 ^ 56 }
-        ensures { (k : ℕ) → k < STREAM_LEN → slice_index result k ≡ stream_byte self.now (STREAM_LEN * index + k) }
+        ensures { (k : ℕ) → k < STREAM_LEN
+            → slice_index result k ≡ stream_byte self.now (STREAM_LEN * index + k) }
     {
         let mut bytes = [0; STREAM_LEN];
         self.xor_piece(index, &mut bytes);
@@ -196,11 +202,13 @@ impl Aes128 {
         self.add_stream(self.first_round(counters(index)), piece);
     }
 
-    // Adds the key stream of sixteen counters to a piece of the text, straight from the vectors. `state` is the counters after their first round.
+    // Adds the key stream of sixteen counters to a piece of the text, straight from the vectors.
+    // `state` is the counters after their first round.
     fn add_stream(&self, state: Slices, piece: &mut [u8])
         requires slices { AreSlices state }
         requires whole { length piece.old ≡ STREAM_LEN }
-        ensures { (index : ℕ) → ((j : ℕ) → j < 16 → block_in state j ≡ counter_round self.now (16 * index + j))
+        ensures { (index : ℕ)
+            → ((j : ℕ) → j < 16 → block_in state j ≡ counter_round self.now (16 * index + j))
             → piece.new ≡ xored_from self.now (STREAM_LEN * index) piece.old }
     {
         let vectors = transposed(self.later_rounds(state));
@@ -214,7 +222,8 @@ impl Aes128 {
     fn first_round(&self, blocks: Slices) -> Slices
         requires { AreSlices blocks }
         ensures slices { AreSlices result }
-        ensures blocks { (j : ℕ) → j < 16 → block_in result j ≡ rounds self.now (block_in blocks j) 1 }
+        ensures blocks { (j : ℕ) → j < 16
+            → block_in result j ≡ rounds self.now (block_in blocks j) 1 }
     {
         round(add(blocks, self.keys[0].slices()), self.keys[1].slices())
     }
@@ -224,7 +233,9 @@ impl Aes128 {
     fn later_rounds(&self, first: Slices) -> Slices
         requires { AreSlices first }
         ensures slices { AreSlices result }
-        ensures blocks { (j : ℕ) (block : List ℕ) → j < 16 → block_in first j ≡ rounds self.now block 1 → block_in result j ≡ encrypted self.now block }
+        ensures blocks { (j : ℕ) (block : List ℕ) → j < 16
+            → block_in first j ≡ rounds self.now block 1
+            → block_in result j ≡ encrypted self.now block }
     {
         let mut state = first;
         'rounds: for r in 2..10 {
@@ -241,8 +252,11 @@ fn add_vector(text: &mut [u8], at: usize, vector: u8x32)
     requires within { at + VECTOR_LEN ≤ length text.old }
     requires long { length vector ≡ VECTOR_LEN }
     ensures below { (k : ℕ) → k < at → slice_index text.new k ≡ slice_index text.old k }
-    ensures added { (i : ℕ) → i < VECTOR_LEN → slice_index text.new (at + i) ≡ bit_xor (slice_index text.old (at + i)) (slice_index vector i) }
-    ensures above { (k : ℕ) → at + VECTOR_LEN ≤ k → slice_index text.new k ≡ slice_index text.old k }
+    ensures added { (i : ℕ) → i < VECTOR_LEN
+        → slice_index text.new (at + i)
+        ≡ bit_xor (slice_index text.old (at + i)) (slice_index vector i) }
+    ensures above { (k : ℕ) → at + VECTOR_LEN ≤ k
+        → slice_index text.new k ≡ slice_index text.old k }
 {
     let sum = u8x32::from_slice(&text[at..]) ^ vector;
     sum.copy_to_slice(&mut text[at..]);

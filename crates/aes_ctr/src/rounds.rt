@@ -15,7 +15,8 @@ pub(crate) fn round(slices: Slices, key: Slices) -> Slices
     requires slices { AreSlices slices }
     requires key { AreSlices key }
     ensures slices { AreSlices result }
-    ensures blocks { (j : ℕ) → j < 16 → block_in result j ≡ round (block_in key j) (block_in slices j) }
+    ensures blocks { (j : ℕ) → j < 16
+        → block_in result j ≡ round (block_in key j) (block_in slices j) }
 {
     add(mixed(shifted(substituted(slices))), key)
 }
@@ -26,7 +27,8 @@ pub(crate) fn last_round(slices: Slices, key: Slices) -> Slices
     requires slices { AreSlices slices }
     requires key { AreSlices key }
     ensures slices { AreSlices result }
-    ensures blocks { (j : ℕ) → j < 16 → block_in result j ≡ last_round (block_in key j) (block_in slices j) }
+    ensures blocks { (j : ℕ) → j < 16
+        → block_in result j ≡ last_round (block_in key j) (block_in slices j) }
 {
     add(shifted(substituted(slices)), key)
 }
@@ -84,7 +86,8 @@ fn shifted_slice(slice: u8x32) -> u8x32
     ])
 }
 
-// Each column times the matrix of MixColumns: twice the sum of a byte and the one below it, with the other three added.
+// Each column times the matrix of MixColumns: twice the sum of a byte and the one below it, with
+// the other three added.
 #[inline(always)]
 fn mixed(slices: Slices) -> Slices
     requires { AreSlices slices }

@@ -1,14 +1,17 @@
 // Sixteen blocks side by side, a bit of each byte in each of eight slices.
 
-ghost use Rattle.std.specs.Prelude.{◌≡◌, ◌+◌, ◌-◌, ◌*◌, ◌%◌, ◌/◌, ◌^◌, ◌<◌, ◌==◌, ◌∷◌, ◌++◌, if◌then◌else◌, ℕ, [], length, replicate, slice_index, slice_index_or, bit_and};
+ghost use Rattle.std.specs.Prelude.{◌≡◌, ◌+◌, ◌-◌, ◌*◌, ◌%◌, ◌/◌, ◌^◌, ◌<◌, ◌==◌, ◌∷◌, ◌++◌};
+ghost use Rattle.std.specs.Prelude.{if◌then◌else◌, ℕ, [], length, replicate, slice_index};
+ghost use Rattle.std.specs.Prelude.{slice_index_or, bit_and};
 ghost use Rattle.std.specs.Simd.Lanes.{Each1};
 ghost use Rattle.std.specs.Int.{w128, bit_at, to_be_bytes};
 ghost use Rattle.aes_ctr.specs.Slices.{AreSlices, block_in};
 
 use std::simd::prelude::*;
 
-// Slice i has bit i of each byte. The even blocks are in the low halves of the slices and the odd ones in the high halves, so
-// that byte p of a half has as its bit j what byte p of the half's block j has.
+// Slice i has bit i of each byte. The even blocks are in the low halves of the slices and the odd
+// ones in the high halves, so that byte p of a half has as its bit j what byte p of the half's
+// block j has.
 pub(crate) type Slices = [u8x32; 8];
 
 // The same block sixteen times.
@@ -48,7 +51,8 @@ fn twice(block: u8x16) -> u8x32
 #[inline(always)]
 fn spread<const BIT: u8>(both: u8x32) -> u8x32
     ensures long { length result ≡ 32 }
-    ensures lanes { (q : ℕ) → q < 32 → slice_index result q ≡ (if bit_and (slice_index both q) BIT == BIT then 255 else 0) }
+    ensures lanes { (q : ℕ) → q < 32
+        → slice_index result q ≡ (if bit_and (slice_index both q) BIT == BIT then 255 else 0) }
 {
     let bit = u8x32::splat(BIT);
     (both & bit)
@@ -98,12 +102,14 @@ pub(crate) fn first_block(slices: Slices) -> [u8; 16]
     first.extract::<0, 16>().to_array()
 }
 
-// The sixteen blocks, one after the other, two in each vector: the bits of the slices, transposed by exchanges of halves.
+// The sixteen blocks, one after the other, two in each vector: the bits of the slices, transposed
+// by exchanges of halves.
 #[inline(always)]
 pub(crate) fn transposed(slices: Slices) -> Slices
     requires { AreSlices slices }
     ensures slices { AreSlices result }
-    ensures blocks { (t : ℕ) → t < 8 → slice_index_or result t [] ≡ block_in slices (2 * t) ++ block_in slices (2 * t + 1) }
+    ensures blocks { (t : ℕ) → t < 8
+        → slice_index_or result t [] ≡ block_in slices (2 * t) ++ block_in slices (2 * t + 1) }
 {
     let [q0, q1, q2, q3, q4, q5, q6, q7] = slices;
     let (q0, q1) = exchanged_1(q0, q1);
@@ -125,11 +131,14 @@ pub(crate) fn transposed(slices: Slices) -> Slices
 #[inline(always)]
 fn exchanged_1(low: u8x32, high: u8x32) -> (u8x32, u8x32)
     ensures long { (length result.0 ≡ 32) × (length result.1 ≡ 32) }
-    ensures bytes { (q : ℕ) → q < 32 → (slice_index result.0 q < 256) × (slice_index result.1 q < 256) }
+    ensures bytes { (q : ℕ) → q < 32
+        → (slice_index result.0 q < 256) × (slice_index result.1 q < 256) }
     ensures first { (q b : ℕ) → q < 32 → b < 8 → bit_at (slice_index result.0 q) b
-        ≡ (if b % 2 == 0 then bit_at (slice_index low q) b else bit_at (slice_index high q) (b - 1)) }
+        ≡ (if b % 2 == 0 then bit_at (slice_index low q) b
+        else bit_at (slice_index high q) (b - 1)) }
     ensures second { (q b : ℕ) → q < 32 → b < 8 → bit_at (slice_index result.1 q) b
-        ≡ (if b % 2 == 0 then bit_at (slice_index low q) (b + 1) else bit_at (slice_index high q) b) }
+        ≡ (if b % 2 == 0 then bit_at (slice_index low q) (b + 1)
+        else bit_at (slice_index high q) b) }
 {
     let even = u8x32::splat(0b0101_0101);
     let odd = u8x32::splat(0b1010_1010);
@@ -143,11 +152,14 @@ fn exchanged_1(low: u8x32, high: u8x32) -> (u8x32, u8x32)
 #[inline(always)]
 fn exchanged_2(low: u8x32, high: u8x32) -> (u8x32, u8x32)
     ensures long { (length result.0 ≡ 32) × (length result.1 ≡ 32) }
-    ensures bytes { (q : ℕ) → q < 32 → (slice_index result.0 q < 256) × (slice_index result.1 q < 256) }
+    ensures bytes { (q : ℕ) → q < 32
+        → (slice_index result.0 q < 256) × (slice_index result.1 q < 256) }
     ensures first { (q b : ℕ) → q < 32 → b < 8 → bit_at (slice_index result.0 q) b
-        ≡ (if b / 2 % 2 == 0 then bit_at (slice_index low q) b else bit_at (slice_index high q) (b - 2)) }
+        ≡ (if b / 2 % 2 == 0 then bit_at (slice_index low q) b
+        else bit_at (slice_index high q) (b - 2)) }
     ensures second { (q b : ℕ) → q < 32 → b < 8 → bit_at (slice_index result.1 q) b
-        ≡ (if b / 2 % 2 == 0 then bit_at (slice_index low q) (b + 2) else bit_at (slice_index high q) b) }
+        ≡ (if b / 2 % 2 == 0 then bit_at (slice_index low q) (b + 2)
+        else bit_at (slice_index high q) b) }
 {
     let even = u8x32::splat(0b0011_0011);
     let odd = u8x32::splat(0b1100_1100);
@@ -161,11 +173,14 @@ fn exchanged_2(low: u8x32, high: u8x32) -> (u8x32, u8x32)
 #[inline(always)]
 fn exchanged_4(low: u8x32, high: u8x32) -> (u8x32, u8x32)
     ensures long { (length result.0 ≡ 32) × (length result.1 ≡ 32) }
-    ensures bytes { (q : ℕ) → q < 32 → (slice_index result.0 q < 256) × (slice_index result.1 q < 256) }
+    ensures bytes { (q : ℕ) → q < 32
+        → (slice_index result.0 q < 256) × (slice_index result.1 q < 256) }
     ensures first { (q b : ℕ) → q < 32 → b < 8 → bit_at (slice_index result.0 q) b
-        ≡ (if b / 4 % 2 == 0 then bit_at (slice_index low q) b else bit_at (slice_index high q) (b - 4)) }
+        ≡ (if b / 4 % 2 == 0 then bit_at (slice_index low q) b
+        else bit_at (slice_index high q) (b - 4)) }
     ensures second { (q b : ℕ) → q < 32 → b < 8 → bit_at (slice_index result.1 q) b
-        ≡ (if b / 4 % 2 == 0 then bit_at (slice_index low q) (b + 4) else bit_at (slice_index high q) b) }
+        ≡ (if b / 4 % 2 == 0 then bit_at (slice_index low q) (b + 4)
+        else bit_at (slice_index high q) b) }
 {
     let even = u8x32::splat(0b0000_1111);
     let odd = u8x32::splat(0b1111_0000);

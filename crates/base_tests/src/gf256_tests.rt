@@ -54,7 +54,8 @@ fn sample(step: u8) -> [u8; 65] {
     bytes
 }
 
-// The lengths at which vectors of 16 bytes begin, end and leave a rest; what stands behind is left alone.
+// The lengths at which vectors of 16 bytes begin, end and leave a rest; what stands behind is left
+// alone.
 #[test]
 fn each_length_is_as_the_plain_loop_has_it(rt: HostRuntime) -> Result<(), Fail> {
     let source = sample(37);

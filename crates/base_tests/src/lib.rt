@@ -1,5 +1,5 @@
-//! The tests of hashes, cipher, field, code, trees and placement: what no contract says, values from
-//! outside, and calls on their happy paths.
+//! The tests of hashes, cipher, field, code, trees and placement: what no contract says, values
+//! from outside, and calls on their happy paths.
 #![tactic(auto)]
 
 #[cfg(test)]

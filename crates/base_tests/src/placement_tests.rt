@@ -1,5 +1,5 @@
-// Orders that Python's hashlib computed, worked placements, and all graphs of four servers and four shares against a search that
-// tries each matching.
+// Orders that Python's hashlib computed, worked placements, and all graphs of four servers and four
+// shares against a search that tries each matching.
 
 ghost use Rattle.std.specs.Prelude.{◌≤◌};
 
@@ -101,7 +101,8 @@ fn plans_where_nothing_is_held(rt: HostRuntime) -> Result<(), Fail> {
     Ok(())
 }
 
-// Whether seven servers are ordered, and three pairs matched, each right where memory is not refused.
+// Whether seven servers are ordered, and three pairs matched, each right where memory is not
+// refused.
 fn places_or_is_refused(alloc: Global) -> bool {
     let is_ordered = match order(alloc, &[0; 16], &SERVER_IDS) {
         Ok(places) => places.as_slice() == [2, 0, 3, 1, 6, 4, 5].as_slice(),
@@ -157,7 +158,8 @@ fn number_of_the_refusal(rt: HostRuntime) {
     assert!(rt; PlacementError::OutOfMemory.number() == 1);
 }
 
-// A graph is a number: its bit 4 s + h says that server s holds share h. These are the pairs of each server, and of each share.
+// A graph is a number: its bit 4 s + h says that server s holds share h. These are the pairs of
+// each server, and of each share.
 const SERVERS: [u16; 4] = [0x000f, 0x00f0, 0x0f00, 0xf000];
 
 const SHARES: [u16; 4] = [0x1111, 0x2222, 0x4444, 0x8888];

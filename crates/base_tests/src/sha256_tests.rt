@@ -1,5 +1,6 @@
-// SHA-256 by published values: NIST's examples to FIPS 180-4, of one block and of two, and the empty message
-// of its test vectors. Beside them the tagged hashes, as SHA-256 applied twice to inputs written by hand.
+// SHA-256 by published values: NIST's examples to FIPS 180-4, of one block and of two, and the
+// empty message of its test vectors. Beside them the tagged hashes, as SHA-256 applied twice to
+// inputs written by hand.
 
 use sha2::{Digest, Sha256};
 use tagged_hash::{Tag, TaggedHasher, pair, tagged};

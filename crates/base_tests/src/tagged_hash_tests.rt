@@ -1,5 +1,5 @@
-// The hashes against values that Python's hashlib computed, and the keys and hashes of files against
-// encodings that were computed apart from this code.
+// The hashes against values that Python's hashlib computed, and the keys and hashes of files
+// against encodings that were computed apart from this code.
 
 use aes_ctr::Aes128;
 use std::test::Fail;
@@ -80,7 +80,8 @@ fn keeps_the_secret_and_the_encoding_in_the_key(rt: HostRuntime) {
     assert!(rt; hasher.finish() == key);
 }
 
-// Three files of one segment: 56 zero bytes as 1 of 1, and the bytes 0, 1, 2, .., counted modulo 251,
+// Three files of one segment: 56 zero bytes as 1 of 1, and the bytes 0, 1, 2, .., counted modulo
+// 251,
 // 56 of them as 3 of 10 and 256 of them as 256 of 256.
 #[test]
 fn keys_and_hashes_of_files(rt: HostRuntime) -> Result<(), Fail> {

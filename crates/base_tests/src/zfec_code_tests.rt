@@ -3,7 +3,8 @@
 use std::alloc::Global;
 use zfec_code::{Code, CodeError};
 
-// Share values of the matrix that zfec makes of the field modulo 0x11D: k, n, column, share and value.
+// Share values of the matrix that zfec makes of the field modulo 0x11D: k, n, column, share and
+// value.
 const SHARES: [(u16, u16, &[u8], u16, u8); 11] = [
     (2, 4, &[0x01, 0x02], 0, 0x01),
     (2, 4, &[0x01, 0x02], 1, 0x02),
@@ -29,7 +30,8 @@ fn shares_have_the_known_values(rt: HostRuntime) -> Result<(), CodeError> {
     Ok(())
 }
 
-// The number of the refusal of shares of two of four, which leaves `out` as it was; 0 where they decode to the blocks 01 and 02, and
+// The number of the refusal of shares of two of four, which leaves `out` as it was; 0 where they
+// decode to the blocks 01 and 02, and
 // 255 where they do otherwise.
 fn decoded(alloc: Global, shares: &[(u16, &[u8])]) -> u8 {
     let Ok(code) = Code::new(alloc, 2, 4) else {

@@ -1,7 +1,9 @@
-// The commands, over a file system of the tests' own in which one call on a file or folder fails, each in turn.
+// The commands, over a file system of the tests' own in which one call on a file or folder fails,
+// each in turn.
 //
-// The failed call is told as a file fault, or its share counts as missing, or it changes nothing: never does another answer come, or a
-// part of one. Files are read and written in short pieces, so that calls fail in mid-stream too.
+// The failed call is told as a file fault, or its share counts as missing, or it changes nothing:
+// never does another answer come, or a part of one. Files are read and written in short pieces, so
+// that calls fail in mid-stream too.
 
 use crate::grid_commands_tests::{
     CLOSED, ONES, ZEROS_CAP, ZEROS_PUT, get_gives, get_line, has_share, makes_file, put_gives,
@@ -15,7 +17,8 @@ use std::io::{Read, Seek, SeekFrom, Write};
 use std::rt::Files;
 use std::{io, str};
 
-// The most bytes that one call reads or writes: a file of 56 bytes is read by two calls and its end by a third.
+// The most bytes that one call reads or writes: a file of 56 bytes is read by two calls and its end
+// by a third.
 const PIECE: usize = 40;
 
 // How many calls go well before the one that fails, and which calls failed in mid-stream.
@@ -223,7 +226,8 @@ enum Ending {
     Other,
 }
 
-// The ending that a status, standard output and standard error tell, where this is the whole answer.
+// The ending that a status, standard output and standard error tell, where this is the whole
+// answer.
 fn told_ending(status: u8, out: &[u8], err: &[u8], whole: &[u8]) -> Ending {
     match status {
         0 if out == whole && err.is_empty() => Ending::Whole,

@@ -1,6 +1,8 @@
-// The commands, run as the program runs them, in folders of the tests' own: files that go round, and what a cap says.
+// The commands, run as the program runs them, in folders of the tests' own: files that go round,
+// and what a cap says.
 //
-// The caps, the storage index and the share's digest were computed by two programs that share no code with these crates.
+// The caps, the storage index and the share's digest were computed by two programs that share no
+// code with these crates.
 
 use grid_commands::grid;
 use std::alloc::AllocError;
@@ -178,7 +180,8 @@ fn put_text(rt: &HostRuntime, cap: &str, happiness: u16) -> Result<String, Alloc
     format!(in rt.alloc(); "{cap}\nhappiness {happiness}\n")
 }
 
-// Whether `put` of a file with these options gives this cap and happiness, and `get` of the cap the file.
+// Whether `put` of a file with these options gives this cap and happiness, and `get` of the cap the
+// file.
 fn goes_round(rt: &HostRuntime, file: &[u8], options: &str, cap: &str, happiness: u16) -> bool {
     match put_text(rt, cap, happiness) {
         Ok(out) => {
@@ -253,7 +256,8 @@ pub(crate) fn has_share(rt: &HostRuntime, name: &str, wanted: bool) -> bool {
     }
 }
 
-// One share of 531 bytes under its closed name and no open one; and a folder for each server, also where it gets no share.
+// One share of 531 bytes under its closed name and no open one; and a folder for each server, also
+// where it gets no share.
 #[test]
 fn a_share_stands_under_its_name(rt: HostRuntime) {
     let options = "--k 1 --happy 1 --n 1 --servers 3";
@@ -325,7 +329,8 @@ pub(crate) fn printed(rt: &HostRuntime, line: &str) -> Option<Vec<u8>> {
     }
 }
 
-// Whether `put` of the file of this process's folder prints a cap that ends so, and `get` of it gives these bytes.
+// Whether `put` of the file of this process's folder prints a cap that ends so, and `get` of it
+// gives these bytes.
 fn gives_cap_that_ends(rt: &HostRuntime, end: &str, file: &[u8]) -> bool {
     let Ok(line) = put_line(rt, "") else {
         return false;
@@ -344,7 +349,8 @@ fn rounds_up(rt: &HostRuntime) -> bool {
     }
 }
 
-// A file of one segment, whose size is no multiple of the segment asked for: no cap from outside, so it is what `put` prints.
+// A file of one segment, whose size is no multiple of the segment asked for: no cap from outside,
+// so it is what `put` prints.
 #[test]
 fn a_segment_is_rounded_up(rt: HostRuntime) {
     assert!(rt; rounds_up(&rt) && removes_all(&rt));

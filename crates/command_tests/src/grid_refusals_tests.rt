@@ -1,4 +1,5 @@
-// What the commands refuse, and what they do where shares are damaged, writers fail or memory is refused.
+// What the commands refuse, and what they do where shares are damaged, writers fail or memory is
+// refused.
 
 use crate::grid_commands_tests::{
     CAP_56, CLOSED, LIT_55, ONES, OPEN, VERIFY_56, ZEROS_CAP, ZEROS_PUT, cap_gives, counted_comes,
@@ -248,7 +249,8 @@ fn replaces_share(rt: &HostRuntime, bytes: &[u8]) -> bool {
     }
 }
 
-// Whether the file comes back with these bytes as share 0, with three good shares beside it, and not with two.
+// Whether the file comes back with these bytes as share 0, with three good shares beside it, and
+// not with two.
 fn is_passed_over(rt: &HostRuntime, share: &[u8]) -> bool {
     counted_goes_round(rt, 56, "", CAP_56, 10)
         && replaces_share(rt, share)
@@ -324,7 +326,8 @@ fn zeros_come(rt: &HostRuntime) -> bool {
     get_gives(rt, ZEROS_CAP, 0, &[0; 56], "")
 }
 
-// Of two files with one share number the first that passes its checks counts; a folder in a share's place is passed over too.
+// Of two files with one share number the first that passes its checks counts; a folder in a share's
+// place is passed over too.
 #[test]
 fn a_second_file_of_a_share_counts(rt: HostRuntime) {
     assert!(rt; zeros_go_round(&rt) && writes(&rt, JUNK, b"junk") && zeros_come(&rt));
@@ -332,7 +335,8 @@ fn a_second_file_of_a_share_counts(rt: HostRuntime) {
     assert!(rt; removes_all(&rt));
 }
 
-// A share that passes each check of its own, and whose segment is not the one that its extension block tells of.
+// A share that passes each check of its own, and whose segment is not the one that its extension
+// block tells of.
 fn inconsistent_share(
     rt: &HostRuntime,
     extension_block: &[u8],
@@ -437,7 +441,8 @@ fn wrong_words_are_usage(rt: HostRuntime) {
     }
 }
 
-// Whether the words give this status and text on one side alone: standard error, or standard output for 0.
+// Whether the words give this status and text on one side alone: standard error, or standard output
+// for 0.
 fn shows(rt: &HostRuntime, words: &[&str], status: u8) -> bool {
     let mut out = Vec::new(rt.alloc());
     let mut err = Vec::new(rt.alloc());
@@ -445,7 +450,8 @@ fn shows(rt: &HostRuntime, words: &[&str], status: u8) -> bool {
     ended == status && out.is_empty() == (status != 0) && err.is_empty() == (status == 0)
 }
 
-// A writer that takes so many bytes, and then fails. It fails too where it is flushed with no room left.
+// A writer that takes so many bytes, and then fails. It fails too where it is flushed with no room
+// left.
 #[derive(Drop)]
 struct Short {
     left: usize,
@@ -469,8 +475,8 @@ impl io::Write for Short {
     }
 }
 
-// Whether the words give this status with a standard output, or a standard error, that takes so many bytes, and write nothing to
-// the other.
+// Whether the words give this status with a standard output, or a standard error, that takes so
+// many bytes, and write nothing to the other.
 fn ends_short(rt: &HostRuntime, words: &[&str], is_output: bool, left: usize, status: u8) -> bool {
     let mut other = Vec::new(rt.alloc());
     let mut short = Short { left };
@@ -482,7 +488,8 @@ fn ends_short(rt: &HostRuntime, words: &[&str], is_output: bool, left: usize, st
     ended == status && other.is_empty()
 }
 
-// Words, whether they write to standard output or else to standard error, how many bytes at least, and the status where those are taken.
+// Words, whether they write to standard output or else to standard error, how many bytes at least,
+// and the status where those are taken.
 const LINES: [(&[&str], bool, usize, u8); 3] = [
     (&["grid", "get", LIT_55, "--grid", "nowhere"], true, 55, 0),
     (&["grid", "cap", "URI:LIT:nbswy3dp"], true, 16, 0),
@@ -502,8 +509,8 @@ fn a_failed_writer_is_told_by_the_status(rt: HostRuntime) {
     assert!(rt; ends_short(&rt, &["grid"], false, 100, 7));
 }
 
-// Whether the words of a line end well and write this, or tell that memory was refused and write nothing else. Their writers have their
-// room before.
+// Whether the words of a line end well and write this, or tell that memory was refused and write
+// nothing else. Their writers have their room before.
 fn gives_or_is_refused(rt: &HostRuntime, line: &str, wanted: &[u8]) -> bool {
     let (Ok(words), Ok(mut out), Ok(mut err)) = (
         words_of(rt, line),

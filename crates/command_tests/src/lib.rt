@@ -1,5 +1,5 @@
-//! The tests of the program's commands: what no contract says, values from outside, and calls on their
-//! happy paths.
+//! The tests of the program's commands: what no contract says, values from outside, and calls on
+//! their happy paths.
 #![tactic(auto)]
 
 #[cfg(test)]

@@ -1,4 +1,5 @@
-// Caps written to a writer that fails in mid-stream: the error comes back, and what was written is a beginning.
+// Caps written to a writer that fails in mid-stream: the error comes back, and what was written is
+// a beginning.
 
 use cap_text::Cap;
 use std::alloc::Global;
@@ -31,8 +32,8 @@ impl io::Write for OneByOne {
     }
 }
 
-// Whether a writer that fails after so many bytes of the cap's text got just those, and its error came back; and
-// where it takes the whole text, no error did.
+// Whether a writer that fails after so many bytes of the cap's text got just those, and its error
+// came back; and where it takes the whole text, no error did.
 fn tells_failure(alloc: Global, cap: &Cap, text: &[u8], left: usize) -> bool {
     let mut writer = OneByOne {
         written: Vec::new(alloc),

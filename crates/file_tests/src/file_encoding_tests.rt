@@ -1,5 +1,5 @@
-// Whole files, beside values that two programs computed which share no code with these crates: the caps, the lengths of the shares and
-// the digests of the shares, in hexadecimal.
+// Whole files, beside values that two programs computed which share no code with these crates: the
+// caps, the lengths of the shares and the digests of the shares, in hexadecimal.
 
 use cap_text::{Cap, CapError, ReadCap};
 use file_encoding::{
@@ -124,7 +124,8 @@ const CAPS: [&str; 5] = [
     "URI:CHK:6ozi2qamud4qu5yb4pxpwvwg6q:cybh7pnuhaymiyfoyrjqrpph4h5ifrdfnw5eqyv7pmgguelrnr7a:256:256:256",
 ];
 
-// Whether a file whose byte i is i modulo 251 becomes this cap, and shares of this length with these digests.
+// Whether a file whose byte i is i modulo 251 becomes this cap, and shares of this length with
+// these digests.
 fn becomes(
     alloc: Global,
     numbers: (usize, u64, u64, u64),
@@ -288,7 +289,8 @@ fn up_to(shares: &[Share], number: usize, len: usize) -> &[u8] {
     }
 }
 
-// Whether the file comes from the first bytes of share 1 and from shares 3, 7 and 9, and not from the former and two of the latter.
+// Whether the file comes from the first bytes of share 1 and from shares 3, 7 and 9, and not from
+// the former and two of the latter.
 fn gives_with_three(
     alloc: Global,
     shares: &[Share],
@@ -376,7 +378,8 @@ fn push_numbered(share: &mut Vec<u8>, number: u16, hash: &[u8; 32]) -> Result<()
     share.extend_from_slice(hash)
 }
 
-// A valid extension block over blocks that are no code word: at one of two both blocks would have to be the same.
+// A valid extension block over blocks that are no code word: at one of two both blocks would have
+// to be the same.
 fn share_of_two(
     alloc: Global,
     block: &[u8; 56],

@@ -11,7 +11,8 @@ use std::alloc::Global;
 use std::io;
 use std::test::Fail;
 
-// Size, k, N and greatest segment; segment size, segments, tail, block, tail's block; the header's numbers.
+// Size, k, N and greatest segment; segment size, segments, tail, block, tail's block; the header's
+// numbers.
 const GEOMETRIES: [((u64, u16, u16, u32), [u32; 5], [u32; 9]); 6] = [
     (
         (56, 3, 10, 131_072),
@@ -213,7 +214,8 @@ impl io::Write for Short {
     }
 }
 
-// What went out of a share to a writer that takes so many bytes and then fails, and whether the share writer failed, for good.
+// What went out of a share to a writer that takes so many bytes and then fails, and whether the
+// share writer failed, for good.
 fn written(alloc: Global, view: &ShareView, number: u16, left: usize) -> Option<(Vec<u8>, bool)> {
     let writer = Short {
         taken: Vec::new(alloc),
@@ -231,8 +233,8 @@ fn written(alloc: Global, view: &ShareView, number: u16, left: usize) -> Option<
     Some((share.into_inner().taken, failed))
 }
 
-// Whether the sections of a share, written to a writer that fails after so many bytes, give a beginning of it, and the share
-// writer fails where that is not all.
+// Whether the sections of a share, written to a writer that fails after so many bytes, give a
+// beginning of it, and the share writer fails where that is not all.
 fn is_beginning(alloc: Global, share: &[u8], number: u16, left: usize) -> bool {
     let Some(geometry) = geometry() else {
         return false;
@@ -376,7 +378,8 @@ fn shares_carry_the_numbers_of_their_nodes(rt: HostRuntime) {
     }
 }
 
-// The section of the first byte that is missing from a share of 633 bytes that is cut to this length.
+// The section of the first byte that is missing from a share of 633 bytes that is cut to this
+// length.
 fn section_of(len: usize) -> Section {
     match len {
         0..=35 => Section::Header,

@@ -1,5 +1,5 @@
-// Share 2 of a file of 60 bytes in segments of 25, one of three needed: three segments and three shares, so that each tree has
-// padding. The share was computed by Python's hashlib.
+// Share 2 of a file of 60 bytes in segments of 25, one of three needed: three segments and three
+// shares, so that each tree has padding. The share was computed by Python's hashlib.
 
 use cap_text::ReadCap;
 use file_encoding::{ShareFault, verify_share};

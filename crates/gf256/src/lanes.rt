@@ -1,9 +1,10 @@
 //! Multiples of whole blocks, by vectors of 16 bytes.
 //!
-//! A product by c is additive, so c times a byte is c times its low nibble plus c times its high one, and each of the two is a
-//! look-up in a table of 16 bytes, which is one byte shuffle.
+//! A product by c is additive, so c times a byte is c times its low nibble plus c times its high
+//! one, and each of the two is a look-up in a table of 16 bytes, which is one byte shuffle.
 
-ghost use Rattle.std.specs.Prelude.{◌≡◌, ℕ, ◌+◌, ◌-◌, ◌*◌, ◌/◌, ◌%◌, ◌<◌, ◌≤◌, length, slice_index, bit_xor};
+ghost use Rattle.std.specs.Prelude.{◌≡◌, ℕ, ◌+◌, ◌-◌, ◌*◌, ◌/◌, ◌%◌, ◌<◌, ◌≤◌, length, slice_index};
+ghost use Rattle.std.specs.Prelude.{bit_xor};
 ghost use Rattle.std.specs.Simd.Lanes.{Each1};
 ghost use Rattle.gf256.specs.Field.{product, AddsMultiple, AddsThreeMultiples};
 ghost use Rattle.gf256.specs.Nibbles.{IsTable};
@@ -30,8 +31,8 @@ pub fn add_mul(dst: &mut [u8], src: &[u8], c: u8)
     }
 }
 
-/// Adds the multiples of three sources in one pass: to each byte of `dst` `factors[0]` times the byte of `x` at its place,
-/// `factors[1]` times that of `y` and `factors[2]` times that of `z`.
+/// Adds the multiples of three sources in one pass: to each byte of `dst` `factors[0]` times the
+/// byte of `x` at its place, `factors[1]` times that of `y` and `factors[2]` times that of `z`.
 pub fn add_mul_three(dst: &mut [u8], x: &[u8], y: &[u8], z: &[u8], factors: [u8; 3])
     requires first { length dst.old ≡ length x.now }
     requires second { length dst.old ≡ length y.now }
@@ -80,7 +81,8 @@ impl Factor {
     fn times(&self, src: &[u8], at: usize) -> u8x16
         requires { at + 16 ≤ length src.now }
         ensures size { length result ≡ 16 }
-        ensures each { (j : ℕ) → j < 16 → slice_index result j ≡ product self.now.value (slice_index src.now (at + j)) }
+        ensures each { (j : ℕ) → j < 16
+            → slice_index result j ≡ product self.now.value (slice_index src.now (at + j)) }
     {
         let bytes = u8x16::from_slice(&src[at..]);
         by_low_nibble(self.low, bytes) ^ by_high_nibble(self.high, bytes)
@@ -105,7 +107,8 @@ fn add_lanes(dst: &mut [u8], at: usize, lanes: u8x16)
     requires in_dst { at + 16 ≤ length dst.old }
     requires long { length lanes ≡ 16 }
     ensures below { (k : ℕ) → k < at → slice_index dst.new k ≡ slice_index dst.old k }
-    ensures added { (k : ℕ) → at ≤ k → k < at + 16 → slice_index dst.new k ≡ bit_xor (slice_index dst.old k) (slice_index lanes (k - at)) }
+    ensures added { (k : ℕ) → at ≤ k → k < at + 16
+        → slice_index dst.new k ≡ bit_xor (slice_index dst.old k) (slice_index lanes (k - at)) }
     ensures above { (k : ℕ) → at + 16 ≤ k → slice_index dst.new k ≡ slice_index dst.old k }
 {
     let sum = u8x16::from_slice(&dst[at..]) ^ lanes;
@@ -116,7 +119,8 @@ fn add_lanes(dst: &mut [u8], at: usize, lanes: u8x16)
 fn by_low_nibble(table: u8x16, bytes: u8x16) -> u8x16
     requires { length bytes ≡ 16 }
     ensures size { length result ≡ 16 }
-    ensures lanes { (i : ℕ) → i < 16 → slice_index result i ≡ slice_index table (slice_index bytes i % 16) }
+    ensures lanes { (i : ℕ) → i < 16
+        → slice_index result i ≡ slice_index table (slice_index bytes i % 16) }
 {
     table.swizzle_dyn(bytes & u8x16::splat(15))
 }
@@ -126,7 +130,8 @@ fn by_high_nibble(table: u8x16, bytes: u8x16) -> u8x16
     requires long { length bytes ≡ 16 }
     requires fit { Each1 (λ x. x < 256) bytes }
     ensures size { length result ≡ 16 }
-    ensures lanes { (i : ℕ) → i < 16 → slice_index result i ≡ slice_index table (slice_index bytes i / 16) }
+    ensures lanes { (i : ℕ) → i < 16
+        → slice_index result i ≡ slice_index table (slice_index bytes i / 16) }
 {
     table.swizzle_dyn(bytes >> u8x16::splat(4))
 }

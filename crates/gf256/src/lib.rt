@@ -1,7 +1,8 @@
-//! The field of 256 elements, as polynomials over the two elements modulo x^8 + x^4 + x^3 + x^2 + 1 (0x11D), the
-//! field of zfec.
+//! The field of 256 elements, as polynomials over the two elements modulo x^8 + x^4 + x^3 + x^2 + 1
+//! (0x11D), the field of zfec.
 //!
-//! A byte is a polynomial: bit i is the coefficient of x^i. The sum of two elements is their exclusive or.
+//! A byte is a polynomial: bit i is the coefficient of x^i. The sum of two elements is their
+//! exclusive or.
 #![tactic(auto)]
 
 ghost use Rattle.std.specs.Prelude.{◌≡◌, ◌<◌};

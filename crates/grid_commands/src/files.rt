@@ -7,8 +7,8 @@ use std::io;
 use std::io::Read;
 use std::rt::Files;
 
-/// The bytes of a file, where there are at most `limit`, and none where there are more. No more than
-/// that and one byte is read, and memory is asked for once, by the file's length.
+/// The bytes of a file, where there are at most `limit`, and none where there are more. No more
+/// than that and one byte is read, and memory is asked for once, by the file's length.
 pub(crate) fn read_at_most<R: Files + AllocGlobal>(
     rt: &R,
     path: &str,
@@ -45,8 +45,8 @@ pub(crate) fn at_path<T>(alloc: Global, outcome: io::Result<T>, path: &str) -> R
     }
 }
 
-/// The result of a call on what a server keeps, where a failed call counts as nothing found: a server
-/// is not trusted to answer.
+/// The result of a call on what a server keeps, where a failed call counts as nothing found: a
+/// server is not trusted to answer.
 pub(crate) fn if_there<T: Drop>(outcome: io::Result<T>) -> Result<Option<T>, Fault> {
     match outcome {
         Ok(value) => Ok(Some(value)),

@@ -1,8 +1,8 @@
 //! The commands of `grid`, which keeps files on a grid of servers that need not be trusted.
 //!
 //! `grid` takes the words of the command line and two writers, and gives the exit status. Files are
-//! encoded and read back by `file_encoding`, and what is told stands in `grid_rules`; what stands here
-//! is which words there are, and where shares lie in folders.
+//! encoded and read back by `file_encoding`, and what is told stands in `grid_rules`; what stands
+//! here is which words there are, and where shares lie in folders.
 #![tactic(auto)]
 
 mod files;
@@ -46,8 +46,8 @@ impl From<Fault> for Failure {
     }
 }
 
-/// Runs the command that `words` asks for, of which the first is the program's name. Its result goes
-/// to `out`, and a fault, as one line with its number and name, to `err`.
+/// Runs the command that `words` asks for, of which the first is the program's name. Its result
+/// goes to `out`, and a fault, as one line with its number and name, to `err`.
 ///
 /// The exit status is 0 where it is done, 2 for wrong words, 3 for refused input, 4 for an unhappy
 /// upload, 5 for too few shares, 6 for inconsistent ones, and 7 for a file or folder, memory, or a

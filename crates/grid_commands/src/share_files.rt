@@ -12,8 +12,8 @@ use std::io::Write;
 use std::rt::Files;
 use tagged_hash::{Tag, tagged};
 
-/// A file under a closed share's name: the share's number, the server, and the path. The order is that
-/// of the numbers, then of the servers, then of the names.
+/// A file under a closed share's name: the share's number, the server, and the path. The order is
+/// that of the numbers, then of the servers, then of the names.
 #[derive(PartialEq, Eq, PartialOrd, Ord, Drop)]
 pub(crate) struct ShareFile {
     pub number: u8,
@@ -97,8 +97,8 @@ fn is_regular<R: Files>(entry: &DirEntry<R>) -> Result<bool, Fault> {
     Ok(if_there(entry.metadata())?.is_some_and(|found| found.is_file()))
 }
 
-/// Writes a share into a server's folder. It stands under the name of an open share until it is whole,
-/// so that no half of a share ever stands under a closed name.
+/// Writes a share into a server's folder. It stands under the name of an open share until it is
+/// whole, so that no half of a share ever stands under a closed name.
 pub(crate) fn write_share<R: Files + AllocGlobal>(
     rt: &R,
     folder: &str,
@@ -121,8 +121,8 @@ fn named<E: Drop>(name: Result<String, E>) -> Result<String, Fault> {
     name.map_err(|_| Fault::OutOfMemory)
 }
 
-// Writes bytes into a file that is made anew. What stood at the path is removed and not opened: it may
-// be a pipe.
+// Writes bytes into a file that is made anew. What stood at the path is removed and not opened: it
+// may be a pipe.
 fn write_new<R: Files>(rt: &R, path: &str, bytes: &[u8]) -> io::Result<()> {
     match fs::remove_file(rt, path) {
         Ok(()) => {}

@@ -7,8 +7,10 @@ use Rattle.cap_text.specs.declared.cap.Cap.TheVariants.{Chk, Verify, Lit}
 
 -- the lines of a cap of this kind, whose file has shares
 abbrev pub share_lines : List ℕ → VerifyCapValue → List ℕ
-share_lines kind cap = codes "kind " ++ (kind ++ (codes "\nk " ++ (decimal cap.needed ++ (codes "\nn " ++ (decimal cap.total
-    ++ (codes "\nsize " ++ (decimal cap.size ++ (codes "\nverify " ++ (verify_cap_text cap ++ codes "\n")))))))))
+share_lines kind cap = codes "kind "
+    ++ (kind ++ (codes "\nk " ++ (decimal cap.needed ++ (codes "\nn " ++ (decimal cap.total
+    ++ (codes "\nsize "
+    ++ (decimal cap.size ++ (codes "\nverify " ++ (verify_cap_text cap ++ codes "\n")))))))))
 
 -- the lines of a cap
 abbrev pub cap_lines : Cap → List ℕ

@@ -8,7 +8,10 @@ use Rattle.file_encoding.specs.declared.error.EncodeError.TheVariants as encodin
 use Rattle.file_encoding.specs.declared.reading.ReadError.{ReadError}
 use Rattle.file_encoding.specs.declared.reading.ReadError.TheVariants as readings
 use Rattle.grid_rules.specs.declared.fault.Fault.{Fault}
-use Rattle.grid_rules.specs.declared.fault.Fault.TheVariants.{OutOfMemory, BadParameters, Cap, TooLarge, TooManySegments, Unhappy, NotEnoughShares, Inconsistent, File, NeedsReadCap}
+use Rattle.grid_rules.specs.declared.fault.Fault.TheVariants.{OutOfMemory, BadParameters, Cap}
+use Rattle.grid_rules.specs.declared.fault.Fault.TheVariants.{TooLarge, TooManySegments, Unhappy}
+use Rattle.grid_rules.specs.declared.fault.Fault.TheVariants.{NotEnoughShares, Inconsistent, File}
+use Rattle.grid_rules.specs.declared.fault.Fault.TheVariants.{NeedsReadCap}
 
 -- the number of a fault
 abbrev pub fault_number : Fault → ℕ

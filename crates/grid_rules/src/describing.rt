@@ -7,7 +7,8 @@ ghost use Rattle.grid_rules.specs.CapLines.{cap_lines, share_lines};
 use cap_text::{Cap, VerifyCap};
 use std::alloc::{AllocError, Global};
 
-/// The lines of a cap: its kind, its numbers, and the verify cap; of a literal cap its kind and size.
+/// The lines of a cap: its kind, its numbers, and the verify cap; of a literal cap its kind and
+/// size.
 pub fn cap_lines(alloc: Global, cap: &Cap) -> Result<String, AllocError>
     ensures { IfOk result (λ lines. string_bytes lines ≡ cap_lines cap.now) }
 {

@@ -1,7 +1,8 @@
 //! Why a command ended without its result: each fault has a number, an exit status and a text.
 
 ghost use Rattle.std.specs.Prelude.{◌≡◌};
-ghost use Rattle.grid_rules.specs.Fault.{fault_number, fault_of_cap, fault_of_encoding, fault_of_reading, fault_status};
+ghost use Rattle.grid_rules.specs.Fault.{fault_number, fault_of_cap, fault_of_encoding};
+ghost use Rattle.grid_rules.specs.Fault.{fault_of_reading, fault_status};
 
 use cap_text::CapError;
 use file_encoding::{EncodeError, ReadError};

@@ -10,7 +10,8 @@ pub fn server_of(number: usize, servers: u16) -> u16
     (number % usize::from(servers)) as u16
 }
 
-/// How many servers hold a share of their own, where so many shares went to so many servers in turn.
+/// How many servers hold a share of their own, where so many shares went to so many servers in
+/// turn.
 pub fn happiness(total: u16, servers: u16) -> u16
     ensures { result ≡ min total servers }
 {

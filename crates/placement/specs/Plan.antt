@@ -1,5 +1,6 @@
 -- Where the shares of a file go.
-use Rattle.std.specs.Prelude.{◌≡◌, ℕ, ◌≤◌, ◌<◌, not, List, [], ◌∷◌, ◌++◌, length, map, filter, nat_eq, slice_get, slice_index, Some, take, count_by}
+use Rattle.std.specs.Prelude.{◌≡◌, ℕ, ◌≤◌, ◌<◌, not, List, [], ◌∷◌, ◌++◌, length, map, filter}
+use Rattle.std.specs.Prelude.{nat_eq, slice_get, slice_index, Some, take, count_by}
 use Rattle.std.specs.List.{range_with_len, flat_map, zip}
 use Rattle.std.specs.Set.{is_member}
 use Rattle.placement.specs.Matching.{Pair, servers_of, shares_of, IsLargestMatching}
@@ -44,21 +45,28 @@ load_of assigned server = count_by (λ p. nat_eq p.0 server) assigned
 pub record IsLeastLoaded (servers : List ℕ) (assigned : List Pair) (server : ℕ) : Type 0 where
   pub place : ℕ
   pub is : slice_get servers place ≡ Some server
-  pub least : (i : ℕ) → i < length servers → load_of assigned server ≤ load_of assigned (slice_index servers i)
-  pub first : (i : ℕ) → i < place → load_of assigned server < load_of assigned (slice_index servers i)
+  pub least : (i : ℕ) → i < length servers
+      → load_of assigned server ≤ load_of assigned (slice_index servers i)
+  pub first : (i : ℕ) → i < place
+      → load_of assigned server < load_of assigned (slice_index servers i)
 
--- the shares in their order, each with the server to which the fewest are assigned, those before it counted
-pub record IsSpread (servers : List ℕ) (assigned : List Pair) (shares : List ℕ) (leftovers : List Pair) : Type 0 where
+-- the shares in their order, each with the server to which the fewest are assigned, those before it
+-- counted
+pub record IsSpread (servers : List ℕ) (assigned : List Pair) (shares : List ℕ)
+    (leftovers : List Pair) : Type 0 where
   pub each : shares_of leftovers ≡ shares
-  pub least : (k : ℕ) (server share : ℕ) → slice_get leftovers k ≡ Some (server, share) → IsLeastLoaded servers (assigned ++ take k leftovers) server
+  pub least : (k : ℕ) (server share : ℕ) → slice_get leftovers k ≡ Some (server, share)
+      → IsLeastLoaded servers (assigned ++ take k leftovers) server
 
 -- with no server the shares stay unplaced
 abbrev pub Spreads : List ℕ → List Pair → List ℕ → List Pair → List ℕ → Type 0
 Spreads [] assigned shares leftovers unplaced = (leftovers ≡ []) × (unplaced ≡ shares)
-Spreads (server ∷ servers) assigned shares leftovers unplaced = IsSpread (server ∷ servers) assigned shares leftovers × (unplaced ≡ [])
+Spreads (server ∷ servers) assigned shares leftovers unplaced = IsSpread
+    (server ∷ servers) assigned shares leftovers × (unplaced ≡ [])
 
 -- the five lists of a plan
-pub record IsPlan (readonly writable : List ℕ) (held : List Pair) (n : ℕ) (m1 m2 m3 leftovers : List Pair) (unplaced : List ℕ) : Type 0 where
+pub record IsPlan (readonly writable : List ℕ) (held : List Pair) (n : ℕ)
+    (m1 m2 m3 leftovers : List Pair) (unplaced : List ℕ) : Type 0 where
   pub first_largest : IsLargestMatching (held_by readonly held) m1
   pub second_largest : IsLargestMatching (without_shares m1 (held_by writable held)) m2
   pub third_paired : m3 ≡ zip (unused m2 writable) (remaining m1 m2 n)

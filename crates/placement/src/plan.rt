@@ -1,7 +1,10 @@
-ghost use Rattle.std.specs.Prelude.{◌≡◌, ◌≢◌, ℕ, ◌<◌, ◌≤◌, [], ◌++◌, length, map, nat_eq, slice_index, All, Contains, IfOk};
+ghost use Rattle.std.specs.Prelude.{◌≡◌, ◌≢◌, ℕ, ◌<◌, ◌≤◌, [], ◌++◌, length, map, nat_eq};
+ghost use Rattle.std.specs.Prelude.{slice_index, All, Contains, IfOk};
 ghost use Rattle.std.specs.List.{IsDistinct, zip};
 ghost use Rattle.placement.specs.Matching.{IsLargestMatching};
-ghost use Rattle.placement.specs.Plan.{IsPlan, IsSpread, Spreads, held_by, load_of, placeable, remaining, shares_below, spare, untaken, unused, without_shares};
+ghost use Rattle.placement.specs.Plan.{IsPlan, IsSpread, Spreads, held_by, load_of, placeable};
+ghost use Rattle.placement.specs.Plan.{remaining, shares_below, spare, untaken, unused};
+ghost use Rattle.placement.specs.Plan.{without_shares};
 
 use crate::error::PlacementError;
 use crate::matching::largest_matching;
@@ -13,20 +16,24 @@ use std::alloc::{AllocError, Global};
 pub struct Plan {
     /// A largest matching of the read-only servers with the shares that they hold.
     pub m1: Vec<(u16, u16)>,
-    /// A largest matching of the writable servers with the shares that they hold, shares of `m1` left out.
+    /// A largest matching of the writable servers with the shares that they hold, shares of `m1`
+    /// left out.
     pub m2: Vec<(u16, u16)>,
-    /// The remaining shares, lowest first, with the writable servers that `m2` does not use, in their order.
+    /// The remaining shares, lowest first, with the writable servers that `m2` does not use, in
+    /// their order.
     pub m3: Vec<(u16, u16)>,
-    /// The shares that no matching took and no server holds, lowest first, each with the writable server to which the fewest shares of
-    /// `m2`, `m3` and the leftovers before it go, the first of several.
+    /// The shares that no matching took and no server holds, lowest first, each with the writable
+    /// server to which the fewest shares of `m2`, `m3` and the leftovers before it go, the first of
+    /// several.
     pub leftovers: Vec<(u16, u16)>,
     /// Those shares, where there is no writable server.
     pub unplaced: Vec<u16>,
 }
 
-/// The plan for the shares 0 to `n - 1`, from the servers that can only be read, those that can be written, in their order, and the
-/// pairs held. As in `servers-of-happiness`, shares stay where they are as far as they make servers happy, then each free server
-/// gets one, and what is left is spread evenly.
+/// The plan for the shares 0 to `n - 1`, from the servers that can only be read, those that can be
+/// written, in their order, and the pairs held. As in `servers-of-happiness`, shares stay where
+/// they are as far as they make servers happy, then each free server gets one, and what is left is
+/// spread evenly.
 pub fn place(
     alloc: Global,
     readonly: &[u16],
@@ -38,13 +45,23 @@ pub fn place(
     requires distinct { IsDistinct nat_eq (readonly.now ++ writable.now) }
     requires known { All (λ p. Contains (readonly.now ++ writable.now) p.0 × (p.1 < n)) held.now }
 
-    ensures m1 { IfOk result (λ plan. IsLargestMatching (held_by readonly.now held.now) plan.m1.items) }
-    ensures m2 { IfOk result (λ plan. IsLargestMatching (without_shares plan.m1.items (held_by writable.now held.now)) plan.m2.items) }
-    ensures m3 { IfOk result (λ plan. plan.m3.items ≡ zip (unused plan.m2.items writable.now) (remaining plan.m1.items plan.m2.items n)) }
-    ensures leftovers { IfOk result (λ plan. Spreads writable.now (plan.m2.items ++ plan.m3.items) (spare plan.m1.items plan.m2.items plan.m3.items held.now n) plan.leftovers.items plan.unplaced.items) }
+    ensures m1 { IfOk result
+        (λ plan. IsLargestMatching (held_by readonly.now held.now) plan.m1.items) }
+    ensures m2 { IfOk result
+        (λ plan. IsLargestMatching
+        (without_shares plan.m1.items (held_by writable.now held.now)) plan.m2.items) }
+    ensures m3 { IfOk result
+        (λ plan. plan.m3.items
+        ≡ zip (unused plan.m2.items writable.now) (remaining plan.m1.items plan.m2.items n)) }
+    ensures leftovers { IfOk result
+        (λ plan. Spreads writable.now (plan.m2.items ++ plan.m3.items)
+        (spare plan.m1.items plan.m2.items plan.m3.items held.now n) plan.leftovers.items
+        plan.unplaced.items) }
 
     // No matching of all pairs that may be placed has more pairs than the three have together.
-    ensures best { IfOk result (λ plan. IsLargestMatching (placeable held.now writable.now n) (plan.m1.items ++ plan.m2.items ++ plan.m3.items)) }
+    ensures best { IfOk result
+        (λ plan. IsLargestMatching (placeable held.now writable.now n)
+        (plan.m1.items ++ plan.m2.items ++ plan.m3.items)) }
 {
     Ok(planned(alloc, readonly, writable, held, n)?)
 }
@@ -58,7 +75,9 @@ fn planned(
     n: u16,
 ) -> Result<Plan, AllocError>
     requires { IsDistinct nat_eq writable.now }
-    ensures { IfOk result (λ plan. IsPlan readonly.now writable.now held.now n plan.m1.items plan.m2.items plan.m3.items plan.leftovers.items plan.unplaced.items) }
+    ensures { IfOk result
+        (λ plan. IsPlan readonly.now writable.now held.now n plan.m1.items plan.m2.items
+        plan.m3.items plan.leftovers.items plan.unplaced.items) }
 {
     let m1 = kept_pairs(alloc, readonly, held)?;
     let m2 = open_pairs(alloc, writable, held, &m1)?;
@@ -87,14 +106,16 @@ fn kept_pairs(
     largest_pairs(alloc, &pairs)
 }
 
-/// A largest matching of the writable servers with the shares that they hold and that `m1` did not take.
+/// A largest matching of the writable servers with the shares that they hold and that `m1` did not
+/// take.
 fn open_pairs(
     alloc: Global,
     writable: &[u16],
     held: &[(u16, u16)],
     m1: &[(u16, u16)],
 ) -> Result<Vec<(u16, u16)>, AllocError>
-    ensures { IfOk result (λ m2. IsLargestMatching (without_shares m1.now (held_by writable.now held.now)) m2.items) }
+    ensures { IfOk result
+        (λ m2. IsLargestMatching (without_shares m1.now (held_by writable.now held.now)) m2.items) }
 {
     let pairs = pairs_of(alloc, held, writable)?;
     let pairs = pairs_without(alloc, &pairs, m1)?;
@@ -158,7 +179,8 @@ fn spread_or_leave(
     spare: Vec<u16>,
 ) -> Result<(Vec<(u16, u16)>, Vec<u16>), AllocError>
     requires { IsDistinct nat_eq servers.now }
-    ensures { IfOk result (λ lists. Spreads servers.now (m2.now ++ m3.now) spare.items lists.0.items lists.1.items) }
+    ensures { IfOk result
+        (λ lists. Spreads servers.now (m2.now ++ m3.now) spare.items lists.0.items lists.1.items) }
 {
     if servers.is_empty() {
         return Ok((Vec::new(alloc), spare));
@@ -244,7 +266,8 @@ fn pair_up(alloc: Global, servers: &[u16], shares: &[u16]) -> Result<Vec<(u16, u
         .collect(alloc)
 }
 
-/// Gives each spare share to the server with the fewest shares of `m2`, `m3` and the spare shares before it, the first of several.
+/// Gives each spare share to the server with the fewest shares of `m2`, `m3` and the spare shares
+/// before it, the first of several.
 fn spread(
     alloc: Global,
     servers: &[u16],
@@ -254,7 +277,8 @@ fn spread(
 ) -> Result<Vec<(u16, u16)>, AllocError>
     requires some { 0 < length servers.now }
     requires distinct { IsDistinct nat_eq servers.now }
-    ensures { IfOk result (λ leftovers. IsSpread servers.now (m2.now ++ m3.now) spare.now leftovers.items) }
+    ensures { IfOk result
+        (λ leftovers. IsSpread servers.now (m2.now ++ m3.now) spare.now leftovers.items) }
 {
     let mut assigned = Vec::from_slice(alloc, m2)?;
     assigned.extend_from_slice(m3)?;

@@ -271,7 +271,8 @@ fn any_cut(rt: HostRuntime) -> Result<(), AllocError> {
     Ok(())
 }
 
-// The number of the refusal that stands at the front; 0 where the frame is not whole, and 255 where a message came.
+// The number of the refusal that stands at the front; 0 where the frame is not whole, and 255 where
+// a message came.
 fn told(feed: &mut Feed) -> u8 {
     match feed.next() {
         Ok(None) => 0,

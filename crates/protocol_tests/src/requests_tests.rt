@@ -41,8 +41,8 @@ fn is_lost(requests: &Requests, place: usize) -> bool {
     }
 }
 
-// The times at which a request to a silent server is sent, and that it is lost at the last tick and not before. `None` where
-// that is not so, or memory is out.
+// The times at which a request to a silent server is sent, and that it is lost at the last tick and
+// not before. `None` where that is not so, or memory is out.
 fn sent_times(alloc: Global, ticks: &[u64]) -> Option<Vec<u64>> {
     let mut requests = Requests::new(alloc, 7, 0);
     requests.ask(9, Asked::Holdings).ok()?;
@@ -90,7 +90,8 @@ fn silent_servers(rt: HostRuntime) {
     }
 }
 
-// An operation of session 7 that asked server 9 for its shares, to keep share 3, and to give share 4 up.
+// An operation of session 7 that asked server 9 for its shares, to keep share 3, and to give share
+// 4 up.
 fn asked(alloc: Global) -> Option<Requests> {
     let mut requests = Requests::new(alloc, 7, 0);
     requests.ask(9, Asked::Holdings).ok()?;
@@ -124,7 +125,8 @@ fn answers(rt: HostRuntime) {
     }
 }
 
-// Whether both requests that wait are sent again after five seconds, the abort not, and the answer to one counts the first time alone.
+// Whether both requests that wait are sent again after five seconds, the abort not, and the answer
+// to one counts the first time alone.
 fn counts_once(alloc: Global) -> bool {
     let Some(mut requests) = asked(alloc) else {
         return false;
@@ -154,8 +156,8 @@ fn an_answer_counts_once(rt: HostRuntime) {
     assert!(rt; counts_once(rt.alloc()));
 }
 
-// Whether a request is recorded and sent again after five seconds, where a call that was refused memory changes nothing and is made
-// again.
+// Whether a request is recorded and sent again after five seconds, where a call that was refused
+// memory changes nothing and is made again.
 fn is_recorded_and_sent(alloc: Global) -> bool {
     let mut requests = Requests::new(alloc, 7, 0);
     if requests.ask(9, Asked::Holdings).is_err() {
@@ -173,7 +175,8 @@ fn is_recorded_and_sent(alloc: Global) -> bool {
         && keeps_answer(alloc, &mut requests)
 }
 
-// Whether a Have with one share is kept as the answer to the first request, where a call that was refused memory is made again.
+// Whether a Have with one share is kept as the answer to the first request, where a call that was
+// refused memory is made again.
 fn keeps_answer(alloc: Global, requests: &mut Requests) -> bool {
     let Some(message) = have(alloc) else {
         return true;
@@ -204,7 +207,8 @@ fn refused_memory_in_a_record(rt: HostRuntime) {
     assert!(rt; is_recorded_and_sent(rt.alloc()));
 }
 
-// Which answers fit a request: Have, Granted, Already, Busy, Full, Wrote, WrongOffset, Closed, NotComplete, Data, NoShare.
+// Which answers fit a request: Have, Granted, Already, Busy, Full, Wrote, WrongOffset, Closed,
+// NotComplete, Data, NoShare.
 fn answer_kinds(alloc: Global) -> Option<Vec<Body>> {
     let held = HeldList::from_vec(Vec::new(alloc))?;
     let data = ReadData::from_vec(Vec::new(alloc))?;

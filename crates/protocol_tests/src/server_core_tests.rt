@@ -1,6 +1,8 @@
-//! The server over a store in memory, and over one in a folder of the test's own, against the lines of its table.
+//! The server over a store in memory, and over one in a folder of the test's own, against the lines
+//! of its table.
 //!
-//! The tests whose names begin with `refused_memory` pass too where any one allocation of theirs is refused.
+//! The tests whose names begin with `refused_memory` pass too where any one allocation of theirs is
+//! refused.
 
 use server_core::error::ServerFault;
 use server_core::keeping;
@@ -17,7 +19,8 @@ use wire::message::{Body, Digest, Message, ReadLength, ShareId, ShareLength, Wri
 const DIGEST: Digest =
     *b"\x9b\x43\x50\xa4\xfb\x28\x39\x4c\x37\xde\xae\xa3\xb5\x02\x95\x7b\x00\x3f\xa6\x5a\x79\x23\x47\x14\x6d\xf8\xe9\x4f\x74\xd2\x43\x7d";
 
-// What comes to the server: a request about a share of the file whose storage index is zeros, or something else.
+// What comes to the server: a request about a share of the file whose storage index is zeros, or
+// something else.
 #[derive(Clone, Copy)]
 enum Event {
     Ask,
@@ -163,7 +166,8 @@ fn shown(server: &Server<MemoryStore>) -> (Option<Digest>, u64) {
     (store.closed(&id(3)), store.used())
 }
 
-// What the server says at last: where it was refused memory once, and the store shows no change, the same comes again.
+// What the server says at last: where it was refused memory once, and the store shows no change,
+// the same comes again.
 fn happens_at_last(alloc: Global, server: &mut Server<MemoryStore>, row: &Row) -> Said {
     let before = shown(server);
     let said = happens(alloc, server, row);
@@ -345,7 +349,8 @@ fn takes_no_shares(rt: HostRuntime) {
     assert_eq!(rt; right_rows(rt.alloc(), &mut server, &READONLY), 2);
 }
 
-// What the server says to a client that asks for room for one byte. Where it was refused memory once, the client asks again.
+// What the server says to a client that asks for room for one byte. Where it was refused memory
+// once, the client asks again.
 fn allocates(server: &mut Server<MemoryStore>, file: u8, share: u8) -> Said {
     let Some(length) = ShareLength::new(1) else {
         return Said::Nothing;
@@ -390,7 +395,8 @@ fn refused_memory_most_buckets(rt: HostRuntime) {
     assert!(rt; allocates(&mut server, 4, 0) == Said::Granted);
 }
 
-// A bucket is touched by writes, by wrong offsets, by a close that comes too early and by its client's `Allocate`.
+// A bucket is touched by writes, by wrong offsets, by a close that comes too early and by its
+// client's `Allocate`.
 const OVER_TIME: [Row; 20] = [
     (0, FIRST, Event::Allocate(0, 8), Said::Granted),
     (0, SECOND, Event::Allocate(0, 8), Said::Busy),

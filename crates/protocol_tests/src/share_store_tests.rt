@@ -2,7 +2,8 @@
 //
 // The base32 texts were computed by a program that shares no code with these crates.
 //
-// The tests whose names begin with `refused_memory` pass too where any one allocation of theirs is refused.
+// The tests whose names begin with `refused_memory` pass too where any one allocation of theirs is
+// refused.
 
 use share_store::error::StoreError;
 use share_store::folder::FolderStore;
@@ -25,7 +26,8 @@ const SEVENS: &str = "a4dqobyha4dqobyha4dqobyha4dqobyha4dqobyha4dqobyha4dq";
 
 const GREATER: &str = "2dinbugq2dinbugq2dinbugq2dinbugq2dinbugq2dinbugq2dia";
 
-// A call of a store about a share, and what it is to give. Shares are closed under a digest of 32 times one byte.
+// A call of a store about a share, and what it is to give. Shares are closed under a digest of 32
+// times one byte.
 #[derive(Clone, Copy)]
 enum Call {
     // Bytes are written at an offset.
@@ -60,7 +62,8 @@ const KEEPS: [Call; 13] = [
     Call::Read(INDEX, 3, u64::MAX, 1, b""),
 ];
 
-// The shares of a storage index come in order, and no other index's. An open one is gone after a restart.
+// The shares of a storage index come in order, and no other index's. An open one is gone after a
+// restart.
 const LISTS: [Call; 18] = [
     Call::Write(INDEX, 200, 0, b"\xc8"),
     Call::Close(INDEX, 200, 7),
@@ -178,7 +181,8 @@ fn right_calls<S: Store>(alloc: Global, store: &mut S, calls: &[Call]) -> usize 
     calls.len()
 }
 
-// What a store shows of itself: the digest of share 3, how many shares of its file there are, the bytes of all, and the faults.
+// What a store shows of itself: the digest of share 3, how many shares of its file there are, the
+// bytes of all, and the faults.
 type Shown = (Option<Digest>, usize, u64, u64);
 
 // How many shares of a file are listed. Where there is no memory once, the call is made again.
@@ -201,7 +205,8 @@ fn shown<S: Store>(alloc: Global, store: &mut S) -> Shown {
     )
 }
 
-// Whether a call gives what it is to give, at once, or after it was refused memory once and changed nothing.
+// Whether a call gives what it is to give, at once, or after it was refused memory once and changed
+// nothing.
 fn gives_at_last<S: Store>(alloc: Global, store: &mut S, call: Call) -> bool {
     let before = shown(alloc, store);
     let outcome = gives(alloc, store, call);
@@ -314,7 +319,8 @@ const LISTED: [Call; 5] = [
     Call::Used(7),
 ];
 
-// How many calls go right in a folder's store, where memory may be refused once: none, where it is not opened.
+// How many calls go right in a folder's store, where memory may be refused once: none, where it is
+// not opened.
 fn right_in_folder_at_last(rt: &HostRuntime, folder: &str, calls: &[Call]) -> usize {
     let opened = match FolderStore::open(rt, folder) {
         Err(StoreError::OutOfMemory) => FolderStore::open(rt, folder),
@@ -378,7 +384,8 @@ const FILLED: [Call; 6] = [
     Call::Read(INDEX, 1, 0, 9, b"\x03"),
 ];
 
-// Other names, open files and folders are ignored. Of two digests the one with the lower text counts.
+// Other names, open files and folders are ignored. Of two digests the one with the lower text
+// counts.
 #[test]
 fn folder_ignores_other_names(rt: HostRuntime) -> Result<(), Fail> {
     remove(&rt)?;
@@ -399,7 +406,8 @@ fn fails(rt: &HostRuntime, store: &mut FolderStore<HostRuntime>, call: Call, num
     gives(rt.alloc(), store, call) == Err(StoreError::StoreFault) && store.failures() == number
 }
 
-// A closed file that is gone, one that is too short, a path that is no folder, and a folder that is gone.
+// A closed file that is gone, one that is too short, a path that is no folder, and a folder that is
+// gone.
 #[test]
 fn folder_fails(rt: HostRuntime) -> Result<(), Fail> {
     remove(&rt)?;

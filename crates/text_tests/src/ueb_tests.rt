@@ -1,5 +1,5 @@
-// Extension blocks: those of whole files' encodings, and one that is changed in one place, which a reader in Python judged by the
-// format's rules.
+// Extension blocks: those of whole files' encodings, and one that is changed in one place, which a
+// reader in Python judged by the format's rules.
 
 use std::alloc::{AllocError, Global};
 use ueb::{Expect, Key, MAX_FILE_SIZE, MAX_LENGTH, MAX_SHARES, MIN_FILE_SIZE, Ueb, UebError};
@@ -14,7 +14,8 @@ const EXPECT: Expect = Expect {
     size: 56,
 };
 
-// Shares needed and in all, size, block: of files that were encoded by hashlib and a cipher in Python.
+// Shares needed and in all, size, block: of files that were encoded by hashlib and a cipher in
+// Python.
 const BLOCKS: [(u16, u16, u64, &[u8]); 5] = [
     // 305 bytes
     (
