@@ -1,4 +1,4 @@
-// The rounds, on sixteen blocks at once (FIPS 197, 5.1).
+//! The rounds, on sixteen blocks at once (FIPS 197, 5.1).
 
 ghost use Rattle.std.specs.Prelude.{◌≡◌, ◌+◌, ◌*◌, ◌/◌, ◌%◌, ◌<◌, ℕ, length, map};
 ghost use Rattle.aes_ctr.specs.Aes.{last_round, mix_columns, round, shift_rows, xor_bytes};

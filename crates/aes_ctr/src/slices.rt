@@ -1,4 +1,4 @@
-// Sixteen blocks side by side, a bit of each byte in each of eight slices.
+//! Sixteen blocks side by side, a bit of each byte in each of eight slices.
 
 ghost use Rattle.std.specs.Prelude.{◌≡◌, ◌+◌, ◌-◌, ◌*◌, ◌%◌, ◌/◌, ◌^◌, ◌<◌, ◌==◌, ◌∷◌, ◌++◌};
 ghost use Rattle.std.specs.Prelude.{if◌then◌else◌, ℕ, [], length, replicate, slice_index};

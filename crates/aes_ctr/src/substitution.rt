@@ -1,7 +1,7 @@
-// The byte substitution of sixteen blocks at once, by the circuit of Boyar and Peralta.
-//
-// Each step is straight-line code on whole slices, so that no look-up and no branch depends on the
-// key or the text.
+//! The byte substitution of sixteen blocks at once, by the circuit of Boyar and Peralta.
+//!
+//! Each step is straight-line code on whole slices, so that no look-up and no branch depends on the
+//! key or the text.
 
 ghost use Rattle.std.specs.Prelude.{◌≡◌, ◌<◌, ℕ, [], All, length, map};
 ghost use Rattle.aes_ctr.specs.Byte.{substituted};

@@ -3,14 +3,14 @@
 use crate::files::{at_path, if_there, read_at_most};
 use crate::folders::{MAX_SERVERS, server_folder};
 use grid_rules::Fault;
-use share_store::names::{closed_path, open_path, read_name};
+use share_store::names::{ClosedName, closed_path, open_path};
 use std::alloc::Global;
 use std::fs;
 use std::fs::{DirEntry, OpenOptions};
 use std::io;
 use std::io::Write;
 use std::rt::Files;
-use tagged_hash::{Tag, tagged};
+use tagged_hash::share_digest;
 
 /// A file under a closed share's name: the share's number, the server, and the path. The order is
 /// that of the numbers, then of the servers, then of the names.
@@ -76,7 +76,7 @@ fn push_file<R: Files>(
     index: &[u8; 16],
     files: &mut Vec<ShareFile>,
 ) -> Result<(), Fault> {
-    let Some(name) = read_name(entry.file_name().as_bytes()) else {
+    let Some(name) = ClosedName::read(entry.file_name().as_bytes()) else {
         return Ok(());
     };
     let (name_index, number) = name.place;
@@ -108,7 +108,7 @@ pub(crate) fn write_share<R: Files + AllocGlobal>(
 ) -> Result<(), Fault> {
     let alloc = rt.alloc();
     let place = (*index, number);
-    let digest = tagged(Tag::WholeShare, share);
+    let digest = share_digest(share);
     let open = named(open_path(alloc, folder, &place))?;
     let closed = named(closed_path(alloc, folder, &place, &digest))?;
     let (from, to) = (open.as_str(), closed.as_str());

@@ -7,4 +7,4 @@ abbrev pub refusal_number : PlacementError → ℕ
 refusal_number OutOfMemory = 1
 
 abbrev pub refusal_text : PlacementError → List ℕ
-refusal_text OutOfMemory = codes "out of memory"
+refusal_text OutOfMemory = codes "OutOfMemory"

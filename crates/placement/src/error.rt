@@ -1,3 +1,5 @@
+//! Why a placement could not be computed.
+
 ghost use Rattle.std.specs.Prelude.{◌≡◌};
 ghost use Rattle.placement.specs.PlacementError.{refusal_number};
 
@@ -30,7 +32,7 @@ impl fmt::Display for PlacementError {
 
     fn fmt<W: fmt::Write>(&self, f: &mut fmt::Formatter<W>) -> fmt::Result {
         match self {
-            PlacementError::OutOfMemory => f.write_str("out of memory"),
+            PlacementError::OutOfMemory => f.write_str("OutOfMemory"),
         }
     }
 }

@@ -1,3 +1,5 @@
+//! The plan of an upload: which share goes to which server.
+
 ghost use Rattle.std.specs.Prelude.{◌≡◌, ◌≢◌, ℕ, ◌<◌, ◌≤◌, [], ◌++◌, length, map, nat_eq};
 ghost use Rattle.std.specs.Prelude.{slice_index, All, Contains, IfOk};
 ghost use Rattle.std.specs.List.{IsDistinct, zip};

@@ -68,7 +68,7 @@ impl ClosedName {
 }
 
 /// The path of a closed share's file.
-pub(crate) fn closed_path(
+pub fn closed_path(
     alloc: Global,
     folder: &str,
     place: &Place,
@@ -87,7 +87,7 @@ pub(crate) fn closed_path(
 }
 
 /// The path of an open share's file.
-pub(crate) fn open_path(alloc: Global, folder: &str, place: &Place) -> Result<String, StoreError>
+pub fn open_path(alloc: Global, folder: &str, place: &Place) -> Result<String, StoreError>
     ensures path { IfOk result
         (λ path. string_bytes path ≡ in_folder folder.now (open_name place.now)) }
     ensures memory { IsOkUnless result StoreError.OutOfMemory }
