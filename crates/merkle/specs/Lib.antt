@@ -1,10 +1,10 @@
 -- what public contracts rest on
 pub mod Tree
 pub mod Path
+pub mod Inputs
 pub mod Nodes
 pub mod Partial
 pub mod Error
 pub mod OfferError
-
 -- words of private clauses
 pub mod Taking

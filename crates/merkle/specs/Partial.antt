@@ -175,5 +175,5 @@ abbrev pub KnownLeavesGiveTheRoot : Type 0
 KnownLeavesGiveTheRoot = (p : PartialState) (leaves : List (List ℕ)) → IsPartial p
     → length leaves ≡ p.leaf_count
     → ((leaf : ℕ) → leaf < length leaves
-        → known_at p (leaf_number p.leaf_count leaf) ≡ Some (slice_index_or leaves leaf []))
+    → known_at p (leaf_number p.leaf_count leaf) ≡ Some (slice_index_or leaves leaf []))
     → tree_root leaves ≡ p.root

@@ -18,5 +18,5 @@ pub use error::{OfferError, TreeError};
 pub use nodes::are_tree_nodes;
 pub use numbers::{height, needed_number, node_number, sibling, sibling_number};
 pub use partial::{Partial, known_leaves_give_the_root, known_leaves_lead};
-pub use path::{check_path, siblings_lead};
+pub use path::{check_path, leaf_agrees, own_paths_are_within, paths_agree, siblings_lead};
 pub use tree::Tree;

@@ -36,7 +36,7 @@ pub(crate) fn take(
         → IsKept leaf_count (padding leaf_count) root (get nat_eq nodes.new)) }
     ensures refused { result ≡ Err OfferError.NotConsistent → (new : Known)
         → ¬ IsExtended leaf_count (known_by (padding leaf_count) (get nat_eq nodes.old))
-            offers.now new }
+        offers.now new }
 {
     let height = height(leaf_count);
     for offer in offers {
