@@ -4,7 +4,7 @@ use Rattle.std.specs.Prelude.{◌==◌, filter, nat_eq}
 use Rattle.std.proofs.lemmas.Bool.Decides.{nat_tests}
 use Rattle.std.specs.Map.{keys_of}
 use Rattle.wire.specs.declared.message.ShareId.{ShareId}
-use Rattle.tagged_hash.specs.TaggedHash.{tagged_hash}
+use Rattle.tagged_hash.specs.TaggedHash.{share_digest}
 use Rattle.tagged_hash.specs.TaggedHasher.{Holds}
 use Rattle.tagged_hash.specs.declared.hasher.TaggedHasher.{TaggedHasher}
 use Rattle.tagged_hash.specs.declared.tag.Tag.TheVariants.{WholeShare}
@@ -15,7 +15,7 @@ use Rattle.server_core.specs.declared.bucket.Gathered.{Gathered}
 use Rattle.server_core.specs.declared.bucket.Gathered.TheVariants.{Part, Whole}
 use Rattle.server_core.specs.declared.bucket.Bucket.{Bucket}
 use Rattle.server_core.specs.Buckets.{same_id, bucket_at, changed, ended, Gathers, GoesOn, IsNothing, count_in}
-use Rattle.server_core.specs.Machine.{most_buckets}
+use Rattle.server_core.specs.Limits.{most_buckets}
 use Rattle.server_core.specs.Sound.{AreSound, IsWritten}
 use Rattle.server_core.proofs.Shares.{same_agrees, found_new, found_other}
 use Rattle.server_core.proofs.Listed.{KeepsId, eq_of_same, other_of, bucket_push, bucket_push_other, apart_push, changed_other, changed_same, changed_none, apart_changed, length_changed, apart_filter, filtered_found, length_filter, ended_same, ended_other}
@@ -136,7 +136,7 @@ closed_stays s id digest none other c e = by (same_id other id) refl
         absurd cc
     by false is = closed_other s id other digest is ∙ e
 
-pub closing_sound : (s : Shelf) (bs : List Bucket) (id : ShareId) (digest : List ℕ) → digest ≡ tagged_hash WholeShare (written id s.opened) → AreSound s.closed s.opened bs → AreSound (with_closed s id digest) s.opened bs
+pub closing_sound : (s : Shelf) (bs : List Bucket) (id : ShareId) (digest : List ℕ) → digest ≡ share_digest (written id s.opened) → AreSound s.closed s.opened bs → AreSound (with_closed s id digest) s.opened bs
 closing_sound s bs id digest right sound = record {
   right = record {
     rising = sorted_with (place_of id) (new_share s id digest) s.closed sound.right.rising;
@@ -146,10 +146,10 @@ closing_sound s bs id digest right sound = record {
   few = sound.few;
   gathered = sound.gathered;
 } where
-  by : (other : ShareId) (c : ClosedShare) → closed_at other (with_closed s id digest) ≡ Some c → (same : Bool) → same_id other id ≡ same → c.digest ≡ tagged_hash WholeShare c.bytes
+  by : (other : ShareId) (c : ClosedShare) → closed_at other (with_closed s id digest) ≡ Some c → (same : Bool) → same_id other id ≡ same → c.digest ≡ share_digest c.bytes
   by other c e true is =
       let at : closed_at id (with_closed s id digest) ≡ Some c = subst (λ (i : ShareId). closed_at i (with_closed s id digest) ≡ Some c) (eq_of_same other id is) e in
       let here : Some (new_share s id digest) ≡ Some c = sym (closed_new s id digest) ∙ at in
       let same : new_share s id digest ≡ c = cc in
-      subst (λ (x : ClosedShare). x.digest ≡ tagged_hash WholeShare x.bytes) same right
+      subst (λ (x : ClosedShare). x.digest ≡ share_digest x.bytes) same right
   by other c e false is = sound.right.digests other c (sym (closed_other s id other digest is) ∙ e)

@@ -1,25 +1,22 @@
 -- A bucket is changed for its owner alone.
-use Rattle.std.proofs.Common.{◌≡◌, ℕ, ◌+◌, List, [], ◌∷◌, ◌++◌, Bool, true, false, cond, not, Option, Some, None, Result, Ok, Err, length, refl, sym, ◌∙◌, ap, subst}
+use Rattle.std.proofs.Common.{◌≡◌, ℕ, ◌+◌, List, [], ◌∷◌, ◌++◌, Bool, true, false, cond, not, Option, Some, None, Ok, Err, length, refl, sym, ◌∙◌, ap, subst}
 use Rattle.std.specs.Prelude.{◌==◌, ◌&&◌, ◌||◌, nat_lt}
 use Rattle.wire.specs.declared.message.Body.{Body}
 use Rattle.wire.specs.declared.message.Body.TheVariants.{Ask, Have, Allocate, Granted, Already, Busy, Full, Write, Wrote, WrongOffset, Close, Closed, NotComplete, Abort, Read, Data, NoShare}
 use Rattle.wire.specs.declared.message.Message.{Message}
 use Rattle.wire.specs.declared.message.ShareId.{ShareId}
 use Rattle.share_store.specs.Shelf.{Shelf, place_of, written, OthersStay}
-use Rattle.server_core.specs.declared.error.ServerFault.{ServerFault}
 use Rattle.server_core.specs.declared.error.ServerFault.TheVariants.{OutOfMemory, StoreFault}
 use Rattle.server_core.specs.declared.bucket.Gathered.{Gathered}
 use Rattle.server_core.specs.declared.bucket.Gathered.TheVariants.{Part, Whole}
 use Rattle.server_core.specs.declared.bucket.Bucket.{Bucket}
 use Rattle.server_core.specs.Buckets.{same_id, bucket_at, is_owned, changed, ended, touched, with_bytes, bytes_so_far}
-use Rattle.server_core.specs.Machine.{Machine, Calls, Line, Does, allocate_line, write_line, close_line, close_gathered, abort_line, read_line, line_of}
+use Rattle.share_store.specs.Calls.{Calls, shelf_calls}
+use Rattle.server_core.specs.Machine.{Machine, Line, Outcome, Does, allocate_line, write_line, close_line, close_gathered, abort_line, read_line, line_of}
 use Rattle.server_core.specs.Machine.{Silent, Says, Touches, Opens, Ends, ListsHoldings, WritesBytes, ClosesShare, ReadsShare}
-use Rattle.server_core.specs.Sound.{shelf_calls, Owns, IsOwnLine, OthersBucketsStay, OthersBytesStay}
+use Rattle.server_core.specs.Sound.{Owns, IsOwnLine, OthersBucketsStay, OthersBytesStay}
 use Rattle.server_core.proofs.Shares.{same_agrees}
 use Rattle.server_core.proofs.Listed.{KeepsId, eq_of_same, other_of, changed_other, ended_other}
-
-abbrev Outcome : Type 0
-Outcome = Result (Option Message) ServerFault
 
 -- ---- the table
 
@@ -72,24 +69,24 @@ own_read from session bs id offset len (Some digest) = tt
 own_read from session bs id offset len None = tt
 
 -- each line is one of the owner's
-pub own_line : {S : Type 0} (told : S → ShareId → Option (List ℕ)) (used : S → ℕ) (old : Machine S) (from session : ℕ) (body : Body) → IsOwnLine from session old.buckets (line_of told used old from session body)
-own_line told used old from session (Ask index) = tt
-own_line told used old from session (Allocate id len) = own_allocate from session old.buckets id len _ _ _ refl
-own_line told used old from session (Write id offset bytes) = own_write from session old.buckets id offset bytes _ _ refl
-own_line told used old from session (Close id) = own_close from session old.buckets id _ _ refl
-own_line told used old from session (Abort id) = own_abort from session old.buckets id _ refl
-own_line told used old from session (Read id offset len) = own_read from session old.buckets id offset len _
-own_line told used old from session (Have readonly found) = tt
-own_line told used old from session Granted = tt
-own_line told used old from session (Already digest) = tt
-own_line told used old from session Busy = tt
-own_line told used old from session Full = tt
-own_line told used old from session (Wrote next) = tt
-own_line told used old from session (WrongOffset count) = tt
-own_line told used old from session (Closed digest) = tt
-own_line told used old from session (NotComplete count) = tt
-own_line told used old from session (Data bytes) = tt
-own_line told used old from session NoShare = tt
+pub own_line : {S : Type 0} (calls : Calls S) (old : Machine S) (from session : ℕ) (body : Body) → IsOwnLine from session old.buckets (line_of calls old from session body)
+own_line calls old from session (Ask index) = tt
+own_line calls old from session (Allocate id len) = own_allocate from session old.buckets id len _ _ _ refl
+own_line calls old from session (Write id offset bytes) = own_write from session old.buckets id offset bytes _ _ refl
+own_line calls old from session (Close id) = own_close from session old.buckets id _ _ refl
+own_line calls old from session (Abort id) = own_abort from session old.buckets id _ refl
+own_line calls old from session (Read id offset len) = own_read from session old.buckets id offset len _
+own_line calls old from session (Have readonly found) = tt
+own_line calls old from session Granted = tt
+own_line calls old from session (Already digest) = tt
+own_line calls old from session Busy = tt
+own_line calls old from session Full = tt
+own_line calls old from session (Wrote next) = tt
+own_line calls old from session (WrongOffset count) = tt
+own_line calls old from session (Closed digest) = tt
+own_line calls old from session (NotComplete count) = tt
+own_line calls old from session (Data bytes) = tt
+own_line calls old from session NoShare = tt
 
 -- ---- what the lines leave
 
@@ -125,37 +122,37 @@ ended_others from session old new id own e other b at not_own = ap (bucket_at ot
 
 -- others' buckets stay, over every store
 pub others_stay : {S : Type 0} (calls : Calls S) (old new : Machine S) (line : Line) (t from : ℕ) (m : Message) (outcome : Outcome) → IsOwnLine from m.session old.buckets line → Does calls line t old m outcome new → OthersBucketsStay from m.session old.buckets new.buckets
-others_stay calls old new Silent t from m (Ok None) own d = same_buckets from m.session old.buckets new.buckets d.1
+others_stay calls old new Silent t from m (Ok None) own d = same_buckets from m.session old.buckets new.buckets d.buckets
 others_stay calls old new Silent t from m (Ok (Some r)) own d = absurd d
 others_stay calls old new Silent t from m (Err e) own d = absurd d
-others_stay calls old new (Says body) t from m (Ok (Some r)) own d = same_buckets from m.session old.buckets new.buckets d.1.1
+others_stay calls old new (Says body) t from m (Ok (Some r)) own d = same_buckets from m.session old.buckets new.buckets d.after.buckets
 others_stay calls old new (Says body) t from m (Ok None) own d = absurd d
 others_stay calls old new (Says body) t from m (Err e) own d = absurd d
-others_stay calls old new (Touches id body) t from m (Ok (Some r)) own d = changed_others from m.session old.buckets new.buckets id (touched t) (λ b. refl) own d.1.1
+others_stay calls old new (Touches id body) t from m (Ok (Some r)) own d = changed_others from m.session old.buckets new.buckets id (touched t) (λ b. refl) own d.after.buckets
 others_stay calls old new (Touches id body) t from m (Ok None) own d = absurd d
 others_stay calls old new (Touches id body) t from m (Err e) own d = absurd d
-others_stay calls old new (Opens c s id len) t from m (Ok (Some r)) own d = λ other b at not_own. ap (bucket_at other) d.3.1 ∙ found_push other old.buckets d.0 b at
-others_stay calls old new (Opens c s id len) t from m (Err OutOfMemory) own d = same_buckets from m.session old.buckets new.buckets d.1
+others_stay calls old new (Opens c s id len) t from m (Ok (Some r)) own d = λ other b at not_own. ap (bucket_at other) d.after.buckets ∙ found_push other old.buckets d.bucket b at
+others_stay calls old new (Opens c s id len) t from m (Err OutOfMemory) own d = same_buckets from m.session old.buckets new.buckets d.buckets
 others_stay calls old new (Opens c s id len) t from m (Err StoreFault) own d = absurd d
 others_stay calls old new (Opens c s id len) t from m (Ok None) own d = absurd d
-others_stay calls old new (Ends id) t from m (Ok (Some r)) own d = ended_others from m.session old.buckets new.buckets id own d.1.1
+others_stay calls old new (Ends id) t from m (Ok (Some r)) own d = ended_others from m.session old.buckets new.buckets id own d.after.buckets
 others_stay calls old new (Ends id) t from m (Ok None) own d = absurd d
 others_stay calls old new (Ends id) t from m (Err e) own d = absurd d
-others_stay calls old new (ListsHoldings index) t from m (Ok (Some r)) own d = same_buckets from m.session old.buckets new.buckets d.3
-others_stay calls old new (ListsHoldings index) t from m (Err OutOfMemory) own d = same_buckets from m.session old.buckets new.buckets d.1
-others_stay calls old new (ListsHoldings index) t from m (Err StoreFault) own d = same_buckets from m.session old.buckets new.buckets d.1
+others_stay calls old new (ListsHoldings index) t from m (Ok (Some r)) own d = same_buckets from m.session old.buckets new.buckets d.buckets
+others_stay calls old new (ListsHoldings index) t from m (Err OutOfMemory) own d = same_buckets from m.session old.buckets new.buckets d.buckets
+others_stay calls old new (ListsHoldings index) t from m (Err StoreFault) own d = same_buckets from m.session old.buckets new.buckets d.buckets
 others_stay calls old new (ListsHoldings index) t from m (Ok None) own d = absurd d
-others_stay calls old new (WritesBytes id b bytes) t from m (Ok (Some r)) own d = changed_others from m.session old.buckets new.buckets id (with_bytes t d.0) (λ x. refl) own d.4
-others_stay calls old new (WritesBytes id b bytes) t from m (Err OutOfMemory) own d = same_buckets from m.session old.buckets new.buckets d.1
-others_stay calls old new (WritesBytes id b bytes) t from m (Err StoreFault) own d = ended_others from m.session old.buckets new.buckets id own d.1
+others_stay calls old new (WritesBytes id b bytes) t from m (Ok (Some r)) own d = changed_others from m.session old.buckets new.buckets id (with_bytes t d.gathered) (λ x. refl) own d.buckets
+others_stay calls old new (WritesBytes id b bytes) t from m (Err OutOfMemory) own d = same_buckets from m.session old.buckets new.buckets d.buckets
+others_stay calls old new (WritesBytes id b bytes) t from m (Err StoreFault) own d = ended_others from m.session old.buckets new.buckets id own d.buckets
 others_stay calls old new (WritesBytes id b bytes) t from m (Ok None) own d = absurd d
-others_stay calls old new (ClosesShare id digest) t from m (Ok (Some r)) own d = ended_others from m.session old.buckets new.buckets id own d.2
-others_stay calls old new (ClosesShare id digest) t from m (Err OutOfMemory) own d = same_buckets from m.session old.buckets new.buckets d.1
-others_stay calls old new (ClosesShare id digest) t from m (Err StoreFault) own d = ended_others from m.session old.buckets new.buckets id own d.1
+others_stay calls old new (ClosesShare id digest) t from m (Ok (Some r)) own d = ended_others from m.session old.buckets new.buckets id own d.buckets
+others_stay calls old new (ClosesShare id digest) t from m (Err OutOfMemory) own d = same_buckets from m.session old.buckets new.buckets d.buckets
+others_stay calls old new (ClosesShare id digest) t from m (Err StoreFault) own d = ended_others from m.session old.buckets new.buckets id own d.buckets
 others_stay calls old new (ClosesShare id digest) t from m (Ok None) own d = absurd d
-others_stay calls old new (ReadsShare id offset len) t from m (Ok (Some r)) own d = same_buckets from m.session old.buckets new.buckets d.3
-others_stay calls old new (ReadsShare id offset len) t from m (Err OutOfMemory) own d = same_buckets from m.session old.buckets new.buckets d.1
-others_stay calls old new (ReadsShare id offset len) t from m (Err StoreFault) own d = same_buckets from m.session old.buckets new.buckets d.1
+others_stay calls old new (ReadsShare id offset len) t from m (Ok (Some r)) own d = same_buckets from m.session old.buckets new.buckets d.buckets
+others_stay calls old new (ReadsShare id offset len) t from m (Err OutOfMemory) own d = same_buckets from m.session old.buckets new.buckets d.buckets
+others_stay calls old new (ReadsShare id offset len) t from m (Err StoreFault) own d = same_buckets from m.session old.buckets new.buckets d.buckets
 others_stay calls old new (ReadsShare id offset len) t from m (Ok None) own d = absurd d
 
 -- ---- what others have written
@@ -167,35 +164,35 @@ owned_bytes : (from session : ℕ) (old : Machine Shelf) (new : Shelf) (id : Sha
 owned_bytes from session old new id own o other b at not_own = o (place_of other) (same_agrees id other ∙ other_of other id (not_mine from session old.buckets id other b own at not_own))
 
 pub others_bytes : (old new : Machine Shelf) (line : Line) (t from : ℕ) (m : Message) (outcome : Outcome) → IsOwnLine from m.session old.buckets line → Does shelf_calls line t old m outcome new → OthersBytesStay from m.session old new.store
-others_bytes old new Silent t from m (Ok None) own d = same_bytes from m.session old new.store d.0
+others_bytes old new Silent t from m (Ok None) own d = same_bytes from m.session old new.store d.store
 others_bytes old new Silent t from m (Ok (Some r)) own d = absurd d
 others_bytes old new Silent t from m (Err e) own d = absurd d
-others_bytes old new (Says body) t from m (Ok (Some r)) own d = same_bytes from m.session old new.store d.1.0
+others_bytes old new (Says body) t from m (Ok (Some r)) own d = same_bytes from m.session old new.store d.after.store
 others_bytes old new (Says body) t from m (Ok None) own d = absurd d
 others_bytes old new (Says body) t from m (Err e) own d = absurd d
-others_bytes old new (Touches id body) t from m (Ok (Some r)) own d = same_bytes from m.session old new.store d.1.0
+others_bytes old new (Touches id body) t from m (Ok (Some r)) own d = same_bytes from m.session old new.store d.after.store
 others_bytes old new (Touches id body) t from m (Ok None) own d = absurd d
 others_bytes old new (Touches id body) t from m (Err e) own d = absurd d
-others_bytes old new (Opens c s id len) t from m (Ok (Some r)) own d = same_bytes from m.session old new.store d.3.0
-others_bytes old new (Opens c s id len) t from m (Err OutOfMemory) own d = same_bytes from m.session old new.store d.0
+others_bytes old new (Opens c s id len) t from m (Ok (Some r)) own d = same_bytes from m.session old new.store d.after.store
+others_bytes old new (Opens c s id len) t from m (Err OutOfMemory) own d = same_bytes from m.session old new.store d.store
 others_bytes old new (Opens c s id len) t from m (Err StoreFault) own d = absurd d
 others_bytes old new (Opens c s id len) t from m (Ok None) own d = absurd d
-others_bytes old new (Ends id) t from m (Ok (Some r)) own d = same_bytes from m.session old new.store d.1.0
+others_bytes old new (Ends id) t from m (Ok (Some r)) own d = same_bytes from m.session old new.store d.after.store
 others_bytes old new (Ends id) t from m (Ok None) own d = absurd d
 others_bytes old new (Ends id) t from m (Err e) own d = absurd d
-others_bytes old new (ListsHoldings index) t from m (Ok (Some r)) own d = same_bytes from m.session old new.store d.1.1
-others_bytes old new (ListsHoldings index) t from m (Err OutOfMemory) own d = same_bytes from m.session old new.store d.0
-others_bytes old new (ListsHoldings index) t from m (Err StoreFault) own d = same_bytes from m.session old new.store d.0
+others_bytes old new (ListsHoldings index) t from m (Ok (Some r)) own d = same_bytes from m.session old new.store d.listed.1
+others_bytes old new (ListsHoldings index) t from m (Err OutOfMemory) own d = same_bytes from m.session old new.store d.call
+others_bytes old new (ListsHoldings index) t from m (Err StoreFault) own d = same_bytes from m.session old new.store d.call
 others_bytes old new (ListsHoldings index) t from m (Ok None) own d = absurd d
-others_bytes old new (WritesBytes id b bytes) t from m (Ok (Some r)) own d = owned_bytes from m.session old new.store id own d.2.1
-others_bytes old new (WritesBytes id b bytes) t from m (Err OutOfMemory) own d = same_bytes from m.session old new.store d.0
-others_bytes old new (WritesBytes id b bytes) t from m (Err StoreFault) own d = owned_bytes from m.session old new.store id own d.0.0
+others_bytes old new (WritesBytes id b bytes) t from m (Ok (Some r)) own d = owned_bytes from m.session old new.store id own d.written.1
+others_bytes old new (WritesBytes id b bytes) t from m (Err OutOfMemory) own d = same_bytes from m.session old new.store d.call
+others_bytes old new (WritesBytes id b bytes) t from m (Err StoreFault) own d = owned_bytes from m.session old new.store id own d.call.0
 others_bytes old new (WritesBytes id b bytes) t from m (Ok None) own d = absurd d
-others_bytes old new (ClosesShare id digest) t from m (Ok (Some r)) own d = owned_bytes from m.session old new.store id own d.0.1
-others_bytes old new (ClosesShare id digest) t from m (Err OutOfMemory) own d = same_bytes from m.session old new.store d.0
-others_bytes old new (ClosesShare id digest) t from m (Err StoreFault) own d = owned_bytes from m.session old new.store id own d.0.1
+others_bytes old new (ClosesShare id digest) t from m (Ok (Some r)) own d = owned_bytes from m.session old new.store id own d.closed.1
+others_bytes old new (ClosesShare id digest) t from m (Err OutOfMemory) own d = same_bytes from m.session old new.store d.call
+others_bytes old new (ClosesShare id digest) t from m (Err StoreFault) own d = owned_bytes from m.session old new.store id own d.call.1
 others_bytes old new (ClosesShare id digest) t from m (Ok None) own d = absurd d
-others_bytes old new (ReadsShare id offset len) t from m (Ok (Some r)) own d = same_bytes from m.session old new.store d.1.1
-others_bytes old new (ReadsShare id offset len) t from m (Err OutOfMemory) own d = same_bytes from m.session old new.store d.0
-others_bytes old new (ReadsShare id offset len) t from m (Err StoreFault) own d = same_bytes from m.session old new.store d.0
+others_bytes old new (ReadsShare id offset len) t from m (Ok (Some r)) own d = same_bytes from m.session old new.store d.read.1
+others_bytes old new (ReadsShare id offset len) t from m (Err OutOfMemory) own d = same_bytes from m.session old new.store d.call
+others_bytes old new (ReadsShare id offset len) t from m (Err StoreFault) own d = same_bytes from m.session old new.store d.call
 others_bytes old new (ReadsShare id offset len) t from m (Ok None) own d = absurd d

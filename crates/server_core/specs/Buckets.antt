@@ -1,7 +1,8 @@
 -- Open buckets: the shares that clients are writing.
-use Rattle.std.specs.Prelude.{◌≡◌, ◌<◌, ◌≤◌, ℕ, ◌+◌, ◌==◌, ◌&&◌, not, List, [], ◌∷◌, ◌++◌, Bool, Option, Some, None, if◌then◌else◌, length, map, filter, sum, bytes_eq}
+use Rattle.std.specs.Prelude.{◌≡◌, ◌<◌, ◌≤◌, ℕ, ◌+◌, ◌==◌, ◌&&◌, not, List, [], ◌∷◌, ◌++◌, Bool}
+use Rattle.std.specs.Prelude.{Option, Some, None, if◌then◌else◌, length, map, filter, sum, bytes_eq}
 use Rattle.wire.specs.declared.message.ShareId.{ShareId}
-use Rattle.tagged_hash.specs.TaggedHash.{tagged_hash}
+use Rattle.tagged_hash.specs.TaggedHash.{share_digest}
 use Rattle.tagged_hash.specs.TaggedHasher.{Holds}
 use Rattle.tagged_hash.specs.declared.tag.Tag.TheVariants.{WholeShare}
 use Rattle.server_core.specs.declared.bucket.Gathered.{Gathered}
@@ -21,10 +22,12 @@ count_in len (Whole digest) = len
 abbrev pub bytes_so_far : Bucket → ℕ
 bytes_so_far b = count_in b.length b.gathered
 
--- These are the bytes so far, of so many: there are fewer, and a hasher was given them, or all are there, and this is their digest.
+-- These are the bytes so far, of so many: there are fewer, and a hasher was given them, or all are
+-- there, and this is their digest.
 abbrev pub Gathers : ℕ → Gathered → List ℕ → Type 0
-Gathers len (Part count hasher) written = (count ≡ length written) × (count < len) × Holds hasher WholeShare written
-Gathers len (Whole digest) written = (len ≡ length written) × (digest ≡ tagged_hash WholeShare written)
+Gathers len (Part count hasher) written =
+    (count ≡ length written) × (count < len) × Holds hasher WholeShare written
+Gathers len (Whole digest) written = (len ≡ length written) × (digest ≡ share_digest written)
 
 -- there is room for so many bytes more
 abbrev pub HasRoom : ℕ → ℕ → Gathered → Type 0
@@ -40,30 +43,50 @@ IsNothing (Whole digest) = ⊥
 abbrev pub GoesOn : ℕ → List ℕ → Gathered → Gathered → Type 0
 GoesOn len bytes (Part count hasher) (Part more next) =
     (more ≡ count + length bytes) × (more < len)
-    × ((written : List ℕ) → Holds hasher WholeShare written → Holds next WholeShare (written ++ bytes))
+    × ((written : List ℕ) → Holds hasher WholeShare written
+    → Holds next WholeShare (written ++ bytes))
 GoesOn len bytes (Part count hasher) (Whole digest) =
     (count + length bytes ≡ len)
-    × ((written : List ℕ) → Holds hasher WholeShare written → digest ≡ tagged_hash WholeShare (written ++ bytes))
+    × ((written : List ℕ) → Holds hasher WholeShare written
+    → digest ≡ share_digest (written ++ bytes))
 GoesOn len bytes (Whole digest) after = ⊥
 
 -- ---- buckets
 
 -- a new bucket of a client and session
-abbrev pub IsFresh : ℕ → ℕ → ShareId → ℕ → ℕ → Bucket → Type 0
-IsFresh client session id len now b =
-    (b.client ≡ client) × (b.session ≡ session) × (b.id ≡ id) × (b.length ≡ len) × (b.touched ≡ now) × IsNothing b.gathered
+pub record IsFresh (client session : ℕ) (id : ShareId) (len now : ℕ) (b : Bucket) : Type 0 where
+  pub client_is : b.client ≡ client
+  pub session_is : b.session ≡ session
+  pub share : b.id ≡ id
+  pub room : b.length ≡ len
+  pub time : b.touched ≡ now
+  pub empty : IsNothing b.gathered
 
 abbrev pub is_owned : ℕ → ℕ → Bucket → Bool
 is_owned client session b = (b.client == client) && (b.session == session)
 
 abbrev pub touched : ℕ → Bucket → Bucket
 touched now b =
-    record { client = b.client; session = b.session; id = b.id; length = b.length; gathered = b.gathered; touched = now }
+    record {
+      client = b.client;
+      session = b.session;
+      id = b.id;
+      length = b.length;
+      gathered = b.gathered;
+      touched = now;
+    }
 
 -- the same bucket, touched, with more bytes
 abbrev pub with_bytes : ℕ → Gathered → Bucket → Bucket
 with_bytes now gathered b =
-    record { client = b.client; session = b.session; id = b.id; length = b.length; gathered = gathered; touched = now }
+    record {
+      client = b.client;
+      session = b.session;
+      id = b.id;
+      length = b.length;
+      gathered = gathered;
+      touched = now;
+    }
 
 -- ---- lists of them
 

@@ -10,8 +10,8 @@ fault_number OutOfMemory = 1
 fault_number StoreFault = 60
 
 abbrev pub fault_text : ServerFault → List ℕ
-fault_text OutOfMemory = codes "out of memory"
-fault_text StoreFault = codes "the store failed"
+fault_text OutOfMemory = codes "OutOfMemory"
+fault_text StoreFault = codes "StoreFault"
 
 -- a server's fault where its store's call failed
 abbrev pub fault_of : StoreError → ServerFault

@@ -1,12 +1,14 @@
 //! Open buckets: the shares that clients are writing.
 
 ghost use Rattle.std.specs.Prelude.{◌≡◌, ◌<◌, ◌-◌, length, IfSome, option_copied};
-ghost use Rattle.server_core.specs.Buckets.{GoesOn, HasRoom, IsNothing, IsFresh, is_owned, touched, with_bytes, count_in, bytes_so_far, bucket_at, changed, ended, promised, place_of};
+ghost use Rattle.server_core.specs.Buckets.{GoesOn, HasRoom, IsNothing, IsFresh, is_owned, touched};
+ghost use Rattle.server_core.specs.Buckets.{with_bytes, count_in, bytes_so_far, bucket_at, changed};
+ghost use Rattle.server_core.specs.Buckets.{ended, promised, place_of};
 ghost use Rattle.server_core.specs.declared.bucket.Gathered.{Gathered};
 
 use std::mem;
 use tagged_hash::{Tag, TaggedHasher};
-use wire::message::{Digest, ShareId, ShareLength};
+use wire::message::{Digest, NodeId, ShareId, ShareLength};
 
 /// The bytes of a share so far. They are not kept: the store has them.
 #[derive(Drop)]
@@ -20,7 +22,7 @@ pub enum Gathered {
 /// A share that one client is writing in one session.
 #[derive(Drop)]
 pub struct Bucket {
-    pub client: u16,
+    pub client: NodeId,
     pub session: u64,
     pub id: ShareId,
     /// The length of the whole share.
@@ -70,7 +72,7 @@ impl Gathered {
 
 impl Bucket {
     /// An empty bucket.
-    pub fn new(client: u16, session: u64, id: ShareId, length: ShareLength, now: u64) -> Bucket
+    pub fn new(client: NodeId, session: u64, id: ShareId, length: ShareLength, now: u64) -> Bucket
         ensures { IsFresh client session id length now result }
     {
         Bucket {
@@ -84,7 +86,7 @@ impl Bucket {
     }
 
     /// Is it this client's, in this session?
-    pub fn is_owned(&self, client: u16, session: u64) -> bool
+    pub fn is_owned(&self, client: NodeId, session: u64) -> bool
         ensures { result ≡ is_owned client session self.now }
     {
         self.client == client && self.session == session
@@ -100,7 +102,9 @@ impl Bucket {
     // More bytes came.
     fn push(&mut self, bytes: &[u8], now: u64)
         requires { HasRoom self.old.length (length bytes.now) self.old.gathered }
-        ensures { (gathered : Gathered) × GoesOn self.old.length bytes.now self.old.gathered gathered × (self.new ≡ with_bytes now gathered self.old) }
+        ensures { (gathered : Gathered)
+            × GoesOn self.old.length bytes.now self.old.gathered gathered
+            × (self.new ≡ with_bytes now gathered self.old) }
     {
         let gathered = mem::replace(&mut self.gathered, Gathered::nothing());
         self.gathered = gathered.followed_by(bytes, self.length);
@@ -143,8 +147,11 @@ pub fn touch_bucket(buckets: &mut Vec<Bucket>, id: ShareId, now: u64)
 
 /// Adds bytes to the bucket of a share.
 pub fn push_bytes(buckets: &mut Vec<Bucket>, id: ShareId, bytes: &[u8], now: u64)
-    requires { IfSome (bucket_at id buckets.old.items) (λ b. HasRoom b.length (length bytes.now) b.gathered) }
-    ensures { IfSome (bucket_at id buckets.old.items) (λ b. (gathered : Gathered) × GoesOn b.length bytes.now b.gathered gathered × (buckets.new.items ≡ changed id (with_bytes now gathered) buckets.old.items)) }
+    requires { IfSome (bucket_at id buckets.old.items)
+        (λ b. HasRoom b.length (length bytes.now) b.gathered) }
+    ensures { IfSome (bucket_at id buckets.old.items) (λ b. (gathered : Gathered)
+        × GoesOn b.length bytes.now b.gathered gathered
+        × (buckets.new.items ≡ changed id (with_bytes now gathered) buckets.old.items)) }
 {
     if let Some(place) = place_of(buckets, id) {
         buckets[place].push(bytes, now);

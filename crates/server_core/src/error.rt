@@ -34,10 +34,11 @@ impl fmt::Display for ServerFault {
     ghost output = { λ e. Some (fault_text e) };
 
     fn fmt<W: fmt::Write>(&self, f: &mut fmt::Formatter<W>) -> fmt::Result {
-        match self {
-            ServerFault::OutOfMemory => write!(f, "out of memory"),
-            ServerFault::StoreFault => write!(f, "the store failed"),
-        }
+        let name = match self {
+            ServerFault::OutOfMemory => "OutOfMemory",
+            ServerFault::StoreFault => "StoreFault",
+        };
+        f.write_str(name)
     }
 }
 

@@ -1,7 +1,10 @@
 //! The server over a store.
 
 ghost use Rattle.std.specs.Prelude.{◌≡◌, ◌≤◌, [], length, max, true};
-ghost use Rattle.server_core.specs.Machine.{Does, Serves, Ticks, RestartsTo, KeepsTerms, ListsHoldings, reply_to, is_full, line_of, allocate_line, write_line, close_line, abort_line, read_line};
+ghost use Rattle.server_core.specs.Machine.{Does, Serves, Ticks, RestartsTo, KeepsTerms};
+ghost use Rattle.server_core.specs.Machine.{ListsHoldings, reply_to, is_full, line_of};
+ghost use Rattle.server_core.specs.Machine.{allocate_line, write_line, close_line, abort_line};
+ghost use Rattle.server_core.specs.Machine.{read_line};
 ghost use Rattle.server_core.specs.Buckets.{bucket_at};
 ghost use Rattle.server_core.specs.Sound.{OthersBucketsStay};
 
@@ -14,6 +17,7 @@ use share_store::memory::MemoryStore;
 use share_store::store::Store;
 use std::alloc::Global;
 use std::marker::Model;
+pub use wire::message::NodeId;
 use wire::message::{Body, Message, ReadLength, ShareId, ShareLength, StorageIndex};
 
 /// The most buckets that are open at a time.
@@ -22,10 +26,8 @@ const MOST_BUCKETS: usize = 1024;
 /// The seconds after which a bucket that was not touched is dropped.
 const PATIENCE: u64 = 600;
 
-/// The number of a node of the grid.
-pub type NodeId = u16;
-
-/// A server over any store. Each message of a client is answered by the first line of the table that fits:
+/// A server over any store. Each message of a client is answered by the first line of the table
+/// that fits:
 ///
 /// | Request | State | Answer and change |
 /// |---|---|---|
@@ -33,7 +35,7 @@ pub type NodeId = u16;
 /// | `Allocate` | the share is closed | `Already` |
 /// | `Allocate` | the client's own bucket, of that length | `Granted`; touched |
 /// | `Allocate` | any other bucket of the share | `Busy` |
-/// | `Allocate` | the server takes no shares, has 1,024 buckets, or no room for that length | `Full` |
+/// | `Allocate` | the server takes no shares, has 1,024 buckets, or no room for the length | `Full` |
 /// | `Allocate` | else | `Granted`; an empty bucket |
 /// | `Write` | the share is closed | `Already` |
 /// | `Write` | no bucket of the client's own | `NoShare` |
@@ -64,7 +66,13 @@ impl<S: Store> Model for Server<S> {
 
     ghost Value = { Machine S };
 
-    ghost view = { λ s. record { store = s.store; buckets = s.buckets.items; clock = s.clock; capacity = s.capacity; readonly = s.readonly } };
+    ghost view = { λ s. record {
+      store = s.store;
+      buckets = s.buckets.items;
+      clock = s.clock;
+      capacity = s.capacity;
+      readonly = s.readonly;
+    } };
 }
 
 // An answer repeats the request's session and number.
@@ -81,7 +89,13 @@ fn reply_to(message: &Message, body: Body) -> Message
 impl<S: Store> Server<S> {
     /// A server with no bucket open.
     pub fn start(alloc: Global, store: S, capacity: u64, readonly: bool) -> Server<S>
-        ensures { result ≡ record { store = store; buckets = []; clock = 0; capacity = capacity; readonly = readonly } }
+        ensures { result ≡ record {
+          store = store;
+          buckets = [];
+          clock = 0;
+          capacity = capacity;
+          readonly = readonly;
+        } }
     {
         Server {
             store,
@@ -108,7 +122,7 @@ impl<S: Store> Server<S> {
 
     // Is there no room for a share of this length?
     fn is_full(&self, length: ShareLength) -> bool
-        ensures { result ≡ is_full S.used_bytes self.now length }
+        ensures { result ≡ is_full S.calls self.now length }
     {
         if self.readonly || self.buckets.len() >= MOST_BUCKETS {
             return true;
@@ -123,7 +137,7 @@ impl<S: Store> Server<S> {
         index: StorageIndex,
         now: u64,
     ) -> Result<Option<Message>, ServerFault>
-        ensures does { Does (record { told = S.told; used = S.used_bytes; write_gives = S.write_gives; close_gives = S.close_gives; read_gives = S.read_gives; list_gives = S.list_gives }) (ListsHoldings index) now self.old message.now result self.new }
+        ensures does { Does S.calls (ListsHoldings index) now self.old message.now result self.new }
         ensures clock { self.new.clock ≡ self.old.clock }
         ensures terms { KeepsTerms self.old self.new }
     {
@@ -140,7 +154,10 @@ impl<S: Store> Server<S> {
         length: ShareLength,
         now: u64,
     ) -> Result<Option<Message>, ServerFault>
-        ensures does { Does (record { told = S.told; used = S.used_bytes; write_gives = S.write_gives; close_gives = S.close_gives; read_gives = S.read_gives; list_gives = S.list_gives }) (allocate_line from message.now.session id length (is_full S.used_bytes self.old length) (S.told self.old.store id) (bucket_at id self.old.buckets)) now self.old message.now result self.new }
+        ensures does { Does S.calls
+            (allocate_line from message.now.session id length (is_full S.calls self.old length)
+            (S.calls.told self.old.store id) (bucket_at id self.old.buckets))
+            now self.old message.now result self.new }
         ensures clock { self.new.clock ≡ self.old.clock }
         ensures terms { KeepsTerms self.old self.new }
     {
@@ -172,7 +189,10 @@ impl<S: Store> Server<S> {
         now: u64,
     ) -> Result<Option<Message>, ServerFault>
         requires { 1 ≤ length bytes.now }
-        ensures does { Does (record { told = S.told; used = S.used_bytes; write_gives = S.write_gives; close_gives = S.close_gives; read_gives = S.read_gives; list_gives = S.list_gives }) (write_line from message.now.session id offset bytes.now (S.told self.old.store id) (bucket_at id self.old.buckets)) now self.old message.now result self.new }
+        ensures does { Does S.calls
+            (write_line from message.now.session id offset bytes.now
+            (S.calls.told self.old.store id) (bucket_at id self.old.buckets))
+            now self.old message.now result self.new }
         ensures clock { self.new.clock ≡ self.old.clock }
         ensures terms { KeepsTerms self.old self.new }
     {
@@ -211,7 +231,10 @@ impl<S: Store> Server<S> {
         id: ShareId,
         now: u64,
     ) -> Result<Option<Message>, ServerFault>
-        ensures does { Does (record { told = S.told; used = S.used_bytes; write_gives = S.write_gives; close_gives = S.close_gives; read_gives = S.read_gives; list_gives = S.list_gives }) (close_line from message.now.session id (S.told self.old.store id) (bucket_at id self.old.buckets)) now self.old message.now result self.new }
+        ensures does { Does S.calls
+            (close_line from message.now.session id
+            (S.calls.told self.old.store id) (bucket_at id self.old.buckets))
+            now self.old message.now result self.new }
         ensures clock { self.new.clock ≡ self.old.clock }
         ensures terms { KeepsTerms self.old self.new }
     {
@@ -252,7 +275,9 @@ impl<S: Store> Server<S> {
         id: ShareId,
         now: u64,
     ) -> Result<Option<Message>, ServerFault>
-        ensures does { Does (record { told = S.told; used = S.used_bytes; write_gives = S.write_gives; close_gives = S.close_gives; read_gives = S.read_gives; list_gives = S.list_gives }) (abort_line from message.now.session id (bucket_at id self.old.buckets)) now self.old message.now result self.new }
+        ensures does { Does S.calls
+            (abort_line from message.now.session id (bucket_at id self.old.buckets))
+            now self.old message.now result self.new }
         ensures clock { self.new.clock ≡ self.old.clock }
         ensures terms { KeepsTerms self.old self.new }
     {
@@ -272,7 +297,9 @@ impl<S: Store> Server<S> {
         length: ReadLength,
         now: u64,
     ) -> Result<Option<Message>, ServerFault>
-        ensures does { Does (record { told = S.told; used = S.used_bytes; write_gives = S.write_gives; close_gives = S.close_gives; read_gives = S.read_gives; list_gives = S.list_gives }) (read_line id offset length (S.told self.old.store id)) now self.old message.now result self.new }
+        ensures does { Does S.calls
+            (read_line id offset length (S.calls.told self.old.store id))
+            now self.old message.now result self.new }
         ensures clock { self.new.clock ≡ self.old.clock }
         ensures terms { KeepsTerms self.old self.new }
     {
@@ -291,7 +318,7 @@ impl<S: Store> Server<S> {
         message: &Message,
         now: u64,
     ) -> Result<Option<Message>, ServerFault>
-        ensures serves { Serves (record { told = S.told; used = S.used_bytes; write_gives = S.write_gives; close_gives = S.close_gives; read_gives = S.read_gives; list_gives = S.list_gives }) self.old from message.now now result self.new }
+        ensures serves { Serves S.calls self.old from message.now now result self.new }
         ensures others { OthersBucketsStay from message.now.session self.old.buckets self.new.buckets }
     {
         let now = self.later(now);
@@ -309,7 +336,9 @@ impl<S: Store> Server<S> {
         message: &Message,
         now: u64,
     ) -> Result<Option<Message>, ServerFault>
-        ensures does { Does (record { told = S.told; used = S.used_bytes; write_gives = S.write_gives; close_gives = S.close_gives; read_gives = S.read_gives; list_gives = S.list_gives }) (line_of S.told S.used_bytes self.old from message.now.session message.now.body) now self.old message.now result self.new }
+        ensures does { Does S.calls
+            (line_of S.calls self.old from message.now.session message.now.body)
+            now self.old message.now result self.new }
         ensures clock { self.new.clock ≡ self.old.clock }
         ensures terms { KeepsTerms self.old self.new }
     {
@@ -338,7 +367,7 @@ impl<S: Store> Server<S> {
 
     /// A restart forgets the open buckets.
     pub fn restart(&mut self)
-        ensures { RestartsTo S.restart_gives self.old self.new }
+        ensures { RestartsTo S.calls.restart_gives self.old self.new }
     {
         self.store.restart();
         self.buckets.clear();
@@ -348,7 +377,17 @@ impl<S: Store> Server<S> {
 impl Server<MemoryStore> {
     /// The store's next call that can fail does.
     pub fn fail_store(&mut self)
-        ensures { self.new ≡ record { store = record { shelf = self.old.store.shelf; failures = self.old.store.failures; failing = true }; buckets = self.old.buckets; clock = self.old.clock; capacity = self.old.capacity; readonly = self.old.readonly } }
+        ensures { self.new ≡ record {
+          store = record {
+            shelf = self.old.store.shelf;
+            failures = self.old.store.failures;
+            failing = true;
+          };
+          buckets = self.old.buckets;
+          clock = self.old.clock;
+          capacity = self.old.capacity;
+          readonly = self.old.readonly;
+        } }
     {
         self.store.fail_next();
     }

@@ -7,8 +7,6 @@ use Rattle.server_core.proofs.server.Server.on_message.Goals as goal
 pub returns-then-not-matches-clause-others : goal.returns-then-not-matches-clause-others
 returns-then-not-matches-clause-others g c = λ id b at not_own.
     let m = c.args.message.now in
-    let stays = others_stay
-    (record { told = g.S.Store.told; used = g.S.Store.used_bytes; write_gives = g.S.Store.write_gives; close_gives = g.S.Store.close_gives; read_gives = g.S.Store.read_gives; list_gives = g.S.Store.list_gives })
-    c.args.self.now c.answer-answer.new.self _ c.later-now.result c.args.from m c.answer-answer.result
-    (own_line g.S.Store.told g.S.Store.used_bytes c.args.self.now c.args.from m.session m.body) c.answer-answer.ensures.does id b at not_own in
+    let stays = others_stay g.S.Store.calls c.args.self.now c.answer-answer.new.self _ c.later-now.result c.args.from m c.answer-answer.result
+    (own_line g.S.Store.calls c.args.self.now c.args.from m.session m.body) c.answer-answer.ensures.does id b at not_own in
     ap (λ (x : Machine _). bucket_at id x.buckets) c.self.view_is ∙ stays
