@@ -18,10 +18,6 @@ node_count leaf_count = 2 ^ (height leaf_count + 1) - 1
 abbrev pub parent : ℕ → ℕ
 parent number = (number - 1) / 2
 
--- the number of the other child of a node's parent
-abbrev pub other_child : ℕ → ℕ
-other_child number = 4 * parent number + 3 - number
-
 -- the row of the node of a number, and its place in that row
 abbrev pub row_of : ℕ → ℕ
 row_of number = height (number + 2) - 1

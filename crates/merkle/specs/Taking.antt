@@ -2,7 +2,7 @@
 use Rattle.std.specs.Prelude.{◌≡◌, ◌≢◌, ◌⊎◌, ℕ, ◌+◌, ◌*◌, ◌<◌, List, [], ◌∷◌, ◌++◌, length}
 use Rattle.std.specs.Prelude.{Some, None, slice_index_or}
 use Rattle.tagged_hash.specs.TaggedHash.{node_hash}
-use Rattle.merkle.specs.Partial.{Known, known_by, node_count, parent}
+use Rattle.merkle.specs.Partial.{Known, known_by, node_count, padding, parent}
 
 -- both children of the parent of this node are known, and the parent was told
 pub record IsTold (padding told : Known) (number : ℕ) : Type 0 where
@@ -69,3 +69,10 @@ pub data IsUnjoinable (padding old : Known) (number : ℕ) : Type 0 where
   has_other : (left right : List ℕ) → known_by padding old (2 * parent number + 1) ≡ Some left
       → known_by padding old (2 * parent number + 2) ≡ Some right
       → IsOther padding old (parent number) (node_hash left right) → IsUnjoinable padding old number
+
+-- of each node the same is known as before, and what was told is sound still
+pub record KnowsTheSame (leaf_count : ℕ) (old new : Known) : Type 0 where
+  pub known : (number : ℕ)
+      → known_by (padding leaf_count) new number ≡ known_by (padding leaf_count) old number
+  pub kept : (root : List ℕ) → IsKept leaf_count (padding leaf_count) root old
+      → IsKept leaf_count (padding leaf_count) root new

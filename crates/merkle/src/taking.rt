@@ -1,16 +1,17 @@
 //! How nodes that are offered are taken into what was told of a tree.
 
-ghost use Rattle.std.specs.Prelude.{◌≡◌, ◌+◌, ◌-◌, ◌*◌, ◌<◌, ◌≤◌, ◌⊎◌, ℕ, List, [], None, Err};
+ghost use Rattle.std.specs.Prelude.{◌≡◌, ◌≢◌, ◌^◌, ◌+◌, ◌-◌, ◌*◌, ◌<◌, ◌≤◌, ◌⊎◌, ℕ, List, [], None, Some, Err};
 ghost use Rattle.std.specs.Prelude.{nat_eq, OnOk};
 ghost use Rattle.std.specs.HashMap.{get};
 ghost use Rattle.merkle.specs.Partial.{IsExtended, Known, known_by, node_count, padding, parent};
 ghost use Rattle.merkle.specs.Taking.{Adds, GrowsBy, IsGrown, IsKept, IsListed, IsOther};
-ghost use Rattle.merkle.specs.Taking.{IsUnjoinable, Joins};
+ghost use Rattle.merkle.specs.Taking.{IsUnjoinable, Joins, KnowsTheSame};
 ghost use Rattle.merkle.specs.Tree.{max_leaves};
 
 use crate::error::OfferError;
-use crate::numbers::height;
+use crate::numbers::{height, node_number};
 use crate::padding::padding;
+use std::alloc::AllocError;
 use std::collections::HashMap;
 use tagged_hash::pair;
 
@@ -57,6 +58,7 @@ pub(crate) fn take(
         }
         row -= 1;
     }
+    keep_padding(nodes, leaf_count, added)?;
     Ok(())
 }
 
@@ -109,9 +111,78 @@ fn add(
         }
     }
     if !nodes.contains_key(&number) {
-        added.push(number)?;
-        nodes.insert(number, *hash)?;
+        keep(nodes, number, hash, added)?;
     }
+    Ok(())
+}
+
+// Keeps the nodes over empty leaves alone that stand beside nodes that were told, one a row at
+// most: a large tree's are long to compute, and each path near its last leaf asks for them.
+fn keep_padding(
+    nodes: &mut HashMap<u32, [u8; 32]>,
+    leaf_count: u32,
+    added: &mut Vec<u32>,
+) -> Result<(), AllocError>
+    requires few { leaf_count ≤ max_leaves }
+    requires some { 0 < leaf_count }
+    ensures grown { (first : Known) → IsGrown first added.old.items (get nat_eq nodes.old)
+        → IsGrown first added.new.items (get nat_eq nodes.new) }
+    ensures same { OnOk result
+        (KnowsTheSame leaf_count (get nat_eq nodes.old) (get nat_eq nodes.new)) }
+{
+    let height = height(leaf_count);
+    for i in 0..height {
+        let number = node_number(height - i, (leaf_count - 1) >> i);
+        keep_sibling(nodes, leaf_count, number, added)?;
+    }
+    Ok(())
+}
+
+// Keeps the sibling of a node that was told, where it has empty leaves alone below it.
+fn keep_sibling(
+    nodes: &mut HashMap<u32, [u8; 32]>,
+    leaf_count: u32,
+    number: u32,
+    added: &mut Vec<u32>,
+) -> Result<(), AllocError>
+    requires few { leaf_count ≤ max_leaves }
+    requires below { 0 < number }
+    requires inside { number + 1 < 2 ^ 32 }
+    ensures grown { (first : Known) → IsGrown first added.old.items (get nat_eq nodes.old)
+        → IsGrown first added.new.items (get nat_eq nodes.new) }
+    ensures same { OnOk result
+        (KnowsTheSame leaf_count (get nat_eq nodes.old) (get nat_eq nodes.new)) }
+{
+    let other = if number % 2 == 1 {
+        number + 1
+    } else {
+        number - 1
+    };
+    if !nodes.contains_key(&number) || nodes.contains_key(&other) {
+        return Ok(());
+    }
+    if let Some(hash) = padding(leaf_count, other) {
+        keep(nodes, other, &hash, added)?;
+    }
+    Ok(())
+}
+
+// Keeps a node that was not told, and lists its number.
+fn keep(
+    nodes: &mut HashMap<u32, [u8; 32]>,
+    number: u32,
+    hash: &[u8; 32],
+    added: &mut Vec<u32>,
+) -> Result<(), AllocError>
+    requires { get nat_eq nodes.old number ≡ None }
+    ensures here { OnOk result (get nat_eq nodes.new number ≡ Some hash.now) }
+    ensures apart { (other : ℕ) → other ≢ number
+        → get nat_eq nodes.new other ≡ get nat_eq nodes.old other }
+    ensures grows { GrowsBy (get nat_eq nodes.old) added.old.items number
+        (get nat_eq nodes.new) added.new.items }
+{
+    added.push(number)?;
+    nodes.insert(number, *hash)?;
     Ok(())
 }
 

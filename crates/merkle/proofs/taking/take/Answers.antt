@@ -5,7 +5,7 @@ use Rattle.std.proofs.lemmas.Option.{get_or_from_slice_get, slice_get-get_or, sl
 use Rattle.std.proofs.lemmas.Nat.{one_shl, pow_pos}
 use Rattle.std.specs.HashMap.{get}
 use Rattle.merkle.specs.Tree.{height}
-use Rattle.merkle.specs.Partial.{IsTouched, node_count, padding}
+use Rattle.merkle.specs.Partial.{IsExtended, IsTouched, Known, known_by, node_count, padding}
 use Rattle.merkle.specs.Taking.{Adds, Joins}
 use Rattle.merkle.specs.declared.error.OfferError.TheVariants.{NotConsistent}
 use Rattle.merkle.proofs.HeightLemmas.{height_low}
@@ -169,11 +169,15 @@ returns-clause-taken c =
     let none : c.loop-row.row ≡ 0 = omega arith in
     let last : 2 ^ (c.loop-row.row + 1) ≤ 2 = rw none (omega arith) in
     let s = c.loop-row.invariant in
-    all_taken _ _ _ _ _ _ s.under s.taken (2 ^ (c.loop-row.row + 1)) s.done last
+    let n = c.args.leaf_count in
+    let alike : known_by (padding n) (get nat_eq c.loop-row.nodes) ≡ known_by (padding n) (get nat_eq c.keep_padding.new.nodes) =
+    λ i q. sym (c.in_ok-keep_padding.ensures.same.known q) i in
+    subst (λ (k : Known). IsExtended n (known_by (padding n) (get nat_eq c.args.nodes.now)) c.args.offers.now k) alike
+    (all_taken _ _ _ _ _ _ s.under s.taken (2 ^ (c.loop-row.row + 1)) s.done last)
 
 pub returns-clause-kept : goal.returns-clause-kept
-returns-clause-kept c =
+returns-clause-kept c root kept =
     let none : c.loop-row.row ≡ 0 = omega arith in
     let last : 2 ^ (c.loop-row.row + 1) ≤ 2 = rw none (omega arith) in
     let s = c.loop-row.invariant in
-    all_kept _ _ _ _ _ _ s.under s.taken (2 ^ (c.loop-row.row + 1)) s.done last
+    c.in_ok-keep_padding.ensures.same.kept root (all_kept _ _ _ _ _ _ s.under s.taken (2 ^ (c.loop-row.row + 1)) s.done last root kept)
