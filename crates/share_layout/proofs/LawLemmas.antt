@@ -5,18 +5,19 @@ use Rattle.std.specs.List.{flat_map}
 use Rattle.std.proofs.Math.Nat.{div-le_self, pow-le-pow_right}
 use Rattle.std.proofs.lemmas.Bool.{cases_lt}
 use Rattle.std.proofs.lemmas.Grind.{div_ceil_times}
-use Rattle.std.proofs.lemmas.List.{drop-drop, drop_at, drop-take, take-take}
+use Rattle.std.proofs.lemmas.List.{length-take, drop-drop, drop_at, drop-take, take-take}
 use Rattle.std.proofs.lemmas.Nat.{pow_pos}
 use Rattle.merkle.specs.Tree.{height, needed_numbers}
 use Rattle.share_layout.specs.Geometry.{Geometry, hashes_size, segment_count, share_data_size, tree_size, IsGeometry}
 use Rattle.share_layout.specs.declared.layout.Layout.{Layout}
 use Rattle.share_layout.specs.Layout.{header, header_numbers, header_size, layout_of, number_in, places_by, places_of, spelled, version, width}
 use Rattle.share_layout.specs.Share.{CarriesNumbers, HaveLengths, IsShare, Sections}
-use Rattle.share_layout.specs.Places.{AreRising, EndsWith, HasVersion, LocatesUeb, header_number, layout_in, places_in}
+use Rattle.share_layout.specs.Places.{AreRising, EndsWith, HasOwnPlaces, HasVersion, LocatesUeb, header_number, layout_in, places_in}
 use Rattle.share_layout.specs.declared.places.Places.{Places}
 use Rattle.merkle.proofs.HeightLemmas.{height_below}
-use Rattle.share_layout.proofs.LayoutLemmas.{fits_layout, inside_header, layout_is, limit, read_back, spelled_at}
-use Rattle.share_layout.proofs.ShareLemmas.{parts_of, share_whole}
+use Rattle.share_layout.specs.Reading.{HasHeader}
+use Rattle.share_layout.proofs.LayoutLemmas.{fits_layout, header_version, length-header, inside_header, layout_is, limit, read_back, spelled_at}
+use Rattle.share_layout.proofs.ShareLemmas.{parts_of}
 
 -- something is left of something
 div_ceil-some : (n k : ℕ) → 0 < n → 0 < k → 0 < div_ceil n k
@@ -91,29 +92,38 @@ places_told g bytes b is layout =
     let f = number_told l bytes numbers 7 p.extension_block is layout (omega arith) (omega arith) refl last in
     λ i. record { layout = layout i; unused = a i; ciphertext_tree = c i; block_tree = d i; share_hashes = e i; extension_block = f i }
 
-pub locates_own : (g : Geometry) (num : ℕ) (bytes : List ℕ) (s : Sections) → IsGeometry g → IsShare g num bytes s → LocatesUeb bytes s.extension_block
-locates_own g num bytes s v is =
+pub tells_places : (g : Geometry) (bytes : List ℕ) → IsGeometry g → HasHeader g bytes
+    → HasVersion (layout_of g) bytes × HasOwnPlaces bytes × (places_in bytes ≡ places_of g)
+tells_places g bytes v is =
     let l = layout_of g in
     let b = have_bounds g v in
-    let parts = parts_of g bytes s is.text is.lengths in
-    let whole = share_whole g num bytes s is in
-    let layout = layout_is l bytes whole.version.version in
-    let told = sym (places_told g bytes b parts.header layout) in
+    let begins : take 4 bytes ≡ to_be_bytes w32 (version l) =
+    sym (take-take 4 (header_size l) bytes (omega arith)) ∙ ap (take 4) is ∙ header_version l g in
+    let long : header_size l ≤ length bytes =
+    omega (arith, ap length is, length-header l g, length-take (header_size l) bytes) in
+    let layout = layout_is l bytes begins in
+    let told = places_told g bytes b is layout in
     let last : (places_of g).extension_block < limit l = fits_layout g l (omega (arith, b.few_blocks, b.few_nodes, b.few_hashes)) refl in
-    let begins : header_number bytes 2 ≡ header_size l =
-    number_told l bytes (header_numbers l g) 2 (header_size l) parts.header layout (omega arith) (omega arith) refl (omega (arith, last)) in
+    let first : header_number bytes 2 ≡ header_size l =
+    number_told l bytes (header_numbers l g) 2 (header_size l) is layout (omega arith) (omega arith) refl (omega (arith, last)) in (
+      record { long = long; version = begins },
+      record { data_place = first ∙ ap header_size (sym layout); rising = subst AreRising (sym told) (places_rise g l b) },
+      told,
+    )
+
+pub locates_own : (g : Geometry) (num : ℕ) (bytes : List ℕ) (s : Sections) → IsGeometry g → IsShare g num bytes s → LocatesUeb bytes s.extension_block
+locates_own g num bytes s v is =
+    let parts = parts_of g bytes s is.text is.lengths in
+    let told = tells_places g bytes v parts.header in
     let ends : EndsWith (places_of g) bytes s.extension_block = record {
       text = parts.text;
       place = omega (arith, parts.tail.long);
       short = is.lengths.extension_block;
     } in
     record {
-      version = subst (λ m. HasVersion m bytes) (sym layout) whole.version;
-      places = record {
-        data_place = begins ∙ ap header_size (sym layout);
-        rising = subst AreRising told (places_rise g l b);
-      };
-      ends = subst (λ (p : Places). EndsWith p bytes s.extension_block) told ends;
+      version = subst (λ m. HasVersion m bytes) (sym (layout_is (layout_of g) bytes told.0.version)) told.0;
+      places = told.1;
+      ends = subst (λ (p : Places). EndsWith p bytes s.extension_block) (sym told.2) ends;
     }
 
 -- five lists behind one

@@ -4,7 +4,7 @@ ghost use Rattle.std.specs.Prelude.{◌≡◌, ◌≤◌, ◌↔◌, ℕ, IsTrue
 ghost use Rattle.share_layout.specs.Layout.{header_size};
 ghost use Rattle.share_layout.specs.Share.{IsShare, Sections};
 ghost use Rattle.share_layout.specs.Places.{AreRising, LocatesUeb};
-ghost use Rattle.share_layout.specs.Laws.{HasOneReading, LocateTheirBlocks};
+ghost use Rattle.share_layout.specs.Laws.{HasOneReading, LocateTheirBlocks, TellTheirPlaces};
 ghost use Rattle.share_layout.specs.Reading.{HasHeader, IsLocateFault, IsReadFault, sections_in};
 ghost use Rattle.share_layout.specs.Cutting.{IsCut, IsCutFault};
 
@@ -18,10 +18,9 @@ use ueb::MAX_LENGTH;
 
 /// The extension block of a share, by the places that the share's own header tells.
 ///
-/// Otherwise the first fault in this order: `Truncated(Header)`; `BadVersion`; `BadOffset`, where
-/// the blocks do not begin at 36 or a place in the header is not above the one before it, and where
-/// the extension block's length is there and is over `ueb::MAX_LENGTH` or bytes follow the
-/// extension block; `Truncated` with the section that the first missing byte belongs to.
+/// Otherwise the first fault in this order: those of `Places::read`; `BadOffset`, where the extension
+/// block's length is there and is over `ueb::MAX_LENGTH` or bytes follow the extension block;
+/// `Truncated` with the section that the first missing byte belongs to.
 pub fn locate_ueb(bytes: &[u8]) -> Result<&[u8], LayoutError>
     // What is found is the extension block.
     ensures accepted { IfOk result (λ block. LocatesUeb bytes.now block.now) }
@@ -38,11 +37,12 @@ pub fn locate_ueb(bytes: &[u8]) -> Result<&[u8], LayoutError>
 impl<'a> ShareView<'a> {
     /// The sections of share `number` of a file with this geometry.
     ///
-    /// Otherwise the first fault in this order: `Truncated(Header)`; `BadVersion`; `BadOffset`,
-    /// where a number in the header is not the geometry's, and where the extension block's length
-    /// is there and is over `ueb::MAX_LENGTH` or bytes follow the extension block; `Truncated` with
-    /// the section that the first missing byte belongs to; `BadShareHashes`, where the file has no
-    /// such share or the share hashes carry other numbers than it needs.
+    /// Otherwise the first fault in this order: `Truncated(Header)`, a header being measured as by
+    /// `Places::read`; `BadVersion`, where the layout is not the geometry's; `BadOffset`, where a
+    /// number in the header is not the geometry's, and where the extension block's length is there
+    /// and is over `ueb::MAX_LENGTH` or bytes follow the extension block; `Truncated` with the
+    /// section that the first missing byte belongs to; `BadShareHashes`, where the file has no such
+    /// share or the share hashes carry other numbers than it needs.
     pub fn read(
         bytes: &'a [u8],
         number: u16,
@@ -66,6 +66,12 @@ impl<'a> ShareView<'a> {
 /// call does nothing.
 pub fn shares_have_one_reading()
     ensures { HasOneReading }
+{}
+
+/// A law of the definitions: where bytes begin with the header of a geometry, `Places::read` gives
+/// the geometry's places. The law is the contract; the call does nothing.
+pub fn headers_tell_their_places()
+    ensures { TellTheirPlaces }
 {}
 
 /// A law of the definitions: the header of a share leads to the share's extension block. The law is
