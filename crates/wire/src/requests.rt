@@ -406,8 +406,31 @@ impl Requests {
         }
     }
 
-    /// Takes a message from a server: keeps it where it answers a request and counts, and says at
-    /// which place. The request is not sent any more.
+    /// Takes note of the time.
+    fn pass(&mut self, now: u64)
+        ensures { self.new ≡ at now self.old }
+    {
+        self.clock = self.clock.max(now);
+    }
+
+    /// Takes a message from a server over: keeps it where it answers a request and counts, with no
+    /// copy, and says at which place. The request is not sent any more.
+    pub fn take_answer(&mut self, from: NodeId, message: Message, now: u64) -> Option<usize>
+        ensures place { result ≡ counts_at from message self.old }
+        ensures record { self.new ≡ after_message from message now self.old }
+    {
+        let Some(place) = self.counts_at(from, &message) else {
+            self.pass(now);
+            return None;
+        };
+        settle(&mut self.entries, place, Outcome::Answered(message.body));
+        drop_place(&mut self.outgoing, place);
+        self.outstanding -= 1;
+        self.clock = self.clock.max(now);
+        Some(place)
+    }
+
+    /// As `take_answer`, of a copy of the message where it counts.
     pub fn answer(
         &mut self,
         from: NodeId,
@@ -418,17 +441,12 @@ impl Requests {
         ensures ok { OnOk result (self.new ≡ after_message from message.now now self.old) }
         ensures err { OnErr result (self.new ≡ self.old) }
     {
-        let clock = self.clock.max(now);
-        let Some(place) = self.counts_at(from, message) else {
-            self.clock = clock;
+        if self.counts_at(from, message).is_none() {
+            self.pass(now);
             return Ok(None);
-        };
-        let body = message.body.clone()?;
-        settle(&mut self.entries, place, Outcome::Answered(body));
-        drop_place(&mut self.outgoing, place);
-        self.outstanding -= 1;
-        self.clock = clock;
-        Ok(Some(place))
+        }
+        let message = message.clone()?;
+        Ok(self.take_answer(from, message, now))
     }
 
     /// Takes note of a tick: a request that is due is sent again, one that is 20 seconds old is
