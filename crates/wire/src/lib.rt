@@ -9,4 +9,5 @@ mod fields;
 pub mod kind;
 pub mod laws;
 pub mod message;
+mod places;
 pub mod requests;

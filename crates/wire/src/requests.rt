@@ -13,6 +13,7 @@ ghost use Rattle.wire.specs.Asking.{Spells, IsWriting, message_at};
 ghost use Rattle.wire.specs.declared.requests.Request.{Request};
 
 use crate::message::{Body, Message, NodeId, ReadLength, ShareId, ShareLength, StorageIndex};
+use crate::places::{Due, drop_lost, drop_place, find_due, first_waiting, settle, tick_from};
 use std::alloc::{AllocError, Global};
 use std::collections::VecDeque;
 use std::marker::Model;
@@ -151,7 +152,7 @@ impl Request {
         self.is_outstanding() && self.server == from && self.asked.fits(body)
     }
 
-    fn is_outstanding(&self) -> bool
+    pub(crate) fn is_outstanding(&self) -> bool
         ensures { result ≡ is_outstanding self.now.outcome }
     {
         matches!(self.outcome, Outcome::Outstanding)
@@ -164,14 +165,14 @@ impl Request {
     }
 
     /// Is it lost at a tick at this second?
-    fn is_lost_at(&self, now: u64) -> bool
+    pub(crate) fn is_lost_at(&self, now: u64) -> bool
         ensures { result ≡ is_lost_at now self.now }
     {
         self.is_outstanding() && PATIENCE <= self.age(now)
     }
 
     /// Is it sent again at a tick at this second?
-    fn is_resent_at(&self, now: u64) -> bool
+    pub(crate) fn is_resent_at(&self, now: u64) -> bool
         ensures { result ≡ is_resent_at now self.now }
     {
         let age = self.age(now);
@@ -179,7 +180,7 @@ impl Request {
     }
 
     /// Takes note of a tick at this second.
-    fn tick(&mut self, now: u64)
+    pub(crate) fn tick(&mut self, now: u64)
         requires { IsSentFew self.old }
         ensures { self.new ≡ ticked_one now self.old }
     {
@@ -190,98 +191,6 @@ impl Request {
             self.marks = passed(self.age(now));
         }
     }
-}
-
-/// What a tick finds due: the places of the requests that are sent again, and of the lost ones.
-#[derive(Drop)]
-struct Due {
-    resent: VecDeque<usize>,
-    lost: Vec<usize>,
-}
-
-/// What a tick at this second finds due among these requests, the first of them at this place.
-fn find_due(alloc: Global, entries: &[Request], from: usize, now: u64) -> Result<Due, AllocError>
-    requires { from + length entries.now < 2 ^ 64 }
-    ensures resent { IfOk result
-        (λ due. due.resent.items ≡ places_from (is_resent_at now) from entries.now) }
-    ensures lost { IfOk result
-        (λ due. due.lost.items ≡ places_from (is_lost_at now) from entries.now) }
-{
-    let mut resent = VecDeque::new(alloc);
-    let mut lost = Vec::new(alloc);
-    for (at, request) in entries.iter().enumerate() {
-        if request.is_lost_at(now) {
-            lost.push(from + at)?;
-        }
-        if request.is_resent_at(now) {
-            resent.push_back(from + at)?;
-        }
-    }
-    Ok(Due { resent, lost })
-}
-
-/// Each request takes note of a tick at this second.
-fn tick_each(entries: &mut [Request], now: u64)
-    requires { All IsSentFew entries.old }
-    ensures { entries.new ≡ map (ticked_one now) entries.old }
-{
-    for request in entries.iter_mut() {
-        request.tick(now);
-    }
-}
-
-/// Each request from this place on takes note of a tick at this second.
-fn tick_from(entries: &mut [Request], from: usize, now: u64)
-    requires few { All IsSentFew entries.old }
-    requires there { from ≤ length entries.old }
-    ensures { entries.new ≡ take from entries.old ++ map (ticked_one now) (drop from entries.old) }
-{
-    tick_each(&mut entries[from..], now);
-}
-
-/// The first place from this one on whose request waits for an answer, or the end.
-fn first_waiting(entries: &[Request], from: usize) -> usize
-    requires { AreSettled from entries.now }
-    ensures { AreSettled result entries.now }
-{
-    let mut place = from;
-    while place < entries.len() && !entries[place].is_outstanding() {
-        place += 1;
-    }
-    place
-}
-
-/// The request at this place is settled so.
-fn settle(entries: &mut Vec<Request>, place: usize, outcome: Outcome)
-    requires { place < vec_len entries.old }
-    ensures { (r : Request) → slice_get entries.old.items place ≡ Some r
-        → entries.new.items ≡ slice_set entries.old.items place (with_outcome r outcome) }
-{
-    entries[place].outcome = outcome;
-}
-
-/// Is the request at this place lost at a tick at this second?
-fn is_lost_in(entries: &[Request], place: usize, now: u64) -> bool
-    ensures { result ≡ is_lost_in now (slice_get entries.now place) }
-{
-    match entries.get(place) {
-        Some(request) => request.is_lost_at(now),
-        None => false,
-    }
-}
-
-/// A place is not to be sent any more.
-fn drop_place(outgoing: &mut VecDeque<usize>, place: usize)
-    ensures { outgoing.new.items ≡ without place outgoing.old.items }
-{
-    outgoing.retain(|p| !(*p == place));
-}
-
-/// What is lost at a tick at this second is not to be sent any more.
-fn drop_lost(outgoing: &mut VecDeque<usize>, entries: &[Request], now: u64)
-    ensures { outgoing.new.items ≡ without_lost now entries.now outgoing.old.items }
-{
-    outgoing.retain(|place| !is_lost_in(entries, *place, now));
 }
 
 /// The record of one operation: what it asked in order, and which requests are still to be sent.

@@ -1,6 +1,6 @@
 use Rattle.std.proofs.Common.{◌≡◌, ◌+◌, ◌++◌, drop}
 use Rattle.wire.specs.Record.{is_lost_at, is_resent_at, places_from}
-use Rattle.wire.proofs.requests.find_due.Given as goal
+use Rattle.wire.proofs.places.find_due.Given as goal
 
 -- the places found, and those that the rest gives
 abbrev pub invariant-loop-at : goal.invariant-loop-at

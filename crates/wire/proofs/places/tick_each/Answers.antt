@@ -1,7 +1,7 @@
 use Rattle.std.proofs.Common.{◌≡◌, sym, ap, ◌∙◌}
 use Rattle.std.proofs.lemmas.List.Edits.{map_over_more}
 use Rattle.wire.specs.Record.{ticked_one}
-use Rattle.wire.proofs.requests.tick_each.Goals as goal
+use Rattle.wire.proofs.places.tick_each.Goals as goal
 
 pub loop-request-preserved : goal.loop-request-preserved
 loop-request-preserved c =

@@ -1,6 +1,6 @@
 use Rattle.std.proofs.Common.{◌≡◌, ◌++◌, map, take, drop}
 use Rattle.wire.specs.Record.{ticked_one}
-use Rattle.wire.proofs.requests.tick_each.Given as goal
+use Rattle.wire.proofs.places.tick_each.Given as goal
 
 -- those before this one took note
 abbrev pub invariant-loop-request : goal.invariant-loop-request

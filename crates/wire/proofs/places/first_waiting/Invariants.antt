@@ -1,6 +1,6 @@
 use Rattle.std.proofs.Common.{◌-◌, length}
 use Rattle.wire.specs.Record.{AreSettled}
-use Rattle.wire.proofs.requests.first_waiting.Given as goal
+use Rattle.wire.proofs.places.first_waiting.Given as goal
 
 abbrev pub invariant-loop-place : goal.invariant-loop-place
 invariant-loop-place l = AreSettled l.place l.entries

@@ -1,6 +1,6 @@
 use Rattle.std.proofs.Common.{sym, ◌∙◌}
 use Rattle.wire.proofs.RecordLaws.{settled_more}
-use Rattle.wire.proofs.requests.first_waiting.Goals as goal
+use Rattle.wire.proofs.places.first_waiting.Goals as goal
 
 pub loop-place-preserved : goal.loop-place-preserved
 loop-place-preserved c =
