@@ -1,26 +1,37 @@
 //! The nodes of a tree that have empty leaves alone below them.
 
 ghost use Rattle.std.specs.Prelude.{◌≡◌, ◌^◌, ◌<◌, ◌≤◌, []};
-ghost use Rattle.merkle.specs.Partial.{padding};
+ghost use Rattle.merkle.specs.Partial.{is_padding, padding};
 ghost use Rattle.merkle.specs.Tree.{max_leaves, node, padded_to};
 
 use crate::numbers::height;
 use tagged_hash::{empty_leaf, pair};
 
-// The node of this number, where all leaves below it are empty leaves.
+/// Whether all leaves below the node of this number are empty leaves.
+pub(crate) fn is_padding(leaf_count: u32, number: u32) -> bool
+    requires few { leaf_count ≤ max_leaves }
+    ensures { result ≡ is_padding leaf_count number }
+{
+    let height = height(leaf_count);
+    if number >= (1 << (height + 1)) - 1 {
+        return false;
+    }
+    let row = crate::numbers::height(number + 2) - 1;
+    let place = number + 1 - (1 << row);
+    place << (height - row) >= leaf_count
+}
+
+/// The node of this number, where all leaves below it are empty leaves.
 pub(crate) fn padding(leaf_count: u32, number: u32) -> Option<[u8; 32]>
     requires few { leaf_count ≤ max_leaves }
     ensures { result ≡ padding leaf_count number }
 {
-    let height = height(leaf_count);
-    if number >= (1 << (height + 1)) - 1 {
+    if !is_padding(leaf_count, number) {
         return None;
     }
+    let height = height(leaf_count);
     let row = crate::numbers::height(number + 2) - 1;
     let place = number + 1 - (1 << row);
-    if place << (height - row) < leaf_count {
-        return None;
-    }
     Some(padding_node(height, row, place))
 }
 

@@ -10,7 +10,7 @@ ghost use Rattle.merkle.specs.Tree.{max_leaves};
 
 use crate::error::{OfferError, TreeError};
 use crate::numbers::{height, node_number, sibling_number};
-use crate::taking::{known_node, take, take_out};
+use crate::taking::{is_known, known_node, take, take_out};
 use crate::tree::needed_in;
 use std::alloc::Global;
 use std::collections::HashMap;
@@ -74,6 +74,13 @@ impl Partial {
         known_node(&self.nodes, self.leaf_count, number)
     }
 
+    // Whether the node of this number is known.
+    fn knows(&self, number: u32) -> bool
+        ensures { result ≡ is_some (known_at self.now number) }
+    {
+        is_known(&self.nodes, self.leaf_count, number)
+    }
+
     /// Takes nodes, each a number and a hash, where they and the nodes above them go with what is
     /// known: each of them but the root has a sibling that is known, offered or above an offered
     /// node, and each parent is the hash of its two children. Otherwise, and where a number is not
@@ -104,7 +111,7 @@ impl Partial {
         let numbers = needed_in(self.alloc, height(self.leaf_count), leaf)?;
         let mut missing = Vec::new(self.alloc);
         for number in &numbers {
-            if self.node(*number).is_none() {
+            if !self.knows(*number) {
                 missing.push(*number)?;
             }
         }

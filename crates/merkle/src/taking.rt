@@ -1,7 +1,7 @@
 //! How nodes that are offered are taken into what was told of a tree.
 
 ghost use Rattle.std.specs.Prelude.{◌≡◌, ◌≢◌, ◌^◌, ◌+◌, ◌-◌, ◌*◌, ◌<◌, ◌≤◌, ◌⊎◌, ℕ, List, [], None, Some, Err};
-ghost use Rattle.std.specs.Prelude.{nat_eq, OnOk};
+ghost use Rattle.std.specs.Prelude.{is_some, nat_eq, OnOk};
 ghost use Rattle.std.specs.HashMap.{get};
 ghost use Rattle.merkle.specs.Partial.{IsExtended, Known, known_by, node_count, padding, parent};
 ghost use Rattle.merkle.specs.Taking.{Adds, GrowsBy, IsGrown, IsKept, IsListed, IsOther};
@@ -10,7 +10,7 @@ ghost use Rattle.merkle.specs.Tree.{max_leaves};
 
 use crate::error::OfferError;
 use crate::numbers::{height, node_number};
-use crate::padding::padding;
+use crate::padding::{is_padding, padding};
 use std::alloc::AllocError;
 use std::collections::HashMap;
 use tagged_hash::pair;
@@ -186,7 +186,7 @@ fn keep(
     Ok(())
 }
 
-// Takes nodes of these numbers out again.
+/// Takes nodes of these numbers out again.
 pub(crate) fn take_out(nodes: &mut HashMap<u32, [u8; 32]>, numbers: &[u32])
     ensures out { (number : ℕ) → IsListed numbers.now number
         → get nat_eq nodes.new number ≡ None }
@@ -198,7 +198,15 @@ pub(crate) fn take_out(nodes: &mut HashMap<u32, [u8; 32]>, numbers: &[u32])
     }
 }
 
-// What is known of the node of this number, where these nodes were told.
+/// Whether the node of this number is known, where these nodes were told.
+pub(crate) fn is_known(nodes: &HashMap<u32, [u8; 32]>, leaf_count: u32, number: u32) -> bool
+    requires few { leaf_count ≤ max_leaves }
+    ensures { result ≡ is_some (known_by (padding leaf_count) (get nat_eq nodes.now) number) }
+{
+    nodes.contains_key(&number) || is_padding(leaf_count, number)
+}
+
+/// What is known of the node of this number, where these nodes were told.
 pub(crate) fn known_node(
     nodes: &HashMap<u32, [u8; 32]>,
     leaf_count: u32,
