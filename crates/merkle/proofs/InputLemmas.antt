@@ -1,14 +1,14 @@
 -- Without a clash one hash alone leads from a place to a root, and to the root of a tree leads the leaf that stands there.
-use Rattle.std.proofs.Common.{◌≡◌, ℕ, zero, suc, ◌+◌, ◌-◌, ◌^◌, ◌<◌, ◌≤◌, List, [], ◌∷◌, ◌++◌, length, nat_lt, true, false, ◌⊎◌, inl, inr, slice_index_or, Contains, ap, refl, sym, subst, ◌∙◌, arith}
+use Rattle.std.proofs.Common.{◌≡◌, ℕ, zero, suc, ◌+◌, ◌-◌, ◌^◌, ◌<◌, ◌≤◌, List, [], ◌∷◌, ◌++◌, length, ◌⊎◌, inl, inr, slice_index_or, Contains, ap, refl, sym, subst, ◌∙◌, arith}
 use Rattle.std.specs.Prelude.{decimal, take, drop}
 use Rattle.std.proofs.lemmas.Bool.{cases_lt}
-use Rattle.std.proofs.lemmas.Bool.Decides.{nat_tests}
 use Rattle.std.proofs.lemmas.List.{append_assoc, append_cancel_left, take_at, get_or-drop, get_or-take, length-drop, length-take-le}
 use Rattle.std.proofs.lemmas.List.Elements.{All-drop, All-take, Contains-append_left, Contains-append_right}
 use Rattle.tagged_hash.specs.Tag.{tag_text}
 use Rattle.tagged_hash.specs.TaggedHash.{netstring, node_hash, pair_input}
 use Rattle.tagged_hash.specs.declared.tag.Tag.TheVariants.{TreeNode}
 use Rattle.tagged_hash.proofs.HashLemmas.{length-double_sha256}
+use Rattle.merkle.proofs.HeightLemmas.{lt_false, lt_true}
 use Rattle.merkle.specs.Path.{path_root}
 use Rattle.merkle.specs.Tree.{root}
 use Rattle.merkle.specs.Inputs.{AreAmong, AreHashes, LeafAgrees, PathsAgree, path_inputs, root_inputs}
@@ -23,13 +23,6 @@ member_there x y xs c = (suc c.0, omega (arith, c.1), c.2)
 pub member_cases : (x y : List ℕ) (xs : List (List ℕ)) → Contains (x ∷ xs) y → (x ≡ y) ⊎ Contains xs y
 member_cases x y xs (zero, low, e) = inl e
 member_cases x y xs (suc k, low, e) = inr (k, omega (arith, low), e)
-
--- what a test says
-lt_true : (a b : ℕ) → a < b → nat_lt a b ≡ true
-lt_true a b h = grind (arith, nat_tests)
-
-lt_false : (a b : ℕ) → b ≤ a → nat_lt a b ≡ false
-lt_false a b h = grind (arith, nat_tests)
 
 -- ---- the input of a pair tells the two hashes
 

@@ -1,8 +1,7 @@
 -- What is hashed on a tree's own path is hashed for the tree.
-use Rattle.std.proofs.Common.{◌≡◌, ℕ, zero, suc, ◌+◌, ◌-◌, ◌*◌, ◌/◌, ◌%◌, ◌^◌, ◌<◌, ◌≤◌, List, [], ◌∷◌, length, take, drop, nat_lt, true, false, inl, inr, slice_index_or, Contains, ap, refl, sym, subst, ◌∙◌, arith, add-one, zero-add, mod-eq_of_lt}
+use Rattle.std.proofs.Common.{◌≡◌, ℕ, zero, suc, ◌+◌, ◌-◌, ◌*◌, ◌/◌, ◌%◌, ◌^◌, ◌<◌, ◌≤◌, List, [], ◌∷◌, length, take, drop, inl, inr, slice_index_or, Contains, ap, refl, sym, subst, ◌∙◌, arith, add-one, zero-add, mod-eq_of_lt}
 use Rattle.std.proofs.Math.Nat.{div-div-eq-div-mul, mul-le-mul_right, pow-suc}
 use Rattle.std.proofs.lemmas.Bool.{cases_eq, cases_lt}
-use Rattle.std.proofs.lemmas.Bool.Decides.{nat_tests}
 use Rattle.std.proofs.lemmas.List.{drop-drop, drop-take, length-drop, length-take-le, take-take, take_all}
 use Rattle.std.proofs.lemmas.List.Elements.{Contains-append_left, Contains-append_right}
 use Rattle.std.proofs.lemmas.List.FromFn.{get_or-map-range_with_len}
@@ -10,7 +9,7 @@ use Rattle.std.proofs.lemmas.Nat.{mod-pow-add, mod_below, pow-add, pow_pos, shr_
 use Rattle.merkle.specs.Inputs.{AreAmong, OwnPathsAreWithin, node_input, path_inputs, root_inputs}
 use Rattle.merkle.specs.Path.{path_root, siblings_of}
 use Rattle.merkle.specs.Tree.{height, node, padded, root, sibling, sibling_number, tree_nodes}
-use Rattle.merkle.proofs.HeightLemmas.{height_room}
+use Rattle.merkle.proofs.HeightLemmas.{height_room, lt_false, lt_true}
 use Rattle.merkle.proofs.InputLemmas.{member_cases, member_here, member_there}
 use Rattle.merkle.proofs.PathLemmas.{path_climbs, sibling_below}
 use Rattle.merkle.proofs.TreeLemmas.{length-padded_to, padded_to-leaf, tree_nodes_node}
@@ -107,12 +106,6 @@ children_among (suc m) hashes (suc row) place full low inside =
     ]
 
 -- ---- the path, from the leaf upward
-
-lt_true : (a b : ℕ) → a < b → nat_lt a b ≡ true
-lt_true a b h = grind (arith, nat_tests)
-
-lt_false : (a b : ℕ) → b ≤ a → nat_lt a b ≡ false
-lt_false a b h = grind (arith, nat_tests)
 
 inputs_even : (t leaf : ℕ) (hash : List ℕ) (siblings : List (List ℕ)) → leaf / 2 ^ t % 2 ≡ 0
     → path_inputs (suc t) (leaf % 2 ^ suc t) hash siblings

@@ -1,5 +1,5 @@
 -- What is known of a tree, from what is kept of it.
-use Rattle.std.proofs.Common.{◌≡◌, ◌≢◌, ◌⊎◌, ℕ, zero, suc, ◌+◌, ◌-◌, ◌*◌, ◌/◌, ◌%◌, ◌^◌, ◌<◌, ◌≤◌, nat_eq, Bool, true, false, if◌then◌else◌, List, [], Option, Some, None, unwrap_or, inl, inr, slice_index_or, ap, refl, sym, subst, ◌∙◌, arith, zero-add}
+use Rattle.std.proofs.Common.{◌≡◌, ◌≢◌, ◌⊎◌, ℕ, zero, suc, ◌+◌, ◌-◌, ◌*◌, ◌/◌, ◌%◌, ◌^◌, ◌<◌, ◌≤◌, nat_eq, Bool, false, if◌then◌else◌, List, [], Option, Some, None, unwrap_or, inl, inr, slice_index_or, ap, refl, sym, subst, ◌∙◌, arith, zero-add}
 use Rattle.std.proofs.Math.Nat.{div-div-eq-div-mul, div-mul-le_self, div-eq_of_lt, pow-le-pow_right, pow-suc}
 use Rattle.std.proofs.lemmas.Bool.{cases_eq, cases_lt}
 use Rattle.std.proofs.lemmas.Bool.Decides.{nat_tests}
@@ -13,7 +13,7 @@ use Rattle.merkle.specs.Tree.{height, node_number, sibling}
 use Rattle.merkle.specs.Partial.{IsJoined, IsPartial, Known, KnownLeavesLead, PartialState, all_known, is_padding, known_at, known_by, known_siblings, leaf_number, node_count, only_root, padding, padding_hash, parent, place_in_row, row_of, starting}
 use Rattle.merkle.specs.Taking.{IsGrown, IsKept, IsListed}
 use Rattle.merkle.proofs.HeightLemmas.{height_is, height_room}
-use Rattle.merkle.proofs.PaddingLemmas.{padding-before, padding-outside}
+use Rattle.merkle.proofs.PaddingLemmas.{padding-before, padding-false, padding-outside, padding-true}
 use Rattle.merkle.proofs.PartialLemmas.{joined_from_told, known-told, known-untold, not_both, one_value, some_or_none}
 use Rattle.merkle.proofs.PathLemmas.{path_root-left, path_root-right, path_root-whole}
 
@@ -41,12 +41,6 @@ module _ (root : List ℕ) (n : ℕ) (told : Known) (kept : IsKept n (padding n)
   pub known-state : known_at (state_of root n told) ≡ known_by (padding n) told
   known-state = λ i q. known_at-state q i
 
-  padding-true : (q : ℕ) → is_padding n q ≡ true → padding n q ≡ Some (padding_hash n q)
-  padding-true q e = ap (λ (b : Bool). if b then Some (padding_hash n q) else None) e
-
-  padding-false : (q : ℕ) → is_padding n q ≡ false → padding n q ≡ None
-  padding-false q e = ap (λ (b : Bool). if b then Some (padding_hash n q) else None) e
-
   pub state_is_partial : 0 < n → n ≤ 2 ^ 20 → IsPartial (state_of root n told)
   state_is_partial some few = record {
     some = some;
@@ -57,14 +51,14 @@ module _ (root : List ℕ) (n : ℕ) (told : Known) (kept : IsKept n (padding n)
       | inr far ↦ absurd (not_both (known_by (padding n) told q) hash (known-outside q far) (sym (known_at-state q) ∙ e))
     ];
     empty = λ q e. known_at-state q ∙ elim (some_or_none (told q)) [
-      | inl some' ↦ known-told (padding n) told q some'.0 some'.1 ∙ ap (λ (x : List ℕ). Some x) (sym (kept.empty q some'.0 (padding_hash n q) (padding-true q e) some'.1))
-      | inr none ↦ known-untold (padding n) told q none ∙ padding-true q e
+      | inl some' ↦ known-told (padding n) told q some'.0 some'.1 ∙ ap (λ (x : List ℕ). Some x) (sym (kept.empty q some'.0 (padding_hash n q) (padding-true n q e) some'.1))
+      | inr none ↦ known-untold (padding n) told q none ∙ padding-true n q e
     ];
     joined = λ q hash positive e knows. elim (some_or_none (told q)) [
       | inl some' ↦
           subst (λ (k : Known). IsJoined k q) (sym known-state) (joined_from_told (padding n) told q (kept.joined q some'.0 positive some'.1))
       | inr none ↦
-          absurd (not_both (known_by (padding n) told q) hash (known-untold (padding n) told q none ∙ padding-false q e) (sym (known_at-state q) ∙ knows))
+          absurd (not_both (known_by (padding n) told q) hash (known-untold (padding n) told q none ∙ padding-false n q e) (sym (known_at-state q) ∙ knows))
     ];
   }
 

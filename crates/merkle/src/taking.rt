@@ -1,6 +1,7 @@
 //! How nodes that are offered are taken into what was told of a tree.
 
-ghost use Rattle.std.specs.Prelude.{◌≡◌, ◌≢◌, ◌^◌, ◌+◌, ◌-◌, ◌*◌, ◌<◌, ◌≤◌, ◌⊎◌, ℕ, List, [], None, Some, Err};
+ghost use Rattle.std.specs.Prelude.{◌≡◌, ◌≢◌, ◌^◌, ◌+◌, ◌-◌, ◌*◌, ◌<◌, ◌≤◌, ◌⊎◌, ℕ, List, [], None};
+ghost use Rattle.std.specs.Prelude.{Some, Err};
 ghost use Rattle.std.specs.Prelude.{is_some, nat_eq, OnOk};
 ghost use Rattle.std.specs.HashMap.{get};
 ghost use Rattle.merkle.specs.Partial.{IsExtended, Known, known_by, node_count, padding, parent};

@@ -1,9 +1,9 @@
-use Rattle.std.proofs.Common.{◌≡◌, ◌+◌, ◌^◌, ◌<◌, ◌≤◌, ℕ, List, [], ◌∷◌, ◌++◌, Option, Some, Bool, false, true, is_some, not, unwrap_or, map, ap, subst, sym, ◌∙◌, arith, zero-add}
+use Rattle.std.proofs.Common.{◌≡◌, ◌^◌, ◌<◌, ◌≤◌, ℕ, List, [], Option, Some, Bool, false, true, is_some, not, unwrap_or, map, ap, subst, sym, ◌∙◌, arith}
 use Rattle.std.specs.List.{range_with_len}
-use Rattle.std.proofs.lemmas.List.FromFn.{map-range_with_len_more}
 use Rattle.merkle.specs.Path.{LeadsBy}
 use Rattle.merkle.specs.Tree.{height, node_number, sibling_number}
 use Rattle.merkle.specs.Partial.{IsPartial, PartialState, known_at, known_siblings, leaf_number}
+use Rattle.merkle.proofs.PathLemmas.{siblings_more}
 use Rattle.merkle.proofs.HeightLemmas.{height_low, height_room}
 use Rattle.merkle.proofs.PartialLemmas.{some_from_is_some}
 use Rattle.merkle.proofs.StateLemmas.{known-lead, sibling_known}
@@ -52,12 +52,6 @@ unreachable-requires c =
     let t = sibling_there p c.height-height.result c.self.inside.leaf_count c.args.leaf c.height-height.ensures.value count
     c.requires c.node.ensures.right c.node.result there (c.node.ensures.value ∙ ap (known_at p) c.node_number.ensures.value) c.loop-i.i c.loop-i-test.true in
     c.in_default.not-Some t.0 (c.node-in-loop-i.ensures.value ∙ ap (known_at p) c.sibling_number.ensures.value ∙ t.1)
-
--- one sibling more
-siblings_more : (f : ℕ → List ℕ) (i : ℕ) (value : List ℕ) (before after : List (List ℕ)) → before ≡ map f (range_with_len 0 i)
-    → value ≡ f i → after ≡ before ++ value ∷ [] → after ≡ map f (range_with_len 0 (i + 1))
-siblings_more f i value before after held is pushed =
-    pushed ∙ (λ k. held k ++ is k ∷ []) ∙ sym (map-range_with_len_more f 0 i i (zero-add i))
 
 pub loop-i-preserved : goal.loop-i-preserved
 loop-i-preserved c =
