@@ -17,16 +17,16 @@ use std::collections::HashMap;
 use std::marker::Model;
 
 /// A hash tree of which the root is given, and other nodes as they are offered. Each node that is
-/// known leads to the root. It takes memory for the nodes that were offered, those above them and at
-/// most one a row beside these, and none for others.
+/// known leads to the root. It takes memory for the nodes that were offered, those above them and
+/// at most one a row beside these, and none for others.
 #[derive(Drop)]
 pub struct Partial {
     root: [u8; 32],
     leaf_count: u32,
     alloc: Global,
-    // The root, the nodes that were offered, those above them, and the nodes over empty leaves alone
-    // that stand beside these. Other nodes over empty leaves alone are computed where they are
-    // wanted.
+    // The root, the nodes that were offered, those above them, and the nodes over empty leaves
+    // alone that stand beside these. Other nodes over empty leaves alone are computed where they
+    // are wanted.
     nodes: HashMap<u32, [u8; 32]>,
 }
 
