@@ -68,7 +68,7 @@ AnswersFields text (Err BadBase32) = HasFiveParts text × ¬ (HasBase32 text)
 AnswersFields text (Err BadNumber) = HasFiveParts text × HasBase32 text × ¬ (HasNumbers text)
 AnswersFields text (Err BadParameters) = HasFiveParts text × HasBase32 text
     × ((needed total size : ℕ) × AreNumbers text needed total size
-        × ¬ (AreParameters needed total size))
+    × ¬ (AreParameters needed total size))
 AnswersFields text (Err UnknownKind) = ⊥
 AnswersFields text (Err LitTooLong) = ⊥
 AnswersFields text (Err OutOfMemory) = ⊥
@@ -153,7 +153,7 @@ HasBadNumber text = (rest : List ℕ) × Begins text rest
 abbrev pub HasBadParameters : List ℕ → Type 0
 HasBadParameters text = (rest : List ℕ) × Begins text rest × (HasFiveParts rest × HasBase32 rest
     × ((needed total size : ℕ) × AreNumbers rest needed total size
-        × ¬ (AreParameters needed total size)))
+    × ¬ (AreParameters needed total size)))
 
 -- what follows the beginning of a literal cap is too long
 abbrev pub IsLitTooLong : List ℕ → Type 0

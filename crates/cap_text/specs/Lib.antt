@@ -4,6 +4,5 @@ pub mod Cap
 pub mod CapText
 pub mod CapError
 pub use Rattle.tagged_hash.specs.TaggedHash
-
 -- words of private clauses
 pub mod LitBuffer

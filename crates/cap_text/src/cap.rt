@@ -50,15 +50,27 @@ impl Model for ReadCap {
     ghost Value = { ReadCapValue };
 
     ghost view = { λ c. record {
-      key = c.key; ueb_hash = c.ueb_hash; needed = c.k; total = c.n; size = c.size
+      key = c.key;
+      ueb_hash = c.ueb_hash;
+      needed = c.k;
+      total = c.n;
+      size = c.size;
     } };
 
     ghost inverse = { λ v. record {
-      key = v.key; ueb_hash = v.ueb_hash; k = v.needed; n = v.total; size = v.size
+      key = v.key;
+      ueb_hash = v.ueb_hash;
+      k = v.needed;
+      n = v.total;
+      size = v.size;
     } };
 
     ghost invariant = { λ c. IsReadCap (record {
-      key = c.key; ueb_hash = c.ueb_hash; needed = c.k; total = c.n; size = c.size
+      key = c.key;
+      ueb_hash = c.ueb_hash;
+      needed = c.k;
+      total = c.n;
+      size = c.size;
     }) };
 }
 
@@ -179,18 +191,27 @@ impl Model for VerifyCap {
     ghost Value = { VerifyCapValue };
 
     ghost view = { λ c. record {
-      storage_index = c.storage_index; ueb_hash = c.ueb_hash;
-      needed = c.k; total = c.n; size = c.size
+      storage_index = c.storage_index;
+      ueb_hash = c.ueb_hash;
+      needed = c.k;
+      total = c.n;
+      size = c.size;
     } };
 
     ghost inverse = { λ v. record {
-      storage_index = v.storage_index; ueb_hash = v.ueb_hash;
-      k = v.needed; n = v.total; size = v.size
+      storage_index = v.storage_index;
+      ueb_hash = v.ueb_hash;
+      k = v.needed;
+      n = v.total;
+      size = v.size;
     } };
 
     ghost invariant = { λ c. IsVerifyCap (record {
-      storage_index = c.storage_index; ueb_hash = c.ueb_hash;
-      needed = c.k; total = c.n; size = c.size
+      storage_index = c.storage_index;
+      ueb_hash = c.ueb_hash;
+      needed = c.k;
+      total = c.n;
+      size = c.size;
     }) };
 }
 
@@ -273,11 +294,12 @@ impl Model for LitCap {
     ghost view = { λ c. take c.len c.bytes };
 
     ghost inverse = { λ file. record {
-      bytes = file ++ replicate (max_lit_size - length file) 0; len = length file
+      bytes = file ++ replicate (max_lit_size - length file) 0;
+      len = length file;
     } };
 
     ghost inverse_ok = { λ c lit. let same = lit_buffer_again c.bytes c.len lit in
-      λ i. record { bytes = same.bytes i; len = same.size i } };
+        λ i. record { bytes = same.bytes i; len = same.size i } };
 
     ghost invariant = { λ c. IsLitBuffer c.bytes c.len };
 }

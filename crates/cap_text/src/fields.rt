@@ -45,7 +45,7 @@ fn cut(text: &[u8]) -> Option<(&[u8], &[u8])>
 fn five_parts(text: &[u8]) -> Option<Parts<'_>>
     ensures { MatchOption result (¬ (HasFiveParts text.entry.now))
         (λ p. parts text.entry.now
-            ≡ p.first.now ∷ p.ueb_hash.now ∷ p.needed.now ∷ p.total.now ∷ p.size.now ∷ []) }
+        ≡ p.first.now ∷ p.ueb_hash.now ∷ p.needed.now ∷ p.total.now ∷ p.size.now ∷ []) }
 {
     let (first, rest) = cut(text)?;
     let (ueb_hash, rest) = cut(rest)?;
