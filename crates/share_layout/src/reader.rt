@@ -18,9 +18,9 @@ use ueb::MAX_LENGTH;
 
 /// The extension block of a share, by the places that the share's own header tells.
 ///
-/// Otherwise the first fault in this order: those of `Places::read`; `BadOffset`, where the extension
-/// block's length is there and is over `ueb::MAX_LENGTH` or bytes follow the extension block;
-/// `Truncated` with the section that the first missing byte belongs to.
+/// Otherwise the first fault in this order: those of `Places::read`; `BadOffset`, where the
+/// extension block's length is there and is over `ueb::MAX_LENGTH` or bytes follow the extension
+/// block; `Truncated` with the section that the first missing byte belongs to.
 pub fn locate_ueb(bytes: &[u8]) -> Result<&[u8], LayoutError>
     // What is found is the extension block.
     ensures accepted { IfOk result (λ block. LocatesUeb bytes.now block.now) }

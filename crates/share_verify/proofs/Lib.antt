@@ -5,3 +5,4 @@ pub mod UebFaults
 pub mod GeometryOfUeb
 pub mod FirstFault
 pub mod Passing
+pub mod Leading

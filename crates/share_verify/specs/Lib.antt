@@ -5,5 +5,6 @@ pub mod TreeSection
 pub mod ShareHashes
 pub mod Verify
 pub mod Checks
+pub mod Inputs
 -- words of private clauses
 pub mod Leaves

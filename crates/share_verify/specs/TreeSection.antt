@@ -1,12 +1,9 @@
 -- Sections of a share that hold a hash tree.
-use Rattle.std.specs.Prelude.{◌≡◌, ℕ, ◌/◌, List, length, take, All}
+use Rattle.std.specs.Prelude.{◌≡◌, ℕ, ◌/◌, List, length, take}
 use Rattle.std.specs.Simd.{first_chunks}
+pub use Rattle.merkle.specs.Inputs.{AreHashes}
 use Rattle.merkle.specs.Tree.{tree_nodes, tree_root}
 use Rattle.share_verify.specs.Pieces.{joined}
-
--- each of these has the 32 bytes of a hash
-abbrev pub AreHashes : List (List ℕ) → Type 0
-AreHashes hashes = All (λ hash. length hash ≡ 32) hashes
 
 -- the section is the nodes of the tree over these leaves, row by row, one after another
 pub record HoldsTree (section : List ℕ) (leaves : List (List ℕ)) : Type 0 where

@@ -2,6 +2,7 @@
 
 ghost use Rattle.std.specs.Prelude.{◌≡◌};
 ghost use Rattle.share_verify.specs.Checks.{SoundSharesPass, check_of};
+ghost use Rattle.share_verify.specs.Inputs.{SoundSharesLead};
 
 use crate::fault::ShareFault;
 
@@ -45,4 +46,10 @@ impl ShareFault {
 /// contract; the call does nothing.
 pub fn sound_shares_pass()
     ensures { SoundSharesPass }
+{}
+
+/// A law of the definitions: what is hashed for a share that passes `verify_share` leads to what
+/// its extension block tells. The law is the contract; the call does nothing.
+pub fn sound_shares_lead()
+    ensures { SoundSharesLead }
 {}
