@@ -7,3 +7,4 @@ pub mod RecordLaws
 pub mod HeldLaws
 pub mod LengthLaws
 pub mod SharesLoop
+pub mod AskingLaws

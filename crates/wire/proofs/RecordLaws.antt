@@ -26,12 +26,12 @@ IsQuiet r = is_outstanding r.outcome ≡ false
 abbrev IsCurrentIn : List Request → ℕ → Type 0
 IsCurrentIn entries place = is_current_in (slice_get entries place) ≡ true
 
-get_push : {X : Type 0} (xs : List X) (x : X) (i : ℕ) → i < length xs → slice_get (xs ++ x ∷ []) i ≡ slice_get xs i
+pub get_push : {X : Type 0} (xs : List X) (x : X) (i : ℕ) → i < length xs → slice_get (xs ++ x ∷ []) i ≡ slice_get xs i
 get_push [] x i lt = absurd (omega (arith, lt))
 get_push (y ∷ ys) x zero lt = refl
 get_push (y ∷ ys) x (suc i) lt = get_push ys x i (omega (arith, lt))
 
-get_last : {X : Type 0} (xs : List X) (x : X) → slice_get (xs ++ x ∷ []) (length xs) ≡ Some x
+pub get_last : {X : Type 0} (xs : List X) (x : X) → slice_get (xs ++ x ∷ []) (length xs) ≡ Some x
 get_last [] x = refl
 get_last (y ∷ ys) x = get_last ys x
 
