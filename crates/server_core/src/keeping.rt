@@ -1,5 +1,6 @@
 //! A server over a store that keeps: what it does to what the store holds.
 
+ghost use Rattle.std.specs.Prelude.{◌≡◌, []};
 ghost use Rattle.server_core.specs.Machine.{Serves, Ticks, RestartsTo};
 ghost use Rattle.server_core.specs.Sound.{over, ClosedStay, HaveDigests, IsSound, IsKept};
 ghost use Rattle.server_core.specs.Sound.{LeavesOthers, StaysSound};
@@ -15,7 +16,14 @@ use wire::message::{Message, NodeId};
 /// A server with no bucket open, as `Server::start`. It is sound where the shares that the store
 /// has closed have the digests of their bytes.
 pub fn start<S: Keeping>(alloc: Global, store: S, capacity: u64, readonly: bool) -> Server<S>
-    ensures { HaveDigests (S.shelf store).closed → IsSound (over S.shelf result) }
+    ensures started { result ≡ record {
+      store = store;
+      buckets = [];
+      clock = 0;
+      capacity = capacity;
+      readonly = readonly;
+    } }
+    ensures sound { HaveDigests (S.shelf store).closed → IsSound (over S.shelf result) }
 {
     store.stands_in_order();
     Server::start(alloc, store, capacity, readonly)
