@@ -6,7 +6,7 @@ use Rattle.share_layout.specs.Places.{LocatesUeb}
 use Rattle.share_layout.specs.Share.{Sections}
 use Rattle.share_verify.specs.CapBlock.{IsUebFor}
 use Rattle.share_verify.specs.Verify.{HasBlockTree, HasBlocks, HasCiphertextTree, HasShareHashes}
-use Rattle.share_verify.specs.Verify.{HasZeros, IsSoundShare, ReadsAs}
+use Rattle.share_verify.specs.Verify.{HasZeros, IsFirstFault, IsSoundShare, ReadsAs}
 use Rattle.share_verify.specs.declared.check.Check.{Check}
 use Rattle.share_verify.specs.declared.check.Check.TheVariants as checks
 use Rattle.share_verify.specs.declared.fault.ShareFault.{ShareFault}
@@ -47,3 +47,8 @@ Passes cap num share checks.Data =
 abbrev pub SoundSharesPass : Type 0
 SoundSharesPass = (cap : VerifyCapValue) (num : ℕ) (share : List ℕ) (check : Check)
     → IsSoundShare cap num share → Passes cap num share check
+
+-- a law: the first fault of a share is one of a check that the share does not pass
+abbrev pub FirstFaultsFail : Type 0
+FirstFaultsFail = (cap : VerifyCapValue) (num : ℕ) (share : List ℕ) (fault : ShareFault)
+    → IsFirstFault cap num share fault → ¬ Passes cap num share (check_of fault)

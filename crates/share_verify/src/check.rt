@@ -1,7 +1,7 @@
 //! The checks of a share.
 
 ghost use Rattle.std.specs.Prelude.{◌≡◌};
-ghost use Rattle.share_verify.specs.Checks.{SoundSharesPass, check_of};
+ghost use Rattle.share_verify.specs.Checks.{FirstFaultsFail, SoundSharesPass, check_of};
 ghost use Rattle.share_verify.specs.Inputs.{SoundSharesLead};
 
 use crate::fault::ShareFault;
@@ -46,6 +46,12 @@ impl ShareFault {
 /// contract; the call does nothing.
 pub fn sound_shares_pass()
     ensures { SoundSharesPass }
+{}
+
+/// A law of the definitions: the fault that `verify_share` tells is one of a check that the share
+/// does not pass. The law is the contract; the call does nothing.
+pub fn first_faults_fail()
+    ensures { FirstFaultsFail }
 {}
 
 /// A law of the definitions: what is hashed for a share that passes `verify_share` leads to what

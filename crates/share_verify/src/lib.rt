@@ -10,7 +10,7 @@ mod sections;
 mod tree;
 mod verify;
 
-pub use check::{Check, sound_shares_lead, sound_shares_pass};
+pub use check::{Check, first_faults_fail, sound_shares_lead, sound_shares_pass};
 pub use fault::ShareFault;
 pub use reading::{ReadShare, geometry_of, read_share, read_ueb};
 pub use tree::leaves_in;
