@@ -88,7 +88,7 @@ impl Tree {
 
 // Fills all nodes of a tree with `width` places for leaves.
 fn fill(nodes: &mut [[u8; 32]], leaves: &[[u8; 32]], width: usize)
-    requires wide { width ≤ 2 ^ 20 }
+    requires wide { width ≤ max_leaves }
     requires power { width ≡ 2 ^ height (length leaves.now) }
     requires room { length leaves.now ≤ width }
     requires nodes { length nodes.old ≡ 2 * width - 1 }
