@@ -1,3 +1,4 @@
+-- what public contracts rest on
 pub mod Geometry
 pub mod Layout
 pub mod Pieces
