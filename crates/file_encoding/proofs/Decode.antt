@@ -3,17 +3,14 @@ use Rattle.std.proofs.Common.{◌≡◌, ℕ, ◌+◌, ◌-◌, ◌*◌, ◌<◌
 use Rattle.std.proofs.lemmas.List.{drop_at, drop-append-le, get_or-map, length-append, length-drop, length-map, length-take, map-append, take_all, take-append-le}
 use Rattle.std.proofs.lemmas.Grind.{div_ceil_times, take_at_read}
 use Rattle.std.proofs.lemmas.Bool.{cases_lt}
-use Rattle.std.proofs.lemmas.Nat.Gcd.{dvd_of_mod-eq-zero}
-use Rattle.std.proofs.Math.Nat.{add-mul, div-mul_cancel, mul_assoc, mul_comm, mul-le-mul_right}
+use Rattle.std.proofs.Math.Nat.{add-mul, mul-le-mul_right}
 use Rattle.tagged_hash.specs.TaggedHash.{tagged_hash}
 use Rattle.tagged_hash.specs.declared.tag.Tag.TheVariants.{CiphertextSegment}
-use Rattle.aes_ctr.specs.CounterMode.{xored, xored_from}
-use Rattle.aes_ctr.proofs.StreamLemmas.{xored_from-append}
-use Rattle.zfec_code.specs.Shares.{HaveLengths}
+use Rattle.zfec_code.specs.Shares.{HaveSize}
 use Rattle.share_layout.specs.Geometry.{Geometry, IsGeometry, block_size, segment_count, share_data_size}
-use Rattle.file_encoding.specs.Decoding.{AreBlocks, DecodesPadded, block_length}
-use Rattle.file_encoding.proofs.Bytes.{xored_from-again}
-use Rattle.file_encoding.specs.Reading.{DecodedBelow, Decodes, IsDecoded, block_at, segment_at, segment_length}
+use Rattle.file_encoding.specs.Decoding.{AreBlocks}
+use Rattle.share_layout.specs.Pieces.{block_length, block_at, segment_at}
+use Rattle.file_encoding.specs.Reading.{DecodedBelow, Decodes, IsDecoded}
 
 -- one more share's block is cut
 pub cut_more : (g : Geometry) (number : ℕ) (shares done new : List (ℕ × Bor (List ℕ))) (index n : ℕ) (b : Bor (List ℕ)) (d : ℕ × Bor (List ℕ)) → index < length shares
@@ -42,54 +39,16 @@ length-block_at g number blocks size =
     length-take (block_size g) (drop (number * block_size g) blocks)
     ∙ ap (min (block_size g)) (length-drop (number * block_size g) blocks ∙ ap (λ n. n - number * block_size g) size)
 
-pub have_lengths : (g : Geometry) (number : ℕ) (numbers : List ℕ) (blocks these : List (List ℕ)) (size : ℕ) → AreBlocks g numbers blocks
-    → these ≡ map (block_at g number) blocks → size ≡ g.needed * block_length g number → HaveLengths g.needed these size
-have_lengths g number numbers blocks these size are is whole =
-    subst (λ (bs : List (List ℕ)). HaveLengths g.needed bs size) (sym is) (
-      block_length g number,
-      record {
-        count = length-map blocks (block_at g number) ∙ are.counted;
-        alike = λ k d inside.
-            let in_blocks : k < length blocks = (let all = length-map blocks (block_at g number) in omega (arith, inside, all)) in
-            ap length (get_or-map (block_at g number) blocks k d d in_blocks) ∙ length-block_at g number (get_or blocks k d) (are.whole k d in_blocks);
-        whole = whole;
-      },
-    )
-
--- the padded segment is long enough for the segment
-pub covers : (g : Geometry) (number : ℕ) → IsGeometry g → segment_length g number ≤ g.needed * block_length g number
-covers g number valid =
-    let m : ℕ = block_length g number in
-    let bs : ℕ = block_size g in
-    let sd : ℕ = share_data_size g in
-    let whole : bs * g.needed ≡ g.segment_size = div-mul_cancel g.needed (dvd_of_mod-eq-zero g.needed valid.multiple) in
-    let over : g.size ≤ sd * g.needed = (div_ceil_times g.size g.needed valid.some_needed).0 in
-    let turn : g.needed * m ≡ m * g.needed = mul_comm g.needed m in
-    elim (cases_lt m bs) [
-      | inl short ↦ (let is : m ≡ sd - number * bs = omega (arith, short) in
-          let reach : sd ≤ m + number * bs = omega (arith, is) in
-          let times : sd * g.needed ≤ (m + number * bs) * g.needed = mul-le-mul_right g.needed reach in
-          let split : (m + number * bs) * g.needed ≡ m * g.needed + number * bs * g.needed = add-mul m (number * bs) g.needed in
-          let rest : number * bs * g.needed ≡ number * g.segment_size = mul_assoc number bs g.needed ∙ ap (λ n. number * n) whole in
-          omega (arith, over, times, split, rest, turn))
-      | inr long ↦ (let is : m ≡ bs = omega (arith, long) in
-          let full : m * g.needed ≡ g.segment_size = ap (λ n. n * g.needed) is ∙ whole in
-          omega (arith, full, turn))
-    ]
-
--- the segment is what is left of the padded one
-pub segment_of : (g : Geometry) (numbers these : List ℕ) (blocks cut_blocks : List (List ℕ)) (number k n : ℕ) (padded segment : List ℕ) → IsGeometry g
-    → k ≡ g.needed → these ≡ numbers → cut_blocks ≡ map (block_at g number) blocks
-    → length padded ≡ g.needed * block_length g number → DecodesPadded k these cut_blocks padded
-    → n ≡ segment_length g number → segment ≡ take n padded → Decodes g numbers blocks number segment
-segment_of g numbers these blocks cut_blocks number k n padded segment valid needed same cut long decoded size is =
-    let enough = covers g number valid in
-    let at : segment ≡ take (segment_length g number) padded = is ∙ ap (λ m. take m padded) size in record {
-      padded = padded;
-      whole = long;
-      decoded = subst (λ (T : Type 0). T) (λ i. DecodesPadded (needed i) (same i) (cut i) padded) decoded;
-      cut = at;
-      long = ap length at ∙ length-take (segment_length g number) padded ∙ omega (arith, enough, long);
+pub have_size : (g : Geometry) (number : ℕ) (numbers : List ℕ) (blocks these : List (List ℕ)) (size : ℕ) → AreBlocks g numbers blocks
+    → these ≡ map (block_at g number) blocks → size ≡ g.needed * block_length g number → HaveSize g.needed (block_length g number) these size
+have_size g number numbers blocks these size are is whole =
+    subst (λ (bs : List (List ℕ)). HaveSize g.needed (block_length g number) bs size) (sym is)
+    record {
+      count = length-map blocks (block_at g number) ∙ are.counted;
+      alike = λ k d inside.
+          let in_blocks : k < length blocks = (let all = length-map blocks (block_at g number) in omega (arith, inside, all)) in
+          ap length (get_or-map (block_at g number) blocks k d d in_blocks) ∙ length-block_at g number (get_or blocks k d) (are.whole k d in_blocks);
+      whole = whole;
     }
 
 -- a segment that is there begins before the file's end
@@ -147,19 +106,6 @@ module _ (g : Geometry) (numbers : List ℕ) (blocks leaves : List (List ℕ)) w
                   subst (λ n. tagged_hash CiphertextSegment (segment_at g n after) ≡ get_or leaves n []) is (ap (tagged_hash CiphertextSegment) new ∙ hashed))
             ];
       }
-
-  -- and it decrypted at its place of the stream
-  pub decrypted_more : (key : List ℕ) (count : ℕ) (file segment after : List ℕ) → IsGeometry g → count < segment_count g
-      → DecodedBelow g numbers blocks leaves (xored key file) count → Decodes g numbers blocks count segment
-      → tagged_hash CiphertextSegment segment ≡ get_or leaves count [] → after ≡ file ++ xored_from key (length file) segment
-      → DecodedBelow g numbers blocks leaves (xored key after) (count + 1)
-  decrypted_more key count file segment after valid there before decodes hashed joined =
-      let place : 0 + length file ≡ length file = omega arith in
-      let split : xored key after ≡ xored key file ++ xored_from key (0 + length file) (xored_from key (length file) segment) =
-      ap (xored key) joined ∙ xored_from-append key 0 file (xored_from key (length file) segment) in
-      let back : xored_from key (0 + length file) (xored_from key (length file) segment) ≡ segment =
-      ap (λ p. xored_from key p (xored_from key (length file) segment)) place ∙ xored_from-again key (length file) segment in
-      decoded_more count (xored key file) segment (xored key after) valid there before decodes hashed (split ∙ ap (λ t. xored key file ++ t) back)
 
   -- all of them
   pub decoded_all : (count : ℕ) (ciphertext : List ℕ) → IsGeometry g → count ≡ segment_count g → DecodedBelow g numbers blocks leaves ciphertext count

@@ -9,7 +9,7 @@ use Rattle.merkle.specs.Tree.{height, needed_numbers, sibling, tree_nodes}
 use Rattle.merkle.proofs.HeightLemmas.{height_is, height_room}
 use Rattle.merkle.proofs.PathLemmas.{sibling_below}
 use Rattle.merkle.proofs.TreeLemmas.{length-tree_nodes}
-use Rattle.share_layout.proofs.NumberLemmas.{length-needed_numbers, needed_above, needed_left, needed_right}
+use Rattle.merkle.proofs.NumberLemmas.{length-needed_numbers, needed_above, needed_left, needed_right}
 
 pub double : (h : ℕ) → 2 ^ (h + 1) ≡ 2 ^ h + 2 ^ h
 double h = rw add-one (omega (arith, pow-suc 2 h))

@@ -7,7 +7,8 @@ use Rattle.std.proofs.lemmas.Grind.{div_ceil_times}
 use Rattle.std.proofs.lemmas.List.{append-nil, drop_at, length-append, length-drop, length-replicate, length-take-le, take_all, take_at}
 use Rattle.std.proofs.lemmas.List.FromFn.{length-map-range_with_len}
 use Rattle.ueb.specs.Shape.{rounded_up}
-use Rattle.share_verify.specs.Pieces.{joined, pieces}
+use Rattle.share_verify.specs.Pieces.{joined}
+use Rattle.share_layout.specs.Pieces.{pieces}
 use Rattle.file_encoding.specs.Encoding.{block_of, padded_segment}
 
 module _ (b k i : ℕ) (some : 0 < k) where

@@ -12,8 +12,9 @@ use Rattle.share_layout.specs.Places.{LocatesUeb}
 use Rattle.share_layout.specs.Share.{IsShare, Sections}
 use Rattle.share_verify.specs.CapBlock.{IsUebFor, geometry_by}
 use Rattle.share_verify.specs.Verify.{IsSound}
-use Rattle.file_encoding.specs.Encoding.{ciphertext_encoding, extension_block_contents, segments_of}
-use Rattle.file_encoding.specs.Laws.{sections_of}
+use Rattle.file_encoding.specs.Encoding.{ciphertext_encoding, extension_block_contents}
+use Rattle.share_layout.specs.Pieces.{segments_of}
+use Rattle.file_encoding.specs.Encoding.{sections_of}
 use Rattle.file_encoding.specs.OwnFile.{AreEnoughOwn, AreOwnShares}
 use Rattle.file_encoding.specs.Reading.{IsAmong, IsTaken, LacksShares, TakenShare, numbers_of}
 use Rattle.file_encoding.proofs.OwnShares.{ciphertext_shares_pass}

@@ -15,14 +15,15 @@ use Rattle.merkle.proofs.PathLemmas.{sibling_below, siblings_of-lead}
 use Rattle.merkle.proofs.TreeLemmas.{length-tree_nodes, node-leaf, padded_to-leaf, tree_nodes_node}
 use Rattle.merkle.specs.Path.{siblings_of}
 use Rattle.merkle.specs.Tree.{height, needed_numbers, node_number, padded, sibling, tree_nodes, tree_root}
-use Rattle.share_layout.proofs.NumberLemmas.{length-needed_numbers, needed_above, needed_left, needed_right}
+use Rattle.merkle.proofs.NumberLemmas.{length-needed_numbers, needed_above, needed_left, needed_right}
 use Rattle.share_layout.specs.Share.{CarriesNumbers}
 use Rattle.share_verify.specs.Pieces.{joined}
-use Rattle.share_verify.specs.ShareHashes.{LeadsByEntries, carried_hash, entries_in, sibling_number}
+use Rattle.share_verify.specs.ShareHashes.{LeadsByEntries, carried_hash, entries_in}
+use Rattle.merkle.specs.Tree.{sibling_number}
 use Rattle.share_verify.specs.TreeSection.{AreHashes}
 use Rattle.share_verify.proofs.ChunkLemmas.{first_chunks-joined, length-joined}
 use Rattle.share_verify.proofs.SectionLemmas.{tree_nodes_are_hashes}
-use Rattle.share_verify.proofs.TreeSectionLemmas.{next_power, node_below}
+use Rattle.merkle.proofs.NodesLemmas.{next_power, node_below}
 use Rattle.file_encoding.specs.Encoding.{share_hashes}
 
 -- a test passes or fails

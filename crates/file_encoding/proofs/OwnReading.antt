@@ -15,15 +15,18 @@ use Rattle.share_verify.specs.Pieces.{joined}
 use Rattle.share_verify.specs.CapBlock.{geometry_by}
 use Rattle.share_verify.specs.TreeSection.{HoldsTree}
 use Rattle.share_verify.proofs.SectionLemmas.{hashes_in_tree, leaves_among_tree}
-use Rattle.file_encoding.specs.Encoding.{blocks_of, ciphertext_encoding, encoding_of, segment_hashes, segments_of}
+use Rattle.file_encoding.specs.Encoding.{blocks_of, ciphertext_encoding, encoding_of}
+use Rattle.proved_parts.specs.FileOf.{segment_hashes}
+use Rattle.share_layout.specs.Pieces.{segments_of, block_at, segment_at}
 use Rattle.file_encoding.specs.OwnFile.{AreOwnShares, OwnSharesGiveTheFile}
-use Rattle.file_encoding.specs.Reading.{Agree, AreInconsistent, Decodes, IsDecoded, IsReadFrom, IsTaken, TakenShare, block_at, blocks_in, numbers_of, segment_at, disagree, wrong_segment}
+use Rattle.file_encoding.specs.Reading.{Agree, AreInconsistent, Decodes, IsDecoded, IsReadFrom, IsTaken, TakenShare, blocks_in, numbers_of, disagree, wrong_segment}
 use Rattle.file_encoding.proofs.Bytes.{AreBytes, bytes-xored, xored-xored}
 use Rattle.file_encoding.proofs.KeyBytes.{bytes-key}
 use Rattle.file_encoding.proofs.OwnFile.{contents, needed_is, sections, suffices, taken_is, verify_cap}
+use Rattle.zfec_code.specs.Rows.{AreDistinct}
+use Rattle.file_encoding.proofs.LowestShares.{rising_distinct}
 use Rattle.file_encoding.proofs.OwnSegments.{decoded_is, piece_at, same_text}
-use Rattle.file_encoding.proofs.OwnShares.{mapped_are_hashes}
-use Rattle.file_encoding.proofs.Pieces.{length-pieces}
+use Rattle.proved_parts.proofs.Files.{mapped_are_hashes, length-pieces}
 
 key_is : (g : Geometry) (key ciphertext : List ℕ) → (ciphertext_encoding g key ciphertext).cap.key ≡ key
 unfolding ciphertext_encoding
@@ -90,11 +93,11 @@ module _ (g : Geometry) (key ciphertext : List ℕ) (shape : IsShape g.needed g.
         ∙ ap (λ i. joined (blocks_of g.needed i segments)) (sym (numbered m below)))
 
     -- a segment that the shares decode to is the one of the ciphertext
-    own_segment : (number : ℕ) (segment : List ℕ) → number < segment_count g → Decodes g (numbers_of taken) (blocks_in taken) number segment
+    own_segment : AreDistinct (numbers_of taken) → (number : ℕ) (segment : List ℕ) → number < segment_count g → Decodes g (numbers_of taken) (blocks_in taken) number segment
         → segment ≡ segment_at g number ciphertext
-    own_segment number segment there decodes =
-        decoded_is g ciphertext shape whole bytes number (numbers_of taken) (map (block_at g number) (blocks_in taken)) decodes.padded segment there low
-        (blocks_are number) decodes.whole decodes.decoded decodes.cut
+    own_segment distinct number segment there decodes =
+        decoded_is g ciphertext shape whole bytes number (numbers_of taken) (map (block_at g number) (blocks_in taken)) decodes.padded segment there
+        (length-map taken (λ (t : TakenShare). t.number) ∙ enough) distinct low (blocks_are number) decodes.shares decodes.cut
 
     -- they say what the encoding says
     agreed : (extension_block : List ℕ) (u : Contents) → Agree taken extension_block u → said ≡ u
@@ -116,7 +119,7 @@ module _ (g : Geometry) (key ciphertext : List ℕ) (shape : IsShape g.needed g.
       subst (λ (v : Contents). IsDecoded (geometry_by v) (numbers_of is.taken) (blocks_in is.taken) is.leaves is.ciphertext) (sym same) is.decoded in
       let text : is.ciphertext ≡ ciphertext =
       same_text g ciphertext shape whole bytes is.ciphertext decoded.size
-      (λ number there. own_segment is.taken each enough number (segment_at g number is.ciphertext) there (decoded.segments number there)) in
+      (λ number there. own_segment is.taken each enough (rising_distinct (numbers_of is.taken) is.takes.lowest.rising) number (segment_at g number is.ciphertext) there (decoded.segments number there)) in
       is.is_file.decrypted ∙ λ i. xored (key_is g key ciphertext i) (text i)
 
   -- and they do not contradict one another
@@ -138,7 +141,7 @@ module _ (g : Geometry) (key ciphertext : List ℕ) (shape : IsShape g.needed g.
       let there : w.number < segment_count g = subst (λ (v : Contents). w.number < segment_count (geometry_by v)) (sym same) w.there in
       let decodes : Decodes g (numbers_of taken) (blocks_in taken) w.number w.segment =
       subst (λ (v : Contents). Decodes (geometry_by v) (numbers_of taken) (blocks_in taken) w.number w.segment) (sym same) w.decodes in
-      let segment = own_segment taken each enough w.number w.segment there decodes in
+      let segment = own_segment taken each enough (rising_distinct (numbers_of taken) takes.lowest.rising) w.number w.segment there decodes in
       let all : length segments ≡ segment_count g = length-pieces (segment_count g) g.segment_size ciphertext in
       w.wrong
       (ap (tagged_hash CiphertextSegment) (segment ∙ sym (piece_at (segment_count g) g.segment_size ciphertext w.number there))

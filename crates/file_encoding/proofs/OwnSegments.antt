@@ -2,25 +2,26 @@
 use Rattle.std.proofs.Common.{◌≡◌, ℕ, ◌+◌, ◌-◌, ◌*◌, ◌/◌, ◌%◌, ◌<◌, ◌≤◌, List, [], length, get_or, take, drop, min, inl, inr, ap, sym, subst, ◌∙◌, arith, zero-add}
 use Rattle.std.proofs.lemmas.Bool.{cases_lt}
 use Rattle.std.proofs.lemmas.Grind.{div_ceil_times}
-use Rattle.std.proofs.lemmas.List.{ext_get_or, get_or-drop, get_or-map, get_or-take, length-drop, length-take, take_at}
+use Rattle.std.proofs.lemmas.List.{get_or_default, ext_get_or, get_or-drop, get_or-map, get_or-take, length-drop, length-take, take_at}
 use Rattle.std.proofs.lemmas.List.FromFn.{get_or-map-range_with_len, length-map-range_with_len}
 use Rattle.std.proofs.lemmas.Nat.{div-add-mod'}
 use Rattle.std.proofs.Math.Nat.{mul_comm, mul-le-mul_right}
 use Rattle.ueb.specs.Shape.{IsShape}
 use Rattle.zfec_code.proofs.Formula.{share_value-is}
+use Rattle.zfec_code.specs.Rows.{AreDistinct}
+use Rattle.zfec_code.proofs.ShareBlocks.{primaries_unique}
 use Rattle.zfec_code.specs.Shares.{AreSharesOf, IsShareOf, IsShareValue}
 use Rattle.zfec_code.specs.ShareValue.{share_block, share_value}
 use Rattle.share_layout.specs.Geometry.{Geometry, block_size, segment_count}
-use Rattle.share_verify.specs.Pieces.{joined, pieces}
+use Rattle.share_verify.specs.Pieces.{joined}
+use Rattle.share_layout.specs.Pieces.{pieces, block_length, segments_of, block_at, segment_at, segment_length}
 use Rattle.share_verify.proofs.ChunkLemmas.{get_or-first_chunks, pieces_are_chunks}
-use Rattle.file_encoding.specs.Decoding.{DecodesPadded, block_length}
-use Rattle.file_encoding.specs.Encoding.{block_of, blocks_of, padded_segment, segments_of}
-use Rattle.file_encoding.specs.Reading.{block_at, segment_at, segment_length}
+use Rattle.file_encoding.specs.Encoding.{block_of, blocks_of, padded_segment}
 use Rattle.file_encoding.proofs.Bytes.{AreBytes, bytes-append, bytes-drop, bytes-take, bytes-zeros}
 use Rattle.file_encoding.proofs.Decode.{length-block_at}
 use Rattle.file_encoding.proofs.OwnShares.{blocks_are_joined}
 use Rattle.file_encoding.proofs.Padding.{padded-whole}
-use Rattle.file_encoding.proofs.Pieces.{length-pieces}
+use Rattle.proved_parts.proofs.Files.{length-pieces}
 
 -- the block by the formula is a share
 pub formula_gives_share : (k i size : ℕ) (primaries : List ℕ) → k ≤ 256 → AreBytes primaries → length primaries ≡ k * size
@@ -85,11 +86,11 @@ module _ (g : Geometry) (ciphertext : List ℕ) (shape : IsShape g.needed g.tota
 
   -- what blocks of the encoding decode to is the segment
   pub decoded_is : (number : ℕ) (numbers : List ℕ) (blocks : List (List ℕ)) (padded segment : List ℕ) → number < segment_count g
-      → ((m : ℕ) → m < g.needed → get_or numbers m 0 < g.total)
+      → length numbers ≡ g.needed → AreDistinct numbers → ((m : ℕ) → m < g.needed → get_or numbers m 0 < g.total)
       → ((m : ℕ) → m < g.needed → get_or blocks m [] ≡ block_at g number (joined (blocks_of g.needed (get_or numbers m 0) (segments_of g ciphertext))))
-      → length padded ≡ g.needed * block_length g number → DecodesPadded g.needed numbers blocks padded
+      → AreSharesOf g.needed padded numbers blocks
       → segment ≡ take (segment_length g number) padded → segment ≡ segment_at g number ciphertext
-  decoded_is number numbers blocks padded segment there low are long decodes cut =
+  decoded_is number numbers blocks padded segment there count distinct low are decodes cut =
       let own : List ℕ = segment_at g number ciphertext in
       let few : g.needed ≤ 256 = omega (arith, shape.file.enough, shape.file.shares) in
       let own_bytes : AreBytes own = bytes-take g.segment_size _ (bytes-drop (number * g.segment_size) ciphertext bytes) in
@@ -99,7 +100,8 @@ module _ (g : Geometry) (ciphertext : List ℕ) (shape : IsShape g.needed g.tota
       subst (λ b. IsShareOf g.needed (padded_segment g.needed own) i b)
       (sym (are m below ∙ block_is i number (low m below) there))
       (block_is_share g.needed i own shape.file.some_needed few own_bytes)) in
-      let same : padded ≡ padded_segment g.needed own = decodes (padded_segment g.needed own) (length-padded_segment number there ∙ sym long) shares in
+      let same : padded ≡ padded_segment g.needed own = primaries_unique g.needed padded (padded_segment g.needed own) numbers blocks shape.file.some_needed few count
+      (λ m d h. let below = low m (omega (arith, h, count)) in omega (arith, below, get_or_default numbers m d 0 h, shape.file.shares)) distinct decodes shares in
       cut ∙ ap (take (segment_length g number)) same ∙ take_at own _ (segment_length g number) (length-segment number)
 
   -- a text that has each of the segments is the ciphertext

@@ -1,5 +1,5 @@
 -- The shares of an encoding are sound.
-use Rattle.std.proofs.Common.{◌≡◌, ℕ, zero, suc, ◌+◌, ◌-◌, ◌*◌, ◌/◌, ◌^◌, ◌<◌, ◌≤◌, List, [], ◌∷◌, length, get_or, map, replicate, ap, refl, subst, sym, ◌∙◌, arith, zero-add}
+use Rattle.std.proofs.Common.{◌≡◌, ℕ, ◌+◌, ◌-◌, ◌*◌, ◌/◌, ◌^◌, ◌<◌, ◌≤◌, List, [], length, get_or, map, replicate, ap, refl, subst, sym, ◌∙◌, arith, zero-add}
 use Rattle.std.specs.Int.{div_ceil}
 use Rattle.std.specs.List.{range_with_len}
 use Rattle.std.proofs.lemmas.Grind.{div_ceil_times}
@@ -21,25 +21,23 @@ use Rattle.aes_ctr.specs.CounterMode.{xored}
 use Rattle.aes_ctr.proofs.StreamLemmas.{length-xored_from}
 use Rattle.tagged_hash.specs.ConvergentKey.{convergent_key_of}
 use Rattle.share_layout.proofs.LawLemmas.{locates_own}
-use Rattle.share_layout.proofs.NumberLemmas.{length-needed_numbers}
-use Rattle.share_verify.specs.Pieces.{block_hashes, joined, pieces}
+use Rattle.merkle.proofs.NumberLemmas.{length-needed_numbers}
+use Rattle.share_verify.specs.Pieces.{block_hashes, joined}
+use Rattle.share_layout.specs.Pieces.{pieces, segments_of}
 use Rattle.share_verify.specs.ShareHashes.{LeadsByEntries, entries_in}
 use Rattle.share_verify.specs.TreeSection.{AreHashes, HoldsTree, root_in}
 use Rattle.share_verify.specs.Verify.{AreSound, IsSound}
 use Rattle.share_verify.proofs.GeometryOfUeb.{is_geometry}
 use Rattle.share_verify.proofs.ChunkLemmas.{length-first_chunks, length-joined, pieces_are_chunks}
 use Rattle.share_verify.proofs.SectionLemmas.{root_of_tree, tree_nodes_are_hashes}
-use Rattle.share_verify.proofs.TreeSectionLemmas.{next_power}
-use Rattle.file_encoding.specs.Encoding.{block_of, blocks_of, ciphertext_encoding, encoding_of, extension_block_contents, segment_hashes, segments_of, share_hashes, share_leaves, share_of}
-use Rattle.file_encoding.specs.Laws.{CiphertextSharesPass, FileSharesPass, sections_of}
+use Rattle.merkle.proofs.NodesLemmas.{next_power}
+use Rattle.file_encoding.specs.Encoding.{block_of, blocks_of, ciphertext_encoding, encoding_of, extension_block_contents, share_hashes, share_leaves, share_of}
+use Rattle.proved_parts.specs.FileOf.{segment_hashes}
+use Rattle.file_encoding.specs.Laws.{CiphertextSharesPass, FileSharesPass}
+use Rattle.file_encoding.specs.Encoding.{sections_of}
 use Rattle.file_encoding.proofs.OwnBlocks.{are_cut}
+use Rattle.proved_parts.proofs.Files.{mapped_are_hashes}
 use Rattle.file_encoding.proofs.OwnHashes.{entries_carry, length-entries, needed_hashes, own_hashes_lead}
-
--- a list of hashes
-pub mapped_are_hashes : {X : Type 0} (f : X → List ℕ) → ((x : X) → length (f x) ≡ 32) → (xs : List X) → AreHashes (map f xs)
-mapped_are_hashes {X} f each [] k d below = absurd (omega arith)
-mapped_are_hashes {X} f each (x ∷ xs) zero d below = each x
-mapped_are_hashes {X} f each (x ∷ xs) (suc k) d below = mapped_are_hashes f each xs k d (omega arith)
 
 -- a root is a hash
 pub length-tree_root : (leaves : List (List ℕ)) → AreHashes leaves → length (tree_root leaves) ≡ 32

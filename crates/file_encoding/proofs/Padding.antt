@@ -7,7 +7,7 @@ use Rattle.std.proofs.lemmas.Nat.Gcd.{le_of_dvd, mod-eq-zero_of_dvd}
 use Rattle.std.specs.Int.{◌∣◌}
 use Rattle.std.proofs.lemmas.Bool.{cases_lt}
 use Rattle.ueb.specs.Shape.{rounded_up}
-use Rattle.share_verify.specs.Pieces.{pieces}
+use Rattle.share_layout.specs.Pieces.{pieces}
 use Rattle.file_encoding.specs.Encoding.{padded_segment}
 
 -- multiples of k less than k apart are one

@@ -1,11 +1,11 @@
 -- Texts that are cut into pieces.
-use Rattle.std.proofs.Common.{◌≡◌, ℕ, zero, suc, ◌+◌, ◌-◌, ◌*◌, ◌%◌, ◌<◌, List, [], ◌∷◌, ◌++◌, length, take, drop, get_or, map, min, inl, inr, refl, ap, sym, subst, ◌∙◌, arith}
+use Rattle.std.proofs.Common.{◌≡◌, ℕ, suc, ◌+◌, ◌-◌, ◌*◌, ◌%◌, ◌<◌, List, [], ◌∷◌, ◌++◌, length, take, drop, map, min, inl, inr, ap, sym, subst, ◌∙◌, arith}
 use Rattle.std.proofs.lemmas.List.{append_assoc, drop-drop, length-drop, length-take}
 use Rattle.std.proofs.Math.Nat.{dvd-sub, dvd-mul_left_of_dvd}
 use Rattle.std.proofs.lemmas.Nat.Gcd.{dvd_of_mod-eq-zero, mod-eq-zero_of_dvd}
 use Rattle.std.specs.Int.{◌∣◌}
 use Rattle.std.proofs.lemmas.Bool.{cases_lt}
-use Rattle.share_verify.specs.Pieces.{pieces}
+use Rattle.share_layout.specs.Pieces.{pieces}
 
 -- the pieces from one on are this one, and those from the next one on
 pub pieces-from : (count size number : ℕ) (text : List ℕ) → number < count
@@ -42,16 +42,3 @@ piece-whole k size number text whole all =
     let rest : k ∣ length text - number * size = dvd-sub k (dvd_of_mod-eq-zero k all) (dvd-mul_left_of_dvd k by_size number) in
     ap (λ n. n % k) (length-take size (drop (number * size) text) ∙ ap (min size) (length-drop (number * size) text))
     ∙ mod-eq-zero_of_dvd k (dvd-min k size (length text - number * size) by_size rest)
-
-pub length-pieces : (n size : ℕ) (text : List ℕ) → length (pieces n size text) ≡ n
-length-pieces zero size text = refl
-length-pieces (suc n) size text = ap suc (length-pieces n size (drop size text))
-
--- a piece by its number
-pub get_or-pieces : (n size i : ℕ) (text d : List ℕ) → i < n → get_or (pieces n size text) i d ≡ take size (drop (i * size) text)
-get_or-pieces zero size i text d inside = absurd (omega arith)
-get_or-pieces (suc n) size zero text d inside = let none : 0 * size ≡ 0 = omega arith in ap (λ m. take size (drop m text)) (sym none)
-get_or-pieces (suc n) size (suc i) text d inside =
-    let next : size + i * size ≡ suc i * size = omega arith in
-    get_or-pieces n size i (drop size text) d (omega (arith, inside))
-    ∙ ap (take size) (drop-drop (i * size) size text ∙ ap (λ m. drop m text) next)

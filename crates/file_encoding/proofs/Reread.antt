@@ -13,18 +13,17 @@ use Rattle.aes_ctr.specs.CounterMode.{xored}
 use Rattle.tagged_hash.specs.TaggedHash.{tagged_hash}
 use Rattle.tagged_hash.specs.declared.tag.Tag.TheVariants.{CiphertextSegment}
 use Rattle.merkle.specs.Tree.{leaves_among, tree_root}
-use Rattle.share_verify.specs.Pieces.{pieces}
+use Rattle.share_layout.specs.Pieces.{pieces}
 use Rattle.share_verify.specs.TreeSection.{hashes_in}
 use Rattle.share_verify.specs.Verify.{IsSound}
 use Rattle.share_verify.proofs.SectionLemmas.{leaves_in_tree}
 use Rattle.share_verify.specs.CapBlock.{IsUebFor, geometry_by}
-use Rattle.file_encoding.specs.Encoding.{segment_hashes}
-use Rattle.file_encoding.proofs.Bytes.{xored-xored}
+use Rattle.proved_parts.specs.FileOf.{segment_hashes}
 use Rattle.file_encoding.proofs.LowestShares.{rising_distinct}
-use Rattle.file_encoding.proofs.Pieces.{get_or-pieces, length-pieces}
+use Rattle.proved_parts.proofs.Files.{get_or-pieces, length-pieces}
 use Rattle.file_encoding.specs.Decoding.{AreBlocks}
-use Rattle.file_encoding.specs.LowestShares.{GivesCiphertext, HaveBlocks}
-use Rattle.file_encoding.specs.Reading.{Agree, AreLeaves, Disagree, IsReadFrom, IsTaken, TakenShare, Takes, blocks_in, numbers_of, places_of}
+use Rattle.file_encoding.specs.LowestShares.{HaveBlocks}
+use Rattle.file_encoding.specs.Reading.{GivesCiphertext, Agree, AreLeaves, Disagree, IsReadFrom, IsTaken, TakenShare, Takes, blocks_in, numbers_of, places_of}
 
 -- what stands at a place among the strings with their numbers
 pub number_at : (shares : List (ℕ × Bor (List ℕ))) (place : ℕ) (d : ℕ × Bor (List ℕ)) → place < length shares
@@ -257,10 +256,9 @@ module _ (cap : VerifyCapValue) (shares : List (ℕ × Bor (List ℕ))) (taken :
     }
 
 -- the ciphertext, decrypted, is the file
-pub read_is : (cap : ReadCapValue) (numbers : List ℕ) (strings : List (List ℕ)) (file : List ℕ)
-    → GivesCiphertext (verify_cap_of cap) numbers strings (xored cap.key file) → IsReadFrom cap numbers strings file
-read_is cap numbers strings file gives =
-    let ciphertext : List ℕ = xored cap.key file in
+pub read_is : (cap : ReadCapValue) (numbers : List ℕ) (strings : List (List ℕ)) (ciphertext file : List ℕ)
+    → GivesCiphertext (verify_cap_of cap) numbers strings ciphertext → file ≡ xored cap.key ciphertext → IsReadFrom cap numbers strings file
+read_is cap numbers strings ciphertext file gives decrypted =
     let g : Geometry = geometry_by gives.u in
     let cut : List (List ℕ) = pieces (segment_count g) g.segment_size ciphertext in
     let many : length cut ≡ segment_count g = length-pieces (segment_count g) g.segment_size ciphertext in
@@ -279,5 +277,5 @@ read_is cap numbers strings file gives =
       are_leaves = gives.are_leaves;
       ciphertext = ciphertext;
       decoded = gives.decoded;
-      is_file = record { block = gives.ueb; size = gives.decoded.size ∙ gives.ueb.size; root = ap tree_root hashes ∙ gives.root; decrypted = sym (xored-xored cap.key file) };
+      is_file = record { block = gives.ueb; size = gives.decoded.size ∙ gives.ueb.size; root = ap tree_root hashes ∙ gives.root; decrypted = decrypted };
     }

@@ -1,7 +1,6 @@
 -- The parts that the encoder writes are those of the file's encoding.
 use Rattle.std.proofs.Common.{◌≡◌, ℕ, suc, ◌+◌, ◌-◌, ◌*◌, ◌^◌, ◌<◌, ◌≤◌, List, [], ◌++◌, length, map, replicate, get_or, ap, sym, ◌∙◌, arith}
 use Rattle.std.specs.List.{range_with_len}
-use Rattle.std.specs.Int.{to_be_bytes, w32}
 use Rattle.std.proofs.lemmas.List.{append_assoc, ext_get_or, length-map}
 use Rattle.std.proofs.lemmas.List.FromFn.{get_or-map-range_with_len, length-map-range_with_len}
 use Rattle.std.proofs.lemmas.Simd.{map-map}
@@ -15,14 +14,16 @@ use Rattle.aes_ctr.specs.CounterMode.{xored}
 use Rattle.tagged_hash.specs.ConvergentKey.{convergent_key_of}
 use Rattle.cap_text.specs.Cap.{ReadCapValue}
 use Rattle.ueb.specs.Block.{ueb_text}
-use Rattle.share_layout.specs.Geometry.{Geometry, IsGeometry, geometry_of, hashes_size, segment_count, tree_size}
-use Rattle.share_layout.specs.Share.{header, header_numbers}
-use Rattle.share_verify.specs.Pieces.{block_hashes, joined, pieces}
-use Rattle.file_encoding.specs.Encoding.{blocks_of, Parameters, ciphertext_encoding, encoding_of, extension_block_contents, padded_segment, segment_hashes, segments_of, share_hashes, share_leaves, share_of}
+use Rattle.share_layout.specs.Geometry.{Geometry, IsGeometry, geometry_of, segment_count, tree_size}
+use Rattle.share_layout.specs.Layout.{header, layout_of, spelled}
+use Rattle.share_verify.specs.Pieces.{block_hashes, joined}
+use Rattle.share_layout.specs.Pieces.{pieces, segments_of}
+use Rattle.file_encoding.specs.Encoding.{blocks_of, Parameters, ciphertext_encoding, encoding_of, extension_block_contents, padded_segment, share_hashes, share_leaves, share_of}
+use Rattle.proved_parts.specs.FileOf.{segment_hashes}
 use Rattle.file_encoding.specs.Blocks.{padded_block, padded_blocks, share_beginning, share_end}
 use Rattle.file_encoding.proofs.Numbers.{double}
 use Rattle.file_encoding.proofs.Padding.{pieces-padded}
-use Rattle.file_encoding.proofs.Pieces.{length-pieces}
+use Rattle.proved_parts.proofs.Files.{length-pieces}
 
 -- the encoder's blocks are those of the segments
 pub blocks_are : (g : Geometry) (text : List ℕ) (i : ℕ) → IsGeometry g → length text ≡ g.size
@@ -63,31 +64,29 @@ append_three a b c d = sym (append_assoc a (b ++ c) d) ∙ ap (λ x. x ++ d) (sy
 
 -- a share's beginning and its end are the share
 pub share_is : (g : Geometry) (text extension_block : List ℕ) (i : ℕ) → IsGeometry g → length text ≡ g.size
-    → length (share_hashes (share_leaves g (segments_of g text)) i) ≡ hashes_size g
-    → share_beginning (header (header_numbers g (hashes_size g)))
+    → share_beginning (header g)
     (padded_blocks g.needed i (segment_count g) g.segment_size (padded_segment g.needed text)) (tree_nodes (segment_hashes (segments_of g text)))
-    ++ share_end (share_leaves g (segments_of g text)) i extension_block
+    ++ share_end (layout_of g) (share_leaves g (segments_of g text)) i extension_block
     ≡ share_of g (segments_of g text) extension_block i
-share_is g text extension_block i valid size long =
+share_is g text extension_block i valid size =
     let segments : List (List ℕ) = segments_of g text in
     let blocks : List (List ℕ) = blocks_of g.needed i segments in
-    let end : List ℕ = share_end (share_leaves g segments) i extension_block in
-    (λ p. share_beginning (header (header_numbers g (sym long p))) (blocks_are g text i valid size p) (tree_nodes (segment_hashes segments)) ++ end)
-    ∙ append_three (share_beginning (header (header_numbers g (length (share_hashes (share_leaves g segments) i)))) blocks (tree_nodes (segment_hashes segments)))
-    (share_hashes (share_leaves g segments) i) (to_be_bytes w32 (length extension_block)) extension_block
-    ∙ (λ p. header (header_numbers g (length (share_hashes (share_leaves g segments) i))) ++ joined blocks ++ replicate (nodes_size g text p) 0
+    let end : List ℕ = share_end (layout_of g) (share_leaves g segments) i extension_block in
+    (λ p. share_beginning (header g) (blocks_are g text i valid size p) (tree_nodes (segment_hashes segments)) ++ end)
+    ∙ append_three (share_beginning (header g) blocks (tree_nodes (segment_hashes segments)))
+    (share_hashes (share_leaves g segments) i) (spelled (layout_of g) (length extension_block)) extension_block
+    ∙ (λ p. header g ++ joined blocks ++ replicate (nodes_size g text p) 0
     ++ joined (tree_nodes (segment_hashes segments)) ++ joined (tree_nodes (block_hashes blocks)) ++ share_hashes (share_leaves g segments) i
-    ++ to_be_bytes w32 (length extension_block) ++ extension_block)
+    ++ spelled (layout_of g) (length extension_block) ++ extension_block)
 
 -- what the encoder has of a ciphertext when its shares are finished
 pub record Finished (g : Geometry) (text extension_block : List ℕ) (leaves begun shares : List (List ℕ)) : Type 0 where
   pub roots : leaves ≡ map (λ i. tree_root (block_hashes (padded_blocks g.needed i (segment_count g) g.segment_size (padded_segment g.needed text)))) (range_with_len 0 g.total)
-  pub begun_all : begun ≡ map (λ i. share_beginning (header (header_numbers g (hashes_size g)))
+  pub begun_all : begun ≡ map (λ i. share_beginning (header g)
       (padded_blocks g.needed i (segment_count g) g.segment_size (padded_segment g.needed text)) (tree_nodes (segment_hashes (segments_of g text)))) (range_with_len 0 g.total)
   pub block : extension_block ≡ ueb_text (extension_block_contents g text (segments_of g text))
   pub count : length shares ≡ length begun
-  pub finished : (i : ℕ) → i < length begun → get_or shares i [] ≡ get_or begun i [] ++ share_end leaves i extension_block
-  pub hashed : (i : ℕ) → i < length begun → length (share_hashes leaves i) ≡ (height (length leaves) + 1) * 34
+  pub finished : (i : ℕ) → i < length begun → get_or shares i [] ≡ get_or begun i [] ++ share_end (layout_of g) leaves i extension_block
 
 -- then they are the encoding's
 pub shares_are : (g : Geometry) (key text extension_block : List ℕ) (leaves begun shares : List (List ℕ)) → IsGeometry g → length text ≡ g.size
@@ -95,7 +94,7 @@ pub shares_are : (g : Geometry) (key text extension_block : List ℕ) (leaves be
 unfolding ciphertext_encoding
 shares_are g key text extension_block leaves begun shares valid size done =
     let segments : List (List ℕ) = segments_of g text in
-    let begin : ℕ → List ℕ = λ i. share_beginning (header (header_numbers g (hashes_size g)))
+    let begin : ℕ → List ℕ = λ i. share_beginning (header g)
     (padded_blocks g.needed i (segment_count g) g.segment_size (padded_segment g.needed text)) (tree_nodes (segment_hashes segments)) in
     let same : leaves ≡ share_leaves g segments = done.roots ∙ roots_are g text valid size in
     let total : length leaves ≡ g.total = ap length done.roots ∙ length-map-range_with_len _ 0 g.total in
@@ -106,12 +105,10 @@ shares_are g key text extension_block leaves begun shares valid size done =
     (λ i inside.
     let below : i < length begun = omega (arith, inside, done.count) in
     let number : i < g.total = omega (arith, below, many) in
-    let long : length (share_hashes (share_leaves g segments) i) ≡ hashes_size g =
-    ap (λ ls. length (share_hashes ls i)) (sym same) ∙ done.hashed i below ∙ ap (λ n. (height n + 1) * 34) total in
     done.finished i below
-    ∙ (λ p. get_or (done.begun_all p) i [] ++ share_end (same p) i extension_block)
-    ∙ ap (λ b. b ++ share_end (share_leaves g segments) i extension_block) (get_or-map-range_with_len begin 0 g.total i i [] number (omega arith))
-    ∙ share_is g text extension_block i valid size long
+    ∙ (λ p. get_or (done.begun_all p) i [] ++ share_end (layout_of g) (same p) i extension_block)
+    ∙ ap (λ b. b ++ share_end (layout_of g) (share_leaves g segments) i extension_block) (get_or-map-range_with_len begin 0 g.total i i [] number (omega arith))
+    ∙ share_is g text extension_block i valid size
     ∙ sym (get_or-map-range_with_len (share_of g segments extension_block) 0 g.total i i [] number (omega arith)))
     ∙ ap (λ b. map (share_of g segments b) (range_with_len 0 g.total)) done.block
 

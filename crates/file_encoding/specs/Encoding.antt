@@ -1,30 +1,28 @@
 -- The encoding of a file: its key, its ciphertext, the blocks and hash trees of its shares, its extension block and its cap.
 -- Whole lists, for every k, N and number of segments.
 use Rattle.std.specs.Prelude.{ℕ, ◌-◌, ◌/◌, List, [], ◌++◌, length, map, replicate, slice_index_or}
-use Rattle.std.specs.Int.{w16, w32, to_be_bytes}
+use Rattle.std.specs.Int.{w16, to_be_bytes}
 use Rattle.std.specs.List.{flat_map, range_with_len}
 use Rattle.aes_ctr.specs.CounterMode.{xored}
 use Rattle.merkle.specs.Tree.{height, needed_numbers, tree_nodes, tree_root}
 use Rattle.tagged_hash.specs.ConvergentKey.{convergent_key_of}
 use Rattle.tagged_hash.specs.TaggedHash.{tagged_hash}
-use Rattle.tagged_hash.specs.declared.tag.Tag.TheVariants.{Ciphertext, CiphertextSegment, ExtensionBlock, WholeShare}
+use Rattle.tagged_hash.specs.declared.tag.Tag.TheVariants.{Ciphertext, ExtensionBlock}
 use Rattle.zfec_code.specs.ShareValue.{share_block}
 use Rattle.cap_text.specs.Cap.{ReadCapValue}
 use Rattle.ueb.specs.Shape.{Contents, rounded_up}
 use Rattle.ueb.specs.Block.{ueb_text}
-use Rattle.share_layout.specs.Geometry.{Geometry, geometry_of, segment_count, tree_size}
-use Rattle.share_layout.specs.Share.{header, header_numbers}
-use Rattle.share_verify.specs.Pieces.{block_hashes, joined, pieces}
+use Rattle.share_layout.specs.Geometry.{Geometry, geometry_of, tree_size}
+use Rattle.share_layout.specs.Share.{Sections, share_bytes}
+use Rattle.share_verify.specs.Pieces.{block_hashes, joined}
+use Rattle.share_layout.specs.Pieces.{segments_of}
+use Rattle.proved_parts.specs.FileOf.{segment_hashes}
 
 -- how a file is to be encoded: k of N shares, and the greatest length of a segment
 pub record Parameters : Type 0 where
   pub needed : ℕ
   pub total : ℕ
   pub max_segment : ℕ
-
--- the segments of a text
-abbrev pub segments_of : Geometry → List ℕ → List (List ℕ)
-segments_of g text = pieces (segment_count g) g.segment_size text
 
 -- a segment of ciphertext, padded with zero bytes to a multiple of k
 abbrev pub padded_segment : ℕ → List ℕ → List ℕ
@@ -38,10 +36,6 @@ block_of k i segment = share_block k i (length (padded_segment k segment) / k) (
 abbrev pub blocks_of : ℕ → ℕ → List (List ℕ) → List (List ℕ)
 blocks_of k i segments = map (block_of k i) segments
 
--- the leaves of the ciphertext tree
-abbrev pub segment_hashes : List (List ℕ) → List (List ℕ)
-segment_hashes segments = map (tagged_hash CiphertextSegment) segments
-
 -- the leaves of the share tree: the roots of the shares' block trees
 abbrev pub share_leaves : Geometry → List (List ℕ) → List (List ℕ)
 share_leaves g segments =
@@ -52,12 +46,16 @@ abbrev pub share_hashes : List (List ℕ) → ℕ → List ℕ
 share_hashes leaves i =
     flat_map (λ n. to_be_bytes w16 n ++ slice_index_or (tree_nodes leaves) n []) (needed_numbers (height (length leaves)) i)
 
--- a share in layout 1: the header, the blocks, zeros in the place of a tree that is no longer used, the ciphertext tree,
--- the block tree, the share hashes, and the extension block after its length
-abbrev pub share_text : Geometry → List (List ℕ) → List (List ℕ) → List ℕ → List ℕ → List ℕ
-share_text g blocks segment_leaves hashes extension_block =
-    header (header_numbers g (length hashes)) ++ joined blocks ++ replicate (tree_size g) 0 ++ joined (tree_nodes segment_leaves)
-    ++ joined (tree_nodes (block_hashes blocks)) ++ hashes ++ to_be_bytes w32 (length extension_block) ++ extension_block
+-- the sections of share i
+abbrev pub sections_of : Geometry → List (List ℕ) → List ℕ → ℕ → Sections
+sections_of g segments extension_block i = record {
+  blocks = joined (blocks_of g.needed i segments);
+  unused = replicate (tree_size g) 0;
+  ciphertext_tree = joined (tree_nodes (segment_hashes segments));
+  block_tree = joined (tree_nodes (block_hashes (blocks_of g.needed i segments)));
+  share_hashes = share_hashes (share_leaves g segments) i;
+  extension_block = extension_block;
+}
 
 -- what the extension block says of a file and its ciphertext
 abbrev pub extension_block_contents : Geometry → List ℕ → List (List ℕ) → Contents
@@ -78,8 +76,7 @@ pub record Encoding : Type 0 where
 
 -- share i of a file
 abbrev pub share_of : Geometry → List (List ℕ) → List ℕ → ℕ → List ℕ
-share_of g segments extension_block i =
-    share_text g (blocks_of g.needed i segments) (segment_hashes segments) (share_hashes (share_leaves g segments) i) extension_block
+share_of g segments extension_block i = share_bytes g (sections_of g segments extension_block i)
 
 -- the encoding of a ciphertext and its key
 unfoldable pub ciphertext_encoding : Geometry → List ℕ → List ℕ → Encoding
@@ -97,7 +94,3 @@ encoding_of file secret p =
     let g = geometry_of (length file) p.needed p.total p.max_segment in
     let key = convergent_key_of p.needed p.total g.segment_size secret file in
     ciphertext_encoding g key (xored key file)
-
--- the digest of a share: its name at the servers
-abbrev pub share_digest : List ℕ → List ℕ
-share_digest share = tagged_hash WholeShare share

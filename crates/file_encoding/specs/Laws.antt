@@ -1,25 +1,12 @@
 -- The shares of an encoding pass.
-use Rattle.std.specs.Prelude.{◌≡◌, ℕ, ◌<◌, List, [], length, replicate, slice_index_or}
+use Rattle.std.specs.Prelude.{◌≡◌, ℕ, ◌<◌, List, [], length, slice_index_or}
 use Rattle.cap_text.specs.Cap.{verify_cap_of}
-use Rattle.merkle.specs.Tree.{tree_nodes}
 use Rattle.ueb.specs.Block.{ueb_text}
 use Rattle.ueb.specs.Shape.{IsShape}
-use Rattle.share_layout.specs.Geometry.{Geometry, geometry_of, tree_size}
-use Rattle.share_layout.specs.Share.{Sections}
-use Rattle.share_verify.specs.Pieces.{block_hashes, joined}
+use Rattle.share_layout.specs.Geometry.{Geometry, geometry_of}
 use Rattle.share_verify.specs.Verify.{IsSound, IsSoundShare}
-use Rattle.file_encoding.specs.Encoding.{Parameters, blocks_of, ciphertext_encoding, encoding_of, extension_block_contents, segment_hashes, segments_of, share_hashes, share_leaves}
-
--- the sections of share i
-abbrev pub sections_of : Geometry → List (List ℕ) → List ℕ → ℕ → Sections
-sections_of g segments extension_block i = record {
-  blocks = joined (blocks_of g.needed i segments);
-  unused = replicate (tree_size g) 0;
-  ciphertext_tree = joined (tree_nodes (segment_hashes segments));
-  block_tree = joined (tree_nodes (block_hashes (blocks_of g.needed i segments)));
-  share_hashes = share_hashes (share_leaves g segments) i;
-  extension_block = extension_block;
-}
+use Rattle.file_encoding.specs.Encoding.{Parameters, ciphertext_encoding, encoding_of, extension_block_contents, sections_of}
+use Rattle.share_layout.specs.Pieces.{segments_of}
 
 -- a law: each share of a ciphertext's encoding is sound for the encoding's verify cap and its own number
 abbrev pub CiphertextSharesPass : Type 0

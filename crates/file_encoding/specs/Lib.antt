@@ -1,7 +1,6 @@
 pub mod EncodeError
 pub mod ReadError
 pub mod Encoding
-pub mod FileOf
 pub mod Params
 pub mod Blocks
 pub mod Laws

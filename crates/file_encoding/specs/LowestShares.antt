@@ -1,12 +1,9 @@
 -- Words of the clauses that select shares and read them.
 use Rattle.std.specs.Prelude.{◌≡◌, ℕ, ◌<◌, List, [], length, map, slice_index, slice_index_or}
 use Rattle.cap_text.specs.Cap.{VerifyCapValue}
-use Rattle.merkle.specs.Tree.{tree_root}
-use Rattle.ueb.specs.Shape.{Contents}
-use Rattle.share_layout.specs.Geometry.{Geometry, segment_count}
+use Rattle.share_layout.specs.Geometry.{Geometry}
 use Rattle.share_layout.specs.Share.{IsShare, Sections}
-use Rattle.share_verify.specs.CapBlock.{IsUebFor, geometry_by}
-use Rattle.file_encoding.specs.Reading.{Agree, AreLeaves, AreLowest, IsDecoded, TakenShare, Takes, blocks_in, numbers_of, places_of}
+use Rattle.file_encoding.specs.Reading.{AreLowest, TakenShare, Takes, places_of}
 
 -- at these places stand the lowest shares below a number
 pub record AreLowestAt (cap : VerifyCapValue) (numbers : List ℕ) (strings : List (List ℕ)) (below : ℕ) (places : List ℕ) : Type 0 where
@@ -26,17 +23,3 @@ pub record HaveBlocks (g : Geometry) (numbers : List ℕ) (strings : List (List 
   pub counted : length blocks ≡ length places
   pub blocks_of : (m : ℕ) → m < length places → (s : Sections)
       → IsShare g (slice_index numbers (slice_index places m)) (slice_index_or strings (slice_index places m) []) s → slice_index_or blocks m [] ≡ s.blocks
-
--- the ciphertext that the shares that are taken give
-pub record GivesCiphertext (cap : VerifyCapValue) (numbers : List ℕ) (strings : List (List ℕ)) (ciphertext : List ℕ) : Type 0 where
-  pub taken : List TakenShare
-  pub takes : Takes cap numbers strings taken
-  pub extension_block : List ℕ
-  pub u : Contents
-  pub ueb : IsUebFor cap extension_block u
-  pub agree : Agree taken extension_block u
-  pub leaves : List (List ℕ)
-  pub are_leaves : AreLeaves taken leaves
-  pub count : length leaves ≡ segment_count (geometry_by u)
-  pub root : tree_root leaves ≡ u.crypttext_root_hash
-  pub decoded : IsDecoded (geometry_by u) (numbers_of taken) (blocks_in taken) leaves ciphertext

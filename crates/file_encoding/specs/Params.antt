@@ -1,8 +1,7 @@
 -- What a user chooses for an upload.
 use Rattle.std.specs.Prelude.{ℕ, ◌<◌, ◌≤◌}
-use Rattle.ueb.specs.declared.limits.TheConstants.{MAX_FILE_SIZE, MAX_SEGMENTS, MAX_SHARES}
+use Rattle.ueb.specs.Limits.{max_file_size, max_segments, max_shares}
 use Rattle.share_layout.specs.Geometry.{geometry_of, segment_count}
-use Rattle.file_encoding.specs.declared.params.TheConstants.{MAX_CHOSEN_SEGMENT_SIZE}
 use Rattle.file_encoding.specs.Encoding.{Parameters}
 
 -- how many shares are needed, on how many servers they have to be, how many there are, and the greatest length of a segment
@@ -16,11 +15,11 @@ pub record UploadParameters : Type 0 where
 pub record AreChosen (needed happy total max_segment : ℕ) : Type 0 where
   pub some_needed : 0 < needed
   pub enough : needed ≤ total
-  pub shares : total ≤ MAX_SHARES
+  pub shares : total ≤ max_shares
   pub some_happy : 0 < happy
   pub reachable : happy ≤ total
   pub some_segment : 0 < max_segment
-  pub segment_not_large : max_segment ≤ MAX_CHOSEN_SEGMENT_SIZE
+  pub segment_not_large : max_segment ≤ 1048576
 
 -- what of it a file's encoding depends on
 abbrev pub parameters_of : UploadParameters → Parameters
@@ -32,10 +31,10 @@ segments_for size p = segment_count (geometry_of size p.needed p.total p.max_seg
 
 -- a file of this size has an encoding
 pub record IsEncodable (size : ℕ) (p : UploadParameters) : Type 0 where
-  pub not_large : size ≤ MAX_FILE_SIZE
-  pub few : segments_for size p ≤ MAX_SEGMENTS
+  pub not_large : size ≤ max_file_size
+  pub few : segments_for size p ≤ max_segments
 
 -- it is not too large, but has too many segments
 pub record HasTooManySegments (size : ℕ) (p : UploadParameters) : Type 0 where
-  pub not_large : size ≤ MAX_FILE_SIZE
-  pub many : MAX_SEGMENTS < segments_for size p
+  pub not_large : size ≤ max_file_size
+  pub many : max_segments < segments_for size p

@@ -1,25 +1,16 @@
--- What a cap proves of a part of its file: an extension block and one segment with the path of its hash.
+-- The segments of an encoding are parts of its cap's file.
 use Rattle.std.specs.Prelude.{◌≡◌, ℕ, ◌<◌, List, [], length, slice_index_or}
 use Rattle.aes_ctr.specs.CounterMode.{xored}
-use Rattle.merkle.specs.Path.{LeadsBy, siblings_of}
+use Rattle.merkle.specs.Path.{siblings_of}
 use Rattle.tagged_hash.specs.ConvergentKey.{convergent_key_of}
-use Rattle.tagged_hash.specs.TaggedHash.{tagged_hash}
-use Rattle.tagged_hash.specs.declared.tag.Tag.TheVariants.{CiphertextSegment}
 use Rattle.cap_text.specs.Cap.{VerifyCapValue, verify_cap_of}
 use Rattle.ueb.specs.Block.{ueb_text}
-use Rattle.ueb.specs.Shape.{Contents, IsShape}
+use Rattle.ueb.specs.Shape.{IsShape}
 use Rattle.share_layout.specs.Geometry.{Geometry, geometry_of, segment_count}
-use Rattle.share_verify.specs.CapBlock.{IsUebFor, geometry_by}
-use Rattle.file_encoding.specs.Encoding.{Parameters, ciphertext_encoding, encoding_of, extension_block_contents, segment_hashes, segments_of}
-use Rattle.file_encoding.specs.Reading.{segment_length}
-
--- This is the segment with this number of the cap's file, and the cap proves it: the extension block is the cap's, and by these siblings
--- the segment's hash leads to the root of the ciphertext tree in it.
-pub record IsPartOf (cap : VerifyCapValue) (extension_block : List ℕ) (u : Contents) (number : ℕ) (segment : List ℕ) (siblings : List (List ℕ)) : Type 0 where
-  pub block : IsUebFor cap extension_block u
-  pub there : number < segment_count (geometry_by u)
-  pub size : length segment ≡ segment_length (geometry_by u) number
-  pub path : LeadsBy (segment_count (geometry_by u)) u.crypttext_root_hash number (tagged_hash CiphertextSegment segment) siblings
+use Rattle.file_encoding.specs.Encoding.{Parameters, ciphertext_encoding, encoding_of, extension_block_contents}
+use Rattle.proved_parts.specs.FileOf.{segment_hashes}
+use Rattle.proved_parts.specs.Parts.{IsPartOf}
+use Rattle.share_layout.specs.Pieces.{segments_of}
 
 -- each segment of this ciphertext is a part of the cap's file, with its own extension block and its own path
 abbrev pub HasParts : VerifyCapValue → Geometry → List ℕ → Type 0

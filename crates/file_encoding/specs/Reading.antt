@@ -1,16 +1,18 @@
 -- Which shares a reader takes, and the file that it makes of them.
-use Rattle.std.specs.Prelude.{◌≡◌, ℕ, ◌-◌, ◌*◌, ◌<◌, ◌≤◌, ◌⊎◌, List, [], ◌∷◌, length, take, drop, map, min, All, slice_index, slice_index_or}
+use Rattle.std.specs.Prelude.{◌≡◌, ℕ, ◌*◌, ◌<◌, ◌≤◌, ◌⊎◌, List, [], ◌∷◌, length, map, min, All, slice_index, slice_index_or}
 use Rattle.tagged_hash.specs.TaggedHash.{tagged_hash}
 use Rattle.tagged_hash.specs.declared.tag.Tag.TheVariants.{CiphertextSegment}
 use Rattle.cap_text.specs.Cap.{ReadCapValue, VerifyCapValue, verify_cap_of}
+use Rattle.merkle.specs.Tree.{tree_root}
 use Rattle.ueb.specs.Shape.{Contents}
-use Rattle.share_layout.specs.Geometry.{Geometry, block_size, segment_count}
+use Rattle.share_layout.specs.Geometry.{Geometry, segment_count}
 use Rattle.share_layout.specs.Share.{Sections}
-use Rattle.share_verify.specs.CapBlock.{geometry_by}
+use Rattle.share_layout.specs.Pieces.{block_at, segment_at}
+use Rattle.proved_parts.specs.Decoding.{DecodesBlocks}
+use Rattle.share_verify.specs.CapBlock.{IsUebFor, geometry_by}
 use Rattle.share_verify.specs.TreeSection.{HoldsTree}
 use Rattle.share_verify.specs.Verify.{IsSound, IsSoundShare}
-use Rattle.file_encoding.specs.Decoding.{DecodesPadded, block_length}
-use Rattle.file_encoding.specs.FileOf.{IsFileOf}
+use Rattle.proved_parts.specs.FileOf.{IsFileOf}
 
 -- a share that a reader takes: where it stands among the strings, its number, and what it says
 pub record TakenShare : Type 0 where
@@ -79,26 +81,10 @@ pub record LacksShares (cap : VerifyCapValue) (numbers : List ℕ) (strings : Li
 abbrev pub blocks_in : List TakenShare → List (List ℕ)
 blocks_in taken = map (λ (t : TakenShare). t.sections.blocks) taken
 
--- the block of a segment among a share's blocks
-abbrev pub block_at : Geometry → ℕ → List ℕ → List ℕ
-block_at g number blocks = take (block_size g) (drop (number * block_size g) blocks)
-
--- a segment's length
-abbrev pub segment_length : Geometry → ℕ → ℕ
-segment_length g number = min g.segment_size (g.size - number * g.segment_size)
-
--- a segment of a ciphertext
-abbrev pub segment_at : Geometry → ℕ → List ℕ → List ℕ
-segment_at g number ciphertext = take g.segment_size (drop (number * g.segment_size) ciphertext)
-
--- The blocks of a segment, of the shares with these numbers, decode to it, once its padding is off: where they are shares of some
--- primary blocks, to these.
-pub record Decodes (g : Geometry) (numbers : List ℕ) (blocks : List (List ℕ)) (number : ℕ) (segment : List ℕ) : Type 0 where
-  pub padded : List ℕ
-  pub whole : length padded ≡ g.needed * block_length g number
-  pub decoded : DecodesPadded g.needed numbers (map (block_at g number) blocks) padded
-  pub cut : segment ≡ take (segment_length g number) padded
-  pub long : length segment ≡ segment_length g number
+-- the blocks of a segment among those of the shares with these numbers decode to it
+abbrev pub Decodes : Geometry → List ℕ → List (List ℕ) → ℕ → List ℕ → Type 0
+Decodes g numbers blocks number segment =
+    DecodesBlocks g numbers (map (block_at g number) blocks) number segment
 
 -- All segments decode so, and each has the hash of its leaf.
 pub record IsDecoded (g : Geometry) (numbers : List ℕ) (blocks leaves : List (List ℕ)) (ciphertext : List ℕ) : Type 0 where
@@ -141,6 +127,20 @@ pub record AreLeaves (taken : List TakenShare) (leaves : List (List ℕ)) : Type
   pub is : taken ≡ lowest ∷ rest
   pub count : length leaves ≡ segment_count (geometry_by lowest.contents)
   pub holds : HoldsTree lowest.sections.ciphertext_tree leaves
+
+-- the ciphertext that the shares that are taken give
+pub record GivesCiphertext (cap : VerifyCapValue) (numbers : List ℕ) (strings : List (List ℕ)) (ciphertext : List ℕ) : Type 0 where
+  pub taken : List TakenShare
+  pub takes : Takes cap numbers strings taken
+  pub extension_block : List ℕ
+  pub u : Contents
+  pub ueb : IsUebFor cap extension_block u
+  pub agree : Agree taken extension_block u
+  pub leaves : List (List ℕ)
+  pub are_leaves : AreLeaves taken leaves
+  pub count : length leaves ≡ segment_count (geometry_by u)
+  pub root : tree_root leaves ≡ u.crypttext_root_hash
+  pub decoded : IsDecoded (geometry_by u) (numbers_of taken) (blocks_in taken) leaves ciphertext
 
 -- the file that a reader makes of the shares that it takes
 pub record IsReadFrom (cap : ReadCapValue) (numbers : List ℕ) (strings : List (List ℕ)) (file : List ℕ) : Type 0 where

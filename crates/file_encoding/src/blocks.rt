@@ -5,8 +5,9 @@ ghost use Rattle.tagged_hash.specs.TaggedHash.{tagged_hash};
 ghost use Rattle.tagged_hash.specs.declared.tag.Tag.TheVariants.{Block, CiphertextSegment};
 ghost use Rattle.zfec_code.specs.ShareValue.{share_block};
 ghost use Rattle.zfec_code.specs.Shares.{IsShareOf};
-ghost use Rattle.share_verify.specs.Pieces.{block_hashes, joined, pieces};
-ghost use Rattle.file_encoding.specs.Encoding.{segment_hashes};
+ghost use Rattle.share_verify.specs.Pieces.{block_hashes, joined};
+ghost use Rattle.share_layout.specs.Pieces.{pieces};
+ghost use Rattle.proved_parts.specs.FileOf.{segment_hashes};
 ghost use Rattle.file_encoding.specs.Blocks.{padded_block, padded_blocks};
 
 use std::alloc::{AllocError, Global};
@@ -24,7 +25,7 @@ pub(crate) struct Segments<'a> {
 impl<'a> Segments<'a> {
     /// The segment of this number.
     pub(crate) fn segment(&self, number: usize) -> &'a [u8]
-        requires few { number < 2 ^ 16 }
+        requires few { number < 2 ^ 20 }
         requires small { self.now.size ≤ 2 ^ 21 }
         ensures { result.now ≡ take self.now.size (drop (number * self.now.size) self.now.text.now) }
     {
@@ -35,7 +36,7 @@ impl<'a> Segments<'a> {
 
     /// The hashes of the segments: the leaves of the ciphertext tree.
     pub(crate) fn hashes(&self, alloc: Global) -> Result<Vec<[u8; 32]>, AllocError>
-        requires few { self.now.count ≤ 2 ^ 16 }
+        requires few { self.now.count ≤ 2 ^ 20 }
         requires small { self.now.size ≤ 2 ^ 21 }
         ensures hashes { IfOk result (λ hashes. hashes.items ≡ segment_hashes (pieces self.now.count self.now.size self.now.text.now)) }
         ensures count { IfOk result (λ hashes. length hashes.items ≡ self.now.count) }
@@ -56,7 +57,7 @@ impl<'a> Segments<'a> {
         share: u16,
         out: &mut Vec<u8>,
     ) -> Result<Vec<[u8; 32]>, AllocError>
-        requires few { self.now.count ≤ 2 ^ 16 }
+        requires few { self.now.count ≤ 2 ^ 20 }
         requires small { self.now.size ≤ 2 ^ 21 }
         requires some { 0 < needed }
         requires shares { needed ≤ 256 }

@@ -7,12 +7,14 @@ ghost use Rattle.cap_text.specs.declared.cap.Cap.TheVariants.{Chk, Lit};
 ghost use Rattle.cap_text.specs.Cap.{ReadCapValue};
 ghost use Rattle.merkle.specs.Tree.{height, tree_nodes, tree_root};
 ghost use Rattle.ueb.specs.Shape.{IsFile, IsSegmentSize};
-ghost use Rattle.ueb.specs.declared.limits.TheConstants.{MAX_FILE_SIZE, MAX_LENGTH, MAX_SEGMENTS, MIN_FILE_SIZE};
+ghost use Rattle.ueb.specs.Limits.{max_file_size, max_length, min_file_size};
 ghost use Rattle.ueb.specs.Block.{ueb_text};
-ghost use Rattle.share_layout.specs.Geometry.{HasGeometry, geometry_of, hashes_size, segment_count};
-ghost use Rattle.share_layout.specs.Share.{header, header_numbers};
+ghost use Rattle.share_layout.specs.Geometry.{geometry_of, segment_count};
+ghost use Rattle.share_layout.specs.Layout.{header};
 ghost use Rattle.share_verify.specs.Pieces.{block_hashes};
-ghost use Rattle.file_encoding.specs.Encoding.{ciphertext_encoding, encoding_of, padded_segment, segment_hashes, segments_of, share_hashes};
+ghost use Rattle.file_encoding.specs.Encoding.{ciphertext_encoding, encoding_of, padded_segment, share_hashes};
+ghost use Rattle.proved_parts.specs.FileOf.{segment_hashes};
+ghost use Rattle.share_layout.specs.Pieces.{segments_of};
 ghost use Rattle.file_encoding.specs.Blocks.{padded_blocks, share_beginning, share_end};
 ghost use Rattle.file_encoding.specs.Params.{HasTooManySegments, IsEncodable, parameters_of};
 
@@ -37,15 +39,13 @@ pub struct Encoded {
     pub shares: Vec<Share>,
 }
 
-// The file encrypted, or a ciphertext decrypted, under a key of its own.
-pub(crate) fn encrypt(alloc: Global, key: &[u8; 16], text: &[u8]) -> Result<Vec<u8>, AllocError>
-    requires { length text.now < 2 ^ 64 }
-    ensures value { IfOk result (λ c. c.items ≡ xored key.now text.now) }
-    ensures size { IfOk result (λ c. length c.items ≡ length text.now) }
+/// A text encrypted where it stands, or a ciphertext decrypted, under a key of its own.
+pub(crate) fn crypt(key: &[u8; 16], mut text: Vec<u8>) -> Vec<u8>
+    ensures value { result.items ≡ xored key.now text.items }
+    ensures size { length result.items ≡ length text.items }
 {
-    let mut crypted = Vec::from_slice(alloc, text)?;
-    Aes128::new(key).xor_at(0, &mut crypted);
-    Ok(crypted)
+    Aes128::new(key).xor_at(0, &mut text);
+    text
 }
 
 // The tree over the hashes of a ciphertext's segments.
@@ -83,7 +83,7 @@ fn begin_file(
 ) -> Result<AllBegun, AllocError>
     requires whole { length padded.now % geometry.now.needed ≡ 0 }
     ensures shares { IfOk result (λ begun. begun.shares.items ≡ map (λ i. share_beginning
-        (header (header_numbers geometry.now (hashes_size geometry.now)))
+        (header geometry.now)
         (padded_blocks geometry.now.needed i (segment_count geometry.now) geometry.now.segment_size padded.now)
         (tree_nodes ciphertext_tree.now)) (range_with_len 0 geometry.now.total)) }
     ensures roots { IfOk result (λ begun. begun.roots.items ≡ map (λ i. tree_root (block_hashes
@@ -95,9 +95,10 @@ fn begin_file(
         Err(CodeError::OutOfMemory) => return Err(AllocError),
         Err(_) => unreachable!(),
     };
-    let header = geometry.header();
+    let mut header = [0; 68];
+    let length = geometry.header(&mut header);
     let common = Common {
-        header: &header,
+        header: &header[..length],
         needed: geometry.needed(),
         code: &code,
         segments: Segments {
@@ -112,8 +113,10 @@ fn begin_file(
 
 // The greatest length of a share, in bytes.
 fn share_size(geometry: &Geometry) -> usize {
-    let sections = geometry.share_data_size() + 3 * geometry.tree_size() + geometry.hashes_size();
-    36 + sections as usize + 4 + MAX_LENGTH
+    let trees = 3 * u64::from(geometry.tree_size()) + u64::from(geometry.hashes_size());
+    let layout = geometry.layout();
+    let sections = (geometry.share_data_size() + trees) as usize;
+    layout.header_size() + sections + layout.width() + MAX_LENGTH
 }
 
 // The extension block of a file.
@@ -135,7 +138,7 @@ fn write_extension_block(
       crypttext_root_hash = ciphertext_root;
       share_root_hash = share_root;
     })) }
-    ensures short { IfOk result (λ text. length text.items ≤ MAX_LENGTH) }
+    ensures short { IfOk result (λ text. length text.items ≤ max_length) }
 {
     let expect = Expect {
         k: geometry.needed(),
@@ -157,7 +160,7 @@ fn write_extension_block(
 
 // The cap of a file.
 fn file_cap(geometry: &Geometry, key: [u8; 16], ueb_hash: [u8; 32]) -> ReadCap
-    requires { MIN_FILE_SIZE ≤ geometry.now.size }
+    requires { min_file_size ≤ geometry.now.size }
     ensures { result ≡ record { key = key; ueb_hash = ueb_hash; needed = geometry.now.needed; total = geometry.now.total; size = geometry.now.size } }
 {
     match ReadCap::new(
@@ -180,7 +183,7 @@ fn encode_ciphertext(
     ciphertext: Vec<u8>,
 ) -> Result<Encoded, AllocError>
     requires size { length ciphertext.items ≡ geometry.now.size }
-    requires least { MIN_FILE_SIZE ≤ geometry.now.size }
+    requires least { min_file_size ≤ geometry.now.size }
     requires segments { IsSegmentSize geometry.now.needed geometry.now.size geometry.now.segment_size }
     ensures cap { IfOk result (λ e. e.cap ≡ Chk (ciphertext_encoding geometry.now key ciphertext.items).cap) }
     ensures shares { IfOk result (λ e. e.shares.items ≡ (ciphertext_encoding geometry.now key ciphertext.items).shares) }
@@ -197,7 +200,13 @@ fn encode_ciphertext(
         ciphertext_tree.root(),
         share_tree.root(),
     )?;
-    let shares = finish_shares(alloc, begun.shares, &share_tree, &extension_block)?;
+    let shares = finish_shares(
+        alloc,
+        geometry.layout(),
+        begun.shares,
+        &share_tree,
+        &extension_block,
+    )?;
     let cap = file_cap(geometry, key, tagged(Tag::ExtensionBlock, &extension_block));
     Ok(Encoded {
         cap: Cap::Chk(cap),
@@ -216,14 +225,18 @@ pub fn encode_all(
     params: &Params,
 ) -> Result<Encoded, EncodeError>
     requires { length secret.now ≤ 64 }
-    ensures literal { length file.now < MIN_FILE_SIZE → IfOk result (λ e. (e.cap ≡ Lit file.now) × (e.shares.items ≡ [])) }
-    ensures cap { MIN_FILE_SIZE ≤ length file.now → IfOk result (λ e. e.cap ≡ Chk (encoding_of file.now secret.now (parameters_of params.now)).cap) }
-    ensures shares { MIN_FILE_SIZE ≤ length file.now → IfOk result (λ e. e.shares.items ≡ (encoding_of file.now secret.now (parameters_of params.now)).shares) }
+    ensures literal { length file.now < min_file_size → IfOk result (λ e. (e.cap ≡ Lit file.now) × (e.shares.items ≡ [])) }
+    ensures cap { min_file_size ≤ length file.now → IfOk result (λ e. e.cap ≡ Chk (encoding_of file.now secret.now (parameters_of params.now)).cap) }
+    ensures shares { min_file_size ≤ length file.now → IfOk result (λ e. e.shares.items ≡ (encoding_of file.now secret.now (parameters_of params.now)).shares) }
     // When each refusal comes.
-    ensures fits { MIN_FILE_SIZE ≤ length file.now → IfOk result (λ _. IsEncodable (length file.now) params.now) }
-    ensures too_large { IsErrOf result EncodeError.TooLarge → MAX_FILE_SIZE < length file.now }
+    ensures fits { min_file_size ≤ length file.now → IfOk result (λ _. IsEncodable (length file.now) params.now) }
+    ensures too_large { IsErrOf result EncodeError.TooLarge → max_file_size < length file.now }
     ensures too_many { IsErrOf result EncodeError.TooManySegments → HasTooManySegments (length file.now) params.now }
-    ensures no_other { IfErr result (λ e. (e ≡ EncodeError.OutOfMemory) ⊎ (e ≡ EncodeError.TooLarge) ⊎ (e ≡ EncodeError.TooManySegments)) }
+    ensures no_other { IfErr result (λ e. (e ≡ EncodeError.OutOfMemory)
+        ⊎ (e ≡ EncodeError.TooLarge) ⊎ (e ≡ EncodeError.TooManySegments)) }
+    // A file that has an encoding is refused for want of memory alone.
+    ensures memory { IsEncodable (length file.now) params.now
+        → IfErr result (λ e. e ≡ EncodeError.OutOfMemory) }
 {
     if file.len() < MIN_FILE_SIZE as usize {
         return match LitCap::new(file) {
@@ -242,7 +255,7 @@ pub fn encode_all(
         secret,
         file,
     );
-    let ciphertext = encrypt(alloc, &key, file)?;
+    let ciphertext = crypt(&key, Vec::from_slice(alloc, file)?);
     Ok(encode_ciphertext(alloc, &geometry, key, ciphertext)?)
 }
 
@@ -252,7 +265,7 @@ fn file_geometry(size: u64, params: &Params) -> Result<Geometry, EncodeError>
     ensures given { IfOk result (λ g. g ≡ geometry_of size params.now.needed params.now.total params.now.max_segment) }
     ensures segments { IfOk result (λ g. IsSegmentSize g.needed g.size g.segment_size) }
     ensures fits { IfOk result (λ _. IsEncodable size params.now) }
-    ensures too_large { IsErrOf result EncodeError.TooLarge → MAX_FILE_SIZE < size }
+    ensures too_large { IsErrOf result EncodeError.TooLarge → max_file_size < size }
     ensures too_many { IsErrOf result EncodeError.TooManySegments → HasTooManySegments size params.now }
     ensures no_other { IfErr result (λ e. (e ≡ EncodeError.TooLarge) ⊎ (e ≡ EncodeError.TooManySegments)) }
 {

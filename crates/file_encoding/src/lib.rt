@@ -19,6 +19,6 @@ pub use laws::{
     own_shares_give_the_file,
 };
 pub use params::{MAX_CHOSEN_SEGMENT_SIZE, Params};
-pub use reading::{ReadError, read_from};
+pub use reading::{ReadError, read_ciphertext, read_from};
 pub use share::Share;
 pub use share_verify::{ShareFault, verify_share};

@@ -1,15 +1,15 @@
 // Files, read back from shares.
 
 ghost use Rattle.std.specs.Prelude.{◌≡◌, ◌<◌, ◌⊎◌, ℕ, List, [], All, length, map, slice_index, slice_index_or, false, IfOk, IfErr, IsErrAnd, IsErrOf, IsTrue};
-ghost use Rattle.aes_ctr.specs.CounterMode.{xored};
 ghost use Rattle.cap_text.specs.Cap.{verify_cap_of};
 ghost use Rattle.share_layout.specs.Places.{LocatesUeb};
 ghost use Rattle.share_layout.specs.Share.{IsShare, Sections};
-ghost use Rattle.file_encoding.specs.LowestShares.{GivesCiphertext, HaveBlocks, TakesAt};
-ghost use Rattle.file_encoding.specs.Reading.{AreInconsistent, IsReadFrom, LacksShares};
+ghost use Rattle.file_encoding.specs.LowestShares.{HaveBlocks, TakesAt};
+ghost use Rattle.file_encoding.specs.Reading.{AreInconsistent, GivesCiphertext, IsReadFrom, LacksShares};
 ghost use Rattle.file_encoding.specs.ReadError.{read_refusal_number};
 
 use crate::decoding::decode_all;
+use crate::encoding::crypt;
 use crate::selection::take_lowest;
 use cap_text::{ReadCap, VerifyCap};
 use share_layout::{Geometry, ShareView, locate_ueb};
@@ -17,13 +17,14 @@ use share_verify::{leaves_in, read_share};
 use std::alloc::{AllocError, AllocFailed, Global};
 
 /// Why shares do not give their file.
-#[derive(Clone, Copy, Debug, PartialEq, Eq)]
+#[derive(Clone, Copy, PartialEq, Eq)]
 pub enum ReadError {
     /// No memory was left (number 1).
     OutOfMemory,
     /// Fewer shares pass every check than are needed (number 71).
     NotEnoughShares,
-    /// The shares pass, but two of their extension blocks differ, or a segment that they decode to is not the one of its leaf (number 72).
+    /// The shares pass, but two of their extension blocks differ, or a segment that they decode to
+    /// is not the one of its leaf (number 72).
     Inconsistent,
 }
 
@@ -60,46 +61,78 @@ impl<T: Drop> From<AllocFailed<T>> for ReadError {
     }
 }
 
-/// The file of a cap, from shares that come with their numbers, each in the string that it is said to be.
+/// The file of a cap, from shares that come with their numbers, each in the string that it is said
+/// to be.
 ///
-/// Taken are the lowest numbers that pass `verify_share`, as many as are needed, and of each the first string that passes. Refuses
-/// `NotEnoughShares` exactly where fewer pass, and `Inconsistent` where two of the strings that are taken differ in their extension blocks, or a
-/// segment that they decode to has not the hash of its leaf in the ciphertext tree of the lowest.
+/// Taken are the lowest numbers that pass `verify_share`, as many as are needed, and of each the
+/// first string that passes. Refuses `NotEnoughShares` exactly where fewer pass, and `Inconsistent`
+/// where two of the strings that are taken differ in their extension blocks, or a segment that they
+/// decode to has not the hash of its leaf in the ciphertext tree of the lowest.
 pub fn read_from(
     alloc: Global,
     cap: &ReadCap,
     shares: &[(u16, &[u8])],
 ) -> Result<Vec<u8>, ReadError>
-    ensures file { IfOk result (λ file. IsReadFrom cap.now (map (λ s. s.0) shares.now) (map (λ s. s.1.now) shares.now) file.items) }
-    ensures not_enough { IsErrOf result ReadError.NotEnoughShares → LacksShares (verify_cap_of cap.now) (map (λ s. s.0) shares.now) (map (λ s. s.1.now) shares.now) }
+    ensures file { IfOk result (λ file. IsReadFrom cap.now (map (λ s. s.0) shares.now)
+        (map (λ s. s.1.now) shares.now) file.items) }
+    ensures not_enough { IsErrOf result ReadError.NotEnoughShares
+        → LacksShares (verify_cap_of cap.now) (map (λ s. s.0) shares.now)
+        (map (λ s. s.1.now) shares.now) }
     // Of too few shares nothing else comes, but where no memory is left.
-    ensures lacking { LacksShares (verify_cap_of cap.now) (map (λ s. s.0) shares.now) (map (λ s. s.1.now) shares.now)
+    ensures lacking { LacksShares (verify_cap_of cap.now) (map (λ s. s.0) shares.now)
+        (map (λ s. s.1.now) shares.now)
         → IsErrAnd result (λ e. (e ≡ ReadError.NotEnoughShares) ⊎ (e ≡ ReadError.OutOfMemory)) }
-    ensures inconsistent { IsErrOf result ReadError.Inconsistent → AreInconsistent (verify_cap_of cap.now) (map (λ s. s.0) shares.now) (map (λ s. s.1.now) shares.now) }
+    ensures inconsistent { IsErrOf result ReadError.Inconsistent
+        → AreInconsistent (verify_cap_of cap.now) (map (λ s. s.0) shares.now)
+        (map (λ s. s.1.now) shares.now) }
 {
     let verify_cap = cap.to_verify();
-    let places = take_lowest(alloc, &verify_cap, shares)?;
+    let ciphertext = read_ciphertext(alloc, &verify_cap, shares)?;
+    Ok(crypt(cap.key(), ciphertext))
+}
+
+/// The ciphertext of a verify cap's file, from the shares that `read_from` takes, with the same
+/// refusals.
+pub fn read_ciphertext(
+    alloc: Global,
+    cap: &VerifyCap,
+    shares: &[(u16, &[u8])],
+) -> Result<Vec<u8>, ReadError>
+    ensures ciphertext { IfOk result (λ text. GivesCiphertext cap.now (map (λ s. s.0) shares.now)
+        (map (λ s. s.1.now) shares.now) text.items) }
+    ensures not_enough { IsErrOf result ReadError.NotEnoughShares
+        → LacksShares cap.now (map (λ s. s.0) shares.now) (map (λ s. s.1.now) shares.now) }
+    // Of too few shares nothing else comes, but where no memory is left.
+    ensures lacking { LacksShares cap.now (map (λ s. s.0) shares.now)
+        (map (λ s. s.1.now) shares.now)
+        → IsErrAnd result (λ e. (e ≡ ReadError.NotEnoughShares) ⊎ (e ≡ ReadError.OutOfMemory)) }
+    ensures inconsistent { IsErrOf result ReadError.Inconsistent
+        → AreInconsistent cap.now (map (λ s. s.0) shares.now) (map (λ s. s.1.now) shares.now) }
+{
+    let places = take_lowest(alloc, cap, shares)?;
     if places.len() < usize::from(cap.k()) {
         return Err(ReadError::NotEnoughShares);
     }
-    read_taken(alloc, cap.key(), &verify_cap, shares, &places)
+    read_taken(alloc, cap, shares, &places)
 }
 
-// The file of the shares at these places, which are as many as are needed.
+// The ciphertext of the shares at these places, which are as many as are needed.
 fn read_taken(
     alloc: Global,
-    key: &[u8; 16],
     cap: &VerifyCap,
     shares: &[(u16, &[u8])],
     places: &[usize],
 ) -> Result<Vec<u8>, ReadError>
-    requires takes { TakesAt cap.now (map (λ s. s.0) shares.now) (map (λ s. s.1.now) shares.now) places.now }
+    requires takes { TakesAt cap.now (map (λ s. s.0) shares.now) (map (λ s. s.1.now) shares.now)
+        places.now }
     requires some { 0 < length places.now }
     requires inside { All (λ p. p < length shares.now) places.now }
-    // The file, encrypted, is the ciphertext that the shares give.
-    ensures read { IfOk result (λ file. GivesCiphertext cap.now (map (λ s. s.0) shares.now) (map (λ s. s.1.now) shares.now) (xored key.now file.items)) }
-    ensures inconsistent { IsErrOf result ReadError.Inconsistent → AreInconsistent cap.now (map (λ s. s.0) shares.now) (map (λ s. s.1.now) shares.now) }
-    ensures no_other { IfErr result (λ e. (e ≡ ReadError.OutOfMemory) ⊎ (e ≡ ReadError.Inconsistent)) }
+    ensures read { IfOk result (λ text. GivesCiphertext cap.now (map (λ s. s.0) shares.now)
+        (map (λ s. s.1.now) shares.now) text.items) }
+    ensures inconsistent { IsErrOf result ReadError.Inconsistent
+        → AreInconsistent cap.now (map (λ s. s.0) shares.now) (map (λ s. s.1.now) shares.now) }
+    ensures no_other { IfErr result (λ e. (e ≡ ReadError.OutOfMemory)
+        ⊎ (e ≡ ReadError.Inconsistent)) }
 {
     let (number, string) = shares[places[0]];
     let Ok(first) = read_share(cap, number, string) else {
@@ -111,7 +144,7 @@ fn read_taken(
     }
     let blocks = all_blocks(alloc, shares, places, &first.geometry)?;
     let leaves = leaves_in(view.ciphertext_tree, first.geometry.segment_count());
-    decode_all(alloc, key, &first.geometry, &blocks, leaves)
+    decode_all(alloc, &first.geometry, &blocks, leaves)
 }
 
 // Whether the shares at these places have this extension block.

@@ -5,7 +5,7 @@ ghost use Rattle.std.specs.Prelude.{◌≡◌, ℕ, List};
 use std::marker::Model;
 
 /// A share's bytes.
-#[derive(Debug, Drop)]
+#[derive(Drop)]
 pub struct Share {
     pub(crate) bytes: Vec<u8>,
 }

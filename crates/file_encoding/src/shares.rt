@@ -3,20 +3,21 @@
 ghost use Rattle.std.specs.Prelude.{◌≡◌, ◌≤◌, ◌<◌, ◌+◌, ◌-◌, ◌*◌, ◌/◌, ◌%◌, ◌^◌, ◌++◌, ℕ, List, [], length, slice_index_or, take, drop, map, IfOk, OnOk, replicate, All};
 ghost use Rattle.merkle.specs.Tree.{height, needed_numbers, tree_nodes, tree_root};
 ghost use Rattle.std.specs.List.{range_with_len};
+ghost use Rattle.share_layout.specs.Layout.{spelled};
 ghost use Rattle.share_verify.specs.Pieces.{block_hashes};
-ghost use Rattle.file_encoding.specs.Encoding.{share_hashes};
 ghost use Rattle.file_encoding.specs.Blocks.{numbered, padded_blocks, share_beginning, share_end};
 
 use crate::blocks::{Segments, push_hashes};
 use crate::share::Share;
 use merkle::Tree;
+use share_layout::Layout;
 use std::alloc::{AllocError, Global};
 use zfec_code::Code;
 
 /// What all shares of a file are made of, where the last segment is padded already.
 #[derive(Clone, Copy)]
 pub(crate) struct Common<'a> {
-    pub header: &'a [u8; 36],
+    pub header: &'a [u8],
     pub needed: u16,
     pub code: &'a Code,
     pub segments: Segments<'a>,
@@ -51,7 +52,7 @@ impl<'a> Common<'a> {
         room: usize,
     ) -> Result<Begun, AllocError>
         requires some { 0 < self.now.segments.count }
-        requires few { self.now.segments.count ≤ 2 ^ 16 }
+        requires few { self.now.segments.count ≤ 2 ^ 20 }
         requires small { self.now.segments.size ≤ 2 ^ 21 }
         requires some_needed { 0 < self.now.needed }
         requires shares { self.now.needed ≤ 256 }
@@ -99,7 +100,7 @@ pub(crate) fn begin_shares(
     room: usize,
 ) -> Result<AllBegun, AllocError>
     requires some { 0 < common.now.segments.count }
-    requires few { common.now.segments.count ≤ 2 ^ 16 }
+    requires few { common.now.segments.count ≤ 2 ^ 20 }
     requires small { common.now.segments.size ≤ 2 ^ 21 }
     requires some_needed { 0 < common.now.needed }
     requires shares { common.now.needed ≤ 256 }
@@ -127,6 +128,7 @@ pub(crate) fn begin_shares(
 /// Finishes shares by number: the share hashes of each, and the extension block behind its length.
 pub(crate) fn finish_shares(
     alloc: Global,
+    layout: Layout,
     begun: Vec<Share>,
     share_tree: &Tree,
     extension_block: &[u8],
@@ -136,14 +138,14 @@ pub(crate) fn finish_shares(
     requires short { length extension_block.now < 2 ^ 32 }
     ensures size { IfOk result (λ shares. length shares.items ≡ length begun.items) }
     ensures shares { IfOk result (λ shares. (i : ℕ) → i < length begun.items
-        → slice_index_or shares.items i [] ≡ slice_index_or begun.items i [] ++ share_end share_tree.now i extension_block.now) }
-    ensures hashes { IfOk result (λ _. (i : ℕ) → i < length begun.items
-        → length (share_hashes share_tree.now i) ≡ (height (length share_tree.now) + 1) * 34) }
+        → slice_index_or shares.items i []
+        ≡ slice_index_or begun.items i [] ++ share_end layout share_tree.now i extension_block.now) }
 {
     let mut shares = begun;
     for number in 0..shares.len() {
         finish_share(
             alloc,
+            layout,
             share_tree,
             number as u16,
             extension_block,
@@ -156,6 +158,7 @@ pub(crate) fn finish_shares(
 // Finishes a share: its share hashes, and the extension block behind its length.
 fn finish_share(
     alloc: Global,
+    layout: Layout,
     share_tree: &Tree,
     number: u16,
     extension_block: &[u8],
@@ -164,14 +167,26 @@ fn finish_share(
     requires in_range { number < length share_tree.now }
     requires few { length share_tree.now ≤ 256 }
     requires short { length extension_block.now < 2 ^ 32 }
-    ensures bytes { OnOk result (share.new ≡ share.old ++ share_end share_tree.now number extension_block.now) }
-    ensures hashes { OnOk result (length (share_hashes share_tree.now number) ≡ (height (length share_tree.now) + 1) * 34) }
+    ensures { OnOk result (share.new
+        ≡ share.old ++ share_end layout share_tree.now number extension_block.now) }
 {
     let numbers = needed_nodes(alloc, share_tree, number)?;
     let bytes = &mut share.bytes;
     push_numbered(share_tree.nodes(), &numbers, bytes)?;
-    bytes.extend_from_slice(&(extension_block.len() as u32).to_be_bytes())?;
+    push_length(layout, extension_block.len(), bytes)?;
     bytes.extend_from_slice(extension_block)?;
+    Ok(())
+}
+
+// Appends the length of an extension block.
+fn push_length(layout: Layout, length: usize, bytes: &mut Vec<u8>) -> Result<(), AllocError>
+    requires { length < 2 ^ 32 }
+    ensures { OnOk result (bytes.new.items ≡ bytes.old.items ++ spelled layout length) }
+{
+    match layout {
+        Layout::One => bytes.extend_from_slice(&(length as u32).to_be_bytes())?,
+        Layout::Two => bytes.extend_from_slice(&(length as u64).to_be_bytes())?,
+    }
     Ok(())
 }
 

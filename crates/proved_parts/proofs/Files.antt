@@ -16,7 +16,7 @@ use Rattle.share_layout.specs.Pieces.{pieces, segment_length, segments_of}
 use Rattle.share_verify.specs.CapBlock.{geometry_by}
 use Rattle.proved_parts.specs.FileOf.{segment_hashes}
 use Rattle.proved_parts.specs.Laws.{FilesOfCapsHaveParts}
-use Rattle.share_verify.specs.TreeSection.{AreHashes}
+use Rattle.merkle.specs.Inputs.{AreHashes}
 use Rattle.share_verify.proofs.SectionLemmas.{length-tree_node}
 use Rattle.tagged_hash.proofs.HashLemmas.{length-double_sha256}
 

@@ -1,6 +1,6 @@
-pub mod Members
-pub mod Paths
+pub mod Pairs
 pub mod Ways
 pub mod Segments
 pub mod Files
 pub mod Differences
+pub mod Cover

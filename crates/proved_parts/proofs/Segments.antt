@@ -14,10 +14,10 @@ use Rattle.ueb.specs.Shape.{Contents}
 use Rattle.ueb.specs.declared.block.Expect.{Expect}
 use Rattle.share_layout.specs.Geometry.{segment_count}
 use Rattle.share_verify.specs.CapBlock.{IsUebFor, geometry_by}
-use Rattle.proved_parts.specs.Laws.{AreAmong, BlocksSayOneThing, IsPartAmong, PartsAgree}
-use Rattle.proved_parts.specs.TreeInputs.{path_inputs}
-use Rattle.proved_parts.proofs.Members.{member_here, member_there}
-use Rattle.proved_parts.proofs.Paths.{IsPathAmong, paths_agree}
+use Rattle.proved_parts.specs.Laws.{BlocksSayOneThing, IsPartAmong, PartsAgree}
+use Rattle.merkle.specs.Inputs.{path_inputs}
+use Rattle.merkle.specs.Inputs.{AreAmong, IsPathAmong}
+use Rattle.merkle.proofs.InputLemmas.{member_here, member_there, paths_agree}
 
 -- the input of some data tells the data
 pub same_tagged : (tag : Tag) (a b : List ℕ) → tagged_input tag a ≡ tagged_input tag b → a ≡ b

@@ -7,7 +7,7 @@ use Rattle.cap_text.specs.Cap.{VerifyCapValue}
 use Rattle.ueb.specs.Shape.{Contents}
 use Rattle.share_verify.specs.CapBlock.{IsUebFor}
 use Rattle.proved_parts.specs.Parts.{IsSegmentBy}
-use Rattle.proved_parts.specs.TreeInputs.{path_inputs}
+use Rattle.merkle.specs.Inputs.{path_inputs}
 use Rattle.proved_parts.specs.declared.evidence.Evidence.{Evidence}
 use Rattle.proved_parts.specs.declared.evidence.EvidencePart.{EvidencePart}
 

@@ -1,5 +1,6 @@
 -- Laws of proved parts.
 use Rattle.std.specs.Prelude.{◌≡◌, ℕ, ◌<◌, List, [], slice_index_or, Contains}
+use Rattle.merkle.specs.Inputs.{AreAmong}
 use Rattle.merkle.specs.Path.{siblings_of}
 use Rattle.tagged_hash.specs.Clash.{HasNoClash}
 use Rattle.tagged_hash.specs.TaggedHash.{tagged_input}
@@ -12,10 +13,6 @@ use Rattle.share_verify.specs.CapBlock.{IsUebFor, geometry_by}
 use Rattle.proved_parts.specs.FileOf.{IsFileOf, segment_hashes}
 use Rattle.proved_parts.specs.Parts.{IsPartOf}
 use Rattle.proved_parts.specs.Evidence.{segment_inputs}
-
--- all of these are among the inputs
-abbrev pub AreAmong : List (List ℕ) → List (List ℕ) → Type 0
-AreAmong inputs these = (input : List ℕ) → Contains these input → Contains inputs input
 
 -- a part of the cap's file, with all that is hashed for it among some inputs
 pub record IsPartAmong (inputs : List (List ℕ)) (cap : VerifyCapValue) (extension_block : List ℕ)

@@ -1,4 +1,4 @@
-pub mod TreeInputs
+pub mod Decoding
 pub mod FileOf
 pub mod Parts
 pub mod Evidence

@@ -9,7 +9,7 @@ use Rattle.ueb.specs.Shape.{Contents}
 use Rattle.share_layout.specs.Geometry.{segment_count}
 use Rattle.share_layout.specs.Pieces.{segment_length}
 use Rattle.share_verify.specs.CapBlock.{IsUebFor, geometry_by}
-use Rattle.share_verify.specs.TreeSection.{AreHashes}
+use Rattle.merkle.specs.Inputs.{AreHashes}
 
 -- This is the segment with this number of the file of this extension block: it has that segment's
 -- length, and by these siblings its hash leads to the root of the ciphertext tree.

@@ -3,7 +3,7 @@ use Rattle.std.specs.Prelude.{◌≡◌, ◌≢◌, ℕ, ◌%◌, ◌==◌, List
 use Rattle.tagged_hash.specs.TaggedHash.{tagged_hash}
 use Rattle.tagged_hash.specs.declared.tag.Tag.TheVariants.{CiphertextSegment}
 use Rattle.merkle.specs.Path.{LeadsBy}
-use Rattle.proved_parts.specs.TreeInputs.{node_input}
+use Rattle.merkle.specs.Inputs.{node_input}
 use Rattle.proved_parts.specs.declared.evidence.EvidencePart.{EvidencePart}
 
 -- the hash input of the node above one at this place and its sibling

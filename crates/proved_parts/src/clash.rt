@@ -5,7 +5,7 @@ ghost use Rattle.tagged_hash.specs.Clash.{IsClash};
 ghost use Rattle.tagged_hash.specs.TaggedHash.{double_sha256, netstring, tagged_hash, tagged_input};
 ghost use Rattle.cap_text.specs.Cap.{VerifyCapValue};
 ghost use Rattle.proved_parts.specs.Evidence.{HaveOneSegment, IsProved};
-ghost use Rattle.proved_parts.specs.TreeInputs.{node_input};
+ghost use Rattle.merkle.specs.Inputs.{node_input};
 ghost use Rattle.proved_parts.specs.Steps.{Differ, NeverMeet, PartsNeverMeet, step_input};
 
 use crate::evidence::{Evidence, EvidencePart};

@@ -5,7 +5,7 @@ ghost use Rattle.tagged_hash.specs.TaggedHash.{tagged_hash};
 ghost use Rattle.tagged_hash.specs.declared.tag.Tag.TheVariants.{CiphertextSegment};
 ghost use Rattle.merkle.specs.Path.{LeadsBy};
 ghost use Rattle.share_layout.specs.Geometry.{segment_count};
-ghost use Rattle.share_verify.specs.TreeSection.{AreHashes};
+ghost use Rattle.merkle.specs.Inputs.{AreHashes};
 ghost use Rattle.proved_parts.specs.Evidence.{IsProved};
 ghost use Rattle.proved_parts.specs.Parts.{IsSegmentBy};
 

@@ -1,6 +1,6 @@
 use Rattle.std.proofs.Common.{◌≡◌, ℕ, List, map, take}
 use Rattle.share_layout.specs.Geometry.{Geometry}
-use Rattle.file_encoding.specs.Reading.{block_at}
+use Rattle.share_layout.specs.Pieces.{block_at}
 use Rattle.file_encoding.proofs.decoding.blocks_at.Given as goal
 
 pub record HaveCut (g : Geometry) (number : ℕ) (numbers these : List ℕ) (blocks cut : List (List ℕ)) (index : ℕ) : Type 0 where

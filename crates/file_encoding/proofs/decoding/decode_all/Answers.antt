@@ -3,8 +3,7 @@ use Rattle.std.proofs.lemmas.Grind.{common_steps}
 use Rattle.std.proofs.lemmas.List.{get_or_default}
 use Rattle.tagged_hash.specs.TaggedHash.{tagged_hash}
 use Rattle.tagged_hash.specs.declared.tag.Tag.TheVariants.{CiphertextSegment}
-use Rattle.aes_ctr.specs.CounterMode.{xored, xored_from}
-use Rattle.file_encoding.proofs.Decode.{decoded_all, decrypted_more}
+use Rattle.file_encoding.proofs.Decode.{decoded_all, decoded_more}
 use Rattle.file_encoding.proofs.decoding.decode_all.Goals as goal
 
 pub loop-number-preserved : goal.loop-number-preserved
@@ -13,17 +12,13 @@ loop-number-preserved c =
     let segment : List ℕ = pushed.0 in
     let start : ℕ = c.len-start.result in
     let read : take (length c.deref.result.now - start) (drop start c.deref.result.now) ≡ segment = grind (arith, common_steps, c.deref.ensures.value, pushed.1) in
-    let lent : take (length c.deref_mut.result.now - start) (drop start c.deref_mut.result.now) ≡ segment = grind (arith, common_steps, c.deref_mut.ensures.value, pushed.1) in
-    let place : start ≡ length c.loop-number.file.items = grind arith in
-    let text : c.xor_at.new.text ≡ xored_from c.args.key.now (length c.loop-number.file.items) segment =
-    c.xor_at.ensures ∙ λ i. xored_from (c.new-cipher.ensures i) (place i) (lent i) in
-    decrypted_more c.args.geometry.now (map (λ s. s.0) c.args.blocks.now) (map (λ s. s.1.now) c.args.blocks.now) c.args.leaves.now c.args.key.now c.loop-number.number
-    c.loop-number.file.items segment _ c.needed.ensures.valid (omega (arith, c.loop-number-test.true, c.requires.leaves))
+    decoded_more c.args.geometry.now (map (λ s. s.0) c.args.blocks.now) (map (λ s. s.1.now) c.args.blocks.now) c.args.leaves.now c.loop-number.number
+    c.loop-number.ciphertext.items segment _ c.needed.ensures.valid (omega (arith, c.loop-number-test.true, c.segment_count-number-end.ensures.value))
     c.loop-number.invariant pushed.2
-    (ap (tagged_hash CiphertextSegment) (sym read) ∙ c.is_leaf.ensures.0 c.if-not-is_leaf.false ∙ get_or_default c.args.leaves.now c.loop-number.number _ _ c.loop-number-test.true)
-    (rw (sym text) (grind (arith, common_steps, c.deref_mut.ensures.value, pushed.1)))
+    (ap (tagged_hash CiphertextSegment) (sym read) ∙ c.is_leaf.ensures.0 c.if-not-is_leaf.false ∙ get_or_default c.args.leaves.now c.loop-number.number _ _ (omega (arith, c.loop-number-test.true, c.segment_count-number-end.ensures.value, c.requires.leaves)))
+    pushed.1
 
 pub returns-clause-decoded : goal.returns-clause-decoded
 returns-clause-decoded c =
-    decoded_all c.args.geometry.now (map (λ s. s.0) c.args.blocks.now) (map (λ s. s.1.now) c.args.blocks.now) c.args.leaves.now c.loop-number.number (xored c.args.key.now c.loop-number.file.items)
-    c.needed.ensures.valid (let past = c.loop-number.auto.number-end in omega (arith, past, c.loop-number-test.false, c.requires.leaves)) c.loop-number.invariant
+    decoded_all c.args.geometry.now (map (λ s. s.0) c.args.blocks.now) (map (λ s. s.1.now) c.args.blocks.now) c.args.leaves.now c.loop-number.number c.loop-number.ciphertext.items
+    c.needed.ensures.valid (let past = c.loop-number.auto.number-end in omega (arith, past, c.loop-number-test.false, c.segment_count-number-end.ensures.value)) c.loop-number.invariant

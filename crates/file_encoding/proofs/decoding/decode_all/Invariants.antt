@@ -1,8 +1,7 @@
 use Rattle.std.proofs.Common.{map}
-use Rattle.aes_ctr.specs.CounterMode.{xored}
 use Rattle.file_encoding.specs.Reading.{DecodedBelow}
 use Rattle.file_encoding.proofs.decoding.decode_all.Given as goal
 
 abbrev pub invariant-loop-number : goal.invariant-loop-number
 invariant-loop-number l =
-    DecodedBelow l.geometry (map (λ s. s.0) l.blocks) (map (λ s. s.1.now) l.blocks) l.leaves (xored l.key l.file.items) l.number
+    DecodedBelow l.geometry (map (λ s. s.0) l.blocks) (map (λ s. s.1.now) l.blocks) l.leaves l.ciphertext.items l.number

@@ -6,10 +6,12 @@ use Rattle.merkle.specs.Tree.{tree_nodes, tree_root}
 use Rattle.tagged_hash.specs.TaggedHash.{tagged_hash}
 use Rattle.tagged_hash.specs.declared.tag.Tag.TheVariants.{Ciphertext, ExtensionBlock}
 use Rattle.ueb.specs.Block.{ueb_text}
-use Rattle.share_layout.specs.Geometry.{Geometry, hashes_size, segment_count}
-use Rattle.share_layout.specs.Share.{header, header_numbers}
+use Rattle.share_layout.specs.Geometry.{Geometry, segment_count}
+use Rattle.share_layout.specs.Layout.{header, layout_of}
 use Rattle.share_verify.specs.Pieces.{block_hashes}
-use Rattle.file_encoding.specs.Encoding.{extension_block_contents, padded_segment, segment_hashes, segments_of, share_leaves}
+use Rattle.file_encoding.specs.Encoding.{extension_block_contents, padded_segment, share_leaves}
+use Rattle.proved_parts.specs.FileOf.{segment_hashes}
+use Rattle.share_layout.specs.Pieces.{segments_of}
 use Rattle.file_encoding.specs.Blocks.{padded_blocks, share_beginning, share_end}
 use Rattle.file_encoding.proofs.Padding.{padded-whole}
 use Rattle.file_encoding.proofs.Whole.{cap_is, roots_are, shares_are}
@@ -86,11 +88,11 @@ returns-clause-shares c =
           ∙ ap (λ (x : List ℕ). map (λ i. tree_root (block_hashes (padded_blocks g.needed i (segment_count g) g.segment_size x))) (range_with_len 0 g.total)) padded;
       begun_all =
           c.in_ok-begun.ensures.shares
-          ∙ λ p. map (λ i. share_beginning (header (header_numbers g (hashes_size g))) (padded_blocks g.needed i (segment_count g) g.segment_size (padded p)) (tree_nodes (tree p))) (range_with_len 0 g.total);
+          ∙ λ p. map (λ i. share_beginning (header g) (padded_blocks g.needed i (segment_count g) g.segment_size (padded p)) (tree_nodes (tree p))) (range_with_len 0 g.total);
       block = block_is c;
       count = c.in_ok-shares.ensures.size;
       finished = λ i below.
           c.in_ok-shares.ensures.shares i below
-          ∙ ap (λ (b : List ℕ). get_or c.in_ok-begun.begun.shares.items i [] ++ share_end c.in_ok-share_tree.share_tree i b) c.deref-5.ensures.value;
-      hashed = c.in_ok-shares.ensures.hashes;
+          ∙ ap (λ l. get_or c.in_ok-begun.begun.shares.items i [] ++ share_end l c.in_ok-share_tree.share_tree i c.deref-5.result.now) c.layout.ensures
+          ∙ ap (λ (b : List ℕ). get_or c.in_ok-begun.begun.shares.items i [] ++ share_end (layout_of g) c.in_ok-share_tree.share_tree i b) c.deref-5.ensures.value;
     }

@@ -1,5 +1,4 @@
 use Rattle.std.proofs.Common.{◌≡◌, ◌-◌, ◌*◌, ◌^◌, ℕ, List, [], length, map, get_or, ap, sym, subst, ◌∙◌}
-use Rattle.aes_ctr.specs.CounterMode.{xored}
 use Rattle.merkle.specs.Tree.{height, tree_root}
 use Rattle.share_layout.specs.Geometry.{Geometry, segment_count, tree_size}
 use Rattle.share_layout.specs.Share.{IsShare, Sections}
@@ -146,7 +145,7 @@ returns-clause-read c =
       root = own_root c;
       decoded =
           subst (λ (T : Type 0). T)
-          (λ i. IsDecoded (c.in-Ok.ensures.geometry i) (numbers_same c i) (blocks_same c i) (leaves_same c i) (xored c.args.key.now file.items)) decoded;
+          (λ i. IsDecoded (c.in-Ok.ensures.geometry i) (numbers_same c i) (blocks_same c i) (leaves_same c i) file.items) decoded;
     }) c.decode_all.ensures.decoded
 
 pub returns-clause-inconsistent : goal.returns-clause-inconsistent

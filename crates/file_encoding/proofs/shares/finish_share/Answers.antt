@@ -1,7 +1,5 @@
-use Rattle.std.proofs.Common.{◌≡◌, ℕ, ◌<◌, ◌*◌, arith, List, length, get_or, subst, sym, ◌∙◌, ap}
+use Rattle.std.proofs.Common.{◌≡◌, ℕ, ◌<◌, arith, List, length, get_or, subst, sym, ◌∙◌, ap}
 use Rattle.merkle.specs.Tree.{height, needed_numbers, tree_nodes}
-use Rattle.share_layout.proofs.NumberLemmas.{length-needed_numbers}
-use Rattle.file_encoding.specs.Blocks.{numbered}
 use Rattle.file_encoding.proofs.Numbers.{needed-inside, nodes-few}
 use Rattle.file_encoding.proofs.shares.finish_share.Goals as goal
 
@@ -20,13 +18,3 @@ push_numbered-requires-clause-few c =
     let few = nodes-few c.args.share_tree.now c.requires.few in
     let same : length c.nodes.result.now ≡ length (tree_nodes c.args.share_tree.now) = ap length c.nodes.ensures in
     omega (arith, few, same)
-
-pub returns-clause-hashes : goal.returns-clause-hashes
-returns-clause-hashes c =
-    let h : ℕ = height (length c.args.share_tree.now) in
-    let numbers : c.deref.result.now ≡ needed_numbers h c.args.number =
-    c.deref.ensures.value ∙ c.in_ok-numbers.ensures.numbers in
-    (λ i. length (numbered (sym c.nodes.ensures i) (sym numbers i)))
-    ∙ c.in_ok-push_numbered.ensures.size
-    ∙ ap (λ (ns : List ℕ). length ns * 34) numbers
-    ∙ ap (λ n. n * 34) (length-needed_numbers h c.args.number)

@@ -2,9 +2,10 @@ use Rattle.std.proofs.Common.{◌-◌, ◌+◌, ◌*◌, List, ℕ, [], ◌∷�
 use Rattle.std.proofs.lemmas.List.{length-map}
 use Rattle.tagged_hash.specs.TaggedHash.{tagged_hash}
 use Rattle.tagged_hash.specs.declared.tag.Tag.TheVariants.{CiphertextSegment}
-use Rattle.share_verify.specs.Pieces.{pieces}
-use Rattle.file_encoding.specs.Encoding.{segment_hashes}
-use Rattle.file_encoding.proofs.Pieces.{length-pieces, map_pieces-from}
+use Rattle.share_layout.specs.Pieces.{pieces}
+use Rattle.proved_parts.specs.FileOf.{segment_hashes}
+use Rattle.proved_parts.proofs.Files.{length-pieces}
+use Rattle.file_encoding.proofs.Pieces.{map_pieces-from}
 use Rattle.file_encoding.proofs.blocks.Segments.hashes.Goals as goal
 
 pub loop-number-preserved : goal.loop-number-preserved

@@ -1,6 +1,6 @@
 use Rattle.std.proofs.Common.{◌≡◌, ◌-◌, ◌*◌, ◌++◌, drop}
-use Rattle.share_verify.specs.Pieces.{pieces}
-use Rattle.file_encoding.specs.Encoding.{segment_hashes}
+use Rattle.share_layout.specs.Pieces.{pieces}
+use Rattle.proved_parts.specs.FileOf.{segment_hashes}
 use Rattle.file_encoding.proofs.blocks.Segments.hashes.Given as goal
 
 -- the hashes so far, and those of the rest

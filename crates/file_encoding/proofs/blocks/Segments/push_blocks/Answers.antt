@@ -2,9 +2,11 @@ use Rattle.std.proofs.Common.{◌-◌, ◌+◌, ◌*◌, ◌%◌, List, ℕ, [],
 use Rattle.std.proofs.lemmas.List.{append_assoc, length-map}
 use Rattle.tagged_hash.specs.TaggedHash.{tagged_hash}
 use Rattle.tagged_hash.specs.declared.tag.Tag.TheVariants.{Block}
-use Rattle.share_verify.specs.Pieces.{block_hashes, joined, pieces}
+use Rattle.share_verify.specs.Pieces.{block_hashes, joined}
+use Rattle.share_layout.specs.Pieces.{pieces}
 use Rattle.file_encoding.specs.Blocks.{padded_block}
-use Rattle.file_encoding.proofs.Pieces.{length-pieces, pieces-from, piece-whole}
+use Rattle.proved_parts.proofs.Files.{length-pieces}
+use Rattle.file_encoding.proofs.Pieces.{pieces-from, piece-whole}
 use Rattle.file_encoding.proofs.blocks.Segments.push_blocks.Goals as goal
 
 pub push_block-requires-clause-whole : goal.push_block-requires-clause-whole
