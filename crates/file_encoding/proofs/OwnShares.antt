@@ -33,7 +33,12 @@ use Rattle.share_verify.proofs.SectionLemmas.{root_of_tree, tree_nodes_are_hashe
 use Rattle.merkle.proofs.NodesLemmas.{next_power}
 use Rattle.file_encoding.specs.Encoding.{block_of, blocks_of, ciphertext_encoding, encoding_of, extension_block_contents, share_hashes, share_leaves, share_of}
 use Rattle.proved_parts.specs.FileOf.{segment_hashes}
-use Rattle.file_encoding.specs.Laws.{CiphertextSharesPass, FileSharesPass}
+use Rattle.ueb.specs.Limits.{max_length}
+use Rattle.share_verify.specs.CapBlock.{geometry_by}
+use Rattle.std.proofs.lemmas.List.{length-append}
+use Rattle.share_layout.specs.Layout.{layout_of, spelled}
+use Rattle.share_verify.specs.TreeSection.{IsTreeWithRoot}
+use Rattle.file_encoding.specs.Laws.{AcceptedSharesPass, CiphertextSharesPass, FileSharesPass, SharesHaveOneLength}
 use Rattle.file_encoding.specs.Encoding.{sections_of}
 use Rattle.file_encoding.proofs.OwnBlocks.{are_cut}
 use Rattle.proved_parts.proofs.Files.{mapped_are_hashes}
@@ -116,9 +121,6 @@ module _ (g : Geometry) (ciphertext : List ℕ) (shape : IsShape g.needed g.tota
           again = ap (λ (l : List (List ℕ)). pieces n b (joined l)) same ∙ cut.again ∙ sym same;
         }
 
-    abbrev sections : Sections
-    sections = sections_of g segments (ueb_text contents) i
-
     few : length (share_leaves g segments) ≤ 2 ^ 8
     few = omega (arith, length-share_leaves, shape.file.shares)
 
@@ -128,8 +130,13 @@ module _ (g : Geometry) (ciphertext : List ℕ) (shape : IsShape g.needed g.tota
     block_tree_holds : HoldsTree (joined (tree_nodes (block_hashes (blocks_of g.needed i segments)))) (block_hashes (blocks_of g.needed i segments))
     block_tree_holds = record { hashes = leaves_of_blocks i; nodes = refl }
 
-    pub lengths : HaveLengths g sections
-    lengths = record {
+    own_leaf : get_or (share_leaves g segments) i [] ≡ root_in (joined (tree_nodes (block_hashes (blocks_of g.needed i segments))))
+    own_leaf =
+        get_or-map-range_with_len (λ j. tree_root (block_hashes (blocks_of g.needed j segments))) 0 g.total i i [] low (zero-add i)
+        ∙ root_of_tree (joined (tree_nodes (block_hashes (blocks_of g.needed i segments)))) (block_hashes (blocks_of g.needed i segments)) block_tree_holds
+
+    pub lengths : (block : List ℕ) → length block ≤ max_length → HaveLengths g (sections_of g segments block i)
+    lengths block short = record {
       blocks = blocks_are_joined.size;
       unused = length-replicate (tree_size g) 0;
       ciphertext_tree = length-tree_section (segment_hashes segments) segment_leaves ∙ ap (λ (n : ℕ). (2 * 2 ^ height n - 1) * 32) length-segment_leaves;
@@ -137,25 +144,20 @@ module _ (g : Geometry) (ciphertext : List ℕ) (shape : IsShape g.needed g.tota
       share_hashes =
           length-entries (λ n. get_or (tree_nodes (share_leaves g segments)) n []) (needed_numbers (height (length (share_leaves g segments))) i) (needed_hashes (share_leaves g segments) i leaves_of_shares inside few)
           ∙ ap (λ (n : ℕ). n * 34) (length-needed_numbers (height (length (share_leaves g segments))) i ∙ ap (λ (t : ℕ). height t + 1) length-share_leaves);
-      extension_block = written.short;
+      extension_block = short;
     }
 
-    pub layout : IsShare g i (share_bytes g sections) sections
-    layout = record {
+    pub layout : (block : List ℕ) → length block ≤ max_length → IsShare g i (share_of g segments block i) (sections_of g segments block i)
+    layout block short = record {
       text = refl;
-      lengths = lengths;
+      lengths = lengths block short;
       number = low;
       numbers = subst (λ (t : ℕ). CarriesNumbers (needed_numbers (height t) i) (share_hashes (share_leaves g segments) i)) length-share_leaves
           (entries_carry (λ n. get_or (tree_nodes (share_leaves g segments)) n []) (needed_numbers (height (length (share_leaves g segments))) i) (needed_hashes (share_leaves g segments) i leaves_of_shares inside few));
     }
 
-    own_leaf : get_or (share_leaves g segments) i [] ≡ root_in (joined (tree_nodes (block_hashes (blocks_of g.needed i segments))))
-    own_leaf =
-        get_or-map-range_with_len (λ j. tree_root (block_hashes (blocks_of g.needed j segments))) 0 g.total i i [] low (zero-add i)
-        ∙ root_of_tree (joined (tree_nodes (block_hashes (blocks_of g.needed i segments)))) (block_hashes (blocks_of g.needed i segments)) block_tree_holds
-
-    pub own_sections : AreSound contents i sections
-    own_sections = record {
+    pub own_sections : (block : List ℕ) → AreSound contents i (sections_of g segments block i)
+    own_sections block = record {
       unused = ap (λ (n : ℕ). replicate n 0) (sym (length-replicate (tree_size g) 0));
       ciphertext_tree = record {
         leaves = segment_hashes segments;
@@ -171,6 +173,32 @@ module _ (g : Geometry) (ciphertext : List ℕ) (shape : IsShape g.needed g.tota
       blocks = subst (λ (l : List (List ℕ)). HoldsTree (joined (tree_nodes (block_hashes (blocks_of g.needed i segments)))) (block_hashes l)) (sym blocks_are_joined.again) block_tree_holds;
     }
 
+-- each share with an extension block that a cap accepts, and that tells the computed roots, is sound
+pub accepted_shares_pass : AcceptedSharesPass
+accepted_shares_pass cap block u ciphertext ueb whole ciphertext_root share_root i low =
+    let g = geometry_by u in
+    let segments = segments_of g ciphertext in
+    let s = sections_of g segments block i in
+    let shape = ueb.grammar.contents.shape in
+    let is = layout g ciphertext shape whole i low block ueb.grammar.short in
+    let own = own_sections g ciphertext shape whole i low block in
+    record {
+      reads = record {
+        located = locates_own g i (share_of g segments block i) s (is_geometry u ueb.grammar.contents) is;
+        ueb = ueb;
+        layout = is;
+      };
+      sections = record {
+        unused = own.unused;
+        ciphertext_tree =
+            subst (λ (r : List ℕ). IsTreeWithRoot (segment_count g) r s.ciphertext_tree) (sym ciphertext_root) own.ciphertext_tree;
+        block_tree = own.block_tree;
+        share_hashes =
+            subst (λ (r : List ℕ). LeadsByEntries u.total_shares r i (root_in s.block_tree) (entries_in s.share_hashes)) (sym share_root) own.share_hashes;
+        blocks = own.blocks;
+      };
+    }
+
 -- each share of a ciphertext's encoding is sound
 pub ciphertext_shares_pass : CiphertextSharesPass
 unfolding ciphertext_encoding
@@ -179,18 +207,38 @@ ciphertext_shares_pass g key ciphertext shape whole i low =
     let u = extension_block_contents g ciphertext segments in
     let block = ueb_text u in
     let s = sections_of g segments block i in
-    let is = layout g ciphertext shape whole i low in
+    let cap = verify_cap_of (ciphertext_encoding g key ciphertext).cap in
     let here : get_or (map (share_of g segments block) (range_with_len 0 g.total)) i [] ≡ share_bytes g s =
     get_or-map-range_with_len (share_of g segments block) 0 g.total i i [] low (zero-add i) in
-    let sound : IsSound (verify_cap_of (ciphertext_encoding g key ciphertext).cap) i (share_bytes g s) u s = record {
-      reads = record {
-        located = locates_own g i (share_bytes g s) s (is_geometry u (valid g ciphertext shape whole)) is;
-        ueb = record { hash = refl; grammar = written g ciphertext shape whole; needed = refl; total = refl; size = refl };
-        layout = is;
-      };
-      sections = own_sections g ciphertext shape whole i low;
-    } in
-    subst (λ (bytes : List ℕ). IsSound (verify_cap_of (ciphertext_encoding g key ciphertext).cap) i bytes u s) (sym here) sound
+    subst (λ (bytes : List ℕ). IsSound cap i bytes u s) (sym here)
+    (accepted_shares_pass cap block u ciphertext record { hash = refl; grammar = written g ciphertext shape whole; needed = refl; total = refl; size = refl }
+    whole refl refl i low)
+
+-- two shares with one extension block have one length
+same_length : (g : Geometry) (s t : Sections) → HaveLengths g s → HaveLengths g t → s.extension_block ≡ t.extension_block
+    → length (share_bytes g s) ≡ length (share_bytes g t)
+same_length g s t a b same =
+    let number : length (spelled (layout_of g) (length s.extension_block)) ≡ length (spelled (layout_of g) (length t.extension_block)) =
+    ap (λ (e : List ℕ). length (spelled (layout_of g) (length e))) same in
+    simp length-append
+    (omega (arith, number, ap length same, a.blocks, a.unused, a.ciphertext_tree, a.block_tree, a.share_hashes, b.blocks, b.unused, b.ciphertext_tree, b.block_tree, b.share_hashes))
+
+-- the shares of a file's encoding have one length
+pub shares_have_one_length : SharesHaveOneLength
+unfolding ciphertext_encoding encoding_of
+shares_have_one_length file secret p shape i j low other =
+    let g = geometry_of (length file) p.needed p.total p.max_segment in
+    let key = convergent_key_of p.needed p.total g.segment_size secret file in
+    let ciphertext = xored key file in
+    let whole : length ciphertext ≡ g.size = length-xored_from key 0 file in
+    let segments = segments_of g ciphertext in
+    let block = ueb_text (extension_block_contents g ciphertext segments) in
+    let short = (written g ciphertext shape whole).short in
+    let at : (n : ℕ) → n < g.total → get_or (map (share_of g segments block) (range_with_len 0 g.total)) n [] ≡ share_of g segments block n =
+    λ n below. get_or-map-range_with_len (share_of g segments block) 0 g.total n n [] below (zero-add n) in
+    ap length (at i low)
+    ∙ same_length g (sections_of g segments block i) (sections_of g segments block j) (lengths g ciphertext shape whole i low block short) (lengths g ciphertext shape whole j other block short) refl
+    ∙ sym (ap length (at j other))
 
 -- and so is each share of a file's
 pub file_shares_pass : FileSharesPass

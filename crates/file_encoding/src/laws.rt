@@ -1,6 +1,6 @@
 //! Laws of the definitions. Each law is a contract; the calls do nothing.
 
-ghost use Rattle.file_encoding.specs.Laws.{CiphertextSharesPass, FileSharesPass};
+ghost use Rattle.file_encoding.specs.Laws.{AcceptedSharesPass, CiphertextSharesPass, FileSharesPass, SharesHaveOneLength};
 ghost use Rattle.file_encoding.specs.OwnFile.{OwnSharesGiveTheFile};
 ghost use Rattle.file_encoding.specs.Parts.{EncodingHasParts, FileHasParts};
 
@@ -30,4 +30,16 @@ pub fn encoding_has_parts()
 /// A law: the cap of a file's encoding proves each segment of its ciphertext so, whatever the secret.
 pub fn file_has_parts()
     ensures { FileHasParts }
+{}
+
+/// A law: a share made of a ciphertext and an extension block that a cap accepts passes
+/// `verify_share` with that cap and its own number, where the block tells the roots that are
+/// computed from the ciphertext, whoever wrote it.
+pub fn accepted_shares_pass()
+    ensures { AcceptedSharesPass }
+{}
+
+/// A law: all shares of a file's encoding have one length.
+pub fn shares_have_one_length()
+    ensures { SharesHaveOneLength }
 {}

@@ -15,8 +15,8 @@ mod shares;
 pub use encoding::{Encoded, encode_all};
 pub use error::EncodeError;
 pub use laws::{
-    ciphertext_shares_pass, encoding_has_parts, file_has_parts, file_shares_pass,
-    own_shares_give_the_file,
+    accepted_shares_pass, ciphertext_shares_pass, encoding_has_parts, file_has_parts,
+    file_shares_pass, own_shares_give_the_file, shares_have_one_length,
 };
 pub use params::{MAX_CHOSEN_SEGMENT_SIZE, Params};
 pub use reading::{ReadError, read_ciphertext, read_from};
