@@ -21,7 +21,8 @@ padded_blocks k i count size text = map (padded_block k i) (pieces count size te
 -- a share up to its block tree
 abbrev pub share_beginning : List ℕ → List (List ℕ) → List (List ℕ) → List ℕ
 share_beginning header blocks ciphertext_nodes =
-    header ++ joined blocks ++ replicate (length ciphertext_nodes * 32) 0 ++ joined ciphertext_nodes ++ joined (tree_nodes (block_hashes blocks))
+    header ++ joined blocks ++ replicate (length ciphertext_nodes * 32) 0
+    ++ joined ciphertext_nodes ++ joined (tree_nodes (block_hashes blocks))
 
 -- the nodes of these numbers, each behind its number in two bytes
 abbrev pub numbered : List (List ℕ) → List ℕ → List ℕ

@@ -1,5 +1,5 @@
--- The encoding of a file: its key, its ciphertext, the blocks and hash trees of its shares, its extension block and its cap.
--- Whole lists, for every k, N and number of segments.
+-- The encoding of a file: its key, its ciphertext, the blocks and hash trees of its shares, its
+-- extension block and its cap. Whole lists, for every k, N and number of segments.
 use Rattle.std.specs.Prelude.{ℕ, ◌-◌, ◌/◌, List, [], ◌++◌, length, map, replicate, slice_index_or}
 use Rattle.std.specs.Int.{w16, to_be_bytes}
 use Rattle.std.specs.List.{flat_map, range_with_len}
@@ -30,7 +30,8 @@ padded_segment k segment = segment ++ replicate (rounded_up (length segment) k -
 
 -- the block of share i of a segment
 abbrev pub block_of : ℕ → ℕ → List ℕ → List ℕ
-block_of k i segment = share_block k i (length (padded_segment k segment) / k) (padded_segment k segment)
+block_of k i segment = share_block k i (length (padded_segment k segment) / k)
+    (padded_segment k segment)
 
 -- the blocks of share i, one for each segment
 abbrev pub blocks_of : ℕ → ℕ → List (List ℕ) → List (List ℕ)
@@ -44,7 +45,8 @@ share_leaves g segments =
 -- the hashes that share i carries of the share tree, each after its node's number in two bytes
 abbrev pub share_hashes : List (List ℕ) → ℕ → List ℕ
 share_hashes leaves i =
-    flat_map (λ n. to_be_bytes w16 n ++ slice_index_or (tree_nodes leaves) n []) (needed_numbers (height (length leaves)) i)
+    flat_map (λ n. to_be_bytes w16 n ++ slice_index_or (tree_nodes leaves) n [])
+    (needed_numbers (height (length leaves)) i)
 
 -- the sections of share i
 abbrev pub sections_of : Geometry → List (List ℕ) → List ℕ → ℕ → Sections
@@ -84,7 +86,13 @@ ciphertext_encoding g key ciphertext =
     let segments = segments_of g ciphertext in
     let extension_block = ueb_text (extension_block_contents g ciphertext segments) in
     record {
-      cap = record { key = key; ueb_hash = tagged_hash ExtensionBlock extension_block; needed = g.needed; total = g.total; size = g.size };
+      cap = record {
+        key = key;
+        ueb_hash = tagged_hash ExtensionBlock extension_block;
+        needed = g.needed;
+        total = g.total;
+        size = g.size;
+      };
       shares = map (share_of g segments extension_block) (range_with_len 0 g.total);
     }
 

@@ -11,24 +11,29 @@ use Rattle.share_verify.specs.Verify.{IsSound, IsSoundShare}
 use Rattle.file_encoding.specs.Encoding.{Parameters, ciphertext_encoding, encoding_of, extension_block_contents, sections_of, share_leaves, share_of}
 use Rattle.share_layout.specs.Pieces.{segments_of}
 
--- a law: each share of a ciphertext's encoding is sound for the encoding's verify cap and its own number
+-- a law: each share of a ciphertext's encoding is sound for the encoding's verify cap and its own
+-- number
 abbrev pub CiphertextSharesPass : Type 0
-CiphertextSharesPass = (g : Geometry) (key ciphertext : List ℕ) → IsShape g.needed g.total g.size g.segment_size → length ciphertext ≡ g.size
+CiphertextSharesPass = (g : Geometry) (key ciphertext : List ℕ)
+    → IsShape g.needed g.total g.size g.segment_size → length ciphertext ≡ g.size
     → (i : ℕ) → i < g.total
     → let segments = segments_of g ciphertext in
     let u = extension_block_contents g ciphertext segments in
-    IsSound (verify_cap_of (ciphertext_encoding g key ciphertext).cap) i (slice_index_or (ciphertext_encoding g key ciphertext).shares i []) u
+    IsSound (verify_cap_of (ciphertext_encoding g key ciphertext).cap) i
+    (slice_index_or (ciphertext_encoding g key ciphertext).shares i []) u
     (sections_of g segments (ueb_text u) i)
 
 -- a law: so is each share of a file's encoding, whatever the secret
 abbrev pub FileSharesPass : Type 0
 FileSharesPass = (file secret : List ℕ) (p : Parameters)
-    → IsShape p.needed p.total (length file) (geometry_of (length file) p.needed p.total p.max_segment).segment_size
+    → IsShape p.needed p.total (length file)
+    (geometry_of (length file) p.needed p.total p.max_segment).segment_size
     → (i : ℕ) → i < p.total
-    → IsSoundShare (verify_cap_of (encoding_of file secret p).cap) i (slice_index_or (encoding_of file secret p).shares i [])
+    → IsSoundShare (verify_cap_of (encoding_of file secret p).cap) i
+    (slice_index_or (encoding_of file secret p).shares i [])
 
--- a law: so is each share made of a ciphertext and an extension block that a cap accepts, where that
--- tells the roots computed from the ciphertext
+-- a law: so is each share made of a ciphertext and an extension block that a cap accepts, where
+-- that tells the roots computed from the ciphertext
 abbrev pub AcceptedSharesPass : Type 0
 AcceptedSharesPass = (cap : VerifyCapValue) (extension_block : List ℕ) (u : Contents)
     (ciphertext : List ℕ) → IsUebFor cap extension_block u → length ciphertext ≡ u.size
@@ -38,13 +43,13 @@ AcceptedSharesPass = (cap : VerifyCapValue) (extension_block : List ℕ) (u : Co
     → u.share_root_hash ≡ tree_root (share_leaves g segments)
     → (i : ℕ) → i < u.total_shares
     → IsSound cap i (share_of g segments extension_block i) u
-        (sections_of g segments extension_block i)
+    (sections_of g segments extension_block i)
 
 -- a law: all shares of a file's encoding have one length
 abbrev pub SharesHaveOneLength : Type 0
 SharesHaveOneLength = (file secret : List ℕ) (p : Parameters)
     → IsShape p.needed p.total (length file)
-        (geometry_of (length file) p.needed p.total p.max_segment).segment_size
+    (geometry_of (length file) p.needed p.total p.max_segment).segment_size
     → (i j : ℕ) → i < p.total → j < p.total
     → let shares = (encoding_of file secret p).shares in
     length (slice_index_or shares i []) ≡ length (slice_index_or shares j [])

@@ -1,14 +1,16 @@
+-- what public contracts rest on
 pub mod EncodeError
 pub mod ReadError
 pub mod Encoding
 pub mod Params
-pub mod Blocks
 pub mod Laws
-pub mod Decoding
 pub mod Reading
-pub mod LowestShares
 pub mod OwnFile
 pub mod Parts
+-- words of private clauses
+pub mod Blocks
+pub mod Decoding
+pub mod LowestShares
 pub use Rattle.share_verify.specs.CapBlock
 pub use Rattle.share_verify.specs.Pieces
 pub use Rattle.share_verify.specs.ShareHashes

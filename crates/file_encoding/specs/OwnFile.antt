@@ -11,7 +11,8 @@ use Rattle.file_encoding.specs.Reading.{AreInconsistent, IsAmong, IsReadFrom, La
 pub record AreOwnShares (e : Encoding) (numbers : List ℕ) (strings : List (List ℕ)) : Type 0 where
   pub counted : length strings ≡ length numbers
   pub below : All (λ n. n < e.cap.total) numbers
-  pub own : (place : ℕ) → place < length numbers → slice_index_or strings place [] ≡ slice_index_or e.shares (slice_index numbers place) []
+  pub own : (place : ℕ) → place < length numbers → slice_index_or strings place []
+      ≡ slice_index_or e.shares (slice_index numbers place) []
 
 -- there are so many different numbers among these
 pub record HoldDifferent (count : ℕ) (numbers : List ℕ) : Type 0 where
@@ -25,16 +26,21 @@ pub record AreEnoughOwn (e : Encoding) (numbers : List ℕ) (strings : List (Lis
   pub own : AreOwnShares e numbers strings
   pub enough : HoldDifferent e.cap.needed numbers
 
--- a reader gets this file of the strings: it lacks no shares, those that it takes do not contradict one another, and what it reads of
--- them is the file
-pub record GiveBack (cap : ReadCapValue) (numbers : List ℕ) (strings : List (List ℕ)) (file : List ℕ) : Type 0 where
+-- a reader gets this file of the strings: it lacks no shares, those that it takes do not contradict
+-- one another, and what it reads of them is the file
+pub record GiveBack (cap : ReadCapValue) (numbers : List ℕ) (strings : List (List ℕ))
+    (file : List ℕ) : Type 0 where
   pub enough : ¬ LacksShares (verify_cap_of cap) numbers strings
   pub consistent : ¬ AreInconsistent (verify_cap_of cap) numbers strings
   pub only : (read : List ℕ) → IsReadFrom cap numbers strings read → read ≡ file
 
--- a law: enough shares of a file's encoding give the file back, whatever the secret, and whichever shares they are
+-- a law: enough shares of a file's encoding give the file back, whatever the secret, and whichever
+-- shares they are
 abbrev pub OwnSharesGiveTheFile : Type 0
-OwnSharesGiveTheFile = (file secret : List ℕ) (p : Parameters) (numbers : List ℕ) (strings : List (List ℕ))
-    → IsShape p.needed p.total (length file) (geometry_of (length file) p.needed p.total p.max_segment).segment_size
-    → ((i : ℕ) → slice_index file i < 256) → AreEnoughOwn (encoding_of file secret p) numbers strings
+OwnSharesGiveTheFile = (file secret : List ℕ) (p : Parameters) (numbers : List ℕ)
+    (strings : List (List ℕ))
+    → IsShape p.needed p.total (length file)
+    (geometry_of (length file) p.needed p.total p.max_segment).segment_size
+    → ((i : ℕ) → slice_index file i < 256) → AreEnoughOwn
+    (encoding_of file secret p) numbers strings
     → GiveBack (encoding_of file secret p).cap numbers strings file

@@ -4,7 +4,8 @@ use Rattle.ueb.specs.Limits.{max_file_size, max_segments, max_shares}
 use Rattle.share_layout.specs.Geometry.{geometry_of, segment_count}
 use Rattle.file_encoding.specs.Encoding.{Parameters}
 
--- how many shares are needed, on how many servers they have to be, how many there are, and the greatest length of a segment
+-- how many shares are needed, on how many servers they have to be, how many there are, and the
+-- greatest length of a segment
 pub record UploadParameters : Type 0 where
   pub needed : ℕ
   pub happy : ℕ

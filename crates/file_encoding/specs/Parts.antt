@@ -12,22 +12,27 @@ use Rattle.proved_parts.specs.FileOf.{segment_hashes}
 use Rattle.proved_parts.specs.Parts.{IsPartOf}
 use Rattle.share_layout.specs.Pieces.{segments_of}
 
--- each segment of this ciphertext is a part of the cap's file, with its own extension block and its own path
+-- each segment of this ciphertext is a part of the cap's file, with its own extension block and its
+-- own path
 abbrev pub HasParts : VerifyCapValue → Geometry → List ℕ → Type 0
 HasParts cap g ciphertext =
     let segments = segments_of g ciphertext in
     let u = extension_block_contents g ciphertext segments in
     (number : ℕ) → number < segment_count g
-    → IsPartOf cap (ueb_text u) u number (slice_index_or segments number []) (siblings_of (segment_hashes segments) number)
+    → IsPartOf cap (ueb_text u) u number (slice_index_or segments number [])
+    (siblings_of (segment_hashes segments) number)
 
 -- a law: each segment of a ciphertext is a part of the file of its encoding's verify cap
 abbrev pub EncodingHasParts : Type 0
-EncodingHasParts = (g : Geometry) (key ciphertext : List ℕ) → IsShape g.needed g.total g.size g.segment_size → length ciphertext ≡ g.size
+EncodingHasParts = (g : Geometry) (key ciphertext : List ℕ)
+    → IsShape g.needed g.total g.size g.segment_size → length ciphertext ≡ g.size
     → HasParts (verify_cap_of (ciphertext_encoding g key ciphertext).cap) g ciphertext
 
 -- a law: so is each segment of a file's ciphertext, whatever the secret
 abbrev pub FileHasParts : Type 0
 FileHasParts = (file secret : List ℕ) (p : Parameters)
-    → IsShape p.needed p.total (length file) (geometry_of (length file) p.needed p.total p.max_segment).segment_size
+    → IsShape p.needed p.total (length file)
+    (geometry_of (length file) p.needed p.total p.max_segment).segment_size
     → let g = geometry_of (length file) p.needed p.total p.max_segment in
-    HasParts (verify_cap_of (encoding_of file secret p).cap) g (xored (convergent_key_of p.needed p.total g.segment_size secret file) file)
+    HasParts (verify_cap_of (encoding_of file secret p).cap) g
+    (xored (convergent_key_of p.needed p.total g.segment_size secret file) file)

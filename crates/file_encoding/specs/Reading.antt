@@ -21,26 +21,29 @@ pub record TakenShare : Type 0 where
   pub contents : Contents
   pub sections : Sections
 
--- Strings come with the numbers of the shares that they are said to be. The one at this place comes with this number, and passes
--- every check as that share.
+-- Strings come with the numbers of the shares that they are said to be. The one at this place comes
+-- with this number, and passes every check as that share.
 abbrev pub IsSoundAt : VerifyCapValue → List ℕ → List (List ℕ) → ℕ → ℕ → Type 0
 IsSoundAt cap numbers strings number place =
     (slice_index numbers place ≡ number) × IsSoundShare cap number (slice_index_or strings place [])
 
 -- it is the first such one
-pub record IsFirstSound (cap : VerifyCapValue) (numbers : List ℕ) (strings : List (List ℕ)) (number place : ℕ) : Type 0 where
+pub record IsFirstSound (cap : VerifyCapValue) (numbers : List ℕ) (strings : List (List ℕ))
+    (number place : ℕ) : Type 0 where
   pub inside : place < length numbers
   pub passes : IsSoundAt cap numbers strings number place
   pub first : (other : ℕ) → other < place → ¬ IsSoundAt cap numbers strings number other
 
 -- that one is taken, and says this
-pub record IsTaken (cap : VerifyCapValue) (numbers : List ℕ) (strings : List (List ℕ)) (t : TakenShare) : Type 0 where
+pub record IsTaken (cap : VerifyCapValue) (numbers : List ℕ) (strings : List (List ℕ))
+    (t : TakenShare) : Type 0 where
   pub first : IsFirstSound cap numbers strings t.number t.place
   pub sound : IsSound cap t.number (slice_index_or strings t.place []) t.contents t.sections
 
 -- no string with this number passes
 abbrev pub NoneSound : VerifyCapValue → List ℕ → List (List ℕ) → ℕ → Type 0
-NoneSound cap numbers strings number = (place : ℕ) → place < length numbers → ¬ IsSoundAt cap numbers strings number place
+NoneSound cap numbers strings number = (place : ℕ) → place < length numbers
+    → ¬ IsSoundAt cap numbers strings number place
 
 -- the numbers of the shares that are taken
 abbrev pub numbers_of : List TakenShare → List ℕ
@@ -51,28 +54,36 @@ abbrev pub places_of : List TakenShare → List ℕ
 places_of taken = map (λ (t : TakenShare). t.place) taken
 
 abbrev pub IsAmong : ℕ → List ℕ → Type 0
-IsAmong number numbers = (place : ℕ) × (place < length numbers) × (slice_index numbers place ≡ number)
+IsAmong number numbers = (place : ℕ) × (place < length numbers) ×
+    (slice_index numbers place ≡ number)
 
 abbrev pub AreRising : List ℕ → Type 0
-AreRising numbers = (low high : ℕ) → low < high → high < length numbers → slice_index numbers low < slice_index numbers high
+AreRising numbers = (low high : ℕ) → low < high → high < length numbers
+    → slice_index numbers low < slice_index numbers high
 
--- Of the numbers below one, these are the lowest that pass, and of each the first string: at most as many as are needed. Another
--- number passes only where there are so many, and then it is above them.
-pub record AreLowest (cap : VerifyCapValue) (numbers : List ℕ) (strings : List (List ℕ)) (below : ℕ) (taken : List TakenShare) : Type 0 where
+-- Of the numbers below one, these are the lowest that pass, and of each the first string: at most
+-- as many as are needed. Another number passes only where there are so many, and then it is above
+-- them.
+pub record AreLowest (cap : VerifyCapValue) (numbers : List ℕ) (strings : List (List ℕ))
+    (below : ℕ) (taken : List TakenShare) : Type 0 where
   pub each : All (IsTaken cap numbers strings) taken
   pub low : All (λ t. t.number < below) taken
   pub rising : AreRising (numbers_of taken)
   pub few : length taken ≤ cap.needed
   pub others : (number : ℕ) → number < below
-      → IsAmong number (numbers_of taken) ⊎ (NoneSound cap numbers strings number ⊎ ((length taken ≡ cap.needed) × All (λ t. t.number < number) taken))
+      → IsAmong number (numbers_of taken) ⊎
+      (NoneSound cap numbers strings number ⊎
+      ((length taken ≡ cap.needed) × All (λ t. t.number < number) taken))
 
 -- the reader takes these
-pub record Takes (cap : VerifyCapValue) (numbers : List ℕ) (strings : List (List ℕ)) (taken : List TakenShare) : Type 0 where
+pub record Takes (cap : VerifyCapValue) (numbers : List ℕ) (strings : List (List ℕ))
+    (taken : List TakenShare) : Type 0 where
   pub lowest : AreLowest cap numbers strings cap.total taken
   pub enough : length taken ≡ cap.needed
 
 -- fewer numbers pass than are needed
-pub record LacksShares (cap : VerifyCapValue) (numbers : List ℕ) (strings : List (List ℕ)) : Type 0 where
+pub record LacksShares (cap : VerifyCapValue) (numbers : List ℕ)
+    (strings : List (List ℕ)) : Type 0 where
   pub taken : List TakenShare
   pub lowest : AreLowest cap numbers strings cap.total taken
   pub few : length taken < cap.needed
@@ -87,20 +98,27 @@ Decodes g numbers blocks number segment =
     DecodesBlocks g numbers (map (block_at g number) blocks) number segment
 
 -- All segments decode so, and each has the hash of its leaf.
-pub record IsDecoded (g : Geometry) (numbers : List ℕ) (blocks leaves : List (List ℕ)) (ciphertext : List ℕ) : Type 0 where
+pub record IsDecoded (g : Geometry) (numbers : List ℕ) (blocks leaves : List (List ℕ))
+    (ciphertext : List ℕ) : Type 0 where
   pub size : length ciphertext ≡ g.size
-  pub segments : (number : ℕ) → number < segment_count g → Decodes g numbers blocks number (segment_at g number ciphertext)
+  pub segments : (number : ℕ) → number < segment_count g → Decodes g numbers blocks number
+      (segment_at g number ciphertext)
   pub hashes : (number : ℕ) → number < segment_count g
-      → tagged_hash CiphertextSegment (segment_at g number ciphertext) ≡ slice_index_or leaves number []
+      → tagged_hash CiphertextSegment (segment_at g number ciphertext)
+      ≡ slice_index_or leaves number []
 
 -- so far: so many segments do
-pub record DecodedBelow (g : Geometry) (numbers : List ℕ) (blocks leaves : List (List ℕ)) (ciphertext : List ℕ) (count : ℕ) : Type 0 where
+pub record DecodedBelow (g : Geometry) (numbers : List ℕ) (blocks leaves : List (List ℕ))
+    (ciphertext : List ℕ) (count : ℕ) : Type 0 where
   pub size : length ciphertext ≡ min g.size (count * g.segment_size)
-  pub segments : (number : ℕ) → number < count → Decodes g numbers blocks number (segment_at g number ciphertext)
-  pub hashes : (number : ℕ) → number < count → tagged_hash CiphertextSegment (segment_at g number ciphertext) ≡ slice_index_or leaves number []
+  pub segments : (number : ℕ) → number < count → Decodes g numbers blocks number
+      (segment_at g number ciphertext)
+  pub hashes : (number : ℕ) → number < count → tagged_hash CiphertextSegment
+      (segment_at g number ciphertext) ≡ slice_index_or leaves number []
 
 -- a segment decodes to one that has not the hash of its leaf
-pub record HasWrongSegment (g : Geometry) (numbers : List ℕ) (blocks leaves : List (List ℕ)) : Type 0 where
+pub record HasWrongSegment (g : Geometry) (numbers : List ℕ)
+    (blocks leaves : List (List ℕ)) : Type 0 where
   pub number : ℕ
   pub there : number < segment_count g
   pub segment : List ℕ
@@ -109,7 +127,8 @@ pub record HasWrongSegment (g : Geometry) (numbers : List ℕ) (blocks leaves : 
 
 -- the shares have one extension block, with these contents
 abbrev pub Agree : List TakenShare → List ℕ → Contents → Type 0
-Agree taken extension_block u = All (λ (t : TakenShare). (t.sections.extension_block ≡ extension_block) × (t.contents ≡ u)) taken
+Agree taken extension_block u = All
+    (λ (t : TakenShare). (t.sections.extension_block ≡ extension_block) × (t.contents ≡ u)) taken
 
 -- one of the shares has another extension block than the lowest
 pub record Disagree (taken : List TakenShare) : Type 0 where
@@ -118,7 +137,8 @@ pub record Disagree (taken : List TakenShare) : Type 0 where
   pub is : taken ≡ lowest ∷ rest
   pub place : ℕ
   pub there : place < length taken
-  pub differs : ¬ ((slice_index_or taken place lowest).sections.extension_block ≡ lowest.sections.extension_block)
+  pub differs : ¬ ((slice_index_or taken place lowest).sections.extension_block
+      ≡ lowest.sections.extension_block)
 
 -- the leaves of the ciphertext tree in the share that was taken first, one for each segment
 pub record AreLeaves (taken : List TakenShare) (leaves : List (List ℕ)) : Type 0 where
@@ -129,7 +149,8 @@ pub record AreLeaves (taken : List TakenShare) (leaves : List (List ℕ)) : Type
   pub holds : HoldsTree lowest.sections.ciphertext_tree leaves
 
 -- the ciphertext that the shares that are taken give
-pub record GivesCiphertext (cap : VerifyCapValue) (numbers : List ℕ) (strings : List (List ℕ)) (ciphertext : List ℕ) : Type 0 where
+pub record GivesCiphertext (cap : VerifyCapValue) (numbers : List ℕ) (strings : List (List ℕ))
+    (ciphertext : List ℕ) : Type 0 where
   pub taken : List TakenShare
   pub takes : Takes cap numbers strings taken
   pub extension_block : List ℕ
@@ -143,7 +164,8 @@ pub record GivesCiphertext (cap : VerifyCapValue) (numbers : List ℕ) (strings 
   pub decoded : IsDecoded (geometry_by u) (numbers_of taken) (blocks_in taken) leaves ciphertext
 
 -- the file that a reader makes of the shares that it takes
-pub record IsReadFrom (cap : ReadCapValue) (numbers : List ℕ) (strings : List (List ℕ)) (file : List ℕ) : Type 0 where
+pub record IsReadFrom (cap : ReadCapValue) (numbers : List ℕ) (strings : List (List ℕ))
+    (file : List ℕ) : Type 0 where
   pub taken : List TakenShare
   pub takes : Takes (verify_cap_of cap) numbers strings taken
   pub extension_block : List ℕ
@@ -156,10 +178,14 @@ pub record IsReadFrom (cap : ReadCapValue) (numbers : List ℕ) (strings : List 
   pub is_file : IsFileOf cap extension_block u ciphertext file
 
 -- why the shares that a reader takes do not give the file
-pub data AreInconsistent (cap : VerifyCapValue) (numbers : List ℕ) (strings : List (List ℕ)) : Type 0 where
+pub data AreInconsistent (cap : VerifyCapValue) (numbers : List ℕ)
+    (strings : List (List ℕ)) : Type 0 where
   -- two of them differ in their extension blocks
-  disagree : (taken : List TakenShare) → Takes cap numbers strings taken → Disagree taken → AreInconsistent cap numbers strings
+  disagree : (taken : List TakenShare) → Takes cap numbers strings taken → Disagree taken
+      → AreInconsistent cap numbers strings
   -- they agree, and a segment that they decode to is not the one of its leaf
-  wrong_segment : (taken : List TakenShare) (extension_block : List ℕ) (u : Contents) (leaves : List (List ℕ)) → Takes cap numbers strings taken
+  wrong_segment : (taken : List TakenShare) (extension_block : List ℕ) (u : Contents)
+      (leaves : List (List ℕ)) → Takes cap numbers strings taken
       → Agree taken extension_block u → AreLeaves taken leaves
-      → HasWrongSegment (geometry_by u) (numbers_of taken) (blocks_in taken) leaves → AreInconsistent cap numbers strings
+      → HasWrongSegment (geometry_by u) (numbers_of taken) (blocks_in taken) leaves
+      → AreInconsistent cap numbers strings

@@ -27,7 +27,8 @@ impl<'a> Segments<'a> {
     pub(crate) fn segment(&self, number: usize) -> &'a [u8]
         requires few { number < 2 ^ 20 }
         requires small { self.now.size ≤ 2 ^ 21 }
-        ensures { result.now ≡ take self.now.size (drop (number * self.now.size) self.now.text.now) }
+        ensures { result.now ≡ take self.now.size
+            (drop (number * self.now.size) self.now.text.now) }
     {
         let start = self.text.len().min(number * self.size);
         let end = self.text.len().min(start + self.size);
@@ -38,7 +39,8 @@ impl<'a> Segments<'a> {
     pub(crate) fn hashes(&self, alloc: Global) -> Result<Vec<[u8; 32]>, AllocError>
         requires few { self.now.count ≤ 2 ^ 20 }
         requires small { self.now.size ≤ 2 ^ 21 }
-        ensures hashes { IfOk result (λ hashes. hashes.items ≡ segment_hashes (pieces self.now.count self.now.size self.now.text.now)) }
+        ensures hashes { IfOk result (λ hashes. hashes.items ≡ segment_hashes
+            (pieces self.now.count self.now.size self.now.text.now)) }
         ensures count { IfOk result (λ hashes. length hashes.items ≡ self.now.count) }
     {
         let mut hashes = Vec::with_capacity(alloc, self.count)?;
@@ -48,7 +50,8 @@ impl<'a> Segments<'a> {
         Ok(hashes)
     }
 
-    /// Appends to a share its blocks of the segments, of which the last is padded already. Gives the blocks' hashes.
+    /// Appends to a share its blocks of the segments, of which the last is padded already. Gives
+    /// the blocks' hashes.
     pub(crate) fn push_blocks(
         &self,
         alloc: Global,
@@ -65,8 +68,10 @@ impl<'a> Segments<'a> {
         requires whole { length self.now.text.now % needed ≡ 0 }
         requires segments { self.now.size % needed ≡ 0 }
         requires in_range { share < code.now.n }
-        ensures blocks { OnOk result (out.new.items ≡ out.old.items ++ joined (padded_blocks needed share self.now.count self.now.size self.now.text.now)) }
-        ensures hashes { IfOk result (λ hashes. hashes.items ≡ block_hashes (padded_blocks needed share self.now.count self.now.size self.now.text.now)) }
+        ensures blocks { OnOk result (out.new.items ≡ out.old.items ++ joined
+            (padded_blocks needed share self.now.count self.now.size self.now.text.now)) }
+        ensures hashes { IfOk result (λ hashes. hashes.items ≡ block_hashes
+            (padded_blocks needed share self.now.count self.now.size self.now.text.now)) }
         ensures count { IfOk result (λ hashes. length hashes.items ≡ self.now.count) }
     {
         let mut hashes = Vec::with_capacity(alloc, self.count)?;
@@ -91,8 +96,10 @@ fn push_block(
     requires needed { needed ≡ code.now.k }
     requires whole { length segment.now % needed ≡ 0 }
     requires in_range { share < code.now.n }
-    ensures block { OnOk result (out.new.items ≡ out.old.items ++ padded_block needed share segment.now) }
-    ensures hash { IfOk result (λ hash. hash ≡ tagged_hash Block (padded_block needed share segment.now)) }
+    ensures block { OnOk result (out.new.items ≡ out.old.items
+        ++ padded_block needed share segment.now) }
+    ensures hash { IfOk result (λ hash. hash ≡ tagged_hash Block
+        (padded_block needed share segment.now)) }
 {
     let start = out.len();
     let size = segment.len() / usize::from(needed);

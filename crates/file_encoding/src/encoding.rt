@@ -54,7 +54,8 @@ fn ciphertext_tree(
     geometry: &Geometry,
     ciphertext: &[u8],
 ) -> Result<Tree, AllocError>
-    ensures { IfOk result (λ tree. tree ≡ segment_hashes (segments_of geometry.now ciphertext.now)) }
+    ensures { IfOk result (λ tree. tree ≡ segment_hashes
+        (segments_of geometry.now ciphertext.now)) }
 {
     let segments = Segments {
         text: ciphertext,
@@ -84,10 +85,12 @@ fn begin_file(
     requires whole { length padded.now % geometry.now.needed ≡ 0 }
     ensures shares { IfOk result (λ begun. begun.shares.items ≡ map (λ i. share_beginning
         (header geometry.now)
-        (padded_blocks geometry.now.needed i (segment_count geometry.now) geometry.now.segment_size padded.now)
+        (padded_blocks geometry.now.needed i
+        (segment_count geometry.now) geometry.now.segment_size padded.now)
         (tree_nodes ciphertext_tree.now)) (range_with_len 0 geometry.now.total)) }
     ensures roots { IfOk result (λ begun. begun.roots.items ≡ map (λ i. tree_root (block_hashes
-        (padded_blocks geometry.now.needed i (segment_count geometry.now) geometry.now.segment_size padded.now)))
+        (padded_blocks geometry.now.needed i
+        (segment_count geometry.now) geometry.now.segment_size padded.now)))
         (range_with_len 0 geometry.now.total)) }
 {
     let code = match Code::new(alloc, geometry.needed(), geometry.total()) {
@@ -128,7 +131,8 @@ fn write_extension_block(
     share_root: [u8; 32],
 ) -> Result<Vec<u8>, AllocError>
     requires file { IsFile geometry.now.needed geometry.now.total geometry.now.size }
-    requires segments { IsSegmentSize geometry.now.needed geometry.now.size geometry.now.segment_size }
+    requires segments { IsSegmentSize geometry.now.needed geometry.now.size
+        geometry.now.segment_size }
     ensures text { IfOk result (λ text. text.items ≡ ueb_text (record {
       needed_shares = geometry.now.needed;
       total_shares = geometry.now.total;
@@ -161,7 +165,13 @@ fn write_extension_block(
 // The cap of a file.
 fn file_cap(geometry: &Geometry, key: [u8; 16], ueb_hash: [u8; 32]) -> ReadCap
     requires { min_file_size ≤ geometry.now.size }
-    ensures { result ≡ record { key = key; ueb_hash = ueb_hash; needed = geometry.now.needed; total = geometry.now.total; size = geometry.now.size } }
+    ensures { result ≡ record {
+      key = key;
+      ueb_hash = ueb_hash;
+      needed = geometry.now.needed;
+      total = geometry.now.total;
+      size = geometry.now.size;
+    } }
 {
     match ReadCap::new(
         key,
@@ -184,9 +194,12 @@ fn encode_ciphertext(
 ) -> Result<Encoded, AllocError>
     requires size { length ciphertext.items ≡ geometry.now.size }
     requires least { min_file_size ≤ geometry.now.size }
-    requires segments { IsSegmentSize geometry.now.needed geometry.now.size geometry.now.segment_size }
-    ensures cap { IfOk result (λ e. e.cap ≡ Chk (ciphertext_encoding geometry.now key ciphertext.items).cap) }
-    ensures shares { IfOk result (λ e. e.shares.items ≡ (ciphertext_encoding geometry.now key ciphertext.items).shares) }
+    requires segments { IsSegmentSize geometry.now.needed geometry.now.size
+        geometry.now.segment_size }
+    ensures cap { IfOk result (λ e. e.cap ≡ Chk
+        (ciphertext_encoding geometry.now key ciphertext.items).cap) }
+    ensures shares { IfOk result (λ e. e.shares.items ≡
+        (ciphertext_encoding geometry.now key ciphertext.items).shares) }
 {
     let crypttext_hash = tagged(Tag::Ciphertext, &ciphertext);
     let ciphertext_tree = ciphertext_tree(alloc, geometry, &ciphertext)?;
@@ -214,10 +227,11 @@ fn encode_ciphertext(
     })
 }
 
-/// Encodes a file: its cap and its shares, under a key that depends on the file, the secret, the numbers of shares and the segment size.
+/// Encodes a file: its cap and its shares, under a key that depends on the file, the secret, the
+/// numbers of shares and the segment size.
 ///
-/// The secret has at most 64 bytes. A file of less than `ueb::MIN_FILE_SIZE` bytes has no shares: its cap holds it. Refuses `TooLarge` and
-/// `TooManySegments`, in this order, and `OutOfMemory`.
+/// The secret has at most 64 bytes. A file of less than `ueb::MIN_FILE_SIZE` bytes has no shares:
+/// its cap holds it. Refuses `TooLarge` and `TooManySegments`, in this order, and `OutOfMemory`.
 pub fn encode_all(
     alloc: Global,
     file: &[u8],
@@ -225,13 +239,19 @@ pub fn encode_all(
     params: &Params,
 ) -> Result<Encoded, EncodeError>
     requires { length secret.now ≤ 64 }
-    ensures literal { length file.now < min_file_size → IfOk result (λ e. (e.cap ≡ Lit file.now) × (e.shares.items ≡ [])) }
-    ensures cap { min_file_size ≤ length file.now → IfOk result (λ e. e.cap ≡ Chk (encoding_of file.now secret.now (parameters_of params.now)).cap) }
-    ensures shares { min_file_size ≤ length file.now → IfOk result (λ e. e.shares.items ≡ (encoding_of file.now secret.now (parameters_of params.now)).shares) }
+    ensures literal { length file.now < min_file_size → IfOk result
+        (λ e. (e.cap ≡ Lit file.now) × (e.shares.items ≡ [])) }
+    ensures cap { min_file_size ≤ length file.now → IfOk result
+        (λ e. e.cap ≡ Chk (encoding_of file.now secret.now (parameters_of params.now)).cap) }
+    ensures shares { min_file_size ≤ length file.now → IfOk result
+        (λ e. e.shares.items ≡ (encoding_of file.now secret.now
+        (parameters_of params.now)).shares) }
     // When each refusal comes.
-    ensures fits { min_file_size ≤ length file.now → IfOk result (λ _. IsEncodable (length file.now) params.now) }
+    ensures fits { min_file_size ≤ length file.now → IfOk result
+        (λ _. IsEncodable (length file.now) params.now) }
     ensures too_large { IsErrOf result EncodeError.TooLarge → max_file_size < length file.now }
-    ensures too_many { IsErrOf result EncodeError.TooManySegments → HasTooManySegments (length file.now) params.now }
+    ensures too_many { IsErrOf result EncodeError.TooManySegments → HasTooManySegments
+        (length file.now) params.now }
     ensures no_other { IfErr result (λ e. (e ≡ EncodeError.OutOfMemory)
         ⊎ (e ≡ EncodeError.TooLarge) ⊎ (e ≡ EncodeError.TooManySegments)) }
     // A file that has an encoding is refused for want of memory alone.
@@ -262,12 +282,15 @@ pub fn encode_all(
 // The geometry of a file of this size.
 fn file_geometry(size: u64, params: &Params) -> Result<Geometry, EncodeError>
     requires { 0 < size }
-    ensures given { IfOk result (λ g. g ≡ geometry_of size params.now.needed params.now.total params.now.max_segment) }
+    ensures given { IfOk result (λ g. g
+        ≡ geometry_of size params.now.needed params.now.total params.now.max_segment) }
     ensures segments { IfOk result (λ g. IsSegmentSize g.needed g.size g.segment_size) }
     ensures fits { IfOk result (λ _. IsEncodable size params.now) }
     ensures too_large { IsErrOf result EncodeError.TooLarge → max_file_size < size }
-    ensures too_many { IsErrOf result EncodeError.TooManySegments → HasTooManySegments size params.now }
-    ensures no_other { IfErr result (λ e. (e ≡ EncodeError.TooLarge) ⊎ (e ≡ EncodeError.TooManySegments)) }
+    ensures too_many { IsErrOf result EncodeError.TooManySegments
+        → HasTooManySegments size params.now }
+    ensures no_other { IfErr result
+        (λ e. (e ≡ EncodeError.TooLarge) ⊎ (e ≡ EncodeError.TooManySegments)) }
 {
     if size > MAX_FILE_SIZE {
         return Err(EncodeError::TooLarge);

@@ -4,30 +4,33 @@ ghost use Rattle.file_encoding.specs.Laws.{AcceptedSharesPass, CiphertextSharesP
 ghost use Rattle.file_encoding.specs.OwnFile.{OwnSharesGiveTheFile};
 ghost use Rattle.file_encoding.specs.Parts.{EncodingHasParts, FileHasParts};
 
-/// A law: each share of a ciphertext's encoding passes `verify_share` with the encoding's verify cap and its own number.
+/// A law: each share of a ciphertext's encoding passes `verify_share` with the encoding's verify
+/// cap and its own number.
 pub fn ciphertext_shares_pass()
     ensures { CiphertextSharesPass }
 {}
 
-/// A law: each share of a file's encoding passes `verify_share` with the encoding's verify cap and its own number, whatever the
-/// secret.
+/// A law: each share of a file's encoding passes `verify_share` with the encoding's verify cap and
+/// its own number, whatever the secret.
 pub fn file_shares_pass()
     ensures { FileSharesPass }
 {}
 
-/// A law: as many shares of a file's encoding as are needed, with different numbers, give the file back, whichever they are and
-/// whatever the secret: `read_from` finds enough of them, they do not contradict one another, and what it reads is the file.
+/// A law: as many shares of a file's encoding as are needed, with different numbers, give the file
+/// back, whichever they are and whatever the secret: `read_from` finds enough of them, they do not
+/// contradict one another, and what it reads is the file.
 pub fn own_shares_give_the_file()
     ensures { OwnSharesGiveTheFile }
 {}
 
-/// A law: the cap of a ciphertext's encoding proves each of its segments, by the encoding's extension block and the segment's path
-/// in the ciphertext tree.
+/// A law: the cap of a ciphertext's encoding proves each of its segments, by the encoding's
+/// extension block and the segment's path in the ciphertext tree.
 pub fn encoding_has_parts()
     ensures { EncodingHasParts }
 {}
 
-/// A law: the cap of a file's encoding proves each segment of its ciphertext so, whatever the secret.
+/// A law: the cap of a file's encoding proves each segment of its ciphertext so, whatever the
+/// secret.
 pub fn file_has_parts()
     ensures { FileHasParts }
 {}

@@ -1,4 +1,5 @@
-//! Whole files of Tahoe-LAFS: a file becomes a cap and N shares, of which any k and the cap give it back.
+//! Whole files of Tahoe-LAFS: a file becomes a cap and N shares, of which any k and the cap give it
+//! back.
 #![tactic(auto)]
 
 mod blocks;

@@ -10,10 +10,11 @@ use ueb::MAX_SHARES;
 /// The greatest segment that a user may choose, in bytes.
 pub const MAX_CHOSEN_SEGMENT_SIZE: u32 = 1 << 20;
 
-/// How a file is encoded and placed: how many shares are needed, on how many servers they have to be, how many there are in all, and
-/// the greatest length of a segment in bytes.
+/// How a file is encoded and placed: how many shares are needed, on how many servers they have to
+/// be, how many there are in all, and the greatest length of a segment in bytes.
 ///
-/// Its ranges are `1 <= needed <= total <= 256`, `1 <= happy <= total`, and segments of 1 to 2^20 bytes.
+/// Its ranges are `1 <= needed <= total <= 256`, `1 <= happy <= total`, and segments of 1 to 2^20
+/// bytes.
 #[derive(Clone, Copy, Debug, PartialEq, Eq)]
 pub struct Params {
     needed: u16,
@@ -27,11 +28,21 @@ impl Model for Params {
 
     ghost Value = { UploadParameters };
 
-    ghost view = { λ p. record { needed = p.needed; happy = p.happy; total = p.total; max_segment = p.max_segment } };
+    ghost view = { λ p. record {
+      needed = p.needed;
+      happy = p.happy;
+      total = p.total;
+      max_segment = p.max_segment;
+    } };
 
     ghost invariant = { λ p. AreChosen p.needed p.happy p.total p.max_segment };
 
-    ghost inverse = { λ p. record { needed = p.needed; happy = p.happy; total = p.total; max_segment = p.max_segment } };
+    ghost inverse = { λ p. record {
+      needed = p.needed;
+      happy = p.happy;
+      total = p.total;
+      max_segment = p.max_segment;
+    } };
 }
 
 impl Params {
@@ -41,7 +52,8 @@ impl Params {
     pub fn new(needed: u64, happy: u64, total: u64, max_segment: u64) -> Result<Params, EncodeError>
         ensures value { OkIff result (AreChosen needed happy total max_segment)
             (record { needed = needed; happy = happy; total = total; max_segment = max_segment }) }
-        ensures refused { (result ≡ Err EncodeError.BadParameters) ↔ ¬ AreChosen needed happy total max_segment }
+        ensures refused { (result ≡ Err EncodeError.BadParameters)
+            ↔ ¬ AreChosen needed happy total max_segment }
     {
         let shares = 1 <= needed && needed <= total && total <= u64::from(MAX_SHARES);
         let servers = 1 <= happy && happy <= total;
@@ -60,7 +72,8 @@ impl Params {
     /// How many shares give the file back.
     pub fn needed(&self) -> u16
         ensures value { result ≡ self.now.needed }
-        ensures chosen { AreChosen self.now.needed self.now.happy self.now.total self.now.max_segment }
+        ensures chosen { AreChosen self.now.needed self.now.happy self.now.total
+            self.now.max_segment }
     {
         self.needed
     }
@@ -68,7 +81,8 @@ impl Params {
     /// On how many servers, each with a share of its own, the file has to be.
     pub fn happy(&self) -> u16
         ensures value { result ≡ self.now.happy }
-        ensures chosen { AreChosen self.now.needed self.now.happy self.now.total self.now.max_segment }
+        ensures chosen { AreChosen self.now.needed self.now.happy self.now.total
+            self.now.max_segment }
     {
         self.happy
     }
@@ -76,15 +90,18 @@ impl Params {
     /// How many shares there are in all.
     pub fn total(&self) -> u16
         ensures value { result ≡ self.now.total }
-        ensures chosen { AreChosen self.now.needed self.now.happy self.now.total self.now.max_segment }
+        ensures chosen { AreChosen self.now.needed self.now.happy self.now.total
+            self.now.max_segment }
     {
         self.total
     }
 
-    /// The greatest length of a segment, in bytes, before it is rounded up to a multiple of the shares needed.
+    /// The greatest length of a segment, in bytes, before it is rounded up to a multiple of the
+    /// shares needed.
     pub fn max_segment(&self) -> u32
         ensures value { result ≡ self.now.max_segment }
-        ensures chosen { AreChosen self.now.needed self.now.happy self.now.total self.now.max_segment }
+        ensures chosen { AreChosen self.now.needed self.now.happy self.now.total
+            self.now.max_segment }
     {
         self.max_segment
     }

@@ -151,9 +151,11 @@ fn read_taken(
 fn agree(shares: &[(u16, &[u8])], places: &[usize], extension_block: &[u8]) -> bool
     requires { All (λ p. p < length shares.now) places.now }
     ensures yes { IsTrue result → (m : ℕ) → m < length places.now → (block : List ℕ)
-        → LocatesUeb (slice_index_or (map (λ s. s.1.now) shares.now) (slice_index places.now m) []) block → extension_block.now ≡ block }
+        → LocatesUeb (slice_index_or (map (λ s. s.1.now) shares.now)
+        (slice_index places.now m) []) block → extension_block.now ≡ block }
     ensures no { result ≡ false → (m : ℕ) × (m < length places.now)
-        × ¬ LocatesUeb (slice_index_or (map (λ s. s.1.now) shares.now) (slice_index places.now m) []) extension_block.now }
+        × ¬ LocatesUeb (slice_index_or (map (λ s. s.1.now) shares.now)
+        (slice_index places.now m) []) extension_block.now }
 {
     for place in places {
         let (_, string) = shares[*place];
@@ -166,7 +168,8 @@ fn agree(shares: &[(u16, &[u8])], places: &[usize], extension_block: &[u8]) -> b
 
 // Whether a share has this extension block, by its own header.
 fn has_block(share: &[u8], extension_block: &[u8]) -> bool
-    ensures yes { IsTrue result → (block : List ℕ) → LocatesUeb share.now block → extension_block.now ≡ block }
+    ensures yes { IsTrue result → (block : List ℕ) → LocatesUeb share.now block
+        → extension_block.now ≡ block }
     ensures no { result ≡ false → ¬ LocatesUeb share.now extension_block.now }
 {
     match locate_ueb(share) {
@@ -184,8 +187,10 @@ fn all_blocks<'a>(
 ) -> Result<Vec<(u16, &'a [u8])>, AllocError>
     requires inside { All (λ p. p < length shares.now) places.now }
     requires readable { (m : ℕ) → m < length places.now → (s : Sections)
-        × IsShare geometry.now (slice_index (map (λ s. s.0) shares.now) (slice_index places.now m)) (slice_index_or (map (λ s. s.1.now) shares.now) (slice_index places.now m) []) s }
-    ensures { IfOk result (λ blocks. HaveBlocks geometry.now (map (λ s. s.0) shares.now) (map (λ s. s.1.now) shares.now) places.now
+        × IsShare geometry.now (slice_index (map (λ s. s.0) shares.now) (slice_index places.now m))
+        (slice_index_or (map (λ s. s.1.now) shares.now) (slice_index places.now m) []) s }
+    ensures { IfOk result (λ blocks. HaveBlocks geometry.now (map (λ s. s.0) shares.now)
+        (map (λ s. s.1.now) shares.now) places.now
         (map (λ s. s.0) blocks.items) (map (λ s. s.1.now) blocks.items)) }
 {
     let mut blocks = Vec::with_capacity(alloc, places.len())?;

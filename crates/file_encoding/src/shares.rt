@@ -1,4 +1,5 @@
-// The shares of a file: each is begun with what needs no other share, and finished when the root over all of them is known.
+// The shares of a file: each is begun with what needs no other share, and finished when the root
+// over all of them is known.
 
 ghost use Rattle.std.specs.Prelude.{◌≡◌, ◌≤◌, ◌<◌, ◌+◌, ◌-◌, ◌*◌, ◌/◌, ◌%◌, ◌^◌, ◌++◌, ℕ, List, [], length, slice_index_or, take, drop, map, IfOk, OnOk, replicate, All};
 ghost use Rattle.merkle.specs.Tree.{height, needed_numbers, tree_nodes, tree_root};
@@ -60,11 +61,14 @@ impl<'a> Common<'a> {
         requires whole { length self.now.segments.text.now % self.now.needed ≡ 0 }
         requires segments { self.now.segments.size % self.now.needed ≡ 0 }
         requires in_range { share < self.now.code.now.n }
-        ensures bytes { IfOk result (λ begun. begun.bytes.items ≡ share_beginning self.now.header.now
-            (padded_blocks self.now.needed share self.now.segments.count self.now.segments.size self.now.segments.text.now)
+        ensures bytes { IfOk result (λ begun. begun.bytes.items
+            ≡ share_beginning self.now.header.now
+            (padded_blocks self.now.needed share self.now.segments.count self.now.segments.size
+            self.now.segments.text.now)
             (tree_nodes self.now.ciphertext_tree.now)) }
         ensures root { IfOk result (λ begun. begun.root ≡ tree_root (block_hashes
-            (padded_blocks self.now.needed share self.now.segments.count self.now.segments.size self.now.segments.text.now))) }
+            (padded_blocks self.now.needed share self.now.segments.count self.now.segments.size
+            self.now.segments.text.now))) }
     {
         let mut bytes = Vec::with_capacity(alloc, room)?;
         let header = self.header;
@@ -108,11 +112,14 @@ pub(crate) fn begin_shares(
     requires whole { length common.now.segments.text.now % common.now.needed ≡ 0 }
     requires segments { common.now.segments.size % common.now.needed ≡ 0 }
     requires total { total ≡ common.now.code.now.n }
-    ensures shares { IfOk result (λ begun. begun.shares.items ≡ map (λ i. share_beginning common.now.header.now
-        (padded_blocks common.now.needed i common.now.segments.count common.now.segments.size common.now.segments.text.now)
+    ensures shares { IfOk result (λ begun. begun.shares.items ≡ map
+        (λ i. share_beginning common.now.header.now
+        (padded_blocks common.now.needed i common.now.segments.count common.now.segments.size
+        common.now.segments.text.now)
         (tree_nodes common.now.ciphertext_tree.now)) (range_with_len 0 total)) }
     ensures roots { IfOk result (λ begun. begun.roots.items ≡ map (λ i. tree_root (block_hashes
-        (padded_blocks common.now.needed i common.now.segments.count common.now.segments.size common.now.segments.text.now)))
+        (padded_blocks common.now.needed i common.now.segments.count common.now.segments.size
+        common.now.segments.text.now)))
         (range_with_len 0 total)) }
 {
     let mut shares = Vec::with_capacity(alloc, usize::from(total))?;
@@ -139,7 +146,8 @@ pub(crate) fn finish_shares(
     ensures size { IfOk result (λ shares. length shares.items ≡ length begun.items) }
     ensures shares { IfOk result (λ shares. (i : ℕ) → i < length begun.items
         → slice_index_or shares.items i []
-        ≡ slice_index_or begun.items i [] ++ share_end layout share_tree.now i extension_block.now) }
+        ≡ slice_index_or begun.items i []
+        ++ share_end layout share_tree.now i extension_block.now) }
 {
     let mut shares = begun;
     for number in 0..shares.len() {
@@ -193,7 +201,8 @@ fn push_length(layout: Layout, length: usize, bytes: &mut Vec<u8>) -> Result<(),
 // The numbers of the nodes that lead from a leaf to the root.
 fn needed_nodes(alloc: Global, tree: &Tree, leaf: u16) -> Result<Vec<u32>, AllocError>
     requires { leaf < length tree.now }
-    ensures numbers { IfOk result (λ numbers. numbers.items ≡ needed_numbers (height (length tree.now)) leaf) }
+    ensures numbers { IfOk result (λ numbers. numbers.items ≡ needed_numbers
+        (height (length tree.now)) leaf) }
 {
     match tree.needed(alloc, u32::from(leaf)) {
         Ok(numbers) => Ok(numbers),
@@ -205,7 +214,8 @@ fn needed_nodes(alloc: Global, tree: &Tree, leaf: u16) -> Result<Vec<u32>, Alloc
 fn push_numbered(nodes: &[[u8; 32]], numbers: &[u32], bytes: &mut Vec<u8>) -> Result<(), AllocError>
     requires inside { All (λ n. n < length nodes.now) numbers.now }
     requires few { length nodes.now ≤ 2 ^ 16 }
-    ensures bytes { OnOk result (bytes.new.items ≡ bytes.old.items ++ numbered nodes.now numbers.now) }
+    ensures bytes { OnOk result (bytes.new.items ≡ bytes.old.items
+        ++ numbered nodes.now numbers.now) }
     ensures size { OnOk result (length (numbered nodes.now numbers.now) ≡ length numbers.now * 34) }
 {
     for number in numbers {

@@ -19,5 +19,6 @@ pub record IsFileOf (cap : ReadCapValue) (extension_block : List ℕ) (u : Conte
     (ciphertext file : List ℕ) : Type 0 where
   pub block : IsUebFor (verify_cap_of cap) extension_block u
   pub size : length ciphertext ≡ cap.size
-  pub root : tree_root (segment_hashes (segments_of (geometry_by u) ciphertext)) ≡ u.crypttext_root_hash
+  pub root : tree_root (segment_hashes (segments_of (geometry_by u) ciphertext))
+      ≡ u.crypttext_root_hash
   pub decrypted : file ≡ xored cap.key ciphertext

@@ -29,7 +29,8 @@ BlocksSayOneThing = (cap : VerifyCapValue) (block : List ℕ) (u v : Contents)
 -- a law: without a clash two parts of one cap's file with one number have one segment
 abbrev pub PartsAgree : Type 0
 PartsAgree = (inputs : List (List ℕ)) → HasNoClash inputs → (cap : VerifyCapValue)
-    (first second : List ℕ) (u v : Contents) (number : ℕ) (s t : List ℕ) (these those : List (List ℕ))
+    (first second : List ℕ) (u v : Contents) (number : ℕ) (s t : List ℕ)
+    (these those : List (List ℕ))
     → IsPartAmong inputs cap first u number s these → IsPartAmong inputs cap second v number t those
     → s ≡ t
 

@@ -1,3 +1,4 @@
+-- what public contracts rest on
 pub mod Decoding
 pub mod FileOf
 pub mod Parts

@@ -8,7 +8,8 @@ use Rattle.proved_parts.specs.declared.evidence.EvidencePart.{EvidencePart}
 
 -- the hash input of the node above one at this place and its sibling
 abbrev pub step_input : ℕ → List ℕ → List ℕ → List ℕ
-step_input place node sibling = if place % 2 == 0 then node_input node sibling else node_input sibling node
+step_input place node sibling =
+    if place % 2 == 0 then node_input node sibling else node_input sibling node
 
 -- no tree has both, by these paths, at one place
 abbrev pub NeverMeet : ℕ → List ℕ → List ℕ → List (List ℕ) → List (List ℕ) → Type 0
