@@ -2,7 +2,8 @@
 use Rattle.std.proofs.Common.{◌≡◌, ◌≢◌, ℕ, ◌+◌, ◌*◌, ◌<◌, List, Option, Some, None, is_some, false, inl, inr, ap, refl, sym, subst, ◌∙◌}
 use Rattle.std.proofs.lemmas.Bool.{cases_eq, cases_lt, true≢false}
 use Rattle.tagged_hash.specs.TaggedHash.{node_hash}
-use Rattle.merkle.specs.Partial.{Known, known_by, node_count, padding, parent, told_or}
+use Rattle.merkle.specs.Partial.{Known, known_by, padding, parent, told_or}
+use Rattle.merkle.specs.Tree.{node_count}
 use Rattle.merkle.specs.Taking.{IsKept, IsTold, KnowsTheSame}
 use Rattle.merkle.proofs.PaddingLemmas.{padding-outside}
 use Rattle.merkle.proofs.PartialLemmas.{known-told, known-untold, not_both, one_value, told_more}

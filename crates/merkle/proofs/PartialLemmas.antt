@@ -7,7 +7,8 @@ use Rattle.std.proofs.lemmas.Slice.Eq.{slice_eq-Decides}
 use Rattle.std.proofs.lemmas.Option.{none-some, same_Some}
 use Rattle.std.proofs.lemmas.List.{get_or_append_left, get_or-append_right, length-append}
 use Rattle.tagged_hash.specs.TaggedHash.{node_hash}
-use Rattle.merkle.specs.Partial.{IsExtended, IsJoined, IsTouched, Known, ancestor, known_by, node_count, parent, told_or}
+use Rattle.merkle.specs.Partial.{IsExtended, IsJoined, IsTouched, Known, ancestor, known_by, parent, told_or}
+use Rattle.merkle.specs.Tree.{node_count}
 use Rattle.merkle.specs.Taking.{grows_not, grows_one, lacks_left, lacks_right, has_other, Adds, GrowsBy, IsGrown, IsKept, IsListed, IsOther, IsTold, IsUnjoinable}
 
 -- something or nothing

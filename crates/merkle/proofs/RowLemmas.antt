@@ -5,7 +5,8 @@ use Rattle.std.proofs.lemmas.Bool.{cases_eq, cases_lt}
 use Rattle.std.proofs.lemmas.List.{get_or_append_left, length-append}
 use Rattle.std.proofs.lemmas.Nat.{pow_pos}
 use Rattle.tagged_hash.specs.TaggedHash.{node_hash}
-use Rattle.merkle.specs.Partial.{IsExtended, IsTouched, Known, known_by, node_count, parent}
+use Rattle.merkle.specs.Partial.{IsExtended, IsTouched, Known, known_by, parent}
+use Rattle.merkle.specs.Tree.{node_count}
 use Rattle.merkle.specs.Taking.{grows_not, grows_one, GrowsBy, IsKept, IsListed, IsTold, IsUnjoinable, Joins}
 use Rattle.merkle.proofs.PartialLemmas.{IsUnderway, adds_keeps, forced_join, known_more, last_place, not_both, refused_join, told_more, underway_more}
 

@@ -10,7 +10,8 @@ use Rattle.std.proofs.lemmas.Option.{none-some}
 use Rattle.tagged_hash.specs.TaggedHash.{node_hash}
 use Rattle.merkle.specs.Path.{path_root}
 use Rattle.merkle.specs.Tree.{height, node_number, sibling}
-use Rattle.merkle.specs.Partial.{IsJoined, IsPartial, Known, KnownLeavesLead, PartialState, all_known, is_padding, known_at, known_by, known_siblings, leaf_number, node_count, only_root, padding, padding_hash, parent, place_in_row, row_of, starting}
+use Rattle.merkle.specs.Partial.{IsJoined, IsPartial, Known, KnownLeavesLead, PartialState, all_known, is_padding, known_at, known_by, known_siblings, leaf_number, only_root, padding, padding_hash, parent, place_in_row, row_of, starting}
+use Rattle.merkle.specs.Tree.{node_count}
 use Rattle.merkle.specs.Taking.{IsGrown, IsKept, IsListed}
 use Rattle.merkle.proofs.HeightLemmas.{height_is, height_room}
 use Rattle.merkle.proofs.PaddingLemmas.{padding-before, padding-false, padding-outside, padding-true}

@@ -7,12 +7,9 @@ use Rattle.std.specs.Prelude.{if◌then◌else◌, slice_get, slice_index_or}
 use Rattle.std.specs.List.{range_with_len}
 use Rattle.tagged_hash.specs.TaggedHash.{node_hash}
 use Rattle.merkle.specs.Path.{LeadsBy}
-use Rattle.merkle.specs.Tree.{height, max_leaves, needed_numbers, node, node_number, padded_to}
+use Rattle.merkle.specs.Tree.{height, max_leaves, needed_numbers, node, node_count}
+use Rattle.merkle.specs.Tree.{node_number, padded_to}
 use Rattle.merkle.specs.Tree.{sibling_number, tree_root}
-
--- how many nodes a tree has
-abbrev pub node_count : ℕ → ℕ
-node_count leaf_count = 2 ^ (height leaf_count + 1) - 1
 
 -- the number of the node above another
 abbrev pub parent : ℕ → ℕ

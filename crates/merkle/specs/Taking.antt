@@ -2,7 +2,8 @@
 use Rattle.std.specs.Prelude.{◌≡◌, ◌≢◌, ◌⊎◌, ℕ, ◌+◌, ◌*◌, ◌<◌, List, [], ◌∷◌, ◌++◌, length}
 use Rattle.std.specs.Prelude.{Some, None, slice_index_or}
 use Rattle.tagged_hash.specs.TaggedHash.{node_hash}
-use Rattle.merkle.specs.Partial.{Known, known_by, node_count, padding, parent}
+use Rattle.merkle.specs.Partial.{Known, known_by, padding, parent}
+use Rattle.merkle.specs.Tree.{node_count}
 
 -- both children of the parent of this node are known, and the parent was told
 pub record IsTold (padding told : Known) (number : ℕ) : Type 0 where

@@ -1,8 +1,8 @@
 //! Whether hashes are the nodes of a tree.
 
-ghost use Rattle.std.specs.Prelude.{◌≡◌, ◌-◌, ◌*◌, ◌%◌, ◌^◌, ◌<◌, ◌≤◌, ◌↔◌, IsTrue, length};
+ghost use Rattle.std.specs.Prelude.{◌≡◌, ◌%◌, ◌^◌, ◌<◌, ◌≤◌, ◌↔◌, IsTrue, length};
 ghost use Rattle.merkle.specs.Nodes.{ArePairs, AreTreeNodes, IsPadded};
-ghost use Rattle.merkle.specs.Tree.{height, max_leaves};
+ghost use Rattle.merkle.specs.Tree.{max_leaves, node_count};
 ghost use Rattle.tagged_hash.specs.TaggedHash.{empty_leaf_hash, node_hash};
 
 use tagged_hash::{empty_leaf, pair};
@@ -13,7 +13,7 @@ use tagged_hash::{empty_leaf, pair};
 /// takes no memory.
 pub fn are_tree_nodes(nodes: &[[u8; 32]], leaf_count: u32) -> bool
     requires few { leaf_count ≤ max_leaves }
-    requires nodes { length nodes.now ≡ 2 * 2 ^ height leaf_count - 1 }
+    requires nodes { length nodes.now ≡ node_count leaf_count }
     ensures { IsTrue result ↔ AreTreeNodes leaf_count nodes.now }
 {
     are_pairs(nodes) && is_padded(&nodes[nodes.len() / 2..], leaf_count as usize)

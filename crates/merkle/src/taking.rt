@@ -4,7 +4,8 @@ ghost use Rattle.std.specs.Prelude.{◌≡◌, ◌≢◌, ◌^◌, ◌+◌, ◌-
 ghost use Rattle.std.specs.Prelude.{Some, Err};
 ghost use Rattle.std.specs.Prelude.{is_some, nat_eq, OnOk};
 ghost use Rattle.std.specs.HashMap.{get};
-ghost use Rattle.merkle.specs.Partial.{IsExtended, Known, known_by, node_count, padding, parent};
+ghost use Rattle.merkle.specs.Partial.{IsExtended, Known, known_by, padding, parent};
+ghost use Rattle.merkle.specs.Tree.{node_count};
 ghost use Rattle.merkle.specs.Taking.{Adds, GrowsBy, IsGrown, IsKept, IsListed, IsOther};
 ghost use Rattle.merkle.specs.Taking.{IsUnjoinable, Joins, KnowsTheSame};
 ghost use Rattle.merkle.specs.Tree.{max_leaves};

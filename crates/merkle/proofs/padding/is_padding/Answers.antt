@@ -2,6 +2,7 @@ use Rattle.std.proofs.Common.{◌≡◌, ◌+◌, ◌^◌, ℕ, ap, sym, arith}
 use Rattle.std.proofs.lemmas.Nat.{one_shl}
 use Rattle.merkle.specs.Tree.{height}
 use Rattle.merkle.proofs.HeightLemmas.{height_low}
+use Rattle.merkle.proofs.NodesLemmas.{next_power}
 use Rattle.merkle.proofs.PaddingLemmas.{begins_computed, is_padding-outside, tested}
 use Rattle.merkle.proofs.padding.is_padding.Goals as goal
 
@@ -15,7 +16,7 @@ returns-then-number-height c =
     let low = height_low _ h.result 20 c.requires.few h.ensures.least in
     let cut = one_shl (h.result + 1) 32 (omega (arith, low)) in
     let same : 2 ^ (h.result + 1) ≡ 2 ^ (height c.args.leaf_count + 1) = ap (λ (k : ℕ). 2 ^ (k + 1)) h.ensures.value in
-    sym (is_padding-outside c.args.leaf_count c.args.number (omega (arith, cut, same, c.if-number-height.true)))
+    sym (is_padding-outside c.args.leaf_count c.args.number (omega (arith, cut, same, next_power (height c.args.leaf_count), c.if-number-height.true)))
 
 pub overflow_sub-place : goal.overflow_sub-place
 overflow_sub-place c =

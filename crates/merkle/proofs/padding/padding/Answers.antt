@@ -3,6 +3,7 @@ use Rattle.std.proofs.Math.Nat.{pow-le-pow_right}
 use Rattle.merkle.specs.Partial.{is_padding}
 use Rattle.merkle.specs.Tree.{height}
 use Rattle.merkle.proofs.HeightLemmas.{height_below, height_low}
+use Rattle.merkle.proofs.NodesLemmas.{next_power}
 use Rattle.merkle.proofs.PaddingLemmas.{begins_computed, below_computed, hash_computed, inside_computed, is_padding-inside, padding-false, padding-true, row_below}
 use Rattle.merkle.proofs.padding.padding.Goals as goal
 
@@ -10,7 +11,7 @@ pub overflow_add-number : goal.overflow_add-number
 overflow_add-number c =
     let low = height_below c.args.leaf_count 20 c.requires.few in
     let inside = is_padding-inside c.args.leaf_count c.args.number (sym c.is_padding.ensures ∙ c.if-not-is_padding.false) in
-    omega (arith, inside, pow-le-pow_right {n = 2} (omega arith) {i = height c.args.leaf_count + 1} {j = 21} (omega (arith, low)))
+    omega (arith, inside, next_power (height c.args.leaf_count), pow-le-pow_right {n = 2} (omega arith) {i = height c.args.leaf_count + 1} {j = 21} (omega (arith, low)))
 
 pub overflow_sub-place : goal.overflow_sub-place
 overflow_sub-place c =

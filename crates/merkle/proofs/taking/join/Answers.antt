@@ -5,12 +5,13 @@ use Rattle.merkle.specs.Partial.{padding, parent}
 use Rattle.merkle.specs.Taking.{IsOther, has_other}
 use Rattle.merkle.specs.Tree.{height}
 use Rattle.merkle.proofs.HeightLemmas.{height_below}
+use Rattle.merkle.proofs.NodesLemmas.{next_power}
 use Rattle.merkle.proofs.taking.join.Goals as goal
 
 pub overflow_add-above-2 : goal.overflow_add-above-2
 overflow_add-above-2 c =
     let low = height_below c.args.leaf_count 20 c.requires.few in
-    omega (arith, pow-le-pow_right {n = 2} (omega arith) {i = height c.args.leaf_count + 1} {j = 21} (omega (arith, low)))
+    omega (arith, next_power (height c.args.leaf_count), pow-le-pow_right {n = 2} (omega arith) {i = height c.args.leaf_count + 1} {j = 21} (omega (arith, low)))
 
 pub returns-clause-refused : goal.returns-clause-refused
 returns-clause-refused c = λ e.

@@ -5,10 +5,12 @@ use Rattle.std.proofs.lemmas.Option.{get_or_from_slice_get, slice_get-get_or, sl
 use Rattle.std.proofs.lemmas.Nat.{one_shl, pow_pos}
 use Rattle.std.specs.HashMap.{get}
 use Rattle.merkle.specs.Tree.{height}
-use Rattle.merkle.specs.Partial.{IsExtended, IsTouched, Known, known_by, node_count, padding}
+use Rattle.merkle.specs.Partial.{IsExtended, IsTouched, Known, known_by, padding}
+use Rattle.merkle.specs.Tree.{node_count}
 use Rattle.merkle.specs.Taking.{Adds, Joins}
 use Rattle.merkle.specs.declared.error.OfferError.TheVariants.{NotConsistent}
 use Rattle.merkle.proofs.HeightLemmas.{height_low}
+use Rattle.merkle.proofs.NodesLemmas.{next_power}
 use Rattle.merkle.proofs.PartialLemmas.{IsUnderway, adds_keeps, refused_offer, underway_more, all_kept, all_taken, grown_more, underway-begins}
 use Rattle.merkle.proofs.RowLemmas.{number_inside, number_some, row_done, row_joins, row_refused, row_skips}
 use Rattle.merkle.proofs.taking.take.Goals as goal
@@ -43,7 +45,7 @@ returns-then-number-height-clause-refused c = λ e new extended.
     let cut = one_shl (c.height-height.result + 1) 32 (omega (arith, low)) in
     let same : 2 ^ (c.height-height.result + 1) ≡ 2 ^ (height n + 1) = ap (λ (k : ℕ). 2 ^ (k + 1)) c.height-height.ensures.value in
     let inside = extended.inside c.loop-offer.offer-index item.0 item.1 here in
-    absurd (omega (arith, inside, cut, same, c.if-number-height.true))
+    absurd (omega (arith, inside, cut, same, next_power (height n), c.if-number-height.true))
 
 pub returns-in_err-add-clause-grown : goal.returns-in_err-add-clause-grown
 returns-in_err-add-clause-grown c = grown_more _ _ _ _ _ _ c.loop-offer.invariant.under.grown c.add.ensures.grows
@@ -66,7 +68,7 @@ loop-offer-preserved c =
     let low = height_low _ c.height-height.result 20 c.requires.few c.height-height.ensures.least in
     let cut = one_shl (c.height-height.result + 1) 32 (omega (arith, low)) in
     let same : 2 ^ (c.height-height.result + 1) ≡ 2 ^ (height n + 1) = ap (λ (k : ℕ). 2 ^ (k + 1)) c.height-height.ensures.value in
-    let within : item.0 < node_count n = omega (arith, cut, same, c.if-number-height.false) in
+    let within : item.0 < node_count n = omega (arith, cut, same, next_power (height n), c.if-number-height.false) in
     let adds : Adds (padding n) (get nat_eq c.loop-offer.nodes) item.0 item.1 (get nat_eq c.add.new.nodes) = search rules in
     let s = c.loop-offer.invariant in
     let touched : IsTouched offers item.0 = record { place = i; below = item.0; hash = item.1; rows = 0; offered = here; above = refl } in record {
@@ -92,7 +94,7 @@ loop-row-init c =
       taken = λ k number hash is. c.loop-offer.invariant.taken k number hash (omega (arith, slice_get_within c.args.offers.now k (number, hash) is)) is;
       done = λ number hash high some e.
           let same : 2 ^ (c.height-height.result + 1) ≡ 2 ^ (height n + 1) = ap (λ (k : ℕ). 2 ^ (k + 1)) c.height-height.ensures.value in
-          absurd (omega (arith, same, c.loop-offer.invariant.under.inside number hash e, high));
+          absurd (omega (arith, same, next_power (height n), c.loop-offer.invariant.under.inside number hash e, high));
     }
 
 pub overflow_add-number : goal.overflow_add-number
@@ -103,7 +105,7 @@ overflow_add-number c =
     let inside = let t = c.loop-i.invariant.under.listed c.index-number.result.now (i, omega (arith, c.loop-i.invariant.long), number_at items i c.index-number.result.now (omega (arith, c.loop-i.invariant.long)) c.index-number.ensures) in c.loop-i.invariant.under.inside c.index-number.result.now t.0 t.1 in
     let low = height_low _ c.height-height.result 20 c.requires.few c.height-height.ensures.least in
     let same : 2 ^ (c.height-height.result + 1) ≡ 2 ^ (height n + 1) = ap (λ (k : ℕ). 2 ^ (k + 1)) c.height-height.ensures.value in
-    omega (arith, inside, same, pow-le-pow_right {n = 2} (omega arith) {i = c.height-height.result + 1} {j = 21} (omega (arith, low)))
+    omega (arith, inside, same, next_power (height n), pow-le-pow_right {n = 2} (omega arith) {i = c.height-height.result + 1} {j = 21} (omega (arith, low)))
 
 pub overflow_shr-number : goal.overflow_shr-number
 overflow_shr-number c =
