@@ -6,4 +6,4 @@ pub mod GeometryOfUeb
 pub mod FirstFault
 pub mod Passing
 pub mod Leading
-pub mod Failing
+pub mod Faults

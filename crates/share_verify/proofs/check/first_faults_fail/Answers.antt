@@ -1,4 +1,4 @@
-use Rattle.share_verify.proofs.Failing.{first_fails}
+use Rattle.share_verify.proofs.Faults.{first_fails}
 use Rattle.share_verify.proofs.check.first_faults_fail.Goals as goal
 
 pub returns : goal.returns
