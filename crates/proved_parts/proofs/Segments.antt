@@ -24,7 +24,7 @@ pub same_tagged : (tag : Tag) (a b : List ℕ) → tagged_input tag a ≡ tagged
 same_tagged tag a b e = append_cancel_left (netstring (tag_text tag)) a b e
 
 -- without a clash its hash does
-data_agrees : (inputs : List (List ℕ)) → HasNoClash inputs → (tag : Tag) (a b : List ℕ) → Contains inputs (tagged_input tag a) → Contains inputs (tagged_input tag b)
+pub data_agrees : (inputs : List (List ℕ)) → HasNoClash inputs → (tag : Tag) (a b : List ℕ) → Contains inputs (tagged_input tag a) → Contains inputs (tagged_input tag b)
     → tagged_hash tag a ≡ tagged_hash tag b → a ≡ b
 data_agrees inputs no_clash tag a b first second e = same_tagged tag a b (no_clash _ _ first second e)
 
@@ -36,11 +36,11 @@ one_ueb cap block u v a b =
     record { needed_shares = refl; total_shares = refl; size = refl } b.grammar
     record { needed_shares = b.needed ∙ sym a.needed; total_shares = b.total ∙ sym a.total; size = b.size ∙ sym a.size }
 
-segment_among : (inputs : List (List ℕ)) (cap : VerifyCapValue) (block : List ℕ) (u : Contents) (number : ℕ) (segment : List ℕ) (path : List (List ℕ))
+pub segment_among : (inputs : List (List ℕ)) (cap : VerifyCapValue) (block : List ℕ) (u : Contents) (number : ℕ) (segment : List ℕ) (path : List (List ℕ))
     → IsPartAmong inputs cap block u number segment path → Contains inputs (tagged_input CiphertextSegment segment)
 segment_among inputs cap block u number segment path p = p.among _ (member_here _ (path_inputs (length path) number (tagged_hash CiphertextSegment segment) path))
 
-path_among : (inputs : List (List ℕ)) (cap : VerifyCapValue) (block : List ℕ) (u : Contents) (number : ℕ) (segment : List ℕ) (path : List (List ℕ))
+pub path_among : (inputs : List (List ℕ)) (cap : VerifyCapValue) (block : List ℕ) (u : Contents) (number : ℕ) (segment : List ℕ) (path : List (List ℕ))
     → IsPartAmong inputs cap block u number segment path
     → IsPathAmong inputs (height (segment_count (geometry_by u))) number (tagged_hash CiphertextSegment segment) path
 path_among inputs cap block u number segment path p =

@@ -1,13 +1,14 @@
 -- Evidence: what shows that segments are those of a cap's file, and what is hashed for it.
-use Rattle.std.specs.Prelude.{◌≡◌, ℕ, List, ◌∷◌, length, All, Contains}
+use Rattle.std.specs.Prelude.{◌≡◌, ℕ, List, ◌∷◌, ◌++◌, length, map, All, Contains}
 use Rattle.std.specs.List.{flat_map}
 use Rattle.tagged_hash.specs.TaggedHash.{tagged_hash, tagged_input}
 use Rattle.tagged_hash.specs.declared.tag.Tag.TheVariants.{CiphertextSegment, ExtensionBlock}
 use Rattle.cap_text.specs.Cap.{VerifyCapValue}
 use Rattle.ueb.specs.Shape.{Contents}
 use Rattle.share_verify.specs.CapBlock.{IsUebFor}
+use Rattle.proved_parts.specs.FileOf.{segment_hashes}
 use Rattle.proved_parts.specs.Parts.{IsSegmentBy}
-use Rattle.merkle.specs.Inputs.{path_inputs}
+use Rattle.merkle.specs.Inputs.{path_inputs, tree_inputs}
 use Rattle.proved_parts.specs.declared.evidence.Evidence.{Evidence}
 use Rattle.proved_parts.specs.declared.evidence.EvidencePart.{EvidencePart}
 
@@ -35,3 +36,8 @@ segment_inputs number segment path =
 abbrev pub evidence_inputs : Evidence → List (List ℕ)
 evidence_inputs e = tagged_input ExtensionBlock e.extension_block
     ∷ flat_map (λ (p : EvidencePart). segment_inputs p.number p.segment p.path) e.parts
+
+-- what the segments of a ciphertext and their tree hash
+abbrev pub segments_inputs : List (List ℕ) → List (List ℕ)
+segments_inputs segments =
+    map (tagged_input CiphertextSegment) segments ++ tree_inputs (segment_hashes segments)

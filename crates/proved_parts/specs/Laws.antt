@@ -7,12 +7,12 @@ use Rattle.tagged_hash.specs.TaggedHash.{tagged_input}
 use Rattle.tagged_hash.specs.declared.tag.Tag.TheVariants.{ExtensionBlock}
 use Rattle.cap_text.specs.Cap.{ReadCapValue, VerifyCapValue, verify_cap_of}
 use Rattle.ueb.specs.Shape.{Contents}
-use Rattle.share_layout.specs.Geometry.{segment_count}
+use Rattle.share_layout.specs.Geometry.{Geometry, segment_count}
 use Rattle.share_layout.specs.Pieces.{segments_of}
 use Rattle.share_verify.specs.CapBlock.{IsUebFor, geometry_by}
 use Rattle.proved_parts.specs.FileOf.{IsFileOf, segment_hashes}
 use Rattle.proved_parts.specs.Parts.{IsPartOf}
-use Rattle.proved_parts.specs.Evidence.{segment_inputs}
+use Rattle.proved_parts.specs.Evidence.{segment_inputs, segments_inputs}
 
 -- a part of the cap's file, with all that is hashed for it among some inputs
 pub record IsPartAmong (inputs : List (List ℕ)) (cap : VerifyCapValue) (extension_block : List ℕ)
@@ -42,3 +42,22 @@ FilesOfCapsHaveParts = (cap : ReadCapValue) (extension_block : List ℕ) (u : Co
     (number : ℕ) → number < segment_count (geometry_by u)
     → IsPartOf (verify_cap_of cap) extension_block u number (slice_index_or segments number [])
     (siblings_of (segment_hashes segments) number)
+
+-- a law: what a ciphertext's own parts hash is hashed for its segments and their tree
+abbrev pub OwnPartsAreWithin : Type 0
+OwnPartsAreWithin = (g : Geometry) (ciphertext : List ℕ) (number : ℕ) → number < segment_count g
+    → let segments = segments_of g ciphertext in
+    AreAmong (segments_inputs segments)
+    (segment_inputs number (slice_index_or segments number [])
+    (siblings_of (segment_hashes segments) number))
+
+-- a law: without a clash a part of a cap's file is the segment of that file, where that is known
+abbrev pub PartsAreOfTheFile : Type 0
+PartsAreOfTheFile = (inputs : List (List ℕ)) → HasNoClash inputs → (cap : ReadCapValue)
+    (extension_block other : List ℕ) (u v : Contents) (ciphertext file : List ℕ) (number : ℕ)
+    (segment : List ℕ) (siblings : List (List ℕ)) → IsFileOf cap extension_block u ciphertext file
+    → let segments = segments_of (geometry_by u) ciphertext in
+    Contains inputs (tagged_input ExtensionBlock extension_block)
+    → AreAmong inputs (segments_inputs segments)
+    → IsPartAmong inputs (verify_cap_of cap) other v number segment siblings
+    → segment ≡ slice_index_or segments number []

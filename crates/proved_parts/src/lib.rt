@@ -18,4 +18,7 @@ pub use bytes::{Bytes, Path};
 pub use clash::find_clash;
 pub use decoding::decode_segment;
 pub use evidence::{Evidence, EvidencePart, PartList};
-pub use laws::{blocks_say_one_thing, files_of_caps_have_parts, parts_agree};
+pub use laws::{
+    blocks_say_one_thing, files_of_caps_have_parts, own_parts_are_within, parts_agree,
+    parts_are_of_the_file,
+};
