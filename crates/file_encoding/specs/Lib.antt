@@ -2,6 +2,7 @@
 pub mod EncodeError
 pub mod ReadError
 pub mod Encoding
+pub mod Inputs
 pub mod Params
 pub mod Laws
 pub mod Reading
