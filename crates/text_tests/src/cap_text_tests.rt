@@ -101,11 +101,11 @@ const CAPS: [(&str, &str, u16, u16, u64); 7] = [
         256,
     ),
     (
-        "URI:CHK:vwuwqphq6vtyhagrqwyqajtjoq:mulphu6sadrudv3w5tjchnmax5njyq74hibk3qaudszblkawpxgq:256:256:1073741824",
-        "URI:CHK-Verifier:w3hm5rcm33g237wuaijiuuup7q:mulphu6sadrudv3w5tjchnmax5njyq74hibk3qaudszblkawpxgq:256:256:1073741824",
+        "URI:CHK:vwuwqphq6vtyhagrqwyqajtjoq:mulphu6sadrudv3w5tjchnmax5njyq74hibk3qaudszblkawpxgq:256:256:1099511627776",
+        "URI:CHK-Verifier:w3hm5rcm33g237wuaijiuuup7q:mulphu6sadrudv3w5tjchnmax5njyq74hibk3qaudszblkawpxgq:256:256:1099511627776",
         256,
         256,
-        1073741824,
+        1099511627776,
     ),
     (
         "URI:CHK:aaaaaaaaaaaaaaaaaaaaaaaaaa:777777777777777777777777777777777777777777777777777q:1:256:57",
@@ -348,7 +348,7 @@ const FAULTY: [(&str, u8); 51] = [
         13,
     ),
     (
-        "URI:CHK:vwuwqphq6vtyhagrqwyqajtjoq:mulphu6sadrudv3w5tjchnmax5njyq74hibk3qaudszblkawpxgq:3:10:1073741825",
+        "URI:CHK:vwuwqphq6vtyhagrqwyqajtjoq:mulphu6sadrudv3w5tjchnmax5njyq74hibk3qaudszblkawpxgq:3:10:1099511627777",
         13,
     ),
     (
@@ -395,7 +395,7 @@ const REFUSED: [(u16, u16, u64); 5] = [
     (4, 3, 56),
     (3, 257, 56),
     (3, 10, 55),
-    (3, 10, 1073741825),
+    (3, 10, 1099511627777),
 ];
 
 fn keeps_key_and_hash() -> bool {
