@@ -1,6 +1,6 @@
 // Trees over the leaves of 32 bytes 0, 1, 2, ..; the nodes were computed by Python's hashlib.
 
-use merkle::{Tree, check_path};
+use merkle::{Partial, Tree, check_path};
 use std::alloc::Global;
 
 const LEAVES: [[u8; 32]; 5] = [[0; 32], [1; 32], [2; 32], [3; 32], [4; 32]];
@@ -132,4 +132,200 @@ fn gives_or_is_refused(alloc: Global) -> bool {
 #[test]
 fn refused_memory_in_a_tree(rt: HostRuntime) {
     assert!(rt; gives_or_is_refused(rt.alloc()));
+}
+
+// ---- trees of which some nodes are known
+
+const EIGHT: [[u8; 32]; 8] = [
+    [0; 32], [1; 32], [2; 32], [3; 32], [4; 32], [5; 32], [6; 32], [7; 32],
+];
+
+// Whether a set of node numbers has one.
+fn has(set: u32, number: u32) -> bool {
+    number < 32 && set >> number & 1 == 1
+}
+
+// The set with a number more.
+fn with(set: u32, number: u32) -> u32 {
+    if number < 32 { set | 1 << number } else { set }
+}
+
+// The number of the sibling of a node below the root.
+fn beside(number: u32) -> u32 {
+    if number % 2 == 0 {
+        number.saturating_sub(1)
+    } else {
+        number.saturating_add(1)
+    }
+}
+
+// These nodes, and those above them, in a tree of so many nodes.
+fn touched(offered: u32, count: u32) -> u32 {
+    let mut set = offered;
+    for number in (1..count.min(31)).rev() {
+        if has(set, number) {
+            set = with(set, (number - 1) / 2);
+        }
+    }
+    set
+}
+
+// Whether right hashes of these nodes can be taken, where these others are known: each touched node
+// below the root has a sibling that is known or touched.
+fn can_be_taken(touched: u32, known: u32, count: u32) -> bool {
+    (1..count.min(31)).all(|number| !has(touched, number) || has(touched | known, beside(number)))
+}
+
+// The nodes that a partial tree knows.
+fn known_nodes(partial: &Partial, count: u32) -> u32 {
+    let mut set = 0;
+    for number in 0..count {
+        if partial.node(number).is_some() {
+            set = with(set, number);
+        }
+    }
+    set
+}
+
+// What is offered of a tree's nodes: those of a set, one of them perhaps with another hash.
+fn offers_of(
+    alloc: Global,
+    tree: &Tree,
+    set: u32,
+    wrong: Option<u32>,
+) -> Option<Vec<(u32, [u8; 32])>> {
+    let mut offers = Vec::new(alloc);
+    for (hash, number) in tree.nodes().iter().zip(0u32..32) {
+        if has(set, number) {
+            let hash = if wrong == Some(number) { [9; 32] } else { *hash };
+            offers.push((number, hash)).ok()?;
+        }
+    }
+    Some(offers)
+}
+
+// Whether nodes of a set are taken or refused as they have to be, and what is known afterwards is
+// right. One of them may have a wrong hash.
+fn is_answered_right(alloc: Global, tree: &Tree, leaves: u32, set: u32, wrong: Option<u32>) -> bool {
+    if leaves == 0 || leaves > 8 {
+        return false;
+    }
+    let count = tree.nodes().len() as u32;
+    let (Ok(mut partial), Some(offers)) = (
+        Partial::new(alloc, &tree.root(), leaves),
+        offers_of(alloc, tree, set, wrong),
+    ) else {
+        return false;
+    };
+    let known = known_nodes(&partial, count);
+    let touched = touched(set, count);
+    let is_right = wrong.is_none() && can_be_taken(touched, known, count);
+    let is_taken = partial.offer(&offers).is_ok();
+    let after = if is_taken { known | touched } else { known };
+    is_taken == is_right
+        && known_nodes(&partial, count) == after
+        && tells_the_nodes(&partial, tree, after)
+}
+
+// Whether what is known of these nodes is what the tree has.
+fn tells_the_nodes(partial: &Partial, tree: &Tree, set: u32) -> bool {
+    tree.nodes()
+        .iter()
+        .zip(0u32..32)
+        .all(|(hash, number)| !has(set, number) || partial.node(number) == Some(*hash))
+}
+
+// Whether each set of at most four nodes of the tree of so many leaves is answered right, with right
+// hashes and with one wrong one.
+fn all_offers_are_right(alloc: Global, leaves: usize) -> bool {
+    if leaves == 0 || leaves > 8 {
+        return false;
+    }
+    let Ok(tree) = Tree::build(alloc, &EIGHT[..leaves]) else {
+        return false;
+    };
+    let count = tree.nodes().len() as u32;
+    for set in 0..1u32 << count.min(15) {
+        if set.count_ones() > 4 {
+            continue;
+        }
+        if !is_answered_right(alloc, &tree, leaves as u32, set, None) {
+            return false;
+        }
+        let wrong = set.trailing_zeros();
+        if set > 0 && !is_answered_right(alloc, &tree, leaves as u32, set, Some(wrong)) {
+            return false;
+        }
+    }
+    true
+}
+
+#[test]
+fn offers_are_taken_with_their_siblings(rt: HostRuntime) {
+    for leaves in [1, 2, 3, 5, 8] {
+        assert!(rt; all_offers_are_right(rt.alloc(), leaves), "{leaves} leaves");
+    }
+}
+
+// Whether a leaf of a tree of 2^20 leaves, known by its siblings alone, has a path to the root.
+fn leads_far(alloc: Global) -> bool {
+    let mut hash = [7; 32];
+    let mut offers = Vec::new(alloc);
+    let mut number: u32 = (1 << 20) - 1 + 5;
+    for _ in 0..20 {
+        let other = [3; 32];
+        if offers.push((number, hash)).is_err() || offers.push((beside(number), other)).is_err() {
+            return false;
+        }
+        hash = if number % 2 == 1 {
+            tagged_hash::pair(&hash, &other)
+        } else {
+            tagged_hash::pair(&other, &hash)
+        };
+        number = number.saturating_sub(1) / 2;
+    }
+    let Ok(mut partial) = Partial::new(alloc, &hash, 1 << 20) else {
+        return false;
+    };
+    if partial.offer(&offers).is_err() {
+        return false;
+    }
+    match partial.path(5) {
+        Ok(Some(path)) => check_path(&hash, 1 << 20, 5, &[7; 32], &path),
+        _ => false,
+    }
+}
+
+#[test]
+fn a_path_is_known_alone(rt: HostRuntime) {
+    assert!(rt; leads_far(rt.alloc()));
+}
+
+// Whether a partial tree of five leaves needs these nodes of a leaf, before and after its sibling is
+// known.
+fn needs_less(alloc: Global) -> bool {
+    let Ok(tree) = Tree::build(alloc, &LEAVES) else {
+        return false;
+    };
+    let Ok(mut partial) = Partial::new(alloc, &tree.root(), 5) else {
+        return false;
+    };
+    let all = match partial.needed(4) {
+        Ok(numbers) => numbers.as_slice() == [1, 11].as_slice(),
+        Err(_) => false,
+    };
+    let Some(offers) = offers_of(alloc, &tree, 1 << 1 | 1 << 11 | 1 << 12, None) else {
+        return false;
+    };
+    let is_taken = partial.offer(&offers).is_ok();
+    let none = match partial.needed(4) {
+        Ok(numbers) => numbers.is_empty(),
+        Err(_) => false,
+    };
+    all && is_taken && none
+}
+
+#[test]
+fn needed_nodes_are_those_not_known(rt: HostRuntime) {
+    assert!(rt; needs_less(rt.alloc()));
 }

@@ -1,7 +1,7 @@
 // Shares of zfec's matrix over the field modulo 0x11D, computed by Python.
 
 use std::alloc::Global;
-use zfec_code::{Code, CodeError};
+use zfec_code::{Code, Decoder};
 
 // Share values of the matrix that zfec makes of the field modulo 0x11D: k, n, column, share and
 // value.
@@ -19,20 +19,38 @@ const SHARES: [(u16, u16, &[u8], u16, u8); 11] = [
     (1, 256, &[0x5a], 255, 0x5a),
 ];
 
-#[test]
-fn shares_have_the_known_values(rt: HostRuntime) -> Result<(), CodeError> {
-    for &(k, n, column, share, value) in &SHARES {
-        let code = Code::new(rt.alloc(), k, n)?;
-        let mut out = [0u8; 1];
-        code.encode(column, share, &mut out);
-        assert!(rt; out[0] == value, "share {share} of {n}");
+// Whether a share of a column has this value.
+fn has_value(alloc: Global, k: u16, n: u16, column: &[u8], share: u16, value: u8) -> bool {
+    let Ok(code) = Code::new(alloc, k, n) else {
+        return false;
+    };
+    if column.len() != usize::from(k) || share >= n {
+        return false;
     }
-    Ok(())
+    let mut out = [0u8; 1];
+    code.encode(column, share, &mut out);
+    out[0] == value
+}
+
+#[test]
+fn shares_have_the_known_values(rt: HostRuntime) {
+    for &(k, n, column, share, value) in &SHARES {
+        assert!(rt;
+            has_value(rt.alloc(), k, n, column, share, value),
+            "share {share} of {n}"
+        );
+    }
+}
+
+// The decoder of shares 2 and 3 of four.
+fn decoder(alloc: Global) -> Option<Decoder> {
+    let code = Code::new(alloc, 2, 4).ok()?;
+    let numbers = Vec::from_slice(alloc, &[2u16, 3]).ok()?;
+    code.decoder(alloc, numbers).ok()
 }
 
 // The number of the refusal of shares of two of four, which leaves `out` as it was; 0 where they
-// decode to the blocks 01 and 02, and
-// 255 where they do otherwise.
+// decode to the blocks 01 and 02, and 255 where they do otherwise.
 fn decoded(alloc: Global, shares: &[(u16, &[u8])]) -> u8 {
     let Ok(code) = Code::new(alloc, 2, 4) else {
         return 1;
@@ -66,4 +84,9 @@ fn refusals_come_in_their_order(rt: HostRuntime) {
 #[test]
 fn refused_memory_in_decoding(rt: HostRuntime) {
     assert!(rt; decoded(rt.alloc(), &[(2, &[0x07]), (3, &[0x0d])]) <= 1);
+}
+
+#[test]
+fn a_decoder_is_made_once(rt: HostRuntime) {
+    assert!(rt; decoder(rt.alloc()).is_some());
 }
