@@ -210,7 +210,7 @@ fn is_answered_right(alloc: Global, tree: &Tree, leaves: u32, set: u32, wrong: O
     if leaves == 0 || leaves > 8 {
         return false;
     }
-    let count = tree.nodes().len() as u32;
+    let count = tree.nodes().len().min(31) as u32;
     let (Ok(mut partial), Some(offers)) = (
         Partial::new(alloc, &tree.root(), leaves),
         offers_of(alloc, tree, set, wrong),
@@ -244,7 +244,7 @@ fn all_offers_are_right(alloc: Global, leaves: usize) -> bool {
     let Ok(tree) = Tree::build(alloc, &EIGHT[..leaves]) else {
         return false;
     };
-    let count = tree.nodes().len() as u32;
+    let count = tree.nodes().len().min(31) as u32;
     for set in 0..1u32 << count.min(15) {
         if set.count_ones() > 4 {
             continue;

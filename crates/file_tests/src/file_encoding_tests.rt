@@ -56,6 +56,18 @@ const ALL_OF_256: &str = "a6373be1f5c84450486eb0e8d52d4ee9d0ec813cea1ee86513f7c9
 
 const NO_SECRET: &str = "";
 
+/// A call was refused that has to succeed.
+#[derive(Clone, Copy, Debug)]
+struct Refused;
+
+// What a call gives that has to succeed.
+fn taken<T, E: Drop>(outcome: Result<T, E>) -> Result<T, Refused> {
+    match outcome {
+        Ok(value) => Ok(value),
+        Err(_) => Err(Refused),
+    }
+}
+
 const SEGMENT: u64 = 131_072;
 
 // The bytes i modulo 251.
@@ -143,7 +155,7 @@ fn becomes(
 #[test]
 fn encodes_zeros_as_others_do(rt: HostRuntime) -> Result<(), Fail> {
     let alloc = rt.alloc();
-    let e = encoded(alloc, &[0; 56], NO_SECRET, 1, 1, SEGMENT)?;
+    let e = taken(encoded(alloc, &[0; 56], NO_SECRET, 1, 1, SEGMENT))?;
     assert!(rt; is_written(alloc, &e.cap, CAPS[0])?);
     assert!(rt; have_digests(alloc, &e.shares, 531, &ONE)?);
     Ok(())
@@ -153,12 +165,12 @@ fn encodes_zeros_as_others_do(rt: HostRuntime) -> Result<(), Fail> {
 fn encodes_files_as_others_do(rt: HostRuntime) -> Result<(), Fail> {
     let alloc = rt.alloc();
     let small = (56, 3, 10, SEGMENT);
-    assert!(rt; becomes(alloc, small, NO_SECRET, CAPS[1], 633, &THREE_OF_TEN)?);
+    assert!(rt; taken(becomes(alloc, small, NO_SECRET, CAPS[1], 633, &THREE_OF_TEN))?);
     let two = (131_074, 3, 10, SEGMENT);
-    assert!(rt; becomes(alloc, two, NO_SECRET, CAPS[2], 44_510, &TWO_SEGMENTS)?);
+    assert!(rt; taken(becomes(alloc, two, NO_SECRET, CAPS[2], 44_510, &TWO_SEGMENTS))?);
     let many = (30_000, 2, 5, 4096);
     let secret = "friends of the grid";
-    assert!(rt; becomes(alloc, many, secret, CAPS[3], 16_930, &SMALL_SEGMENTS)?);
+    assert!(rt; taken(becomes(alloc, many, secret, CAPS[3], 16_930, &SMALL_SEGMENTS))?);
     Ok(())
 }
 
@@ -213,7 +225,7 @@ fn digest_of_digests(alloc: Global, shares: &[Share]) -> Result<String, AllocErr
 fn encodes_256_of_256_as_others_do(rt: HostRuntime) -> Result<(), Fail> {
     let alloc = rt.alloc();
     let file = counted(alloc, 256)?;
-    let e = encoded(alloc, &file, NO_SECRET, 256, 256, SEGMENT)?;
+    let e = taken(encoded(alloc, &file, NO_SECRET, 256, 256, SEGMENT))?;
     assert!(rt; is_written(alloc, &e.cap, CAPS[4])?);
     assert!(rt; e.shares.len() == 256);
     assert!(rt; digest_of_digests(alloc, &e.shares)?.as_str() == ALL_OF_256);
@@ -240,7 +252,7 @@ fn three_of_ten_cap() -> Result<ReadCap, CapError> {
 
 #[test]
 fn shares_begin_with_their_header(rt: HostRuntime) -> Result<(), Fail> {
-    let shares = three_of_ten(rt.alloc())?;
+    let shares = taken(three_of_ten(rt.alloc()))?;
     for share in &shares {
         let header = &share.as_slice()[..share.as_slice().len().min(36)];
         assert!(rt; hexadecimal(rt.alloc(), header)?.as_str() == HEADER);
@@ -271,11 +283,11 @@ fn section_cut_at(len: usize) -> Section {
 fn a_short_share_is_passed_over(rt: HostRuntime) -> Result<(), Fail> {
     let alloc = rt.alloc();
     let file = counted(alloc, 56)?;
-    let shares = three_of_ten(alloc)?;
+    let shares = taken(three_of_ten(alloc))?;
     for len in 0..633 {
         let fault = ShareFault::Layout(LayoutError::Truncated(section_cut_at(len)));
         assert!(rt; fault_of(1, up_to(&shares, 1, len)) == Some(fault), "{len}");
-        assert!(rt; gives_with_three(alloc, &shares, len, &file)?, "{len}");
+        assert!(rt; gives_with_three(alloc, &shares, len, &file), "{len}");
     }
     assert!(rt; fault_of(1, up_to(&shares, 1, 633)) == None);
     Ok(())
@@ -296,9 +308,9 @@ fn gives_with_three(
     shares: &[Share],
     len: usize,
     file: &[u8],
-) -> Result<bool, ReadError> {
+) -> bool {
     let Ok(cap) = three_of_ten_cap() else {
-        return Ok(false);
+        return false;
     };
     let strings = [
         (1, up_to(shares, 1, len)),
@@ -307,17 +319,14 @@ fn gives_with_three(
         (7, up_to(shares, 7, 633)),
     ];
     let two = read_from(alloc, &cap, &strings[..3]);
-    let is_too_few = match two {
-        Err(ReadError::NotEnoughShares) => true,
-        _ => false,
-    };
-    Ok(is_too_few && read_from(alloc, &cap, &strings)?.as_slice() == file)
+    is_refused(two, ReadError::NotEnoughShares)
+        && read_from(alloc, &cap, &strings).is_ok_and(|found| found.as_slice() == file)
 }
 
 // Share 4 with the lowest bit of one byte changed.
 #[test]
 fn tells_the_section_of_a_changed_byte(rt: HostRuntime) -> Result<(), Fail> {
-    let shares = three_of_ten(rt.alloc())?;
+    let shares = taken(three_of_ten(rt.alloc()))?;
     let mut share = Vec::from_slice(rt.alloc(), up_to(&shares, 4, 633))?;
     let rows = [
         (0usize, ShareFault::Layout(LayoutError::BadVersion)),
@@ -350,7 +359,7 @@ fn flip(bytes: &mut [u8], at: usize) {
 #[test]
 fn equal_numbers_count_once(rt: HostRuntime) -> Result<(), Fail> {
     let alloc = rt.alloc();
-    let shares = three_of_ten(alloc)?;
+    let shares = taken(three_of_ten(alloc))?;
     let Ok(cap) = three_of_ten_cap() else {
         assert!(rt; false);
         return Ok(());
@@ -421,7 +430,7 @@ fn blocks_that_are_no_code_word_are_inconsistent(rt: HostRuntime) -> Result<(), 
     let right = share_of_two(alloc, &[7; 56], &hashes, 0, &block)?;
     let wrong = share_of_two(alloc, &[8; 56], &hashes, 1, &block)?;
     let both = [(0, right.as_slice()), (1, wrong.as_slice())];
-    assert!(rt; read_from(alloc, &cap, &both)?.len() == 56);
+    assert!(rt; taken(read_from(alloc, &cap, &both))?.len() == 56);
     assert!(rt; is_refused(read_from(alloc, &cap, &both[1..]), ReadError::Inconsistent));
     Ok(())
 }

@@ -1,12 +1,13 @@
 // Geometries and shares of worked examples, and shares with one fault.
 
-ghost use Rattle.std.specs.Prelude.{◌≡◌, ◌≤◌, false, length, IsTrue, OnErr, OnOk, Some};
-ghost use Rattle.ueb.specs.declared.limits.TheConstants.{MAX_LENGTH};
-ghost use Rattle.share_layout.specs.Geometry.{share_data_size, tree_size, hashes_size};
-ghost use Rattle.share_layout.specs.declared.error.Section.TheVariants.{Data, ShareHashes};
+ghost use Rattle.std.specs.Prelude.{◌≡◌, ◌≤◌, ◌+◌, false, length, IsTrue, OnErr};
+ghost use Rattle.ueb.specs.Limits.{max_length};
+ghost use Rattle.share_layout.specs.Layout.{header_size, layout_of, places_of};
 
 use file_encoding::{Encoded, Params, Share, encode_all};
-use share_layout::{Geometry, LayoutError, Section, ShareView, ShareWriter, locate_ueb};
+use share_layout::{
+    Geometry, Layout, LayoutError, Places, Section, ShareView, ShareWriter, locate_ueb,
+};
 use std::alloc::Global;
 use std::io;
 use std::test::Fail;
@@ -61,8 +62,9 @@ fn geometries_have_their_sizes(rt: HostRuntime) -> Result<(), Fail> {
         assert!(rt; geometry.tail_length() == tail, "at {size}");
         assert!(rt; geometry.block_size() == block, "at {size}");
         assert!(rt; geometry.tail_block_size() == tail_block, "at {size}");
-        assert!(rt; geometry.share_data_size() == numbers[2], "at {size}");
-        let header = geometry.header();
+        assert!(rt; geometry.share_data_size() == u64::from(numbers[2]), "at {size}");
+        let mut header = [0; 68];
+        assert!(rt; geometry.header(&mut header) == 36, "at {size}");
         for i in 0..9 {
             assert!(rt; header.get(4 * i..4 * i + 4) == Some(&numbers[i].to_be_bytes()[..]));
         }
@@ -81,7 +83,7 @@ fn a_geometry_gives_itself(rt: HostRuntime) -> Result<(), Fail> {
 }
 
 // Size, k, N and greatest segment, and the refusal's number, or 0.
-const LIMITS: [((u64, u16, u16, u32), u8); 18] = [
+const LIMITS: [((u64, u16, u16, u32), u8); 20] = [
     ((0, 3, 10, 131_072), 2),
     ((1, 3, 10, 131_072), 0),
     ((56, 0, 10, 131_072), 2),
@@ -93,13 +95,15 @@ const LIMITS: [((u64, u16, u16, u32), u8); 18] = [
     ((56, 1, 1, 1), 0),
     ((56, 1, 1, 1_048_831), 0),
     ((56, 1, 1, 1_048_832), 2),
-    ((1 << 30, 256, 256, 1_048_831), 0),
-    ((1 << 30, 1, 1, 16_384), 0),
-    ((1 << 30, 1, 1, 16_383), 31),
-    (((1 << 30) + 1, 1, 1, 16_383), 30),
-    (((1 << 30) + 1, 0, 1, 16_383), 2),
+    ((1 << 40, 256, 256, 1_048_831), 0),
+    ((1 << 40, 1, 1, 1_048_576), 0),
+    ((1 << 40, 1, 1, 1_048_575), 31),
+    ((1 << 40, 1, 1, 131_072), 31),
+    (((1 << 40) + 1, 1, 1, 1_048_576), 30),
+    (((1 << 40) + 1, 0, 1, 1_048_576), 2),
     ((u64::MAX, 1, 1, 1), 30),
-    ((65_537, 1, 1, 1), 31),
+    ((1_048_576, 1, 1, 1), 0),
+    ((1_048_577, 1, 1, 1), 31),
 ];
 
 #[test]
@@ -136,58 +140,37 @@ fn refusals_have_numbers_and_names(rt: HostRuntime) -> Result<(), Fail> {
     Ok(())
 }
 
-// Writes the first four sections of a share.
-fn put_first<W: io::Write>(share: &mut ShareWriter<W>, view: &ShareView) -> Result<(), LayoutError>
-    requires next { share.old.next ≡ Some Data }
-    requires failed { share.old.failed ≡ false }
-    requires blocks { length view.now.blocks.now ≡ share_data_size share.old.geometry }
-    requires unused { length view.now.unused.now ≡ tree_size share.old.geometry }
-    requires ciphertext_tree { length view.now.ciphertext_tree.now ≡ tree_size share.old.geometry }
-    requires block_tree { length view.now.block_tree.now ≡ tree_size share.old.geometry }
-    ensures geometry { OnOk result (share.new.geometry ≡ share.old.geometry) }
-    ensures next { OnOk result (share.new.next ≡ Some ShareHashes) }
-    ensures ok { OnOk result (share.new.failed ≡ false) }
-    ensures err { OnErr result (IsTrue share.new.failed) }
-{
-    share.put(view.blocks)?;
-    share.put(view.unused)?;
-    share.put(view.ciphertext_tree)?;
-    share.put(view.block_tree)
-}
-
-// Writes the six sections of a share.
-fn put_all<W: io::Write>(share: &mut ShareWriter<W>, view: &ShareView) -> Result<(), LayoutError>
-    requires next { share.old.next ≡ Some Data }
-    requires failed { share.old.failed ≡ false }
-    requires blocks { length view.now.blocks.now ≡ share_data_size share.old.geometry }
-    requires unused { length view.now.unused.now ≡ tree_size share.old.geometry }
-    requires ciphertext_tree { length view.now.ciphertext_tree.now ≡ tree_size share.old.geometry }
-    requires block_tree { length view.now.block_tree.now ≡ tree_size share.old.geometry }
-    requires hashes { length view.now.share_hashes.now ≡ hashes_size share.old.geometry }
-    requires extension_block { length view.now.extension_block.now ≤ MAX_LENGTH }
+// Writes a share: what stands between its header and its extension block, in two pieces, and then the
+// extension block.
+fn put_all<W: io::Write>(
+    share: &mut ShareWriter<W>,
+    middle: &[u8],
+    cut: usize,
+    extension_block: &[u8],
+) -> Result<(), LayoutError>
+    requires start { share.old.place ≡ 0 }
+    requires sound { share.old.failed ≡ false }
+    requires cut { cut ≤ length middle.now }
+    requires whole { header_size (layout_of share.old.geometry) + length middle.now
+        ≡ (places_of share.old.geometry).extension_block }
+    requires short { length extension_block.now ≤ max_length }
     ensures { OnErr result (IsTrue share.new.failed) }
 {
-    put_first(share, view)?;
-    share.put(view.share_hashes)?;
-    share.put(view.extension_block)
+    let (first, rest) = middle.split_at(cut);
+    share.put(first)?;
+    share.put(rest)?;
+    share.put_extension_block(extension_block)
 }
 
-// Whether the sections have their lengths.
-fn fits(geometry: &Geometry, view: &ShareView) -> bool
-    ensures { IsTrue result → (length view.now.blocks.now ≡ share_data_size geometry.now)
-        × (length view.now.unused.now ≡ tree_size geometry.now)
-        × (length view.now.ciphertext_tree.now ≡ tree_size geometry.now)
-        × (length view.now.block_tree.now ≡ tree_size geometry.now)
-        × (length view.now.share_hashes.now ≡ hashes_size geometry.now)
-        × (length view.now.extension_block.now ≤ MAX_LENGTH) }
+// Whether this stands between the header and the extension block of a share.
+fn fits(geometry: &Geometry, middle: &[u8], extension_block: &[u8]) -> bool
+    ensures { IsTrue result → (header_size (layout_of geometry.now) + length middle.now
+        ≡ (places_of geometry.now).extension_block)
+        × (length extension_block.now ≤ max_length) }
 {
-    let tree = geometry.tree_size() as usize;
-    view.blocks.len() == geometry.share_data_size() as usize
-        && view.unused.len() == tree
-        && view.ciphertext_tree.len() == tree
-        && view.block_tree.len() == tree
-        && view.share_hashes.len() == geometry.hashes_size() as usize
-        && view.extension_block.len() <= ueb::MAX_LENGTH
+    let header = geometry.layout().header_size() as u64;
+    Places::of(geometry).extension_block == header + middle.len() as u64
+        && extension_block.len() <= ueb::MAX_LENGTH
 }
 
 // A writer that takes so many bytes, at most seven a call, then fails once, and then takes all.
@@ -216,19 +199,26 @@ impl io::Write for Short {
 
 // What went out of a share to a writer that takes so many bytes and then fails, and whether the
 // share writer failed, for good.
-fn written(alloc: Global, view: &ShareView, number: u16, left: usize) -> Option<(Vec<u8>, bool)> {
+fn written(
+    alloc: Global,
+    middle: &[u8],
+    extension_block: &[u8],
+    number: u16,
+    left: usize,
+) -> Option<(Vec<u8>, bool)> {
     let writer = Short {
         taken: Vec::new(alloc),
         left,
     };
     let geometry = geometry()?;
-    if !fits(&geometry, view) {
+    if !fits(&geometry, middle, extension_block) {
         return None;
     }
     let mut share = ShareWriter::new(writer, &geometry, number);
     let mut failed = false;
-    if put_all(&mut share, view).is_err() {
-        failed = share.put(&[]) == Err(LayoutError::WriterFault);
+    if put_all(&mut share, middle, left % (middle.len() + 1), extension_block).is_err() {
+        failed = share.put(&[]) == Err(LayoutError::WriterFault)
+            && share.put_extension_block(&[]) == Err(LayoutError::WriterFault);
     }
     Some((share.into_inner().taken, failed))
 }
@@ -236,13 +226,10 @@ fn written(alloc: Global, view: &ShareView, number: u16, left: usize) -> Option<
 // Whether the sections of a share, written to a writer that fails after so many bytes, give a
 // beginning of it, and the share writer fails where that is not all.
 fn is_beginning(alloc: Global, share: &[u8], number: u16, left: usize) -> bool {
-    let Some(geometry) = geometry() else {
+    let (Some(middle), Ok(extension_block)) = (share.get(36..321), locate_ueb(share)) else {
         return false;
     };
-    let Ok(view) = ShareView::read(share, number, &geometry) else {
-        return false;
-    };
-    match written(alloc, &view, number, left) {
+    match written(alloc, middle, extension_block, number, left) {
         Some((taken, failed)) => {
             failed == (left < share.len())
                 && Some(taken.as_slice()) == share.get(..left.min(share.len()))
@@ -489,4 +476,130 @@ fn places_of_a_lying_header_do_not_wrap(rt: HostRuntime) {
     assert!(rt; has_fault(&bytes, LayoutError::Truncated(Section::Data)));
     bytes[34] = 0;
     assert!(rt; has_fault(&bytes, LayoutError::BadOffset));
+}
+
+// ---- the second layout
+
+// Whether a file of this size, at one share of one in segments of 2^20 bytes, has shares of this
+// layout that begin so.
+fn begins(size: u64, layout: Layout, wanted: &[u8]) -> bool {
+    let Ok(geometry) = Geometry::of(size, 1, 1, 1 << 20) else {
+        return false;
+    };
+    let mut header = [0; 68];
+    let length = geometry.header(&mut header);
+    geometry.layout() == layout
+        && length == layout.header_size()
+        && header.get(..length) == Some(wanted)
+}
+
+// The greatest file whose header fits four bytes a number, and the one of a byte more.
+const LAST_OF_ONE: [u32; 9] = [
+    1,
+    1 << 20,
+    4_294_180_889,
+    36,
+    4_294_180_925,
+    4_294_443_037,
+    4_294_705_149,
+    4_294_967_261,
+    u32::MAX,
+];
+
+const FIRST_OF_TWO: [u8; 68] = [
+    0, 0, 0, 2, 0, 0, 0, 0, 0, 0x10, 0, 0, 0, 0, 0, 0, 0xff, 0xf4, 0, 0x1a, 0, 0, 0, 0, 0, 0, 0, 0x44,
+    0, 0, 0, 0, 0xff, 0xf4, 0, 0x5e, 0, 0, 0, 0, 0xff, 0xf8, 0, 0x3e, 0, 0, 0, 0, 0xff, 0xfc, 0, 0x1e,
+    0, 0, 0, 0, 0xff, 0xff, 0xff, 0xfe, 0, 0, 0, 1, 0, 0, 0, 0x20,
+];
+
+// The numbers of a header of the first layout, in four bytes each.
+fn in_four_bytes(numbers: &[u32; 9]) -> [u8; 36] {
+    let mut header = [0; 36];
+    for i in 0..9 {
+        header[4 * i..4 * i + 4].copy_from_slice(&numbers[i].to_be_bytes());
+    }
+    header
+}
+
+#[test]
+fn the_second_layout_begins_where_the_first_ends(rt: HostRuntime) {
+    let last = in_four_bytes(&LAST_OF_ONE);
+    assert!(rt; begins(4_294_180_889, Layout::One, &last));
+    assert!(rt; begins(4_294_180_890, Layout::Two, &FIRST_OF_TWO));
+}
+
+#[test]
+fn the_greatest_file_has_2_to_the_20_segments(rt: HostRuntime) {
+    let count = match Geometry::of(1 << 40, 1, 1, 1 << 20) {
+        Ok(geometry) => geometry.segment_count(),
+        Err(_) => 0,
+    };
+    assert!(rt; count == 1 << 20);
+}
+
+// A header is measured by the version that it begins with: cut to any length it is truncated, and
+// behind it the data are.
+#[test]
+fn a_header_is_measured_by_its_version(rt: HostRuntime) {
+    let last = in_four_bytes(&LAST_OF_ONE);
+    for len in 0..68 {
+        let cut = LayoutError::Truncated(if len < 68 {
+            Section::Header
+        } else {
+            Section::Data
+        });
+        assert!(rt; has_fault(&FIRST_OF_TWO[..len], cut), "at {len}");
+    }
+    assert!(rt; has_fault(&FIRST_OF_TWO, LayoutError::Truncated(Section::Data)));
+    for len in 0..36 {
+        assert!(rt; has_fault(&last[..len], LayoutError::Truncated(Section::Header)), "at {len}");
+    }
+    assert!(rt; has_fault(&last, LayoutError::Truncated(Section::Data)));
+}
+
+// A header of eight-byte numbers that names places near 2^64.
+#[test]
+fn places_of_a_lying_long_header_do_not_wrap(rt: HostRuntime) {
+    let mut bytes = [0u8; 80];
+    let numbers = [
+        0,
+        0,
+        68,
+        u64::MAX - 4,
+        u64::MAX - 3,
+        u64::MAX - 2,
+        u64::MAX - 1,
+        u64::MAX,
+    ];
+    bytes[3] = 2;
+    for i in 0..8 {
+        bytes[8 * i + 4..8 * i + 12].copy_from_slice(&numbers[i].to_be_bytes());
+    }
+    assert!(rt; has_fault(&bytes, LayoutError::Truncated(Section::Data)));
+    bytes[67] = 0;
+    assert!(rt; has_fault(&bytes, LayoutError::BadOffset));
+}
+
+// Share 3 of 56 bytes, spelled in the second layout: all places are 32 bytes further, and the length
+// of the extension block has eight bytes.
+fn spelled_long(alloc: Global) -> Option<Vec<u8>> {
+    let share = share_three(alloc)?;
+    let mut long = Vec::from_slice(alloc, &[0, 0, 0, 2]).ok()?;
+    for number in [19u64, 19, 68, 87, 119, 151, 183, 353] {
+        long.extend_from_slice(&number.to_be_bytes()).ok()?;
+    }
+    long.extend_from_slice(share.get(36..321)?).ok()?;
+    long.extend_from_slice(&[0; 4]).ok()?;
+    long.extend_from_slice(share.get(321..)?).ok()?;
+    Some(long)
+}
+
+#[test]
+fn a_small_file_has_no_share_in_the_second_layout(rt: HostRuntime) {
+    let (Some(geometry), Some(long)) = (geometry(), spelled_long(rt.alloc())) else {
+        assert!(rt; false);
+        return;
+    };
+    assert!(rt; locate_number(&long) == 0);
+    assert!(rt; read_number(&long, 3, &geometry) == 32);
 }
