@@ -140,25 +140,20 @@ fn refusals_have_numbers_and_names(rt: HostRuntime) -> Result<(), Fail> {
     Ok(())
 }
 
-// Writes a share: what stands between its header and its extension block, in two pieces, and then the
-// extension block.
+// Writes a share: what stands between its header and its extension block, and then that.
 fn put_all<W: io::Write>(
     share: &mut ShareWriter<W>,
     middle: &[u8],
-    cut: usize,
     extension_block: &[u8],
 ) -> Result<(), LayoutError>
     requires start { share.old.place ≡ 0 }
     requires sound { share.old.failed ≡ false }
-    requires cut { cut ≤ length middle.now }
     requires whole { header_size (layout_of share.old.geometry) + length middle.now
         ≡ (places_of share.old.geometry).extension_block }
     requires short { length extension_block.now ≤ max_length }
     ensures { OnErr result (IsTrue share.new.failed) }
 {
-    let (first, rest) = middle.split_at(cut);
-    share.put(first)?;
-    share.put(rest)?;
+    share.put(middle)?;
     share.put_extension_block(extension_block)
 }
 
@@ -216,7 +211,7 @@ fn written(
     }
     let mut share = ShareWriter::new(writer, &geometry, number);
     let mut failed = false;
-    if put_all(&mut share, middle, left % (middle.len() + 1), extension_block).is_err() {
+    if put_all(&mut share, middle, extension_block).is_err() {
         failed = share.put(&[]) == Err(LayoutError::WriterFault)
             && share.put_extension_block(&[]) == Err(LayoutError::WriterFault);
     }
