@@ -6,7 +6,7 @@ ghost use Rattle.file_encoding.specs.EncodeError.{refusal_number};
 use std::alloc::{AllocError, AllocFailed};
 
 /// Why a file is not encoded.
-#[derive(Clone, Copy, PartialEq, Eq)]
+#[derive(Clone, Copy, Debug, PartialEq, Eq)]
 pub enum EncodeError {
     /// No memory was left (number 1).
     OutOfMemory,

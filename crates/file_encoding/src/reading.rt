@@ -17,7 +17,7 @@ use share_verify::{leaves_in, read_share};
 use std::alloc::{AllocError, AllocFailed, Global};
 
 /// Why shares do not give their file.
-#[derive(Clone, Copy, PartialEq, Eq)]
+#[derive(Clone, Copy, Debug, PartialEq, Eq)]
 pub enum ReadError {
     /// No memory was left (number 1).
     OutOfMemory,

@@ -29,7 +29,7 @@ use sums::{Blocks, Joined, combine};
 pub const MAX_SHARES: u16 = 256;
 
 /// Why a call is refused.
-#[derive(Clone, Copy, PartialEq, Eq)]
+#[derive(Clone, Copy, Debug, PartialEq, Eq)]
 pub enum CodeError {
     /// No memory was left (number 1).
     OutOfMemory,
