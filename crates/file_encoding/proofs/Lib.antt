@@ -17,3 +17,4 @@ pub mod Bytes
 pub mod KeyBytes
 pub mod OwnReading
 pub mod Parts
+pub mod OwnEvidence

@@ -1,6 +1,7 @@
 -- The segments of an encoding are parts of its cap's file.
-use Rattle.std.specs.Prelude.{◌≡◌, ℕ, ◌<◌, List, [], length, slice_index_or}
+use Rattle.std.specs.Prelude.{◌≡◌, ℕ, ◌<◌, List, [], length, slice_index_or, All}
 use Rattle.aes_ctr.specs.CounterMode.{xored}
+use Rattle.merkle.specs.Inputs.{AreAmong}
 use Rattle.merkle.specs.Path.{siblings_of}
 use Rattle.tagged_hash.specs.ConvergentKey.{convergent_key_of}
 use Rattle.cap_text.specs.Cap.{VerifyCapValue, verify_cap_of}
@@ -8,6 +9,10 @@ use Rattle.ueb.specs.Block.{ueb_text}
 use Rattle.ueb.specs.Shape.{IsShape}
 use Rattle.share_layout.specs.Geometry.{Geometry, geometry_of, segment_count}
 use Rattle.file_encoding.specs.Encoding.{Parameters, ciphertext_encoding, encoding_of, extension_block_contents}
+use Rattle.proved_parts.specs.Evidence.{evidence_inputs}
+use Rattle.proved_parts.specs.declared.evidence.Evidence.{Evidence}
+use Rattle.proved_parts.specs.declared.evidence.EvidencePart.{EvidencePart}
+use Rattle.file_encoding.specs.Inputs.{encoding_inputs}
 use Rattle.proved_parts.specs.FileOf.{segment_hashes}
 use Rattle.proved_parts.specs.Parts.{IsPartOf}
 use Rattle.share_layout.specs.Pieces.{segments_of}
@@ -36,3 +41,22 @@ FileHasParts = (file secret : List ℕ) (p : Parameters)
     → let g = geometry_of (length file) p.needed p.total p.max_segment in
     HasParts (verify_cap_of (encoding_of file secret p).cap) g
     (xored (convergent_key_of p.needed p.total g.segment_size secret file) file)
+
+-- evidence of a ciphertext's own parts: its own extension block, and of each part the segment and
+-- the path of its number
+pub record IsOwnEvidence (g : Geometry) (ciphertext : List ℕ) (e : Evidence) : Type 0 where
+  pub block : e.extension_block
+      ≡ ueb_text (extension_block_contents g ciphertext (segments_of g ciphertext))
+  pub there : All (λ (p : EvidencePart). p.number < segment_count g) e.parts
+  pub segments : All (λ (p : EvidencePart).
+      p.segment ≡ slice_index_or (segments_of g ciphertext) p.number []) e.parts
+  pub paths : All (λ (p : EvidencePart).
+      p.path ≡ siblings_of (segment_hashes (segments_of g ciphertext)) p.number) e.parts
+
+-- a law: what own evidence hashes is hashed for the encoding
+abbrev pub OwnEvidenceIsWithin : Type 0
+OwnEvidenceIsWithin = (file secret : List ℕ) (p : Parameters) (e : Evidence)
+    → let g = geometry_of (length file) p.needed p.total p.max_segment in
+    let key = convergent_key_of p.needed p.total g.segment_size secret file in
+    IsOwnEvidence g (xored key file) e → AreAmong (encoding_inputs file secret p)
+        (evidence_inputs e)

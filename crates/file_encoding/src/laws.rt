@@ -2,7 +2,7 @@
 
 ghost use Rattle.file_encoding.specs.Laws.{AcceptedSharesPass, CiphertextSharesPass, FileSharesPass, SharesHaveOneLength};
 ghost use Rattle.file_encoding.specs.OwnFile.{OwnSharesGiveTheFile};
-ghost use Rattle.file_encoding.specs.Parts.{EncodingHasParts, FileHasParts};
+ghost use Rattle.file_encoding.specs.Parts.{EncodingHasParts, FileHasParts, OwnEvidenceIsWithin};
 
 /// A law: each share of a ciphertext's encoding passes `verify_share` with the encoding's verify
 /// cap and its own number.
@@ -45,4 +45,9 @@ pub fn accepted_shares_pass()
 /// A law: all shares of a file's encoding have one length.
 pub fn shares_have_one_length()
     ensures { SharesHaveOneLength }
+{}
+
+/// A law: what evidence of a file's own segments hashes is hashed for the file's encoding.
+pub fn own_evidence_is_within()
+    ensures { OwnEvidenceIsWithin }
 {}
