@@ -16,7 +16,7 @@ use tagged_hash::storage_index;
 const MAX_SECRET_SIZE: usize = 64;
 
 /// The greatest file, in bytes.
-const MAX_FILE_SIZE: u64 = 1 << 30;
+const MAX_FILE_SIZE: u64 = 1 << 40;
 
 /// The greatest file that its cap holds, in bytes.
 const MAX_LITERAL_SIZE: usize = 55;
