@@ -71,11 +71,11 @@ sees 'the shares put over it' gives_file
 
 truncate -s 1099511627777 large
 sees 'a file of 2^40 + 1 bytes' ends 3 'grid: 30 TooLarge' "$grid" put large --grid new --segment 1048576
+sees 'a file in the place of the folder' ends 7 'grid: 90 FileFault file' "$grid" put large --grid file
 truncate -s 1099511627776 large
 sees 'a file of 2^40 bytes' ends 7 'grid: 1 OutOfMemory' "$grid" put large --grid new --segment 1048576
 sees 'no folder for what was not stored' [ ! -e new ]
 sees 'an empty name' ends 7 'grid: 90 FileFault ' "$grid" put file --grid ''
-sees 'a file in the place of the folder' ends 7 'grid: 90 FileFault file' "$grid" put large --grid file
 head -c 70000 file > part && mkfifo pipe
 put_from_pipe() { cat part > pipe & ends 0 '' "$grid" put pipe --grid g; }
 sees 'a file that comes through a pipe' put_from_pipe
