@@ -303,12 +303,7 @@ fn up_to(shares: &[Share], number: usize, len: usize) -> &[u8] {
 
 // Whether the file comes from the first bytes of share 1 and from shares 3, 7 and 9, and not from
 // the former and two of the latter.
-fn gives_with_three(
-    alloc: Global,
-    shares: &[Share],
-    len: usize,
-    file: &[u8],
-) -> bool {
+fn gives_with_three(alloc: Global, shares: &[Share], len: usize, file: &[u8]) -> bool {
     let Ok(cap) = three_of_ten_cap() else {
         return false;
     };

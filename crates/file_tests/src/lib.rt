@@ -3,6 +3,8 @@
 #![tactic(auto)]
 
 #[cfg(test)]
+mod evidence_tests;
+#[cfg(test)]
 mod faulty_io_tests;
 #[cfg(test)]
 mod file_encoding_tests;

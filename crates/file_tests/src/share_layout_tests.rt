@@ -62,7 +62,10 @@ fn geometries_have_their_sizes(rt: HostRuntime) -> Result<(), Fail> {
         assert!(rt; geometry.tail_length() == tail, "at {size}");
         assert!(rt; geometry.block_size() == block, "at {size}");
         assert!(rt; geometry.tail_block_size() == tail_block, "at {size}");
-        assert!(rt; geometry.share_data_size() == u64::from(numbers[2]), "at {size}");
+        assert!(rt;
+            geometry.share_data_size() == u64::from(numbers[2]),
+            "at {size}"
+        );
         let mut header = [0; 68];
         assert!(rt; geometry.header(&mut header) == 36, "at {size}");
         for i in 0..9 {
@@ -502,9 +505,9 @@ const LAST_OF_ONE: [u32; 9] = [
 ];
 
 const FIRST_OF_TWO: [u8; 68] = [
-    0, 0, 0, 2, 0, 0, 0, 0, 0, 0x10, 0, 0, 0, 0, 0, 0, 0xff, 0xf4, 0, 0x1a, 0, 0, 0, 0, 0, 0, 0, 0x44,
-    0, 0, 0, 0, 0xff, 0xf4, 0, 0x5e, 0, 0, 0, 0, 0xff, 0xf8, 0, 0x3e, 0, 0, 0, 0, 0xff, 0xfc, 0, 0x1e,
-    0, 0, 0, 0, 0xff, 0xff, 0xff, 0xfe, 0, 0, 0, 1, 0, 0, 0, 0x20,
+    0, 0, 0, 2, 0, 0, 0, 0, 0, 0x10, 0, 0, 0, 0, 0, 0, 0xff, 0xf4, 0, 0x1a, 0, 0, 0, 0, 0, 0, 0,
+    0x44, 0, 0, 0, 0, 0xff, 0xf4, 0, 0x5e, 0, 0, 0, 0, 0xff, 0xf8, 0, 0x3e, 0, 0, 0, 0, 0xff, 0xfc,
+    0, 0x1e, 0, 0, 0, 0, 0xff, 0xff, 0xff, 0xfe, 0, 0, 0, 1, 0, 0, 0, 0x20,
 ];
 
 // The numbers of a header of the first layout, in four bytes each.
@@ -547,7 +550,10 @@ fn a_header_is_measured_by_its_version(rt: HostRuntime) {
     }
     assert!(rt; has_fault(&FIRST_OF_TWO, LayoutError::Truncated(Section::Data)));
     for len in 0..36 {
-        assert!(rt; has_fault(&last[..len], LayoutError::Truncated(Section::Header)), "at {len}");
+        assert!(rt;
+            has_fault(&last[..len], LayoutError::Truncated(Section::Header)),
+            "at {len}"
+        );
     }
     assert!(rt; has_fault(&last, LayoutError::Truncated(Section::Data)));
 }
