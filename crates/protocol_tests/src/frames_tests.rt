@@ -116,7 +116,7 @@ const DIGEST: [u8; 32] = [
     56, 57, 58, 59, 60, 61, 62, 63,
 ];
 
-// Whether a message of this session and number has this frame.
+// Whether a message of this session and number has this frame, and the body of it.
 fn has_frame(alloc: Global, session: u64, number: u64, body: Option<Body>, frame: &[u8]) -> bool {
     let Some(body) = body else {
         return false;
@@ -126,9 +126,11 @@ fn has_frame(alloc: Global, session: u64, number: u64, body: Option<Body>, frame
         number,
         body,
     };
-    match message.encode(alloc) {
-        Ok(bytes) => bytes.as_slice() == frame,
-        Err(_) => false,
+    match (message.encode(alloc), message.encode_body(alloc)) {
+        (Ok(bytes), Ok(body)) => {
+            bytes.as_slice() == frame && frame.get(4..) == Some(body.as_slice())
+        }
+        _ => false,
     }
 }
 
@@ -338,5 +340,39 @@ fn is_frame_or_refused(alloc: Global, message: &Message, frame: &[u8]) -> bool {
 fn refused_memory_in_a_stream(rt: HostRuntime) {
     for place in [1usize, 7, 15] {
         assert!(rt; comes_again(rt.alloc(), FRAMES[place]), "{place}");
+    }
+}
+
+// The number of the refusal, where one for want of memory is asked again.
+fn told_at_last(feed: &mut Feed) -> u8 {
+    let number = told(feed);
+    if number == WireError::OutOfMemory.number() {
+        return told(feed);
+    }
+    number
+}
+
+// Whether a fault is told for good: each piece behind it is taken, with no memory, and gives no
+// message.
+fn is_told_for_good(alloc: Global, bytes: &[u8], number: u8) -> bool {
+    let mut feed = Feed::new(alloc);
+    if feed.feed(bytes).is_err() && feed.feed(bytes).is_err() {
+        return false;
+    }
+    if feed.fault() != None || told_at_last(&mut feed) != number {
+        return false;
+    }
+    for frame in FRAMES {
+        if feed.feed(frame).is_err() || told(&mut feed) != number {
+            return false;
+        }
+    }
+    feed.fault().map(|fault| fault.number()) == Some(number)
+}
+
+#[test]
+fn refused_memory_before_a_fault(rt: HostRuntime) {
+    for &(what, bytes, number) in &FAULTY {
+        assert!(rt; is_told_for_good(rt.alloc(), bytes, number), "{what}");
     }
 }

@@ -2,7 +2,7 @@
 
 use std::alloc::Global;
 use wire::message::{Body, HeldList, HeldShare, Message, ReadData, ReadLength, ShareLength};
-use wire::requests::{Asked, Outcome, Requests};
+use wire::requests::{Asked, Outcome, Request, Requests};
 
 // The seconds of the ticks, and those at which one request is sent. At the last tick it is lost.
 const SILENT: [(&[u64], &[u64]); 4] = [
@@ -258,4 +258,96 @@ fn fitting_kinds(rt: HostRuntime) {
     ] {
         assert!(rt; fit(&asked, &kinds, fitting), "{fitting}");
     }
+}
+
+// An operation of session 7 that asked server 9 for its shares at second 0, and again at second 5.
+fn asked_again(alloc: Global) -> Option<Requests> {
+    let mut requests = Requests::new(alloc, 7, 0);
+    requests.ask(9, Asked::Holdings).ok()?;
+    if requests.take_next() != Some(0) || requests.outgoing_len() != 0 {
+        return None;
+    }
+    let lost = requests.tick(5).ok()?;
+    if lost.len() == 0 && requests.first() == Some(0) {
+        Some(requests)
+    } else {
+        None
+    }
+}
+
+// Whether nothing waits for an answer, and nothing is to send.
+fn is_done(requests: &Requests) -> bool {
+    requests.outstanding() == 0 && requests.outgoing_len() == 0 && !requests.has_work()
+}
+
+// A second sending that was not taken yet falls away with the answer.
+fn is_done_once_answered(alloc: Global) -> Option<bool> {
+    let mut requests = asked_again(alloc)?;
+    let place = requests.take_answer(9, have(alloc)?, 6);
+    let is_kept = match requests.entries().get(0) {
+        Some(request) => matches!(request.outcome, Outcome::Answered(Body::Have(true, _))),
+        None => false,
+    };
+    Some(place == Some(0) && is_kept && requests.clock() == 6 && is_done(&requests))
+}
+
+// It falls away too where no answer comes.
+fn is_done_once_lost(alloc: Global) -> Option<bool> {
+    let mut requests = asked_again(alloc)?;
+    let early = requests.tick(19).ok()?;
+    let late = requests.tick(20).ok()?;
+    Some(early.len() == 0 && late.as_slice() == &[0usize][..] && is_done(&requests))
+}
+
+#[test]
+fn ended_requests_are_not_sent(rt: HostRuntime) {
+    assert!(rt; is_done_once_answered(rt.alloc()) == Some(true));
+    assert!(rt; is_done_once_lost(rt.alloc()) == Some(true));
+}
+
+#[test]
+fn refused_memory_in_a_request_that_ends(rt: HostRuntime) {
+    assert!(rt; is_done_once_answered(rt.alloc()) != Some(false));
+    assert!(rt; is_done_once_lost(rt.alloc()) != Some(false));
+}
+
+// Whether this is a request to a server for its shares, made at second 100.
+fn is_first_of(request: Option<&Request>, server: u16) -> bool {
+    match request {
+        Some(request) => {
+            request.server == server
+                && request.asked == Asked::Holdings
+                && request.first_sent == 100
+                && request.sendings == 1
+        }
+        None => false,
+    }
+}
+
+// Whether an operation begins with a request to each server in turn, and loses each 20 seconds
+// later, but that of the second server, which answers; none, where memory is out.
+fn begins(alloc: Global) -> Option<bool> {
+    let mut requests = Requests::begin(alloc, &[3, 9, 5], 7, 100).ok()?;
+    let mut is_right = requests.session() == 7 && requests.clock() == 100;
+    for (place, server) in [3u16, 9, 5].iter().enumerate() {
+        is_right &= is_first_of(requests.entries().get(place), *server);
+        is_right &= requests.take_next() == Some(place);
+    }
+    let mut message = have(alloc)?;
+    message.number = 2;
+    is_right &= requests.take_next() == None && requests.outstanding() == 3;
+    is_right &= requests.take_answer(9, message, 101) == Some(1);
+    let lost = requests.tick(120).ok()?;
+    is_right &= lost.as_slice() == &[0usize, 2][..];
+    Some(is_right && requests.entries().len() == 3 && is_done(&requests))
+}
+
+#[test]
+fn an_operation_begins_with_all_servers(rt: HostRuntime) {
+    assert!(rt; begins(rt.alloc()) == Some(true));
+}
+
+#[test]
+fn refused_memory_in_a_beginning(rt: HostRuntime) {
+    assert!(rt; begins(rt.alloc()) != Some(false));
 }

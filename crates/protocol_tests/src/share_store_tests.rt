@@ -8,6 +8,7 @@
 use share_store::error::StoreError;
 use share_store::folder::FolderStore;
 use share_store::memory::MemoryStore;
+use share_store::names::ClosedName;
 use share_store::store::Store;
 use std::alloc::{AllocError, Global};
 use std::test::Fail;
@@ -375,8 +376,9 @@ fn fill(rt: &HostRuntime) -> Result<(), Fail> {
 
 const EMPTY: [Call; 1] = [Call::Used(0)];
 
-const FILLED: [Call; 6] = [
+const FILLED: [Call; 7] = [
     Call::Used(6),
+    Call::Open(INDEX, 6),
     Call::Closed(INDEX, 0, 208),
     Call::Closed(INDEX, 255, 7),
     Call::Write(INDEX, 1, 8, b"\x03"),
@@ -391,7 +393,7 @@ fn folder_ignores_other_names(rt: HostRuntime) -> Result<(), Fail> {
     remove(&rt)?;
     assert_eq!(rt; right_in_folder(&rt, &EMPTY)?, 1);
     fill(&rt)?;
-    assert_eq!(rt; right_in_folder(&rt, &FILLED)?, 6);
+    assert_eq!(rt; right_in_folder(&rt, &FILLED)?, 7);
     remove(&rt)?;
     Ok(())
 }
@@ -424,4 +426,47 @@ fn folder_fails(rt: HostRuntime) -> Result<(), Fail> {
     assert!(rt; fails(&rt, &mut store, Call::Write(INDEX, 1, 0, b"\x01"), 3));
     assert!(rt; fails(&rt, &mut store, Call::Close(INDEX, 1, 7), 4));
     Ok(())
+}
+
+// Whether a name is written and read as that of a share with these digest bytes; none, where memory
+// is out.
+fn is_named(alloc: Global, number: u8, digest: u8, end: &str) -> Option<bool> {
+    let place = (INDEX, number);
+    let digest = [digest; 32];
+    let written = ClosedName { place, digest }.text(alloc).ok()?;
+    let wanted = format!(in alloc; "{INDEX_TEXT}.{number}.{end}").ok()?;
+    Some(match ClosedName::read(wanted.as_bytes()) {
+        Some(read) => read.place == place && read.digest == digest && written == wanted,
+        None => false,
+    })
+}
+
+#[test]
+fn closed_names_are_read_as_written(rt: HostRuntime) {
+    for number in [0u8, 9, 10, 99, 100, 255] {
+        assert!(rt;
+            is_named(rt.alloc(), number, 7, SEVENS) == Some(true),
+            "{number}"
+        );
+        assert!(rt;
+            is_named(rt.alloc(), number, 208, GREATER) == Some(true),
+            "{number}"
+        );
+    }
+}
+
+// Whether a name with an index, what comes after it and an end is no closed share's.
+fn is_other(alloc: Global, rest: &str, end: &str) -> Option<bool> {
+    let name = format!(in alloc; "{INDEX_TEXT}{rest}{end}").ok()?;
+    Some(ClosedName::read(name.as_bytes()).is_none())
+}
+
+// The names of the table but the first three, and a digest with a bit behind its last byte.
+#[test]
+fn other_names_are_not_read(rt: HostRuntime) {
+    for &(rest, end, size) in &NAMES {
+        assert!(rt; is_other(rt.alloc(), rest, end) == Some(size > 4), "{rest}");
+    }
+    let end = "a4dqobyha4dqobyha4dqobyha4dqobyha4dqobyha4dqobyha4dr";
+    assert!(rt; is_other(rt.alloc(), ".3.", end) == Some(true));
 }
