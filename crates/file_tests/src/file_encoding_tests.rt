@@ -3,7 +3,8 @@
 
 use cap_text::{Cap, CapError, ReadCap};
 use file_encoding::{
-    EncodeError, Encoded, Params, ReadError, Share, ShareFault, encode_all, read_from, verify_share,
+    EncodeError, Encoded, Params, ReadError, Share, ShareFault, encode_all, read_ciphertext,
+    read_from, verify_share,
 };
 use share_layout::{LayoutError, Section};
 use std::alloc::{AllocError, Global};
@@ -427,5 +428,7 @@ fn blocks_that_are_no_code_word_are_inconsistent(rt: HostRuntime) -> Result<(), 
     let both = [(0, right.as_slice()), (1, wrong.as_slice())];
     assert!(rt; taken(read_from(alloc, &cap, &both))?.len() == 56);
     assert!(rt; is_refused(read_from(alloc, &cap, &both[1..]), ReadError::Inconsistent));
+    let text = read_ciphertext(alloc, &cap.to_verify(), &both[1..]);
+    assert!(rt; is_refused(text, ReadError::Inconsistent));
     Ok(())
 }

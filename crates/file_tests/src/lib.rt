@@ -9,6 +9,8 @@ mod faulty_io_tests;
 #[cfg(test)]
 mod file_encoding_tests;
 #[cfg(test)]
+mod reading_tests;
+#[cfg(test)]
 mod share_layout_tests;
 #[cfg(test)]
 mod verify_tests;

@@ -248,7 +248,7 @@ fn shares_of_ten(alloc: Global) -> Option<Vec<Share>> {
 }
 
 // Share 3 of that file.
-fn share_three(alloc: Global) -> Option<Vec<u8>> {
+pub(crate) fn share_three(alloc: Global) -> Option<Vec<u8>> {
     let shares = shares_of_ten(alloc)?;
     Vec::from_slice(alloc, shares.get(3)?.as_slice()).ok()
 }
@@ -583,7 +583,7 @@ fn places_of_a_lying_long_header_do_not_wrap(rt: HostRuntime) {
 
 // Share 3 of 56 bytes, spelled in the second layout: all places are 32 bytes further, and the length
 // of the extension block has eight bytes.
-fn spelled_long(alloc: Global) -> Option<Vec<u8>> {
+pub(crate) fn spelled_long(alloc: Global) -> Option<Vec<u8>> {
     let share = share_three(alloc)?;
     let mut long = Vec::from_slice(alloc, &[0, 0, 0, 2]).ok()?;
     for number in [19u64, 19, 68, 87, 119, 151, 183, 353] {
