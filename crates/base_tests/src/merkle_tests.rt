@@ -197,7 +197,11 @@ fn offers_of(
     let mut offers = Vec::new(alloc);
     for (hash, number) in tree.nodes().iter().zip(0u32..32) {
         if has(set, number) {
-            let hash = if wrong == Some(number) { [9; 32] } else { *hash };
+            let hash = if wrong == Some(number) {
+                [9; 32]
+            } else {
+                *hash
+            };
             offers.push((number, hash)).ok()?;
         }
     }
@@ -206,7 +210,13 @@ fn offers_of(
 
 // Whether nodes of a set are taken or refused as they have to be, and what is known afterwards is
 // right. One of them may have a wrong hash.
-fn is_answered_right(alloc: Global, tree: &Tree, leaves: u32, set: u32, wrong: Option<u32>) -> bool {
+fn is_answered_right(
+    alloc: Global,
+    tree: &Tree,
+    leaves: u32,
+    set: u32,
+    wrong: Option<u32>,
+) -> bool {
     if leaves == 0 || leaves > 8 {
         return false;
     }
@@ -229,10 +239,8 @@ fn is_answered_right(alloc: Global, tree: &Tree, leaves: u32, set: u32, wrong: O
 
 // Whether what is known of these nodes is what the tree has.
 fn tells_the_nodes(partial: &Partial, tree: &Tree, set: u32) -> bool {
-    tree.nodes()
-        .iter()
-        .zip(0u32..32)
-        .all(|(hash, number)| !has(set, number) || partial.node(number) == Some(*hash))
+    tree.nodes().iter().zip(0u32..32).all(|(hash, number)| !has(set, number)
+        || partial.node(number) == Some(*hash))
 }
 
 // Whether each set of at most four nodes of the tree of so many leaves is answered right, with right

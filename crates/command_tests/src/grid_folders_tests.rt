@@ -1,8 +1,8 @@
 // Grids whose folders hold what they should not, and words that are no words.
 
 use crate::grid_commands_tests::{
-    CLOSED, ZEROS_CAP, ends, gives, lacks_shares, makes_counted_file, makes_folder, path, put_gives,
-    put_line, removes_all, share_path, writes, zeros_go_round,
+    CLOSED, ZEROS_CAP, ends, gives, lacks_shares, makes_counted_file, makes_folder, path,
+    put_gives, put_line, removes_all, share_path, writes, zeros_go_round,
 };
 use grid_commands::refuse_words;
 use std::alloc::AllocError;
@@ -43,9 +43,7 @@ fn grid_fault(rt: &HostRuntime) -> Result<String, AllocError> {
 // Whether `put` with these options tells a fault of the grid's folder.
 fn put_tells_the_grid(rt: &HostRuntime, options: &str) -> bool {
     match (put_line(rt, options), grid_fault(rt)) {
-        (Ok(line), Ok(told)) => {
-            gives(rt, line.as_str(), 7, &[], told.as_str())
-        }
+        (Ok(line), Ok(told)) => { gives(rt, line.as_str(), 7, &[], told.as_str()) }
         _ => false,
     }
 }
@@ -65,7 +63,8 @@ fn a_file_is_no_grid(rt: HostRuntime) {
 fn puts_a_folder_there(rt: &HostRuntime) -> bool {
     match share_path(rt, CLOSED) {
         Ok(share) => {
-            fs::remove_file(rt, share.as_str()).is_ok() && fs::create_dir(rt, share.as_str()).is_ok()
+            fs::remove_file(rt, share.as_str()).is_ok()
+                && fs::create_dir(rt, share.as_str()).is_ok()
         }
         Err(_) => false,
     }

@@ -59,4 +59,4 @@ OwnEvidenceIsWithin = (file secret : List ℕ) (p : Parameters) (e : Evidence)
     → let g = geometry_of (length file) p.needed p.total p.max_segment in
     let key = convergent_key_of p.needed p.total g.segment_size secret file in
     IsOwnEvidence g (xored key file) e → AreAmong (encoding_inputs file secret p)
-        (evidence_inputs e)
+    (evidence_inputs e)

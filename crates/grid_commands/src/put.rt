@@ -62,7 +62,10 @@ where
     let alloc = rt.alloc();
     let read = read_at_most(rt, words.file, MAX_FILE_SIZE);
     let file = at_path(alloc, read, words.file)?;
-    if !file.as_ref().is_some_and(|bytes| bytes.len() <= MAX_LITERAL_SIZE) {
+    if !file
+        .as_ref()
+        .is_some_and(|bytes| bytes.len() <= MAX_LITERAL_SIZE)
+    {
         can_be_grid(rt, words.grid)?;
     }
     let Some(file) = file else {

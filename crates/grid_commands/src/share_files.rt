@@ -5,11 +5,10 @@ use crate::folders::{MAX_SERVERS, server_folder};
 use grid_rules::Fault;
 use share_store::names::{ClosedName, closed_path, open_path};
 use std::alloc::Global;
-use std::fs;
 use std::fs::{DirEntry, OpenOptions};
-use std::io;
 use std::io::Write;
 use std::rt::Files;
+use std::{fs, io};
 use tagged_hash::share_digest;
 
 /// A file under a closed share's name: the share's number, the server, and the path. The order is

@@ -95,8 +95,16 @@ const NUMBERS: [(&str, &str, &str); 5] = [
         "How many servers must hold a share of their own, 1 to n",
     ),
     ("n", "10", "How many shares are made, 1 to 256"),
-    ("segment", "131072", "The greatest segment in bytes, 1 to 1048576"),
-    ("servers", "10", "How many server folders are used, 1 to 256"),
+    (
+        "segment",
+        "131072",
+        "The greatest segment in bytes, 1 to 1048576",
+    ),
+    (
+        "servers",
+        "10",
+        "How many server folders are used, 1 to 256",
+    ),
 ];
 
 fn get_command<'a>(alloc: Global) -> Result<Command<'a>, AllocError> {
