@@ -1,4 +1,4 @@
-//! The tests of shares and of whole files: what no contract says, values from outside, and calls on
+//! The tests of whole files and of what proves parts of them: what no contract says, values from outside, and calls on
 //! their happy paths.
 #![tactic(auto)]
 
@@ -10,7 +10,3 @@ mod faulty_io_tests;
 mod file_encoding_tests;
 #[cfg(test)]
 mod reading_tests;
-#[cfg(test)]
-mod share_layout_tests;
-#[cfg(test)]
-mod verify_tests;

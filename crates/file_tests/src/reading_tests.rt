@@ -3,7 +3,6 @@
 
 ghost use Rattle.std.specs.Prelude.{◌≡◌, ◌∷◌, [], IfSome};
 
-use crate::share_layout_tests::{share_three, spelled_long};
 use aes_ctr::Aes128;
 use cap_text::{Cap, ReadCap, VerifyCap};
 use file_encoding::{
@@ -140,22 +139,6 @@ fn comes_from_two(alloc: Global) -> Option<bool> {
 #[test]
 fn refused_memory_in_a_ciphertext(rt: HostRuntime) {
     assert!(rt; comes_from_two(rt.alloc()) != Some(false));
-}
-
-// A share of a small file that is spelled in the second layout.
-#[test]
-fn a_small_file_has_no_right_share_in_the_second_layout(rt: HostRuntime) -> Result<(), Fail> {
-    let (Some(short), Some(long)) = (share_three(rt.alloc()), spelled_long(rt.alloc())) else {
-        assert!(rt; false);
-        return Ok(());
-    };
-    let block = locate_ueb(&long).unwrap_or(&[]);
-    let hash = tagged(Tag::ExtensionBlock, block);
-    let cap = ReadCap::new([0; 16], hash, 3, 10, 56)?.to_verify();
-    assert!(rt; verify_share(&cap, 3, &short) == Ok(()));
-    let fault = ShareFault::Layout(LayoutError::BadVersion);
-    assert!(rt; verify_share(&cap, 3, &long) == Err(fault));
-    Ok(())
 }
 
 // The decoder of shares 1 and 2 of three.

@@ -6,7 +6,3 @@
 mod frames_tests;
 #[cfg(test)]
 mod requests_tests;
-#[cfg(test)]
-mod server_core_tests;
-#[cfg(test)]
-mod share_store_tests;

@@ -1,0 +1,8 @@
+//! The tests of stores and of the server: what no contract says, values from outside, and calls on their
+//! happy paths.
+#![tactic(auto)]
+
+#[cfg(test)]
+mod server_core_tests;
+#[cfg(test)]
+mod share_store_tests;
