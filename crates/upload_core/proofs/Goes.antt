@@ -1,0 +1,287 @@
+-- How an upload goes on from its record.
+use Rattle.std.proofs.Common.{◌≡◌, ◌≢◌, ℕ, zero, suc, ◌+◌, ◌<◌, ◌≤◌, ◌==◌, ◌⊎◌, inl, inr, Bool, true, false, cond, ◌&&◌, ◌||◌, List, [], ◌∷◌, ◌++◌, All, Option, Some, None, Result, Ok, Err, length, take, map, get_or, eqb, nat_lt, IsPermutation, refl, sym, ap, subst, ◌∙◌, arith, true≢false}
+use Rattle.std.specs.Prelude.{max, slice_get, slice_set}
+use Rattle.std.specs.Result.{IfOk, OnOk, OnErr}
+use Rattle.std.specs.List.{IsDistinct, flat_map, range_with_len}
+use Rattle.std.specs.Cmp.{nat_eq_equiv}
+use Rattle.std.proofs.lemmas.Grind.{flat_map-append}
+use Rattle.std.proofs.lemmas.List.Sorted.{IsPermutation-map}
+use Rattle.std.proofs.lemmas.Map.Keys.{IsDistinct-IsPermutation}
+use Rattle.std.proofs.lemmas.Bool.{eqb-true, eq-eqb, ltb-true, ltb-false}
+use Rattle.std.proofs.lemmas.List.{append-nil, append_assoc, length-append, length-map, map-append, take_more}
+use Rattle.std.proofs.lemmas.List.Elements.{All-cons, All-map, All-nil, All-take, All-weaker}
+use Rattle.std.proofs.lemmas.Option.{slice_get-get_or, slice_get_within}
+use Rattle.wire.specs.declared.message.Body.{Body}
+use Rattle.wire.specs.declared.message.Message.{Message}
+use Rattle.wire.specs.declared.requests.Asked.{Asked}
+use Rattle.wire.specs.declared.requests.Asked.TheVariants.{Holdings, Allocation, Writing, Closing, Reading, Aborting}
+use Rattle.wire.specs.declared.requests.Outcome.TheVariants.{Answered}
+use Rattle.wire.specs.declared.requests.Request.{Request}
+use Rattle.wire.specs.Record.{RequestsState, answered_in, asked_all, asked_more, at, counted_at, counts_at, first_request, is_lost_at, is_outstanding, places_from, with_outcome}
+use Rattle.wire.specs.Asking.{after_message, after_tick, asks_of, begun, fresh, lost_by_tick}
+use Rattle.wire.proofs.RecordLaws.{Awaits, asked_snoc, counts_is}
+use Rattle.placement.specs.Matching.{IsLargestMatching, Pair}
+use Rattle.placement.specs.Plan.{IsPlan}
+use Rattle.upload_core.specs.declared.status.ServerInfo.{ServerInfo}
+use Rattle.upload_core.specs.State.{Goal, UploadState, with_record}
+use Rattle.upload_core.specs.Acknowledged.{acked_pairs}
+use Rattle.upload_core.specs.Transfers.{follow_up}
+use Rattle.upload_core.specs.Rounds.{IsToPlace, has_failed_since}
+use Rattle.upload_core.specs.Moves.{AreInOrder, GoesOn, TicksWith, all_follow_ups, asks_after, ends, follow_ups_at, places, waits}
+use Rattle.upload_core.specs.Course.{IsCourse, IsInside, IsOfTold, MayPlace, allocations, asked_servers, is_holdings, is_told}
+use Rattle.upload_core.proofs.Follow.{IsGood, follow_good, follow_none}
+use Rattle.upload_core.proofs.Records.{Goes, MayAsk, both, course_all, course_asked, course_goes, either, goes_refl, goes_settled, goes_ticked, length_goes, or_left, or_right}
+
+pub settled_by : {X E : Type 0} (r : Result X E) (P Q : Type 0) → OnOk r P → OnErr r Q → P ⊎ Q
+settled_by (Ok x) P Q p q = inl p
+settled_by (Err e) P Q p q = inr q
+
+pub on_ok : {X E : Type 0} (r : Result X E) (P Q : Type 0) → (P → Q) → OnOk r P → OnOk r Q
+on_ok (Ok x) P Q f p = f p
+on_ok (Err e) P Q f p = p
+
+holdings_is : (a : Asked) → is_holdings a ≡ true → a ≡ Holdings
+holdings_is Holdings h = refl
+holdings_is (Allocation share len) h = absurd (true≢false (sym h))
+holdings_is (Writing share offset len) h = absurd (true≢false (sym h))
+holdings_is (Closing share) h = absurd (true≢false (sym h))
+holdings_is (Reading share offset len) h = absurd (true≢false (sym h))
+holdings_is (Aborting share) h = absurd (true≢false (sym h))
+
+-- ---- what follows a request
+
+module _ (u : UploadState) (place : ℕ) (r : Request) (is : r ≡ get_or u.requests.entries place r) (lt : place < length u.requests.entries) where
+  pub may_follow : (asked : Asked) → IsCourse u → follow_up u.goal r ≡ Some asked → MayAsk u (r.server, asked)
+  may_follow asked c e =
+      let inside = subst (λ (q : Request). IsInside u.goal q.asked) (sym is) (c.inside place r lt) in
+      let of-told : IsOfTold u.requests.entries r = subst (IsOfTold u.requests.entries) (sym is) (c.of_told place r lt) in (
+        follow_good u.goal r asked inside e,
+        elim of-told [
+          | inl h ↦ absurd (follow_none u.goal r asked (holdings_is r.asked h) e)
+          | inr t ↦ t
+        ],
+      )
+
+  there : slice_get u.requests.entries place ≡ Some r
+  there = slice_get-get_or u.requests.entries place r lt ∙ ap Some (sym is)
+
+  pub follows : (o : Option Asked) → follow_up u.goal r ≡ o → follow_ups_at u.goal (slice_get u.requests.entries place) ≡ asks_after r o
+  follows o e = ap (follow_ups_at u.goal) there ∙ ap (asks_after r) e
+
+  pub follow_asks : (asked : Asked) (new : RequestsState) → follow_up u.goal r ≡ Some asked → new ≡ asked_more r.server asked u.requests → with_record u new ≡ with_record u (asked_all (follow_ups_at u.goal (slice_get u.requests.entries place)) u.requests)
+  follow_asks asked new e n = ap (with_record u) (n ∙ sym (ap (λ (asks : List (ℕ × Asked)). asked_all asks u.requests) (follows (Some asked) e)))
+
+  pub follow_nothing : follow_up u.goal r ≡ None → u ≡ with_record u (asked_all (follow_ups_at u.goal (slice_get u.requests.entries place)) u.requests)
+  follow_nothing e = ap (with_record u) (sym (ap (λ (asks : List (ℕ × Asked)). asked_all asks u.requests) (follows None e)))
+
+-- ---- the record
+
+pub length_asked : (asks : List (ℕ × Asked)) (r : RequestsState) → length r.entries ≤ length (asked_all asks r).entries
+length_asked [] r = omega arith
+length_asked (ask ∷ asks) r =
+    let new : RequestsState = asked_more ask.0 ask.1 r in
+    omega (arith, length_asked asks new, length-append r.entries (first_request ask.0 ask.1 r.clock ∷ []))
+
+answered_goes : (es : List Request) (place : ℕ) (a : Awaits es place) (body : Body) (o : Option Request) → slice_get es place ≡ o → Goes es (answered_in es place o body)
+answered_goes es place a body None e = goes_refl es
+answered_goes es place a body (Some r) e =
+    let same : a.request ≡ r = let k : Some a.request ≡ Some r = sym a.there ∙ e in cc in
+    goes_settled es place r body e (subst (λ (q : Request). is_outstanding q.outcome ≡ true) same a.waits)
+
+counted_goes : (from : ℕ) (m : Message) (r : RequestsState) (o : Option ℕ) → counts_at from m r ≡ o → Goes r.entries (counted_at m r o).entries
+counted_goes from m r None e = goes_refl r.entries
+counted_goes from m r (Some place) e = answered_goes r.entries place (counts_is from m r place e) m.body (slice_get r.entries place) refl
+
+pub message_goes : (from : ℕ) (m : Message) (now : ℕ) (r : RequestsState) → Goes r.entries (after_message from m now r).entries
+message_goes from m now r = counted_goes from m (at now r) (counts_at from m (at now r)) refl
+
+pub tick_goes : (now : ℕ) (r : RequestsState) → Goes r.entries (after_tick now r).entries
+tick_goes now r = goes_ticked (max r.clock now) r.entries
+
+pub counted_there : (from : ℕ) (m : Message) (now : ℕ) (r : RequestsState) (place : ℕ) → counts_at from m r ≡ Some place → place < length (after_message from m now r).entries
+counted_there from m now r place e =
+    let a = counts_is from m r place e in
+    let lt : place < length r.entries = slice_get_within r.entries place a.request a.there in
+    omega (arith, lt, length_goes r.entries (after_message from m now r).entries (message_goes from m now r))
+
+pub message_course : (u : UploadState) (from : ℕ) (m : Message) (now : ℕ) (new : RequestsState) → new ≡ after_message from m now u.requests → IsCourse u → IsCourse (with_record u new)
+message_course u from m now new e c = subst (λ (r : RequestsState). IsCourse (with_record u r)) (sym e) (course_goes u (after_message from m now u.requests) (message_goes from m now u.requests) c)
+
+pub tick_course : (u : UploadState) (now : ℕ) (new : RequestsState) → new ≡ after_tick now u.requests → IsCourse u → IsCourse (with_record u new)
+tick_course u now new e c = subst (λ (r : RequestsState). IsCourse (with_record u r)) (sym e) (course_goes u (after_tick now u.requests) (tick_goes now u.requests) c)
+
+-- it goes on from a record, whatever record the upload had
+pub goes_on_from : (u : UploadState) (r : RequestsState) (new : UploadState) → GoesOn (with_record u r) r new → GoesOn u r new
+goes_on_from u r new g = elim g [
+  | waits a e ↦ waits a e
+  | places p a b c d e ↦ places p a b c d e
+  | ends s a b c e ↦ ends s a b c e
+]
+
+-- ---- rounds
+
+pub allocations_more : (len : ℕ) (pairs : List Pair) (i : ℕ) (d : Pair) (r : RequestsState) → i < length pairs → asked_all (allocations len (take (i + 1) pairs)) r ≡ asked_more (get_or pairs i d).0 (Allocation (get_or pairs i d).1 len) (asked_all (allocations len (take i pairs)) r)
+allocations_more len pairs i d r lt =
+    let ask : Pair → ℕ × Asked = λ (p : Pair). (p.0, Allocation p.1 len) in
+    ap (λ (ps : List Pair). asked_all (allocations len ps) r) (take_more pairs i d lt)
+    ∙ ap (λ (asks : List (ℕ × Asked)). asked_all asks r) (map-append ask (take i pairs) (get_or pairs i d ∷ []))
+    ∙ asked_snoc (map ask (take i pairs)) (ask (get_or pairs i d)) r
+
+pub round_course : (u : UploadState) (pairs : List Pair) (k round : ℕ) (new : RequestsState) → round ≤ length u.requests.entries → new ≡ asked_all (allocations u.goal.share_length (take k pairs)) u.requests → All (MayPlace u) pairs → IsCourse u → IsCourse (record u { requests = new; round = round })
+round_course u pairs k round new le e may c =
+    let ask : Pair → ℕ × Asked = λ (p : Pair). (p.0, Allocation p.1 u.goal.share_length) in
+    let asks : List (ℕ × Asked) = map ask (take k pairs) in
+    let good : (p : Pair) → MayPlace u p → MayAsk u (ask p) = λ p h. (record { inside = (h.1, refl); share = refl }, h.0) in
+    let mays : All (MayAsk u) asks = All-map (MayAsk u) ask (take k pairs) (All-weaker (MayPlace u) (λ (p : Pair). MayAsk u (ask p)) good (take k pairs) (All-take (MayPlace u) k pairs may)) in
+    let t : IsCourse (with_record u new) = subst (λ (r : RequestsState). IsCourse (with_record u r)) (sym e) (course_all u asks mays c) in
+    record { few = t.few; distinct = t.distinct; inside = t.inside; of_told = t.of_told; begun = omega (arith, le, length_asked asks u.requests, ap (λ (r : RequestsState). length r.entries) e) }
+
+pub plan_at : (ro ro2 w w2 : List ℕ) (held held2 : List Pair) (n n2 : ℕ) (m1 m2 m3 left : List Pair) (un : List ℕ) → ro ≡ ro2 → w ≡ w2 → held ≡ held2 → n ≡ n2 → IsPlan ro w held n m1 m2 m3 left un → IsPlan ro2 w2 held2 n2 m1 m2 m3 left un
+plan_at ro ro2 w w2 held held2 n n2 m1 m2 m3 left un a b c d p =
+    subst (λ (x : ℕ). IsPlan ro2 w2 held2 x m1 m2 m3 left un) d
+    (subst (λ (x : List Pair). IsPlan ro2 w2 x n m1 m2 m3 left un) c
+    (subst (λ (x : List ℕ). IsPlan ro2 x held n m1 m2 m3 left un) b
+    (subst (λ (x : List ℕ). IsPlan x w held n m1 m2 m3 left un) a p)))
+
+module _ (u : UploadState) (chosen : List Pair) (largest : IsLargestMatching (acked_pairs u.goal u.requests.entries) chosen) (reached : ℕ) (count : reached ≡ length chosen) where
+  abbrev pub failed : Bool
+  failed = has_failed_since u.goal u.round u.requests.entries
+
+  pub to_place : ((u.round == 0) || nat_lt reached u.wanted && failed) ≡ true → IsToPlace u u.requests
+  to_place e = elim (either (u.round == 0) (nat_lt reached u.wanted && failed) e) [
+    | inl first ↦ inl (eqb-true u.round 0 first)
+    | inr again ↦ (
+        let t = both (nat_lt reached u.wanted) failed again in
+        let less : reached < u.wanted = ltb-true reached u.wanted t.0 in
+        inr ((λ enough. absurd (omega (arith, less, count, largest.largest enough.0 enough.1, enough.2))), t.1))
+  ]
+
+  pub not_to_place : ((u.round == 0) || nat_lt reached u.wanted && failed) ≡ false → IsToPlace u u.requests → ⊥
+  not_to_place e (inl first) = true≢false (sym (or_left (u.round == 0) (nat_lt reached u.wanted && failed) (eq-eqb u.round 0 first)) ∙ e)
+  not_to_place e (inr again) = by (nat_lt reached u.wanted) refl e
+    where
+      by : (b : Bool) → nat_lt reached u.wanted ≡ b → ((u.round == 0) || b && failed) ≡ false → ⊥
+      by true k h = true≢false (sym (or_right (u.round == 0) failed again.1) ∙ h)
+      by false k h =
+          let few : u.wanted ≤ reached = ltb-false reached u.wanted k in
+          again.0 (chosen, largest.matching, omega (arith, few, count))
+
+-- ---- what was lost
+
+get_push : {X : Type 0} (xs : List X) (x : X) (i : ℕ) → i < length xs → slice_get (xs ++ x ∷ []) i ≡ slice_get xs i
+get_push [] x i lt = absurd (omega (arith, lt))
+get_push (y ∷ ys) x zero lt = refl
+get_push (y ∷ ys) x (suc i) lt = get_push ys x i (omega (arith, lt))
+
+get_asked_all : (asks : List (ℕ × Asked)) (r : RequestsState) (p : ℕ) → p < length r.entries → slice_get (asked_all asks r).entries p ≡ slice_get r.entries p
+get_asked_all [] r p lt = refl
+get_asked_all (ask ∷ asks) r p lt =
+    let new : RequestsState = asked_more ask.0 ask.1 r in
+    let more : p < length new.entries = omega (arith, lt, length-append r.entries (first_request ask.0 ask.1 r.clock ∷ [])) in
+    get_asked_all asks new p more ∙ get_push r.entries (first_request ask.0 ask.1 r.clock) p lt
+
+all_append : (xs ys : List (ℕ × Asked)) (r : RequestsState) → asked_all (xs ++ ys) r ≡ asked_all ys (asked_all xs r)
+all_append [] ys r = refl
+all_append (x ∷ xs) ys r = all_append xs ys (asked_more x.0 x.1 r)
+
+-- one more of the lost requests is followed up
+pub follow_more : (g : Goal) (r : RequestsState) (lost : List ℕ) (i : ℕ) → i < length lost → All (λ (p : ℕ). p < length r.entries) lost
+    → asked_all (follow_ups_at g (slice_get (asked_all (all_follow_ups g r.entries (take i lost)) r).entries (get_or lost i 0))) (asked_all (all_follow_ups g r.entries (take i lost)) r)
+    ≡ asked_all (all_follow_ups g r.entries (take (i + 1) lost)) r
+follow_more g r lost i lt there =
+    let f : ℕ → List (ℕ × Asked) = λ (p : ℕ). follow_ups_at g (slice_get r.entries p) in
+    let before : List (ℕ × Asked) = all_follow_ups g r.entries (take i lost) in
+    let p : ℕ = get_or lost i 0 in
+    let old : slice_get (asked_all before r).entries p ≡ slice_get r.entries p = get_asked_all before r p (there i 0 lt) in
+    let split : all_follow_ups g r.entries (take (i + 1) lost) ≡ before ++ f p = ap (all_follow_ups g r.entries) (take_more lost i 0 lt) ∙ flat_map-append f (take i lost) (p ∷ []) ∙ ap (λ (l : List (ℕ × Asked)). before ++ l) (append-nil (f p)) in
+    ap (λ (o : Option Request). asked_all (follow_ups_at g o) (asked_all before r)) old
+    ∙ sym (all_append before (f p) r)
+    ∙ ap (λ (asks : List (ℕ × Asked)). asked_all asks r) (sym split)
+
+pub follow_there : (g : Goal) (r : RequestsState) (lost : List ℕ) (i : ℕ) → i < length lost → All (λ (p : ℕ). p < length r.entries) lost → get_or lost i 0 < length (asked_all (all_follow_ups g r.entries (take i lost)) r).entries
+follow_there g r lost i lt there = omega (arith, there i 0 lt, length_asked (all_follow_ups g r.entries (take i lost)) r)
+
+places_below : (test : Request → Bool) (place : ℕ) (entries : List Request) (n : ℕ) → place + length entries ≤ n → All (λ p. p < n) (places_from test place entries)
+places_below test place [] n le = All-nil (λ p. p < n)
+places_below test place (r ∷ rs) n le = by (test r) (places_below test (place + 1) rs n (omega arith))
+  where
+    by : (b : Bool) → All (λ p. p < n) (places_from test (place + 1) rs) → All (λ p. p < n) (cond b (place ∷ places_from test (place + 1) rs) (places_from test (place + 1) rs))
+    by true rest = All-cons (λ p. p < n) place (places_from test (place + 1) rs) (omega arith) rest
+    by false rest = rest
+
+pub lost_there : (now : ℕ) (r : RequestsState) → All (λ (p : ℕ). p < length (after_tick now r).entries) (lost_by_tick now r)
+lost_there now r = places_below (is_lost_at (max r.clock now)) 0 r.entries (length (after_tick now r).entries) (omega (arith, length_goes r.entries (after_tick now r).entries (tick_goes now r)))
+
+-- ---- the beginning
+
+begun_from : (servers : List ℕ) (r : RequestsState) → (asked_all (asks_of servers) r).entries ≡ r.entries ++ map (λ (s : ℕ). first_request s Holdings r.clock) servers
+begun_from [] r = sym (append-nil r.entries)
+begun_from (s ∷ ss) r =
+    begun_from ss (asked_more s Holdings r) ∙ append_assoc r.entries (first_request s Holdings r.clock ∷ []) (map (λ (q : ℕ). first_request q Holdings r.clock) ss)
+
+abbrev asks_at : ℕ → List ℕ → List Request
+asks_at now servers = map (λ (s : ℕ). first_request s Holdings now) servers
+
+asked_begun : (now : ℕ) (servers : List ℕ) → asked_servers (asks_at now servers) ≡ servers
+asked_begun now [] = refl
+asked_begun now (s ∷ ss) = ap (λ (l : List ℕ). s ∷ l) (asked_begun now ss)
+
+inside_begun : (g : Goal) (now : ℕ) (servers : List ℕ) → All (λ (r : Request). IsInside g r.asked) (asks_at now servers)
+inside_begun g now [] = All-nil (λ (r : Request). IsInside g r.asked)
+inside_begun g now (s ∷ ss) = All-cons (λ (r : Request). IsInside g r.asked) (first_request s Holdings now) (asks_at now ss) tt (inside_begun g now ss)
+
+of_told_begun : (es : List Request) (now : ℕ) (servers : List ℕ) → All (IsOfTold es) (asks_at now servers)
+of_told_begun es now [] = All-nil (IsOfTold es)
+of_told_begun es now (s ∷ ss) = All-cons (IsOfTold es) (first_request s Holdings now) (asks_at now ss) (inl refl) (of_told_begun es now ss)
+
+pub begun_course : (u : UploadState) (servers : List ℕ) (session now : ℕ) → u.requests ≡ begun servers session now → u.round ≡ 0 → length u.goal.digests ≤ 256 → IsDistinct eqb servers → IsCourse u
+begun_course u servers session now e first few d =
+    let is : u.requests.entries ≡ asks_at now servers = ap (λ (r : RequestsState). r.entries) e ∙ begun_from servers (fresh session now) in
+    record {
+      few = few;
+      distinct = subst (IsDistinct eqb) (sym (ap asked_servers is ∙ asked_begun now servers)) d;
+      inside = subst (All (λ (r : Request). IsInside u.goal r.asked)) (sym is) (inside_begun u.goal now servers);
+      of_told = subst (All (IsOfTold u.requests.entries)) (sym is) (of_told_begun u.requests.entries now servers);
+      begun = omega (arith, first);
+    }
+
+get_or-append_at : (before xs : List ℕ) (d : ℕ) → get_or (before ++ xs) (length before) d ≡ get_or xs 0 d
+get_or-append_at [] xs d = refl
+get_or-append_at (b ∷ bs) xs d = get_or-append_at bs xs d
+
+-- all elements, by their places
+by_places : (xs before : List ℕ) → map (λ (p : ℕ). get_or (before ++ xs) p 0) (range_with_len (length before) (length xs)) ≡ xs
+by_places [] before = refl
+by_places (x ∷ xs) before =
+    let here : get_or (before ++ x ∷ xs) (length before) 0 ≡ x = get_or-append_at before (x ∷ xs) 0 in
+    let len : length (before ++ x ∷ []) ≡ length before + 1 = length-append before (x ∷ []) in
+    let shape : (before ++ x ∷ []) ++ xs ≡ before ++ x ∷ xs = append_assoc before (x ∷ []) xs in
+    let rest : map (λ (p : ℕ). get_or (before ++ x ∷ xs) p 0) (range_with_len (length before + 1) (length xs)) ≡ xs =
+    subst (λ (l : List ℕ). map (λ (p : ℕ). get_or l p 0) (range_with_len (length before + 1) (length xs)) ≡ xs) shape
+    (subst (λ (k : ℕ). map (λ (p : ℕ). get_or ((before ++ x ∷ []) ++ xs) p 0) (range_with_len k (length xs)) ≡ xs) len (by_places xs (before ++ x ∷ []))) in
+    ap (λ (q : ℕ). q ∷ map (λ (p : ℕ). get_or (before ++ x ∷ xs) p 0) (range_with_len (length before + 1) (length xs))) here ∙ ap (λ (l : List ℕ). x ∷ l) rest
+
+pub order_distinct : (index : List ℕ) (servers : List ServerInfo) (nodes : List ℕ) → AreInOrder index servers nodes → IsDistinct eqb (map (λ (s : ServerInfo). s.node) servers) → IsDistinct eqb nodes
+order_distinct index servers nodes o d =
+    let own : List ℕ = map (λ (s : ServerInfo). s.node) servers in
+    let f : ℕ → ℕ = λ (p : ℕ). get_or own p 0 in
+    let n : length own ≡ length servers = length-map servers (λ (s : ServerInfo). s.node) in
+    let all : map f (range_with_len 0 (length servers)) ≡ own = subst (λ (k : ℕ). map f (range_with_len 0 k) ≡ own) n (by_places own []) in
+    let moved : IsPermutation own nodes = subst (IsPermutation own) (sym o.nodes_are) (subst (λ (l : List ℕ). IsPermutation l (map f o.places)) all (IsPermutation-map f (range_with_len 0 (length servers)) o.places o.all)) in
+    IsDistinct-IsPermutation eqb nat_eq_equiv.symm own nodes moved d
+
+pub nil_of : {X : Type 0} (xs : List X) → length xs ≡ 0 → xs ≡ []
+nil_of [] e = refl
+nil_of (x ∷ xs) e = absurd (omega (arith, e))
+
+pub ticks_with : (v : UploadState) (r : RequestsState) (lost : List ℕ) (new : UploadState) → lost ≢ [] → GoesOn v (asked_all (all_follow_ups v.goal r.entries lost) r) new → TicksWith lost r v new
+ticks_with v r [] new some g = absurd (some refl)
+ticks_with v r (p ∷ ps) new some g = g
+
+pub map_twice : {A B C : Type 0} (f : B → C) (g : A → B) (xs : List A) → map f (map g xs) ≡ map (λ (x : A). f (g x)) xs
+map_twice f g [] = refl
+map_twice f g (x ∷ xs) = ap (λ l. f (g x) ∷ l) (map_twice f g xs)
+
+pub if_ok : {X E : Type 0} (r : Result X E) (P Q : X → Type 0) → ((x : X) → P x → Q x) → IfOk r P → IfOk r Q
+if_ok (Ok x) P Q f p = f x p
+if_ok (Err e) P Q f p = p

@@ -1,0 +1,5 @@
+pub mod Follow
+pub mod Records
+pub mod Servers
+pub mod Goes
+pub mod Sends

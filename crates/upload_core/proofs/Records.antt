@@ -1,0 +1,197 @@
+-- How the record of an upload goes on, and what stays true of it.
+use Rattle.std.proofs.Common.{◌≡◌, ℕ, zero, suc, ◌+◌, ◌-◌, ◌<◌, ◌≤◌, ◌⊎◌, inl, inr, Bool, true, false, cond, not, ◌&&◌, ◌||◌, List, [], ◌∷◌, ◌++◌, All, Option, Some, None, length, map, filter, eqb, refl, sym, ap, subst, ◌∙◌, arith, true≢false}
+use Rattle.std.specs.Prelude.{slice_get, slice_set, nat_le}
+use Rattle.std.specs.List.{IsDistinct, list_any}
+use Rattle.std.proofs.lemmas.List.{append-nil, length-append, map-append}
+use Rattle.std.proofs.lemmas.List.Elements.{All-nil, All-cons, All-head, All-tail, All-push, All-weaker, filter-append}
+use Rattle.std.proofs.lemmas.List.Folds.{list_any-append}
+use Rattle.wire.specs.declared.message.Body.{Body}
+use Rattle.wire.specs.declared.requests.Asked.{Asked}
+use Rattle.wire.specs.declared.requests.Asked.TheVariants.{Holdings, Allocation, Writing, Closing, Reading, Aborting}
+use Rattle.wire.specs.declared.requests.Outcome.{Outcome}
+use Rattle.wire.specs.declared.requests.Outcome.TheVariants.{Unawaited, Outstanding, Answered, Lost}
+use Rattle.wire.specs.declared.requests.Request.{Request}
+use Rattle.wire.specs.Record.{RequestsState, asked_all, asked_more, first_request, is_lost_at, is_outstanding, is_resent_at, resent_one, ticked_one, with_outcome}
+use Rattle.upload_core.specs.State.{Goal, UploadState, with_record}
+use Rattle.upload_core.specs.Rounds.{asked_answered_as, has_answered_as}
+use Rattle.upload_core.specs.Course.{IsCourse, IsInside, IsOfTold, asked_servers, has_told, is_holdings, is_told}
+use Rattle.upload_core.proofs.Follow.{IsGood}
+
+-- ---- the same requests, and more answers
+
+pub record IsSame (r n : Request) : Type 0 where
+  pub server : n.server ≡ r.server
+  pub asked : n.asked ≡ r.asked
+  pub told : has_told r ≡ true → has_told n ≡ true
+
+abbrev pub Goes : List Request → List Request → Type 0
+Goes [] [] = Unit {0}
+Goes [] (n ∷ ns) = ⊥
+Goes (r ∷ rs) [] = ⊥
+Goes (r ∷ rs) (n ∷ ns) = IsSame r n × Goes rs ns
+
+same_refl : (r : Request) → IsSame r r
+same_refl r = record { server = refl; asked = refl; told = λ h. h }
+
+pub goes_refl : (es : List Request) → Goes es es
+goes_refl [] = tt
+goes_refl (r ∷ rs) = (same_refl r, goes_refl rs)
+
+-- what waits for its answer was not answered
+untold_as : (ro : Bool) (a : Asked) (o : Outcome) → is_outstanding o ≡ true → asked_answered_as ro a o ≡ true → ⊥
+untold_as ro Holdings Outstanding w h = cc
+untold_as ro (Allocation share len) Outstanding w h = cc
+untold_as ro (Writing share offset len) Outstanding w h = cc
+untold_as ro (Closing share) Outstanding w h = cc
+untold_as ro (Reading share offset len) Outstanding w h = cc
+untold_as ro (Aborting share) Outstanding w h = cc
+untold_as ro a Unawaited w h = absurd cc
+untold_as ro a (Answered body) w h = absurd cc
+untold_as ro a Lost w h = absurd cc
+
+pub or_right : (a b : Bool) → b ≡ true → (a || b) ≡ true
+or_right true b h = refl
+or_right false b h = h
+
+pub or_left : (a b : Bool) → a ≡ true → (a || b) ≡ true
+or_left true b h = refl
+or_left false b h = absurd cc
+
+pub either : (a b : Bool) → (a || b) ≡ true → (a ≡ true) ⊎ (b ≡ true)
+either true b h = inl refl
+either false b h = inr h
+
+pub both : (a b : Bool) → (a && b) ≡ true → (a ≡ true) × (b ≡ true)
+both true b e = (refl, e)
+both false b e = absurd cc
+
+untold : (r : Request) → is_outstanding r.outcome ≡ true → has_told r ≡ true → ⊥
+untold r w h = elim (either (has_answered_as true r) (has_answered_as false r) h) [
+  | inl t ↦ untold_as true r.asked r.outcome w t
+  | inr f ↦ untold_as false r.asked r.outcome w f
+]
+
+-- a request that waits, with any outcome
+same_settled : (r : Request) (o : Outcome) → is_outstanding r.outcome ≡ true → IsSame r (with_outcome r o)
+same_settled r o w = record { server = refl; asked = refl; told = λ h. absurd (untold r w h) }
+
+same_ticked : (now : ℕ) (r : Request) → IsSame r (ticked_one now r)
+same_ticked now r = by (is_lost_at now r) (is_resent_at now r) refl
+  where
+    by : (lost again : Bool) → is_lost_at now r ≡ lost → IsSame r (cond lost (with_outcome r Lost) (cond again (resent_one now r) r))
+    by true again e = same_settled r Lost (both (is_outstanding r.outcome) (nat_le 20 (now - r.first_sent)) e).0
+    by false true e = record { server = refl; asked = refl; told = λ h. h }
+    by false false e = same_refl r
+
+pub goes_ticked : (now : ℕ) (es : List Request) → Goes es (map (ticked_one now) es)
+goes_ticked now [] = tt
+goes_ticked now (r ∷ rs) = (same_ticked now r, goes_ticked now rs)
+
+pub goes_settled : (es : List Request) (place : ℕ) (r : Request) (body : Body) → slice_get es place ≡ Some r → is_outstanding r.outcome ≡ true → Goes es (slice_set es place (with_outcome r (Answered body)))
+goes_settled [] place r body e w = absurd cc
+goes_settled (q ∷ qs) zero r body e w =
+    let same : q ≡ r = cc in
+    (subst (λ (x : Request). IsSame x (with_outcome r (Answered body))) (sym same) (same_settled r (Answered body) w), goes_refl qs)
+goes_settled (q ∷ qs) (suc place) r body e w = (same_refl q, goes_settled qs place r body e w)
+
+pub length_goes : (es ns : List Request) → Goes es ns → length ns ≡ length es
+length_goes [] [] g = refl
+length_goes [] (n ∷ ns) g = absurd g
+length_goes (r ∷ rs) [] g = absurd g
+length_goes (r ∷ rs) (n ∷ ns) g = ap suc (length_goes rs ns g.1)
+
+pub told_goes : (s : ℕ) (es ns : List Request) → Goes es ns → is_told es s ≡ true → is_told ns s ≡ true
+told_goes s [] ns g h = absurd (true≢false (sym h))
+told_goes s (r ∷ rs) [] g h = absurd g
+told_goes s (r ∷ rs) (n ∷ ns) g h = elim (either (has_told r && eqb s r.server) (is_told rs s) h) [
+  | inl here ↦ (
+      let t = both (has_told r) (eqb s r.server) here in
+      let told : has_told n ≡ true = g.0.told t.0 in
+      let at : eqb s n.server ≡ true = ap (eqb s) g.0.server ∙ t.1 in
+      rw (told, at) refl)
+  | inr there ↦ or_right (has_told n && eqb s n.server) (is_told ns s) (told_goes s rs ns g.1 there)
+]
+
+pub asked_goes : (es ns : List Request) → Goes es ns → asked_servers ns ≡ asked_servers es
+asked_goes [] [] g = refl
+asked_goes [] (n ∷ ns) g = absurd g
+asked_goes (r ∷ rs) [] g = absurd g
+asked_goes (r ∷ rs) (n ∷ ns) g = by (is_holdings r.asked) (is_holdings n.asked) (ap is_holdings g.0.asked) (asked_goes rs ns g.1)
+  where
+    by : (b c : Bool) → c ≡ b → asked_servers ns ≡ asked_servers rs
+        → map (λ (q : Request). q.server) (cond c (n ∷ filter (λ (q : Request). is_holdings q.asked) ns) (filter (λ (q : Request). is_holdings q.asked) ns))
+        ≡ map (λ (q : Request). q.server) (cond b (r ∷ filter (λ (q : Request). is_holdings q.asked) rs) (filter (λ (q : Request). is_holdings q.asked) rs))
+    by true true e rest = ap (λ (s : ℕ). s ∷ asked_servers ns) g.0.server ∙ ap (λ (ss : List ℕ). r.server ∷ ss) rest
+    by true false e rest = absurd (true≢false (sym e))
+    by false true e rest = absurd (true≢false e)
+    by false false e rest = rest
+
+abbrev IsIn : Goal → Request → Type 0
+IsIn g r = IsInside g r.asked
+
+inside_goes : (g : Goal) (es ns : List Request) → Goes es ns → All (IsIn g) es → All (IsIn g) ns
+inside_goes g [] [] k all = all
+inside_goes g [] (n ∷ ns) k all = absurd k
+inside_goes g (r ∷ rs) [] k all = absurd k
+inside_goes g (r ∷ rs) (n ∷ ns) k all = All-cons (IsIn g) n ns (subst (IsInside g) (sym k.0.asked) (All-head (IsIn g) r rs all)) (inside_goes g rs ns k.1 (All-tail (IsIn g) r rs all))
+
+of_told_goes : (old new es ns : List Request) → ((s : ℕ) → is_told old s ≡ true → is_told new s ≡ true) → Goes es ns → All (IsOfTold old) es → All (IsOfTold new) ns
+of_told_goes old new [] [] more k all = All-nil (IsOfTold new)
+of_told_goes old new [] (n ∷ ns) more k all = absurd k
+of_told_goes old new (r ∷ rs) [] more k all = absurd k
+of_told_goes old new (r ∷ rs) (n ∷ ns) more k all =
+    All-cons (IsOfTold new) n ns
+    (elim (All-head (IsOfTold old) r rs all) [
+      | inl h ↦ inl (ap is_holdings k.0.asked ∙ h)
+      | inr t ↦ inr (more n.server (subst (λ (s : ℕ). is_told old s ≡ true) (sym k.0.server) t))
+    ])
+    (of_told_goes old new rs ns more k.1 (All-tail (IsOfTold old) r rs all))
+
+pub course_goes : (u : UploadState) (r : RequestsState) → Goes u.requests.entries r.entries → IsCourse u → IsCourse (with_record u r)
+course_goes u r k c = record {
+  few = c.few;
+  distinct = subst (IsDistinct eqb) (sym (asked_goes u.requests.entries r.entries k)) c.distinct;
+  inside = inside_goes u.goal u.requests.entries r.entries k c.inside;
+  of_told = of_told_goes u.requests.entries r.entries u.requests.entries r.entries (λ s h. told_goes s u.requests.entries r.entries k h) k c.of_told;
+  begun = omega (arith, c.begun, length_goes u.requests.entries r.entries k);
+}
+
+-- ---- more requests
+
+pub told_push : (es : List Request) (r : Request) (s : ℕ) → is_told es s ≡ true → is_told (es ++ r ∷ []) s ≡ true
+told_push es r s h = list_any-append (λ (q : Request). has_told q && eqb s q.server) es (r ∷ []) ∙ or_left (is_told es s) (is_told (r ∷ []) s) h
+
+asked_push : (es : List Request) (r : Request) → is_holdings r.asked ≡ false → asked_servers (es ++ r ∷ []) ≡ asked_servers es
+asked_push es r e =
+    let test : Request → Bool = λ (q : Request). is_holdings q.asked in
+    ap (map (λ (q : Request). q.server)) (filter-append test es (r ∷ []) ∙ ap (λ (l : List Request). filter test es ++ l) (none (test r) e) ∙ append-nil (filter test es))
+  where
+    none : (b : Bool) → b ≡ false → cond b (r ∷ []) [] ≡ []
+    none true h = absurd (true≢false h)
+    none false h = refl
+
+-- it is good to ask this of a server
+abbrev pub MayAsk : UploadState → ℕ × Asked → Type 0
+MayAsk u ask = IsGood u.goal ask.1 × (is_told u.requests.entries ask.0 ≡ true)
+
+pub course_asked : (u : UploadState) (ask : ℕ × Asked) → MayAsk u ask → IsCourse u → IsCourse (with_record u (asked_more ask.0 ask.1 u.requests))
+course_asked u ask may c =
+    let es = u.requests.entries in
+    let new : Request = first_request ask.0 ask.1 u.requests.clock in
+    record {
+      few = c.few;
+      distinct = subst (IsDistinct eqb) (sym (asked_push es new may.0.share)) c.distinct;
+      inside = All-push (IsIn u.goal) es new c.inside may.0.inside;
+      of_told = All-push (IsOfTold (es ++ new ∷ [])) es new
+          (All-weaker (IsOfTold es) (IsOfTold (es ++ new ∷ [])) (λ q h. elim h [ inl x ↦ inl x | inr t ↦ inr (told_push es new q.server t) ]) es c.of_told)
+          (inr (told_push es new ask.0 may.1));
+      begun = omega (arith, c.begun, length-append es (new ∷ []));
+    }
+
+pub course_all : (u : UploadState) (asks : List (ℕ × Asked)) → All (MayAsk u) asks → IsCourse u → IsCourse (with_record u (asked_all asks u.requests))
+course_all u [] may c = c
+course_all u (ask ∷ asks) may c =
+    let new : UploadState = with_record u (asked_more ask.0 ask.1 u.requests) in
+    course_all new asks
+    (All-weaker (MayAsk u) (MayAsk new) (λ q h. (h.0, told_push u.requests.entries (first_request ask.0 ask.1 u.requests.clock) q.0 h.1)) asks (All-tail (MayAsk u) ask asks may))
+    (course_asked u ask (All-head (MayAsk u) ask asks may) c)

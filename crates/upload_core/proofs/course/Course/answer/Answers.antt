@@ -1,0 +1,36 @@
+use Rattle.std.proofs.Common.{◌≡◌, ◌<◌, Some, length, sym, ap, subst, ◌∙◌, Option, ℕ}
+use Rattle.std.specs.Prelude.{slice_get}
+use Rattle.wire.specs.Asking.{after_message}
+use Rattle.wire.specs.Record.{RequestsState, asked_all, counts_at}
+use Rattle.upload_core.specs.State.{UploadState, with_record}
+use Rattle.upload_core.specs.Moves.{AdvancesAt, GoesOn, follow_ups_at}
+use Rattle.upload_core.specs.declared.status.UploadStatus.TheVariants.{Running}
+use Rattle.upload_core.proofs.Goes.{counted_there, goes_on_from, message_course, on_ok}
+use Rattle.upload_core.proofs.course.Course.answer.Goals as goal
+
+pub invariant_of-self-2 : goal.invariant_of-self-2
+invariant_of-self-2 c =
+    let u : UploadState = record { goal = c.self.inside.goal; wanted = c.self.inside.wanted; servers = c.self.inside.servers.items; requests = c.self.inside.requests; round = c.self.inside.round; status = c.self.inside.status } in
+    message_course u c.args.from c.args.message.now c.args.now c.answer.new.self c.in_ok-place.ensures.ok c.self.invariant
+
+pub follow-requires : goal.follow-requires
+follow-requires c =
+    let u : UploadState = record { goal = c.self.inside.goal; wanted = c.self.inside.wanted; servers = c.self.inside.servers.items; requests = c.self.inside.requests; round = c.self.inside.round; status = c.self.inside.status } in
+    let counts : counts_at c.args.from c.args.message.now u.requests ≡ Some c.in-Some.place = sym c.in_ok-place.ensures.place ∙ c.in-Some.is in
+    subst (λ (r : RequestsState). c.in-Some.place < length r.entries) (sym c.in_ok-place.ensures.ok) (counted_there c.args.from c.args.message.now c.args.now u.requests c.in-Some.place counts)
+
+pub returns-clause-ok : goal.returns-clause-ok
+returns-clause-ok c =
+    let u : UploadState = record { goal = c.self.inside.goal; wanted = c.self.inside.wanted; servers = c.self.inside.servers.items; requests = c.self.inside.requests; round = c.self.inside.round; status = c.self.inside.status } in
+    let v : UploadState = c.args.self.now in
+    let counts : counts_at c.args.from c.args.message.now v.requests ≡ Some c.in-Some.place = ap (λ (s : UploadState). counts_at c.args.from c.args.message.now s.requests) (sym c.self.view_is) ∙ sym c.in_ok-place.ensures.place ∙ c.in-Some.is in
+    let R : RequestsState = after_message c.args.from c.args.message.now c.args.now v.requests in
+    let new : c.answer.new.self ≡ R = c.in_ok-place.ensures.ok ∙ ap (λ (s : UploadState). after_message c.args.from c.args.message.now c.args.now s.requests) c.self.view_is in
+    let running : u.status ≡ Running = c.is_running.ensures.0 c.if-not-is_running.false in
+    let w : with_record u c.answer.new.self ≡ with_record v R = ap (with_record u) new ∙ ap (λ (s : UploadState). with_record s R) c.self.view_is in
+    let S : RequestsState = asked_all (follow_ups_at v.goal (slice_get R.entries c.in-Some.place)) R in
+    let followed : c.follow.new.self ≡ with_record v S = c.in_ok-follow.ensures.ok ∙ ap (λ (s : UploadState). with_record s (asked_all (follow_ups_at s.goal (slice_get s.requests.entries c.in-Some.place)) s.requests)) w in
+    on_ok c.go_on.result _ _ (λ g. record {
+      running = λ r. subst (λ (o : Option ℕ). AdvancesAt o R v c.go_on.new.self) (sym counts) (goes_on_from v S c.go_on.new.self (subst (λ (s : UploadState). GoesOn s s.requests c.go_on.new.self) followed g));
+      ended = λ ne. absurd (ne (ap (λ (s : UploadState). s.status) (sym c.self.view_is) ∙ running));
+    }) c.go_on.ensures.ok

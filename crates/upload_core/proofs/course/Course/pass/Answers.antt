@@ -1,0 +1,43 @@
+use Rattle.std.proofs.Common.{◌≡◌, ◌≢◌, ◌<◌, ◌∙◌, All, List, [], ℕ, ap, arith, length, subst, sym, true≢false}
+use Rattle.std.proofs.lemmas.Bool.{eq-eqb}
+use Rattle.wire.specs.Asking.{after_tick, lost_by_tick}
+use Rattle.wire.specs.Record.{RequestsState, asked_all}
+use Rattle.upload_core.specs.declared.status.UploadStatus.TheVariants.{Running}
+use Rattle.upload_core.specs.State.{UploadState, with_record}
+use Rattle.upload_core.specs.Moves.{GoesOn, all_follow_ups}
+use Rattle.upload_core.proofs.Goes.{goes_on_from, lost_there, on_ok, tick_course, ticks_with}
+use Rattle.upload_core.proofs.course.Course.pass.Goals as goal
+
+pub invariant_of-self-2 : goal.invariant_of-self-2
+invariant_of-self-2 c =
+    let u : UploadState = record { goal = c.self.inside.goal; wanted = c.self.inside.wanted; servers = c.self.inside.servers.items; requests = c.self.inside.requests; round = c.self.inside.round; status = c.self.inside.status } in
+    tick_course u c.args.now c.tick.new.self c.in_ok-lost.ensures.ok c.self.invariant
+
+pub follow_all-requires : goal.follow_all-requires
+follow_all-requires c =
+    let u : UploadState = record { goal = c.self.inside.goal; wanted = c.self.inside.wanted; servers = c.self.inside.servers.items; requests = c.self.inside.requests; round = c.self.inside.round; status = c.self.inside.status } in
+    subst (λ (xs : List ℕ). All (λ (p : ℕ). p < length c.tick.new.self.entries) xs) (sym (c.deref.ensures.value ∙ c.in_ok-lost.ensures.lost))
+    (subst (λ (r : RequestsState). All (λ (p : ℕ). p < length r.entries) (lost_by_tick c.args.now u.requests)) (sym c.in_ok-lost.ensures.ok) (lost_there c.args.now u.requests))
+
+pub returns-clause-ok : goal.returns-clause-ok
+returns-clause-ok c =
+    let u : UploadState = record { goal = c.self.inside.goal; wanted = c.self.inside.wanted; servers = c.self.inside.servers.items; requests = c.self.inside.requests; round = c.self.inside.round; status = c.self.inside.status } in
+    let v : UploadState = c.args.self.now in
+    let R : RequestsState = after_tick c.args.now v.requests in
+    let new : c.tick.new.self ≡ R = c.in_ok-lost.ensures.ok ∙ ap (λ (s : UploadState). after_tick c.args.now s.requests) c.self.view_is in
+    let running : u.status ≡ Running = c.is_running.ensures.0 c.if-not-is_running.false in
+    let w : with_record u c.tick.new.self ≡ with_record v R = ap (with_record u) new ∙ ap (λ (s : UploadState). with_record s R) c.self.view_is in
+    let lost : List ℕ = lost_by_tick c.args.now v.requests in
+    let are : c.in_ok-lost.lost.items ≡ lost = c.in_ok-lost.ensures.lost ∙ ap (λ (s : UploadState). lost_by_tick c.args.now s.requests) c.self.view_is in
+    let some : lost ≢ [] = λ (e : lost ≡ []).
+    let zero : c.in_ok-lost.lost.len ≡ 0 = omega (arith, ap length are, ap length e, c.in_ok-lost.lost.ok.0) in
+    true≢false (sym (c.is_empty.ensures ∙ eq-eqb c.in_ok-lost.lost.len 0 zero) ∙ c.if-is_empty.false) in
+    let S : RequestsState = asked_all (all_follow_ups v.goal R.entries lost) R in
+    let followed : c.follow_all.new.self ≡ with_record v S =
+    c.in_ok-follow_all.ensures.ok
+    ∙ ap (λ (s : UploadState). with_record s (asked_all (all_follow_ups s.goal s.requests.entries c.deref.result.now) s.requests)) w
+    ∙ ap (λ (xs : List ℕ). with_record v (asked_all (all_follow_ups v.goal R.entries xs) R)) (c.deref.ensures.value ∙ are) in
+    on_ok c.go_on.result _ _ (λ g. record {
+      running = λ r. ticks_with v R lost c.go_on.new.self some (goes_on_from v S c.go_on.new.self (subst (λ (s : UploadState). GoesOn s s.requests c.go_on.new.self) followed g));
+      ended = λ ne. absurd (ne (ap (λ (s : UploadState). s.status) (sym c.self.view_is) ∙ running));
+    }) c.go_on.ensures.ok

@@ -1,0 +1,24 @@
+use Rattle.std.proofs.Common.{◌≡◌, Some, sym, ap, subst, ◌∙◌}
+use Rattle.upload_core.specs.Sending.{AsksAt, IsBody, Uploading, first_to_send}
+use Rattle.upload_core.proofs.Sends.{ceases_now, sends_first}
+use Rattle.upload_core.proofs.upload.Upload.take_outgoing.Goals as goal
+
+pub returns-in-Ok-clause-ok : goal.returns-in-Ok-clause-ok
+returns-in-Ok-clause-ok g c =
+    let mid : Uploading g.row.P.Denot = record { pieces = c.self-2.inside.pieces; course = c.self-2.inside.course } in
+    let old : Uploading g.row.P.Denot = c.args.self.now in
+    let first : first_to_send old.course ≡ Some c.in-Some.place = subst (λ (x : Uploading g.row.P.Denot). first_to_send x.course ≡ Some c.in-Some.place) c.self.view_is (sym c.in-Some.ensures.value) in
+    let asks : AsksAt old.course c.in-Some.place c.request_at-server.result.0 c.request_at-server.result.1 = subst (λ (x : Uploading g.row.P.Denot). AsksAt x.course c.in-Some.place c.request_at-server.result.0 c.request_at-server.result.1) c.self.view_is c.request_at-server.ensures.value in
+    let body : IsBody g.P.Pieces.gives g.P.Pieces.fails old.course.goal.cap.storage_index old.pieces c.request_at-server.result.1 c.in_ok-body.field-0 mid.pieces = subst (λ (x : Uploading g.row.P.Denot). IsBody g.P.Pieces.gives g.P.Pieces.fails old.course.goal.cap.storage_index old.pieces c.request_at-server.result.1 c.in_ok-body.field-0 x.pieces) (sym c.self-2.view_is) c.in_ok-body.ensures.ok in
+    let same : mid.course ≡ old.course = ap (λ (x : Uploading g.row.P.Denot). x.course) c.self-2.view_is ∙ c.in_ok-body.ensures.course in
+    sends_first g.P.Pieces.gives g.P.Pieces.fails old mid c.in-Some.place c.request_at-server.result.0 c.request_at-server.result.1 c.in_ok-body.field-0 first asks body same c.in-Ok.body c.send.result c.send.new.self c.in-Ok.is c.send.ensures.message c.send.ensures.sent
+
+pub returns-in-Err-clause-ok : goal.returns-in-Err-clause-ok
+returns-in-Err-clause-ok g c =
+    let mid : Uploading g.row.P.Denot = record { pieces = c.self-2.inside.pieces; course = c.self-2.inside.course } in
+    let old : Uploading g.row.P.Denot = c.args.self.now in
+    let first : first_to_send old.course ≡ Some c.in-Some.place = subst (λ (x : Uploading g.row.P.Denot). first_to_send x.course ≡ Some c.in-Some.place) c.self.view_is (sym c.in-Some.ensures.value) in
+    let asks : AsksAt old.course c.in-Some.place c.request_at-server.result.0 c.request_at-server.result.1 = subst (λ (x : Uploading g.row.P.Denot). AsksAt x.course c.in-Some.place c.request_at-server.result.0 c.request_at-server.result.1) c.self.view_is c.request_at-server.ensures.value in
+    let body : IsBody g.P.Pieces.gives g.P.Pieces.fails old.course.goal.cap.storage_index old.pieces c.request_at-server.result.1 c.in_ok-body.field-0 mid.pieces = subst (λ (x : Uploading g.row.P.Denot). IsBody g.P.Pieces.gives g.P.Pieces.fails old.course.goal.cap.storage_index old.pieces c.request_at-server.result.1 c.in_ok-body.field-0 x.pieces) (sym c.self-2.view_is) c.in_ok-body.ensures.ok in
+    let same : mid.course ≡ old.course = ap (λ (x : Uploading g.row.P.Denot). x.course) c.self-2.view_is ∙ c.in_ok-body.ensures.course in
+    ceases_now g.P.Pieces.gives g.P.Pieces.fails old mid c.in-Some.place c.request_at-server.result.0 c.request_at-server.result.1 c.in_ok-body.field-0 first asks body same c.in-Err.fault c.fail.new.self c.in-Err.is c.fail.ensures

@@ -1,0 +1,82 @@
+-- What holds of each upload's record.
+use Rattle.std.specs.Prelude.{◌≡◌, ◌⊎◌, ℕ, ◌+◌, ◌<◌, ◌≤◌, ◌&&◌, ◌||◌, ◌++◌}
+use Rattle.std.specs.Prelude.{Bool, true, false, List, map, filter, length, nat_eq, All}
+use Rattle.std.specs.List.{IsDistinct, list_any}
+use Rattle.wire.specs.declared.requests.Asked.{Asked}
+use Rattle.wire.specs.declared.requests.Asked.TheVariants.{Holdings, Allocation, Writing, Closing}
+use Rattle.wire.specs.declared.requests.Asked.TheVariants.{Reading, Aborting}
+use Rattle.wire.specs.declared.requests.Request.{Request}
+use Rattle.wire.specs.Limits.{most_data}
+use Rattle.placement.specs.Matching.{Pair}
+use Rattle.upload_core.specs.declared.status.UploadStatus.{UploadStatus}
+use Rattle.upload_core.specs.State.{Goal, UploadState}
+use Rattle.upload_core.specs.Rounds.{EndsAs, IsPlacing, Placing, has_answered_as}
+
+abbrev pub is_holdings : Asked → Bool
+is_holdings Holdings = true
+is_holdings (Allocation share len) = false
+is_holdings (Writing share offset len) = false
+is_holdings (Closing share) = false
+is_holdings (Reading share offset len) = false
+is_holdings (Aborting share) = false
+
+-- the servers that were asked which shares they hold
+abbrev pub asked_servers : List Request → List ℕ
+asked_servers entries =
+    map (λ (r : Request). r.server) (filter (λ (r : Request). is_holdings r.asked) entries)
+
+-- did the server of this Ask answer?
+abbrev pub has_told : Request → Bool
+has_told r = has_answered_as true r || has_answered_as false r
+
+-- did this server answer its Ask?
+abbrev pub is_told : List Request → ℕ → Bool
+is_told entries server =
+    list_any (λ (r : Request). has_told r && nat_eq server r.server) entries
+
+-- It asks for a share of the goal, and a piece lies in it.
+abbrev pub IsInside : Goal → Asked → Type 0
+IsInside g Holdings = Unit {0}
+IsInside g (Allocation share len) = (share < length g.digests) × (len ≡ g.share_length)
+IsInside g (Writing share offset len) =
+    (share < length g.digests) × (offset + len ≤ g.share_length) × (1 ≤ len) × (len ≤ most_data)
+IsInside g (Closing share) = share < length g.digests
+IsInside g (Reading share offset len) = ⊥
+IsInside g (Aborting share) = share < length g.digests
+
+-- Shares are asked for of servers alone that answered their Asks.
+abbrev pub IsOfTold : List Request → Request → Type 0
+IsOfTold entries r = (is_holdings r.asked ≡ true) ⊎ (is_told entries r.server ≡ true)
+
+-- No server is asked twice which shares it holds, and each request is for the goal.
+pub record IsCourse (u : UploadState) : Type 0 where
+  pub few : length u.goal.digests ≤ 256
+  pub distinct : IsDistinct nat_eq (asked_servers u.requests.entries)
+  pub inside : All (λ (r : Request). IsInside u.goal r.asked) u.requests.entries
+  pub of_told : All (IsOfTold u.requests.entries) u.requests.entries
+  pub begun : u.round ≤ length u.requests.entries
+
+-- ---- a round
+
+-- room for each pair's share
+abbrev pub allocations : ℕ → List Pair → List (ℕ × Asked)
+allocations len pairs = map (λ (pair : Pair). (pair.0, Allocation pair.1 len)) pairs
+
+abbrev pub transfers : Goal → List Pair → List (ℕ × Asked)
+transfers g pairs = allocations g.share_length pairs
+
+-- It is a share of the goal, for a server that answered its Ask.
+abbrev pub MayPlace : UploadState → Pair → Type 0
+MayPlace u pair =
+    (is_told u.requests.entries pair.0 ≡ true) × (pair.1 < length u.goal.digests)
+
+-- these are the pairs of a placing
+abbrev pub Places : Goal → List Request → List Pair → Type 0
+Places g entries pairs =
+    (p : Placing) × IsPlacing g entries p × (pairs ≡ p.m3 ++ p.leftovers)
+
+-- it ends as the record says, and no more changes
+abbrev pub Ends : UploadState → UploadState → Type 0
+Ends old new =
+    (status : UploadStatus) × EndsAs old.goal old.wanted old.requests.entries status
+    × (new ≡ record old { status = status })

@@ -1,0 +1,11 @@
+-- what public contracts rest on
+pub mod State
+pub mod PieceFault
+pub mod Pieces
+pub mod Acknowledged
+pub mod Transfers
+pub mod Rounds
+pub mod Moves
+pub mod Sending
+-- words of private clauses
+pub mod Course

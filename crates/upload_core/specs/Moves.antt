@@ -1,0 +1,93 @@
+-- What the calls of an upload do.
+use Rattle.std.specs.Prelude.{◌≡◌, ◌≢◌, ℕ, ◌+◌, List, [], ◌∷◌, ◌++◌, Option, Some, None, map}
+use Rattle.std.specs.Prelude.{length, slice_get, slice_index_or, IsPermutation, AllPairs}
+use Rattle.std.specs.List.{flat_map, range_with_len}
+use Rattle.std.specs.declared.cmp.Ordering.TheVariants.{Less}
+use Rattle.wire.specs.declared.message.Message.{Message}
+use Rattle.wire.specs.declared.requests.Asked.{Asked}
+use Rattle.wire.specs.declared.requests.Request.{Request}
+use Rattle.wire.specs.Asking.{after_message, after_tick, begun, lost_by_tick}
+use Rattle.wire.specs.Record.{RequestsState, asked_all, counts_at}
+use Rattle.placement.specs.Ranking.{rank_cmp}
+use Rattle.upload_core.specs.declared.status.ServerInfo.{ServerInfo}
+use Rattle.upload_core.specs.declared.status.UploadStatus.{UploadStatus}
+use Rattle.upload_core.specs.declared.status.UploadStatus.TheVariants.{Running}
+use Rattle.upload_core.specs.State.{Goal, UploadState, with_record}
+use Rattle.upload_core.specs.Transfers.{follow_up}
+use Rattle.upload_core.specs.Rounds.{EndsAs, IsOver, IsPlacing, IsSettled, IsToPlace}
+use Rattle.upload_core.specs.Rounds.{Placing, transfers_of}
+
+-- ended, with nothing left to ask
+abbrev pub ended : UploadState → RequestsState → UploadStatus → UploadState
+ended u r status = record u { requests = r; status = status }
+
+-- the transfers of a placing begin
+abbrev pub placed : UploadState → RequestsState → Placing → UploadState
+placed u r p =
+    record u { requests = asked_all (transfers_of u.goal p) r; round = length r.entries }
+
+-- An upload goes on from a record: it waits, places shares, or ends.
+pub data GoesOn (u : UploadState) (r : RequestsState) (new : UploadState) : Type 0 where
+  waits : (IsSettled r.entries → ⊥) → new ≡ with_record u r → GoesOn u r new
+  places : (p : Placing) → IsSettled r.entries → IsToPlace u r → IsPlacing u.goal r.entries p
+      → transfers_of u.goal p ≢ [] → new ≡ placed u r p → GoesOn u r new
+  ends : (status : UploadStatus) → IsSettled r.entries → IsOver u r
+      → EndsAs u.goal u.wanted r.entries status → new ≡ ended u r status → GoesOn u r new
+
+-- what is asked of a server at once after its request at a place was answered or lost
+abbrev pub asks_after : Request → Option Asked → List (ℕ × Asked)
+asks_after r None = []
+asks_after r (Some asked) = (r.server, asked) ∷ []
+
+abbrev pub follow_ups_at : Goal → Option Request → List (ℕ × Asked)
+follow_ups_at g None = []
+follow_ups_at g (Some r) = asks_after r (follow_up g r)
+
+abbrev pub all_follow_ups : Goal → List Request → List ℕ → List (ℕ × Asked)
+all_follow_ups g entries lost =
+    flat_map (λ (p : ℕ). follow_ups_at g (slice_get entries p)) lost
+
+-- A message at a time: one that does not count moves the time alone, and so does each once the
+-- upload ended.
+abbrev pub AdvancesAt : Option ℕ → RequestsState → UploadState → UploadState → Type 0
+AdvancesAt None r old new = new ≡ with_record old r
+AdvancesAt (Some place) r old new =
+    GoesOn old (asked_all (follow_ups_at old.goal (slice_get r.entries place)) r) new
+
+pub record Advances (from : ℕ) (m : Message) (now : ℕ) (old new : UploadState) : Type 0 where
+  pub running : old.status ≡ Running
+      → AdvancesAt (counts_at from m old.requests) (after_message from m now old.requests) old new
+  pub ended : old.status ≢ Running → new ≡ with_record old (after_message from m now old.requests)
+
+-- A tick: what it finds lost is followed up, in the order of the record.
+abbrev pub TicksWith : List ℕ → RequestsState → UploadState → UploadState → Type 0
+TicksWith [] r old new = new ≡ with_record old r
+TicksWith (first ∷ others) r old new =
+    GoesOn old (asked_all (all_follow_ups old.goal r.entries (first ∷ others)) r) new
+
+pub record TicksOn (now : ℕ) (old new : UploadState) : Type 0 where
+  pub running : old.status ≡ Running
+      → TicksWith (lost_by_tick now old.requests) (after_tick now old.requests) old new
+  pub ended : old.status ≢ Running → new ≡ with_record old (after_tick now old.requests)
+
+-- the node of the server at a place
+abbrev pub node_at : List ServerInfo → ℕ → ℕ
+node_at servers place = slice_index_or (map (λ (s : ServerInfo). s.node) servers) place 0
+
+-- the nodes of the servers, in the order of the file
+pub record AreInOrder (index : List ℕ) (servers : List ServerInfo) (nodes : List ℕ) : Type 0 where
+  pub places : List ℕ
+  pub all : IsPermutation (range_with_len 0 (length servers)) places
+  pub ranked : AllPairs
+      (λ i j. rank_cmp index (map (λ (s : ServerInfo). s.id) servers) i j ≡ Less) places
+  pub nodes_are : nodes ≡ map (node_at servers) places
+
+-- an upload begins: all servers are asked, in the order of the file
+pub record Begins (goal : Goal) (happy : ℕ) (servers : List ServerInfo) (session now : ℕ)
+    (u : UploadState) : Type 0 where
+  pub goal_is : u.goal ≡ goal
+  pub wanted : u.wanted ≡ happy
+  pub ordered : AreInOrder goal.cap.storage_index servers u.servers
+  pub asks : u.requests ≡ begun u.servers session now
+  pub round : u.round ≡ 0
+  pub running : u.status ≡ Running

@@ -1,0 +1,26 @@
+-- An upload: what it is for, its servers, its record, and how far it is.
+use Rattle.std.specs.Prelude.{ℕ, List}
+use Rattle.cap_text.specs.Cap.{VerifyCapValue}
+use Rattle.wire.specs.Record.{RequestsState}
+use Rattle.upload_core.specs.declared.status.UploadStatus.{UploadStatus}
+
+-- what is to be placed: the shares of the file of a verify cap, which has its storage index, by the
+-- digest of each share and the length that all of them have
+pub record Goal : Type 0 where
+  pub cap : VerifyCapValue
+  pub digests : List (List ℕ)
+  pub share_length : ℕ
+
+-- `servers`: all of them, in the order of the file. `round`: the place of the first transfer of the
+-- last placing, 0 before the first.
+pub record UploadState : Type 0 where
+  pub goal : Goal
+  pub wanted : ℕ
+  pub servers : List ℕ
+  pub requests : RequestsState
+  pub round : ℕ
+  pub status : UploadStatus
+
+-- the same upload with another record
+abbrev pub with_record : UploadState → RequestsState → UploadState
+with_record u r = record u { requests = r }

@@ -1,0 +1,365 @@
+//! The course of an upload: what it asks and how it ends, whatever the bytes of its shares are.
+
+ghost use Rattle.std.specs.Prelude.{◌≡◌, ◌<◌, ◌==◌, ◌&&◌, ◌||◌, ◌↔◌, ℕ, All, IfOk, IfSome};
+ghost use Rattle.std.specs.Prelude.{IsTrue, OnOk, Some};
+ghost use Rattle.std.specs.Prelude.{length, map, nat_eq, nat_lt, slice_get, take};
+ghost use Rattle.std.specs.List.{IsDistinct};
+ghost use Rattle.wire.specs.Asking.{message_at};
+ghost use Rattle.wire.specs.Record.{asked_all};
+ghost use Rattle.placement.specs.Matching.{IsHappiness};
+ghost use Rattle.upload_core.specs.declared.status.ServerInfo.{ServerInfo};
+ghost use Rattle.upload_core.specs.Acknowledged.{acked_pairs};
+ghost use Rattle.upload_core.specs.Course.{Ends, IsCourse, IsInside, MayPlace, Places, allocations};
+ghost use Rattle.upload_core.specs.Course.{transfers};
+ghost use Rattle.upload_core.specs.Moves.{Advances, AreInOrder, Begins, GoesOn, TicksOn};
+ghost use Rattle.upload_core.specs.Moves.{all_follow_ups, follow_ups_at, node_at};
+ghost use Rattle.upload_core.specs.Sending.{AsksAt, first_to_send, one_sent};
+ghost use Rattle.upload_core.specs.Rounds.{has_failed_since};
+ghost use Rattle.upload_core.specs.State.{with_record};
+
+use crate::acknowledged::acked_pairs;
+use crate::pieces::PieceFault;
+use crate::rounds::{has_failed_since, servers_of};
+use crate::status::{NodeList, PairList, ServerInfo, UploadGoal, UploadStatus};
+use crate::transfers::follow_up;
+use placement::{Matching, ServerId, happiness, order, place};
+use std::alloc::{AllocError, Global};
+use std::marker::Model;
+use wire::message::{Body, Message, NodeId, ShareLength, StorageIndex};
+use wire::requests::{Asked, Requests};
+
+/// An upload without the source of its bytes.
+#[derive(Drop)]
+pub(crate) struct Course {
+    goal: UploadGoal,
+    wanted: u16,
+    servers: Vec<NodeId>,
+    requests: Requests,
+    // The place of the first transfer of the last placing, 0 before the first.
+    round: usize,
+    status: UploadStatus,
+}
+
+impl Model for Course {
+    ghost use Rattle.upload_core.specs.Course.{IsCourse};
+    ghost use Rattle.upload_core.specs.State.{UploadState};
+
+    ghost Value = { UploadState };
+
+    ghost view = { λ c. record {
+      goal = c.goal;
+      wanted = c.wanted;
+      servers = c.servers.items;
+      requests = c.requests;
+      round = c.round;
+      status = c.status;
+    } };
+
+    ghost invariant = { λ c. IsCourse (record {
+      goal = c.goal;
+      wanted = c.wanted;
+      servers = c.servers.items;
+      requests = c.requests;
+      round = c.round;
+      status = c.status;
+    }) };
+}
+
+impl Course {
+    /// Asks all servers, in the order of the file, which shares they hold.
+    pub(crate) fn begin(
+        alloc: Global,
+        goal: UploadGoal,
+        wanted: u16,
+        servers: &[ServerInfo],
+        session: u64,
+        now: u64,
+    ) -> Result<Course, AllocError>
+        requires distinct { IsDistinct nat_eq (map (λ (s : ServerInfo). s.node) servers.now) }
+        ensures { IfOk result (Begins goal wanted servers.now session now) }
+    {
+        let servers = nodes_in_order(alloc, &goal, servers)?;
+        let requests = Requests::begin(alloc, servers.as_slice(), session, now)?;
+        Ok(Course {
+            goal,
+            wanted,
+            servers,
+            requests,
+            round: 0,
+            status: UploadStatus::Running,
+        })
+    }
+
+    /// Takes a message at a second.
+    pub(crate) fn answer(
+        &mut self,
+        from: NodeId,
+        message: &Message,
+        now: u64,
+    ) -> Result<(), AllocError>
+        ensures ok { OnOk result (Advances from message.now now self.old self.new) }
+        ensures goal { self.new.goal ≡ self.old.goal }
+    {
+        let Some(place) = self.requests.answer(from, message, now)? else {
+            return Ok(());
+        };
+        if !self.is_running() {
+            return Ok(());
+        }
+        self.follow(place)?;
+        self.go_on()
+    }
+
+    /// Takes note of a second.
+    pub(crate) fn pass(&mut self, now: u64) -> Result<(), AllocError>
+        ensures ok { OnOk result (TicksOn now self.old self.new) }
+        ensures goal { self.new.goal ≡ self.old.goal }
+    {
+        let lost = self.requests.tick(now)?;
+        if !self.is_running() || lost.is_empty() {
+            return Ok(());
+        }
+        self.follow_all(&lost)?;
+        self.go_on()
+    }
+
+    /// Where it stands.
+    pub(crate) fn status(&self) -> &UploadStatus
+        ensures value { result.now ≡ self.now.status }
+        ensures right { IsCourse self.now }
+    {
+        &self.status
+    }
+
+    pub(crate) fn is_running(&self) -> bool
+        ensures { IsTrue result ↔ (self.now.status ≡ UploadStatus.Running) }
+    {
+        matches!(self.status, UploadStatus::Running)
+    }
+
+    /// It ends for this fault.
+    pub(crate) fn fail(&mut self, fault: PieceFault)
+        ensures { self.new ≡ record self.old { status = UploadStatus.Failed fault } }
+    {
+        self.status = UploadStatus::Failed(fault);
+    }
+
+    /// The place of the first request to send. `None` too where the upload failed.
+    pub(crate) fn first(&self) -> Option<usize>
+        ensures value { result ≡ first_to_send self.now }
+        ensures there { IfSome result (λ place. place < length self.now.requests.entries) }
+    {
+        match self.status {
+            UploadStatus::Failed(_) => None,
+            _ => self.requests.first(),
+        }
+    }
+
+    /// The server of the request at a place, and what it asks.
+    pub(crate) fn request_at(&self, place: usize) -> (NodeId, Asked)
+        requires { place < length self.now.requests.entries }
+        ensures value { AsksAt self.now place result.0 result.1 }
+        ensures inside { IsInside self.now.goal result.1 }
+    {
+        let request = &self.requests.entries()[place];
+        (request.server, request.asked)
+    }
+
+    /// The message of the first request to send, which is not to be sent any more.
+    pub(crate) fn send(&mut self, place: usize, body: Body) -> Message
+        requires first { first_to_send self.old ≡ Some place }
+        requires there { place < length self.old.requests.entries }
+        ensures message { result ≡ message_at place body self.old.requests }
+        ensures sent { self.new ≡ with_record self.old (one_sent self.old.requests) }
+    {
+        let message = self.requests.message_at(place, body);
+        self.requests.take_next();
+        message
+    }
+
+    /// The storage index of the shares.
+    pub(crate) fn storage_index(&self) -> StorageIndex
+        ensures { result ≡ self.now.goal.cap.storage_index }
+    {
+        *self.goal.cap().storage_index()
+    }
+
+    // Asks what follows the answer to the request at a place, or its loss.
+    fn follow(&mut self, place: usize) -> Result<(), AllocError>
+        requires { place < length self.old.requests.entries }
+        ensures ok { OnOk result (self.new ≡ with_record self.old (asked_all
+            (follow_ups_at self.old.goal (slice_get self.old.requests.entries place))
+            self.old.requests)) }
+        ensures goal { self.new.goal ≡ self.old.goal }
+    {
+        let request = &self.requests.entries()[place];
+        let server = request.server;
+        match follow_up(&self.goal, request) {
+            Some(asked) => self.requests.ask(server, asked),
+            None => Ok(()),
+        }
+    }
+
+    // Asks what follows the requests at these places.
+    fn follow_all(&mut self, places: &[usize]) -> Result<(), AllocError>
+        requires { All (λ place. place < length self.old.requests.entries) places.now }
+        ensures ok { OnOk result (self.new ≡ with_record self.old (asked_all
+            (all_follow_ups self.old.goal self.old.requests.entries places.now)
+            self.old.requests)) }
+        ensures goal { self.new.goal ≡ self.old.goal }
+    {
+        for place in places {
+            self.follow(*place)?;
+        }
+        Ok(())
+    }
+
+    // Waits where a request is outstanding, and else places shares or ends.
+    fn go_on(&mut self) -> Result<(), AllocError>
+        ensures ok { OnOk result (GoesOn self.old self.old.requests self.new) }
+        ensures goal { self.new.goal ≡ self.old.goal }
+    {
+        if self.requests.outstanding() > 0 {
+            return Ok(());
+        }
+        let alloc = *self.servers.allocator();
+        let acked = acked_pairs(alloc, &self.goal, self.requests.entries())?;
+        let matching = largest(alloc, &acked)?;
+        if self.is_to_place(matching.pairs.len()) {
+            let transfers = self.placing(alloc, &acked)?;
+            if !transfers.is_empty() {
+                return self.begin_round(&transfers);
+            }
+        }
+        self.end(matching);
+        Ok(())
+    }
+
+    // Are shares to be placed, where the acknowledged pairs reach so much happiness?
+    fn is_to_place(&self, reached: usize) -> bool
+        ensures { result
+            ≡ (self.now.round == 0) || nat_lt reached self.now.wanted
+            && has_failed_since self.now.goal self.now.round self.now.requests.entries }
+    {
+        self.round == 0
+            || (reached < usize::from(self.wanted)
+                && has_failed_since(&self.goal, self.round, self.requests.entries()))
+    }
+
+    // The pairs that are to be transferred.
+    fn placing(
+        &self,
+        alloc: Global,
+        acked: &[(NodeId, u16)],
+    ) -> Result<Vec<(NodeId, u16)>, AllocError>
+        requires { acked.now ≡ acked_pairs self.now.goal self.now.requests.entries }
+        ensures placing { IfOk result
+            (λ pairs. Places self.now.goal self.now.requests.entries pairs.items) }
+        ensures may { IfOk result (λ pairs. All (MayPlace self.now) pairs.items) }
+    {
+        let servers = servers_of(alloc, &self.goal, self.requests.entries())?;
+        let count = self.goal.share_count() as u16;
+        match place(alloc, &servers.readonly, &servers.writable, acked, count) {
+            Ok(plan) => {
+                let mut pairs = plan.m3;
+                pairs.extend_from_slice(&plan.leftovers)?;
+                Ok(pairs)
+            }
+            Err(_) => Err(AllocError),
+        }
+    }
+
+    // Begins the transfer of each pair.
+    fn begin_round(&mut self, pairs: &[(NodeId, u16)]) -> Result<(), AllocError>
+        requires { All (MayPlace self.old) pairs.now }
+        ensures ok { OnOk result (self.new ≡ record self.old {
+          requests = asked_all (transfers self.old.goal pairs.now) self.old.requests;
+          round = length self.old.requests.entries;
+        }) }
+        ensures goal { self.new.goal ≡ self.old.goal }
+    {
+        self.round = self.requests.entries().len();
+        allocate(&mut self.requests, pairs, self.goal.share_length())
+    }
+
+    // Ends with a largest matching of the acknowledged pairs.
+    fn end(&mut self, matching: Matching)
+        requires { IsHappiness (acked_pairs self.old.goal self.old.requests.entries)
+            matching.pairs.items matching.blocking.items }
+        ensures { Ends self.old self.new }
+    {
+        let Matching { pairs, blocking } = matching;
+        let reached = pairs.len();
+        self.status = if reached >= usize::from(self.wanted) {
+            UploadStatus::Happy(PairList::from_vec(pairs))
+        } else {
+            UploadStatus::Unhappy(reached as u16, NodeList::from_vec(blocking))
+        };
+    }
+}
+
+// Asks for room for each pair's share, or for the first of them where memory ends.
+fn allocate(
+    requests: &mut Requests,
+    pairs: &[(NodeId, u16)],
+    length: ShareLength,
+) -> Result<(), AllocError>
+    requires { All (λ pair. pair.1 < 256) pairs.now }
+    ensures ok { OnOk result (requests.new ≡ asked_all (allocations length pairs.now) requests.old) }
+    ensures some { (k : ℕ)
+        × (requests.new ≡ asked_all (allocations length (take k pairs.now)) requests.old) }
+{
+    for &(server, share) in pairs {
+        requests.ask(server, Asked::Allocation(share as u8, length))?;
+    }
+    Ok(())
+}
+
+// A largest matching of pairs, with its blocking set.
+fn largest(alloc: Global, pairs: &[(NodeId, u16)]) -> Result<Matching, AllocError>
+    ensures { IfOk result
+        (λ matching. IsHappiness pairs.now matching.pairs.items matching.blocking.items) }
+{
+    match happiness(alloc, pairs) {
+        Ok(matching) => Ok(matching),
+        Err(_) => Err(AllocError),
+    }
+}
+
+// The nodes of the servers, in the order of the file.
+fn nodes_in_order(
+    alloc: Global,
+    goal: &UploadGoal,
+    servers: &[ServerInfo],
+) -> Result<Vec<NodeId>, AllocError>
+    ensures { IfOk result
+        (λ nodes. AreInOrder goal.now.cap.storage_index servers.now nodes.items) }
+{
+    let ids = ids_of(alloc, servers)?;
+    match order(alloc, goal.cap().storage_index(), &ids) {
+        Ok(places) => nodes_at(alloc, servers, &places),
+        Err(_) => Err(AllocError),
+    }
+}
+
+fn ids_of(alloc: Global, servers: &[ServerInfo]) -> Result<Vec<ServerId>, AllocError>
+    ensures { IfOk result (λ ids. ids.items ≡ map (λ (s : ServerInfo). s.id) servers.now) }
+{
+    servers.iter().map(|server| server.id).collect(alloc)
+}
+
+// The nodes of the servers at these places.
+fn nodes_at(
+    alloc: Global,
+    servers: &[ServerInfo],
+    places: &[usize],
+) -> Result<Vec<NodeId>, AllocError>
+    requires { All (λ place. place < length servers.now) places.now }
+    ensures { IfOk result (λ nodes. nodes.items ≡ map (node_at servers.now) places.now) }
+{
+    let mut nodes = Vec::with_capacity(alloc, places.len())?;
+    for place in places {
+        nodes.push(servers[*place].node)?;
+    }
+    Ok(nodes)
+}

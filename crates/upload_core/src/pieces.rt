@@ -1,0 +1,133 @@
+//! Where the bytes of an upload's shares come from.
+
+ghost use Rattle.std.specs.Prelude.{◌≡◌, ◌+◌, ◌<◌, ◌≤◌, ℕ, List, length, map, take, drop, OnOk};
+ghost use Rattle.std.specs.Prelude.{IfOk, IfErr};
+ghost use Rattle.tagged_hash.specs.TaggedHash.{share_digest};
+ghost use Rattle.upload_core.specs.Pieces.{HaveOneLength, length_of, piece_of};
+ghost use Rattle.upload_core.specs.PieceFault.{fault_number};
+ghost use Rattle.upload_core.specs.declared.pieces.PieceFault.{PieceFault};
+
+use std::alloc::{AllocError, Global};
+use std::marker::Model;
+use tagged_hash::share_digest;
+use wire::message::Digest;
+
+/// Why a piece of a share could not be had.
+#[derive(Clone, Copy, PartialEq, Eq)]
+pub enum PieceFault {
+    /// An allocation was refused (number 1).
+    OutOfMemory,
+    /// The source has not the bytes any more that its shares were made of (number 74).
+    SourceChanged,
+    /// The source could not be read (number 75).
+    SourceFault,
+}
+
+impl PieceFault {
+    /// The number of the fault.
+    pub fn number(self) -> u8
+        ensures { result ≡ fault_number self }
+    {
+        match self {
+            PieceFault::OutOfMemory => 1,
+            PieceFault::SourceChanged => 74,
+            PieceFault::SourceFault => 75,
+        }
+    }
+}
+
+/// A source of the pieces of an upload's shares, by relations of its own: what each call gives, from
+/// the state before it to the state after it.
+pub trait Pieces {
+    /// The digests of its shares, by number, and the length that all of them have.
+    ghost digests: { Self → List (List ℕ) };
+
+    ghost share_length: { Self → ℕ };
+
+    /// It gave these bytes of a share from a place on.
+    ghost gives: { Self → ℕ → ℕ → List ℕ → Self → Type 0 };
+
+    /// It gave none of so many bytes, for this fault.
+    ghost fails: { Self → ℕ → ℕ → ℕ → PieceFault → Self → Type 0 };
+
+    /// Fills `out` with the bytes of a share from a place on. They lie in the share.
+    fn piece(&mut self, share: u8, offset: u64, out: &mut [u8]) -> Result<(), PieceFault>
+        requires number { share < length (digests self.old) }
+        requires inside { offset + length out.old ≤ share_length self.old }
+        ensures ok { OnOk result (gives self.old share offset out.new self.new) }
+        ensures err { IfErr result
+            (λ fault. fails self.old share offset (length out.old) fault self.new) }
+        ensures same { digests self.new ≡ digests self.old }
+        ensures long { share_length self.new ≡ share_length self.old };
+}
+
+/// Whole shares of one length, in memory, which contracts see as the list of their bytes.
+#[derive(Drop)]
+pub struct WholeShares {
+    shares: Vec<Vec<u8>>,
+}
+
+impl Model for WholeShares {
+    ghost use Rattle.std.specs.Prelude.{map, List, ℕ};
+    ghost use Rattle.upload_core.specs.Pieces.{HaveOneLength};
+
+    ghost Value = { List (List ℕ) };
+
+    ghost view = { λ s. map (λ share. share.items) s.shares.items };
+
+    ghost invariant = { λ s. HaveOneLength (map (λ share. share.items) s.shares.items) };
+}
+
+impl WholeShares {
+    /// Takes the shares over, by number: no byte is copied. They have one length.
+    pub fn new(shares: Vec<Vec<u8>>) -> WholeShares
+        requires { HaveOneLength (map (λ share. share.items) shares.items) }
+        ensures { result ≡ map (λ share. share.items) shares.items }
+    {
+        WholeShares { shares }
+    }
+
+    /// The digests of the shares, by number.
+    pub fn digests(&self, alloc: Global) -> Result<Vec<Digest>, AllocError>
+        ensures { IfOk result (λ digests. digests.items ≡ map share_digest self.now) }
+    {
+        digests_of(alloc, &self.shares)
+    }
+}
+
+impl Pieces for WholeShares {
+    ghost digests = { λ shares. map share_digest shares };
+
+    ghost share_length = { λ shares. length_of shares };
+
+    ghost gives = { λ shares share offset bytes after.
+        (bytes ≡ piece_of shares share offset (length bytes)) × (after ≡ shares) };
+
+    ghost fails = { λ shares share offset len fault after. ⊥ };
+
+    fn piece(&mut self, share: u8, offset: u64, out: &mut [u8]) -> Result<(), PieceFault> {
+        let bytes = part_of(&self.shares[usize::from(share)], offset as usize, out.len());
+        out.copy_from_slice(bytes);
+        Ok(())
+    }
+}
+
+// So many bytes of a share from a place on.
+fn part_of(share: &[u8], offset: usize, len: usize) -> &[u8]
+    requires { offset + len ≤ length share.now }
+    ensures { result.now ≡ take len (drop offset share.now) }
+{
+    &share[offset..][..len]
+}
+
+// The digest of each share.
+fn digests_of(alloc: Global, shares: &[Vec<u8>]) -> Result<Vec<Digest>, AllocError>
+    ensures { IfOk result
+        (λ digests. digests.items ≡ map (λ share. share_digest share.items) shares.now) }
+{
+    let mut digests = Vec::with_capacity(alloc, shares.len())?;
+    for share in shares {
+        digests.push(share_digest(share))?;
+    }
+    Ok(digests)
+}

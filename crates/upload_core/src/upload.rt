@@ -1,0 +1,165 @@
+//! An upload: its course, and the source of its shares' bytes.
+
+ghost use Rattle.std.specs.Prelude.{◌≡◌, ◌<◌, ℕ, IfOk, OnOk, OnErr, length, map, nat_eq};
+ghost use Rattle.std.specs.List.{IsDistinct};
+ghost use Rattle.upload_core.specs.Course.{IsInside};
+ghost use Rattle.upload_core.specs.Moves.{Advances, Begins, TicksOn};
+ghost use Rattle.upload_core.specs.Sending.{IsBody, Takes};
+ghost use Rattle.wire.specs.declared.requests.Asked.TheVariants.{Writing};
+ghost use Rattle.upload_core.specs.declared.pieces.PieceFault.TheVariants.{OutOfMemory};
+ghost use Rattle.upload_core.specs.declared.status.ServerInfo.{ServerInfo};
+ghost use Rattle.upload_core.specs.declared.status.UploadStatus.TheVariants.{Failed};
+
+use crate::course::Course;
+use crate::pieces::{PieceFault, Pieces};
+use crate::status::{ServerInfo, UploadGoal, UploadStatus};
+use std::alloc::{AllocError, Global};
+use std::marker::Model;
+use wire::message::{Body, Message, NodeId, ShareId, WriteData};
+use wire::requests::Asked;
+
+/// An upload of the shares that `P` gives the bytes of.
+#[derive(Drop)]
+pub struct Upload<P: Pieces + Drop> {
+    pieces: P,
+    course: Course,
+}
+
+impl<P: Pieces + Drop> Model for Upload<P> {
+    ghost use Rattle.std.specs.Prelude.{◌≡◌};
+    ghost use Rattle.upload_core.specs.Sending.{Uploading};
+
+    ghost Value = { Uploading P };
+
+    ghost view = { λ u. record { pieces = u.pieces; course = u.course } };
+
+    ghost invariant = { λ u.
+        (P.digests u.pieces ≡ u.course.goal.digests)
+        × (P.share_length u.pieces ≡ u.course.goal.share_length) };
+}
+
+impl<P: Pieces + Drop> Upload<P> {
+    /// Asks each of the servers, in the order of the file, which shares it holds. The servers are of
+    /// distinct nodes, and the pieces are those of the goal's shares.
+    pub fn start(
+        alloc: Global,
+        pieces: P,
+        goal: UploadGoal,
+        happy: u16,
+        servers: &[ServerInfo],
+        session: u64,
+        now: u64,
+    ) -> Result<Upload<P>, AllocError>
+        requires distinct { IsDistinct nat_eq (map (λ (s : ServerInfo). s.node) servers.now) }
+        requires own { P.digests pieces ≡ goal.digests }
+        requires long { P.share_length pieces ≡ goal.share_length }
+        ensures begins { IfOk result (λ u. Begins goal happy servers.now session now u.course) }
+        ensures pieces { IfOk result (λ u. u.pieces ≡ pieces) }
+    {
+        let course = Course::begin(alloc, goal, happy, servers, session, now)?;
+        Ok(Upload { pieces, course })
+    }
+
+    /// Takes a message from a node, at a second.
+    pub fn on_message(
+        &mut self,
+        from: NodeId,
+        message: &Message,
+        now: u64,
+    ) -> Result<(), AllocError>
+        ensures ok { OnOk result
+            (Advances from message.now now self.old.course self.new.course) }
+        ensures err { OnErr result (self.new.course.status ≡ Failed OutOfMemory) }
+        ensures pieces { self.new.pieces ≡ self.old.pieces }
+    {
+        let outcome = self.course.answer(from, message, now);
+        if outcome.is_err() {
+            self.course.fail(PieceFault::OutOfMemory);
+        }
+        outcome
+    }
+
+    /// Takes note of a second.
+    pub fn tick(&mut self, now: u64) -> Result<(), AllocError>
+        ensures ok { OnOk result (TicksOn now self.old.course self.new.course) }
+        ensures err { OnErr result (self.new.course.status ≡ Failed OutOfMemory) }
+        ensures pieces { self.new.pieces ≡ self.old.pieces }
+    {
+        let outcome = self.course.pass(now);
+        if outcome.is_err() {
+            self.course.fail(PieceFault::OutOfMemory);
+        }
+        outcome
+    }
+
+    /// Where the upload stands.
+    pub fn status(&self) -> &UploadStatus
+        ensures { result.now ≡ self.now.course.status }
+    {
+        self.course.status()
+    }
+
+    /// Takes the next message to send, and the node that it is for. `None` where there is none, or
+    /// where the upload failed: also now, by a fault of the pieces.
+    pub fn take_outgoing(&mut self, alloc: Global) -> Result<Option<(NodeId, Message)>, AllocError>
+        ensures ok { IfOk result (λ taken. Takes P.gives P.fails self.old taken self.new) }
+        ensures err { OnErr result (self.new ≡ self.old) }
+    {
+        let Some(place) = self.course.first() else {
+            return Ok(None);
+        };
+        let (server, asked) = self.course.request_at(place);
+        match self.body_of(alloc, asked)? {
+            Ok(body) => Ok(Some((server, self.course.send(place, body)))),
+            Err(fault) => {
+                self.course.fail(fault);
+                Ok(None)
+            }
+        }
+    }
+
+    // What a request's message says, with the bytes that the pieces give, or their fault.
+    fn body_of(
+        &mut self,
+        alloc: Global,
+        asked: Asked,
+    ) -> Result<Result<Body, PieceFault>, AllocError>
+        requires { IsInside self.old.course.goal asked }
+        ensures ok { IfOk result (λ told. IsBody P.gives P.fails
+            self.old.course.goal.cap.storage_index self.old.pieces asked told self.new.pieces) }
+        ensures err { OnErr result (self.new ≡ self.old) }
+        ensures course { self.new.course ≡ self.old.course }
+    {
+        let index = self.course.storage_index();
+        match asked {
+            Asked::Writing(share, offset, len) => {
+                self.write_body(alloc, ShareId { index, share }, offset, len)
+            }
+            _ => Ok(Ok(asked.body(index).unwrap())),
+        }
+    }
+
+    // A Write of the bytes that the pieces give, or their fault.
+    fn write_body(
+        &mut self,
+        alloc: Global,
+        id: ShareId,
+        offset: u64,
+        len: u32,
+    ) -> Result<Result<Body, PieceFault>, AllocError>
+        requires { IsInside self.old.course.goal (Writing id.share offset len) }
+        ensures ok { IfOk result (λ told. IsBody P.gives P.fails id.index self.old.pieces
+            (Writing id.share offset len) told self.new.pieces) }
+        ensures err { OnErr result (self.new ≡ self.old) }
+        ensures course { self.new.course ≡ self.old.course }
+    {
+        let mut bytes = vec![in alloc; 0u8; len as usize]?;
+        match self.pieces.piece(id.share, offset, &mut bytes) {
+            Ok(()) => {
+                let data = WriteData::from_vec(bytes).unwrap();
+                Ok(Ok(Body::Write(id, offset, data)))
+            }
+            Err(fault) => Ok(Err(fault)),
+        }
+    }
+}
