@@ -1,8 +1,8 @@
 -- How an upload goes on from its record.
 use Rattle.std.proofs.Common.{◌≡◌, ◌≢◌, ℕ, zero, suc, ◌+◌, ◌<◌, ◌≤◌, ◌==◌, ◌⊎◌, inl, inr, Bool, true, false, cond, ◌&&◌, ◌||◌, List, [], ◌∷◌, ◌++◌, All, Option, Some, None, Result, Ok, Err, length, take, map, get_or, eqb, nat_lt, IsPermutation, refl, sym, ap, subst, ◌∙◌, arith, true≢false}
-use Rattle.std.specs.Prelude.{max, slice_get, slice_set}
+use Rattle.std.specs.Prelude.{max, slice_get}
 use Rattle.std.specs.Result.{IfOk, OnOk, OnErr}
-use Rattle.std.specs.List.{IsDistinct, flat_map, range_with_len}
+use Rattle.std.specs.List.{IsDistinct, range_with_len}
 use Rattle.std.specs.Cmp.{nat_eq_equiv}
 use Rattle.std.proofs.lemmas.Grind.{flat_map-append}
 use Rattle.std.proofs.lemmas.List.Sorted.{IsPermutation-map}
@@ -15,9 +15,8 @@ use Rattle.wire.specs.declared.message.Body.{Body}
 use Rattle.wire.specs.declared.message.Message.{Message}
 use Rattle.wire.specs.declared.requests.Asked.{Asked}
 use Rattle.wire.specs.declared.requests.Asked.TheVariants.{Holdings, Allocation, Writing, Closing, Reading, Aborting}
-use Rattle.wire.specs.declared.requests.Outcome.TheVariants.{Answered}
 use Rattle.wire.specs.declared.requests.Request.{Request}
-use Rattle.wire.specs.Record.{RequestsState, answered_in, asked_all, asked_more, at, counted_at, counts_at, first_request, is_lost_at, is_outstanding, places_from, with_outcome}
+use Rattle.wire.specs.Record.{RequestsState, answered_in, asked_all, asked_more, at, counted_at, counts_at, first_request, is_lost_at, is_outstanding, places_from}
 use Rattle.wire.specs.Asking.{after_message, after_tick, asks_of, begun, fresh, lost_by_tick}
 use Rattle.wire.proofs.RecordLaws.{Awaits, asked_snoc, counts_is}
 use Rattle.placement.specs.Matching.{IsLargestMatching, Pair}
@@ -28,9 +27,9 @@ use Rattle.upload_core.specs.Acknowledged.{acked_pairs}
 use Rattle.upload_core.specs.Transfers.{follow_up}
 use Rattle.upload_core.specs.Rounds.{IsToPlace, has_failed_since}
 use Rattle.upload_core.specs.Moves.{AreInOrder, GoesOn, TicksWith, all_follow_ups, asks_after, ends, follow_ups_at, places, waits}
-use Rattle.upload_core.specs.Course.{IsCourse, IsInside, IsOfTold, MayPlace, allocations, asked_servers, is_holdings, is_told}
-use Rattle.upload_core.proofs.Follow.{IsGood, follow_good, follow_none}
-use Rattle.upload_core.proofs.Records.{Goes, MayAsk, both, course_all, course_asked, course_goes, either, goes_refl, goes_settled, goes_ticked, length_goes, or_left, or_right}
+use Rattle.upload_core.specs.Course.{IsCourse, IsInside, IsOfTold, MayPlace, allocations, asked_servers, is_holdings}
+use Rattle.upload_core.proofs.Follow.{follow_good, follow_none}
+use Rattle.upload_core.proofs.Records.{Goes, MayAsk, both, course_all, course_goes, either, goes_refl, goes_settled, goes_ticked, length_goes, or_left, or_right}
 
 pub settled_by : {X E : Type 0} (r : Result X E) (P Q : Type 0) → OnOk r P → OnErr r Q → P ⊎ Q
 settled_by (Ok x) P Q p q = inl p

@@ -1,6 +1,6 @@
 -- The servers that answered: each once, and each acknowledged pair is of one of them.
-use Rattle.std.proofs.Common.{◌≡◌, ℕ, zero, suc, ◌+◌, ◌<◌, ◌≤◌, ◌⊎◌, inl, inr, Bool, true, false, cond, not, ◌&&◌, ◌||◌, List, [], ◌∷◌, ◌++◌, All, Contains, Some, length, map, filter, take, get_or, eqb, refl, sym, ap, subst, ◌∙◌, arith, true≢false}
-use Rattle.std.specs.List.{IsDistinct, AllByRecursion, flat_map, list_any, range_with_len, zip}
+use Rattle.std.proofs.Common.{◌≡◌, ℕ, zero, suc, ◌+◌, ◌<◌, ◌⊎◌, inl, inr, Bool, true, false, cond, not, ◌&&◌, ◌||◌, List, [], ◌∷◌, ◌++◌, All, Contains, Some, length, map, filter, take, get_or, eqb, refl, sym, ap, subst, ◌∙◌, arith, true≢false}
+use Rattle.std.specs.List.{IsDistinct, AllByRecursion, list_any, zip}
 use Rattle.std.specs.Set.{is_member}
 use Rattle.std.specs.Prelude.{nat_lt, slice_get}
 use Rattle.std.proofs.lemmas.Bool.{cases_lt, eq-eqb, eqb-true, ltb-true}
@@ -20,13 +20,13 @@ use Rattle.wire.specs.declared.requests.Outcome.{Outcome}
 use Rattle.wire.specs.declared.requests.Outcome.TheVariants.{Unawaited, Outstanding, Answered, Lost}
 use Rattle.wire.specs.declared.requests.Request.{Request}
 use Rattle.placement.specs.Matching.{Pair, servers_of, shares_of}
-use Rattle.placement.specs.Plan.{IsLeastLoaded, IsPlan, IsSpread, Spreads, remaining, shares_below, spare, unused}
-use Rattle.placement.proofs.Members.{Contains-filter, distinct_filter, from_filter, from_member_map, member_map}
+use Rattle.placement.specs.Plan.{IsLeastLoaded, IsPlan, Spreads, remaining, shares_below, spare, unused}
+use Rattle.placement.proofs.Members.{Contains-filter, distinct_filter, from_filter, from_member_map}
 use Rattle.upload_core.specs.State.{Goal, UploadState}
 use Rattle.upload_core.specs.Acknowledged.{acked_answer, acked_by, acked_held, acked_outcome, acked_pairs, acked_share, is_digest_of}
 use Rattle.upload_core.specs.Rounds.{answered_as, answers_as, asked_answered_as, has_answered_as, readonly_servers, writable_servers}
 use Rattle.upload_core.specs.Transfers.{failed_servers}
-use Rattle.upload_core.specs.Course.{IsCourse, IsOfTold, MayPlace, asked_servers, has_told, is_holdings, is_told}
+use Rattle.upload_core.specs.Course.{IsOfTold, MayPlace, asked_servers, has_told, is_holdings, is_told}
 use Rattle.upload_core.proofs.Records.{both, either, or_left, or_right}
 
 abbrev server_of : Request → ℕ

@@ -1,5 +1,4 @@
 use Rattle.std.proofs.Common.{◌∙◌, ap, sym}
-use Rattle.wire.specs.declared.requests.Asked.TheVariants.{Allocation}
 use Rattle.wire.specs.Record.{asked_more}
 use Rattle.upload_core.proofs.Goes.{allocations_more}
 use Rattle.upload_core.proofs.course.allocate.Goals as goal

@@ -1,4 +1,4 @@
-use Rattle.std.proofs.Common.{◌≡◌, ◌≤◌, ◌∙◌, ap, length, refl, subst, sym, eqb}
+use Rattle.std.proofs.Common.{◌≤◌, ◌∙◌, ap, length, refl, subst, eqb}
 use Rattle.std.specs.List.{IsDistinct}
 use Rattle.wire.specs.Asking.{begun}
 use Rattle.upload_core.specs.declared.status.UploadStatus.TheVariants.{Running}

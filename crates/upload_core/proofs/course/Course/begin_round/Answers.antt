@@ -1,5 +1,4 @@
 use Rattle.std.proofs.Common.{◌≡◌, ◌≤◌, All, length, take, sym, ap, subst, ◌∙◌, arith, ℕ}
-use Rattle.wire.specs.declared.requests.Request.{Request}
 use Rattle.wire.specs.Record.{asked_all}
 use Rattle.upload_core.specs.State.{UploadState}
 use Rattle.upload_core.specs.Course.{MayPlace, allocations}

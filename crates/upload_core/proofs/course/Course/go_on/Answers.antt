@@ -1,4 +1,4 @@
-use Rattle.std.proofs.Common.{◌≡◌, ◌≢◌, ◌++◌, ◌+◌, ◌==◌, List, [], ℕ, length, map, inl, inr, sym, ap, subst, ◌∙◌, arith, true, true≢false}
+use Rattle.std.proofs.Common.{◌≡◌, ◌≢◌, ◌++◌, List, [], ℕ, length, map, inl, inr, sym, ap, subst, ◌∙◌, arith, true≢false}
 use Rattle.std.proofs.lemmas.Bool.{eq-eqb, eqb-true}
 use Rattle.std.proofs.lemmas.List.{length-map}
 use Rattle.wire.specs.declared.requests.Asked.{Asked}
@@ -8,7 +8,7 @@ use Rattle.placement.specs.Matching.{IsLargestMatching, Pair}
 use Rattle.upload_core.specs.State.{UploadState}
 use Rattle.upload_core.specs.Acknowledged.{acked_pairs}
 use Rattle.upload_core.specs.Rounds.{IsOver, IsSettled, IsToPlace, Placing, transfers_of}
-use Rattle.upload_core.specs.Moves.{GoesOn, ends, places}
+use Rattle.upload_core.specs.Moves.{ends, places}
 use Rattle.upload_core.specs.Course.{transfers}
 use Rattle.upload_core.proofs.Goes.{nil_of, not_to_place, on_ok, to_place}
 use Rattle.upload_core.proofs.course.Course.go_on.Goals as goal

@@ -1,5 +1,4 @@
 use Rattle.std.proofs.Common.{◌≡◌, ◌++◌, ◌<◌, All, Contains, List, ℕ, length, sym, ap, subst, ◌∙◌}
-use Rattle.std.proofs.lemmas.List.Elements.{All-append}
 use Rattle.wire.specs.declared.requests.Request.{Request}
 use Rattle.placement.specs.Matching.{Pair}
 use Rattle.placement.specs.Plan.{IsPlan}

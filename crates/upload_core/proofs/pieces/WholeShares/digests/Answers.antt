@@ -1,4 +1,4 @@
-use Rattle.std.proofs.Common.{◌≡◌, ◌∙◌, ap, map, sym}
+use Rattle.std.proofs.Common.{◌∙◌, ap, map, sym}
 use Rattle.tagged_hash.specs.TaggedHash.{share_digest}
 use Rattle.upload_core.proofs.Goes.{if_ok, map_twice}
 use Rattle.upload_core.proofs.pieces.WholeShares.digests.Goals as goal

@@ -1,0 +1,5 @@
+//! The tests of uploads: what no contract says, values from outside, and calls on their happy paths.
+#![tactic(auto)]
+
+#[cfg(test)]
+mod upload_core_tests;
