@@ -32,9 +32,9 @@ sees() {
 ends() {
     wanted=$1 told=$2
     shift 2
-    timeout 20 "$@" > out 2> err
+    timeout 20 "$@" > "$room/out" 2> "$room/err"
     status=$?
-    [ $status = "$wanted" ] && [ "$(cat err)" = "$told" ]
+    [ $status = "$wanted" ] && [ "$(cat "$room/err")" = "$told" ]
 }
 
 # Whether `get` of the cap gives the file.
