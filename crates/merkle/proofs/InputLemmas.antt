@@ -48,7 +48,7 @@ nets_same a b x y la lb lx ly e =
     let h : netstring x ++ [] ≡ netstring y ++ [] = ap (λ (z : List ℕ). z ++ []) (append_cancel_left (netstring b) _ _ g) in
     (same, net_same x y [] [] lx ly h)
 
-pair_same : (a b x y : List ℕ) → length a ≡ 32 → length b ≡ 32 → length x ≡ 32 → length y ≡ 32
+pub pair_same : (a b x y : List ℕ) → length a ≡ 32 → length b ≡ 32 → length x ≡ 32 → length y ≡ 32
     → pair_input TreeNode a x ≡ pair_input TreeNode b y → (a ≡ b) × (x ≡ y)
 pair_same a b x y la lb lx ly e =
     let tag : List ℕ = netstring (tag_text TreeNode) in

@@ -2,7 +2,7 @@
 
 use std::alloc::Global;
 use wire::message::{Body, HeldList, HeldShare, Message, ReadData, ReadLength, ShareLength};
-use wire::requests::{Asked, Outcome, Request, Requests};
+use request_record::requests::{Asked, Outcome, Request, Requests};
 
 // The seconds of the ticks, and those at which one request is sent. At the last tick it is lost.
 const SILENT: [(&[u64], &[u64]); 4] = [

@@ -1,4 +1,3 @@
-pub mod Pairs
 pub mod Ways
 pub mod Segments
 pub mod Files

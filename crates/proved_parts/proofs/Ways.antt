@@ -6,7 +6,7 @@ use Rattle.merkle.specs.Path.{path_root}
 use Rattle.merkle.proofs.PathLemmas.{path_root-left, path_root-right}
 use Rattle.proved_parts.specs.Steps.{step_input}
 use Rattle.merkle.specs.Inputs.{node_input}
-use Rattle.proved_parts.proofs.Pairs.{pair_same}
+use Rattle.merkle.proofs.InputLemmas.{pair_same}
 
 step_even : (place : ℕ) (a s : List ℕ) → place % 2 ≡ 0 → step_input place a s ≡ node_input a s
 step_even place a s even = rw even refl

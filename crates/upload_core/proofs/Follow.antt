@@ -4,11 +4,11 @@ use Rattle.std.specs.Prelude.{◌==◌}
 use Rattle.std.proofs.lemmas.Bool.{eq-eqb, cases_lt}
 use Rattle.wire.specs.declared.message.Body.{Body}
 use Rattle.wire.specs.declared.message.Body.TheVariants.{Ask, Have, Allocate, Granted, Already, Busy, Full, Write, Wrote, WrongOffset, Close, Closed, NotComplete, Abort, Read, Data, NoShare}
-use Rattle.wire.specs.declared.requests.Asked.{Asked}
-use Rattle.wire.specs.declared.requests.Asked.TheVariants.{Holdings, Allocation, Writing, Closing, Reading, Aborting}
-use Rattle.wire.specs.declared.requests.Outcome.{Outcome}
-use Rattle.wire.specs.declared.requests.Outcome.TheVariants.{Unawaited, Outstanding, Answered, Lost}
-use Rattle.wire.specs.declared.requests.Request.{Request}
+use Rattle.request_record.specs.declared.requests.Asked.{Asked}
+use Rattle.request_record.specs.declared.requests.Asked.TheVariants.{Holdings, Allocation, Writing, Closing, Reading, Aborting}
+use Rattle.request_record.specs.declared.requests.Outcome.{Outcome}
+use Rattle.request_record.specs.declared.requests.Outcome.TheVariants.{Unawaited, Outstanding, Answered, Lost}
+use Rattle.request_record.specs.declared.requests.Request.{Request}
 use Rattle.upload_core.specs.State.{Goal}
 use Rattle.upload_core.specs.Transfers.{after_piece, carried, carried_on, follow_up, given_up, has_failed, next_of}
 use Rattle.upload_core.specs.Course.{IsInside, is_holdings}

@@ -13,12 +13,12 @@ use Rattle.std.proofs.lemmas.List.Elements.{All-cons, All-map, All-nil, All-take
 use Rattle.std.proofs.lemmas.Option.{slice_get-get_or, slice_get_within}
 use Rattle.wire.specs.declared.message.Body.{Body}
 use Rattle.wire.specs.declared.message.Message.{Message}
-use Rattle.wire.specs.declared.requests.Asked.{Asked}
-use Rattle.wire.specs.declared.requests.Asked.TheVariants.{Holdings, Allocation, Writing, Closing, Reading, Aborting}
-use Rattle.wire.specs.declared.requests.Request.{Request}
-use Rattle.wire.specs.Record.{RequestsState, answered_in, asked_all, asked_more, at, counted_at, counts_at, first_request, is_lost_at, is_outstanding, places_from}
-use Rattle.wire.specs.Asking.{after_message, after_tick, asks_of, begun, fresh, lost_by_tick}
-use Rattle.wire.proofs.RecordLaws.{Awaits, asked_snoc, counts_is}
+use Rattle.request_record.specs.declared.requests.Asked.{Asked}
+use Rattle.request_record.specs.declared.requests.Asked.TheVariants.{Holdings, Allocation, Writing, Closing, Reading, Aborting}
+use Rattle.request_record.specs.declared.requests.Request.{Request}
+use Rattle.request_record.specs.Record.{RequestsState, answered_in, asked_all, asked_more, at, counted_at, counts_at, first_request, is_lost_at, is_outstanding, places_from}
+use Rattle.request_record.specs.Asking.{after_message, after_tick, asks_of, begun, fresh, lost_by_tick}
+use Rattle.request_record.proofs.RecordLaws.{Awaits, asked_snoc, counts_is}
 use Rattle.placement.specs.Matching.{IsLargestMatching, Pair}
 use Rattle.placement.specs.Plan.{IsPlan}
 use Rattle.upload_core.specs.declared.status.ServerInfo.{ServerInfo}

@@ -6,12 +6,12 @@ use Rattle.std.proofs.lemmas.List.{append-nil, length-append}
 use Rattle.std.proofs.lemmas.List.Elements.{All-nil, All-cons, All-head, All-tail, All-push, All-weaker, filter-append}
 use Rattle.std.proofs.lemmas.List.Folds.{list_any-append}
 use Rattle.wire.specs.declared.message.Body.{Body}
-use Rattle.wire.specs.declared.requests.Asked.{Asked}
-use Rattle.wire.specs.declared.requests.Asked.TheVariants.{Holdings, Allocation, Writing, Closing, Reading, Aborting}
-use Rattle.wire.specs.declared.requests.Outcome.{Outcome}
-use Rattle.wire.specs.declared.requests.Outcome.TheVariants.{Unawaited, Outstanding, Answered, Lost}
-use Rattle.wire.specs.declared.requests.Request.{Request}
-use Rattle.wire.specs.Record.{RequestsState, asked_all, asked_more, first_request, is_lost_at, is_outstanding, is_resent_at, resent_one, ticked_one, with_outcome}
+use Rattle.request_record.specs.declared.requests.Asked.{Asked}
+use Rattle.request_record.specs.declared.requests.Asked.TheVariants.{Holdings, Allocation, Writing, Closing, Reading, Aborting}
+use Rattle.request_record.specs.declared.requests.Outcome.{Outcome}
+use Rattle.request_record.specs.declared.requests.Outcome.TheVariants.{Unawaited, Outstanding, Answered, Lost}
+use Rattle.request_record.specs.declared.requests.Request.{Request}
+use Rattle.request_record.specs.Record.{RequestsState, asked_all, asked_more, first_request, is_lost_at, is_outstanding, is_resent_at, resent_one, ticked_one, with_outcome}
 use Rattle.upload_core.specs.State.{Goal, UploadState, with_record}
 use Rattle.upload_core.specs.Rounds.{asked_answered_as, has_answered_as}
 use Rattle.upload_core.specs.Course.{IsCourse, IsInside, IsOfTold, asked_servers, has_told, is_holdings, is_told}

@@ -2,8 +2,8 @@
 use Rattle.std.proofs.Common.{◌≡◌, ℕ, List, Some, None, Result, Ok, Err, refl, ap, subst, ◌∙◌}
 use Rattle.wire.specs.declared.message.Body.{Body}
 use Rattle.wire.specs.declared.message.Message.{Message}
-use Rattle.wire.specs.declared.requests.Asked.{Asked}
-use Rattle.wire.specs.Asking.{message_at}
+use Rattle.request_record.specs.declared.requests.Asked.{Asked}
+use Rattle.request_record.specs.Asking.{message_at}
 use Rattle.upload_core.specs.declared.pieces.PieceFault.{PieceFault}
 use Rattle.upload_core.specs.declared.status.UploadStatus.TheVariants.{Failed}
 use Rattle.upload_core.specs.State.{UploadState, with_record}

@@ -6,12 +6,12 @@ use Rattle.std.specs.List.{flat_map}
 use Rattle.wire.specs.declared.message.Body.{Body}
 use Rattle.wire.specs.declared.message.Body.TheVariants.{Have, Already, Closed}
 use Rattle.wire.specs.declared.message.HeldShare.{HeldShare}
-use Rattle.wire.specs.declared.requests.Asked.{Asked}
-use Rattle.wire.specs.declared.requests.Asked.TheVariants.{Holdings, Allocation, Writing, Closing}
-use Rattle.wire.specs.declared.requests.Outcome.{Outcome}
-use Rattle.wire.specs.declared.requests.Outcome.TheVariants.{Unawaited, Outstanding}
-use Rattle.wire.specs.declared.requests.Outcome.TheVariants.{Answered, Lost}
-use Rattle.wire.specs.declared.requests.Request.{Request}
+use Rattle.request_record.specs.declared.requests.Asked.{Asked}
+use Rattle.request_record.specs.declared.requests.Asked.TheVariants.{Holdings, Allocation, Writing, Closing}
+use Rattle.request_record.specs.declared.requests.Outcome.{Outcome}
+use Rattle.request_record.specs.declared.requests.Outcome.TheVariants.{Unawaited, Outstanding}
+use Rattle.request_record.specs.declared.requests.Outcome.TheVariants.{Answered, Lost}
+use Rattle.request_record.specs.declared.requests.Request.{Request}
 use Rattle.placement.specs.Matching.{Pair}
 use Rattle.upload_core.specs.State.{Goal}
 

@@ -2,10 +2,10 @@
 use Rattle.std.specs.Prelude.{◌≡◌, ◌⊎◌, ℕ, ◌+◌, ◌<◌, ◌≤◌, ◌&&◌, ◌||◌, ◌++◌}
 use Rattle.std.specs.Prelude.{Bool, true, false, List, map, filter, length, nat_eq, All}
 use Rattle.std.specs.List.{IsDistinct, list_any}
-use Rattle.wire.specs.declared.requests.Asked.{Asked}
-use Rattle.wire.specs.declared.requests.Asked.TheVariants.{Holdings, Allocation, Writing, Closing}
-use Rattle.wire.specs.declared.requests.Asked.TheVariants.{Reading, Aborting}
-use Rattle.wire.specs.declared.requests.Request.{Request}
+use Rattle.request_record.specs.declared.requests.Asked.{Asked}
+use Rattle.request_record.specs.declared.requests.Asked.TheVariants.{Holdings, Allocation, Writing, Closing}
+use Rattle.request_record.specs.declared.requests.Asked.TheVariants.{Reading, Aborting}
+use Rattle.request_record.specs.declared.requests.Request.{Request}
 use Rattle.wire.specs.Limits.{most_data}
 use Rattle.placement.specs.Matching.{Pair}
 use Rattle.upload_core.specs.declared.status.UploadStatus.{UploadStatus}

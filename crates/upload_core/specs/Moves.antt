@@ -4,10 +4,10 @@ use Rattle.std.specs.Prelude.{length, slice_get, slice_index_or, IsPermutation, 
 use Rattle.std.specs.List.{flat_map, range_with_len}
 use Rattle.std.specs.declared.cmp.Ordering.TheVariants.{Less}
 use Rattle.wire.specs.declared.message.Message.{Message}
-use Rattle.wire.specs.declared.requests.Asked.{Asked}
-use Rattle.wire.specs.declared.requests.Request.{Request}
-use Rattle.wire.specs.Asking.{after_message, after_tick, begun, lost_by_tick}
-use Rattle.wire.specs.Record.{RequestsState, asked_all, counts_at}
+use Rattle.request_record.specs.declared.requests.Asked.{Asked}
+use Rattle.request_record.specs.declared.requests.Request.{Request}
+use Rattle.request_record.specs.Asking.{after_message, after_tick, begun, lost_by_tick}
+use Rattle.request_record.specs.Record.{RequestsState, asked_all, counts_at}
 use Rattle.placement.specs.Ranking.{rank_cmp}
 use Rattle.upload_core.specs.declared.status.ServerInfo.{ServerInfo}
 use Rattle.upload_core.specs.declared.status.UploadStatus.{UploadStatus}

@@ -5,12 +5,12 @@ use Rattle.std.specs.List.{list_any}
 use Rattle.std.specs.Set.{is_member}
 use Rattle.wire.specs.declared.message.Body.{Body}
 use Rattle.wire.specs.declared.message.Body.TheVariants.{Have}
-use Rattle.wire.specs.declared.requests.Asked.{Asked}
-use Rattle.wire.specs.declared.requests.Asked.TheVariants.{Holdings, Allocation}
-use Rattle.wire.specs.declared.requests.Outcome.{Outcome}
-use Rattle.wire.specs.declared.requests.Outcome.TheVariants.{Answered}
-use Rattle.wire.specs.declared.requests.Request.{Request}
-use Rattle.wire.specs.Record.{RequestsState, outstanding_count}
+use Rattle.request_record.specs.declared.requests.Asked.{Asked}
+use Rattle.request_record.specs.declared.requests.Asked.TheVariants.{Holdings, Allocation}
+use Rattle.request_record.specs.declared.requests.Outcome.{Outcome}
+use Rattle.request_record.specs.declared.requests.Outcome.TheVariants.{Answered}
+use Rattle.request_record.specs.declared.requests.Request.{Request}
+use Rattle.request_record.specs.Record.{RequestsState, outstanding_count}
 use Rattle.placement.specs.Matching.{Pair, IsMatching, IsLargestMatching, IsBlockedBy}
 use Rattle.placement.specs.Plan.{IsPlan}
 use Rattle.upload_core.specs.declared.status.UploadStatus.{UploadStatus}

@@ -3,11 +3,11 @@ use Rattle.std.specs.Prelude.{◌≡◌, ℕ, List, Option, Some, None, Result, 
 use Rattle.wire.specs.declared.message.Body.{Body}
 use Rattle.wire.specs.declared.message.Body.TheVariants.{Write}
 use Rattle.wire.specs.declared.message.Message.{Message}
-use Rattle.wire.specs.declared.requests.Asked.{Asked}
-use Rattle.wire.specs.declared.requests.Asked.TheVariants.{Writing}
-use Rattle.wire.specs.Asking.{Spells, message_at}
-use Rattle.wire.specs.Record.{RequestsState}
-use Rattle.wire.specs.declared.requests.Request.{Request}
+use Rattle.request_record.specs.declared.requests.Asked.{Asked}
+use Rattle.request_record.specs.declared.requests.Asked.TheVariants.{Writing}
+use Rattle.request_record.specs.Asking.{Spells, message_at}
+use Rattle.request_record.specs.Record.{RequestsState}
+use Rattle.request_record.specs.declared.requests.Request.{Request}
 use Rattle.upload_core.specs.declared.pieces.PieceFault.{PieceFault}
 use Rattle.upload_core.specs.declared.status.UploadStatus.{UploadStatus}
 use Rattle.upload_core.specs.declared.status.UploadStatus.TheVariants.{Failed, Happy}

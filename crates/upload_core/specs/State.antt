@@ -1,7 +1,7 @@
 -- An upload: what it is for, its servers, its record, and how far it is.
 use Rattle.std.specs.Prelude.{ℕ, List}
 use Rattle.cap_text.specs.Cap.{VerifyCapValue}
-use Rattle.wire.specs.Record.{RequestsState}
+use Rattle.request_record.specs.Record.{RequestsState}
 use Rattle.upload_core.specs.declared.status.UploadStatus.{UploadStatus}
 
 -- what is to be placed: the shares of the file of a verify cap, which has its storage index, by the

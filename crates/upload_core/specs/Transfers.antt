@@ -5,13 +5,13 @@ use Rattle.std.specs.Prelude.{Option, Some, None, is_some, if◌then◌else◌, 
 use Rattle.wire.specs.declared.message.Body.{Body}
 use Rattle.wire.specs.declared.message.Body.TheVariants.{Already, Closed}
 use Rattle.wire.specs.declared.message.Body.TheVariants.{Granted, Wrote, WrongOffset}
-use Rattle.wire.specs.declared.requests.Asked.{Asked}
-use Rattle.wire.specs.declared.requests.Asked.TheVariants.{Holdings, Allocation, Writing, Closing}
-use Rattle.wire.specs.declared.requests.Asked.TheVariants.{Reading, Aborting}
-use Rattle.wire.specs.declared.requests.Outcome.{Outcome}
-use Rattle.wire.specs.declared.requests.Outcome.TheVariants.{Unawaited, Outstanding}
-use Rattle.wire.specs.declared.requests.Outcome.TheVariants.{Answered, Lost}
-use Rattle.wire.specs.declared.requests.Request.{Request}
+use Rattle.request_record.specs.declared.requests.Asked.{Asked}
+use Rattle.request_record.specs.declared.requests.Asked.TheVariants.{Holdings, Allocation, Writing, Closing}
+use Rattle.request_record.specs.declared.requests.Asked.TheVariants.{Reading, Aborting}
+use Rattle.request_record.specs.declared.requests.Outcome.{Outcome}
+use Rattle.request_record.specs.declared.requests.Outcome.TheVariants.{Unawaited, Outstanding}
+use Rattle.request_record.specs.declared.requests.Outcome.TheVariants.{Answered, Lost}
+use Rattle.request_record.specs.declared.requests.Request.{Request}
 use Rattle.wire.specs.Limits.{most_data}
 use Rattle.upload_core.specs.State.{Goal}
 use Rattle.upload_core.specs.Acknowledged.{is_digest_of}

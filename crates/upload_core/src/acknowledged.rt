@@ -7,7 +7,7 @@ ghost use Rattle.upload_core.specs.Acknowledged.{acked_share};
 use crate::status::UploadGoal;
 use std::alloc::{AllocError, Global};
 use wire::message::{Body, Digest, HeldShare, NodeId};
-use wire::requests::{Asked, Outcome, Request};
+use request_record::requests::{Asked, Outcome, Request};
 
 /// The pairs that the answers of these requests acknowledge.
 pub(crate) fn acked_pairs(

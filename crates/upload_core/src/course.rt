@@ -4,8 +4,8 @@ ghost use Rattle.std.specs.Prelude.{◌≡◌, ◌<◌, ◌==◌, ◌&&◌, ◌|
 ghost use Rattle.std.specs.Prelude.{IsTrue, OnOk, Some};
 ghost use Rattle.std.specs.Prelude.{length, map, nat_eq, nat_lt, slice_get, take};
 ghost use Rattle.std.specs.List.{IsDistinct};
-ghost use Rattle.wire.specs.Asking.{message_at};
-ghost use Rattle.wire.specs.Record.{asked_all};
+ghost use Rattle.request_record.specs.Asking.{message_at};
+ghost use Rattle.request_record.specs.Record.{asked_all};
 ghost use Rattle.placement.specs.Matching.{IsHappiness};
 ghost use Rattle.upload_core.specs.declared.status.ServerInfo.{ServerInfo};
 ghost use Rattle.upload_core.specs.Acknowledged.{acked_pairs};
@@ -26,7 +26,7 @@ use placement::{Matching, ServerId, happiness, order, place};
 use std::alloc::{AllocError, Global};
 use std::marker::Model;
 use wire::message::{Body, Message, NodeId, ShareLength, StorageIndex};
-use wire::requests::{Asked, Requests};
+use request_record::requests::{Asked, Requests};
 
 /// An upload without the source of its bytes.
 #[derive(Drop)]

@@ -11,7 +11,7 @@ use crate::status::UploadGoal;
 use crate::transfers::has_failed;
 use std::alloc::{AllocError, Global};
 use wire::message::{Body, NodeId};
-use wire::requests::{Asked, Outcome, Request};
+use request_record::requests::{Asked, Outcome, Request};
 
 /// The servers that answered their Asks, by what they take.
 #[derive(Drop)]

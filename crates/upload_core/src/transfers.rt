@@ -6,11 +6,11 @@ ghost use Rattle.upload_core.specs.Transfers.{after_piece, carried, carried_on, 
 ghost use Rattle.upload_core.specs.Transfers.{given_up, has_failed, is_acknowledged, is_transfer};
 ghost use Rattle.upload_core.specs.Transfers.{next_of};
 ghost use Rattle.upload_core.specs.State.{Goal};
-ghost use Rattle.wire.specs.declared.requests.Outcome.TheVariants.{Answered};
+ghost use Rattle.request_record.specs.declared.requests.Outcome.TheVariants.{Answered};
 
 use crate::status::UploadGoal;
 use wire::message::{Body, ShareLength};
-use wire::requests::{Asked, Outcome, Request};
+use request_record::requests::{Asked, Outcome, Request};
 
 /// The most bytes of a piece.
 pub(crate) const MAX_PIECE: u64 = 32_768;

@@ -5,7 +5,7 @@ ghost use Rattle.std.specs.List.{IsDistinct};
 ghost use Rattle.upload_core.specs.Course.{IsInside};
 ghost use Rattle.upload_core.specs.Moves.{Advances, Begins, TicksOn};
 ghost use Rattle.upload_core.specs.Sending.{IsBody, Takes};
-ghost use Rattle.wire.specs.declared.requests.Asked.TheVariants.{Writing};
+ghost use Rattle.request_record.specs.declared.requests.Asked.TheVariants.{Writing};
 ghost use Rattle.upload_core.specs.declared.pieces.PieceFault.TheVariants.{OutOfMemory};
 ghost use Rattle.upload_core.specs.declared.status.ServerInfo.{ServerInfo};
 ghost use Rattle.upload_core.specs.declared.status.UploadStatus.TheVariants.{Failed};
@@ -16,7 +16,7 @@ use crate::status::{ServerInfo, UploadGoal, UploadStatus};
 use std::alloc::{AllocError, Global};
 use std::marker::Model;
 use wire::message::{Body, Message, NodeId, ShareId, WriteData};
-use wire::requests::Asked;
+use request_record::requests::Asked;
 
 /// An upload of the shares that `P` gives the bytes of.
 #[derive(Drop)]

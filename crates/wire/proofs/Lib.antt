@@ -3,8 +3,6 @@ pub mod ShareLaws
 pub mod BodyLaws
 pub mod MessageLaws
 pub mod StreamLaws
-pub mod RecordLaws
 pub mod HeldLaws
 pub mod LengthLaws
 pub mod SharesLoop
-pub mod AskingLaws

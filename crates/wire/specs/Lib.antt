@@ -6,7 +6,5 @@ pub mod Refusals
 pub mod Kinds
 pub mod Frames
 pub mod Stream
-pub mod Record
-pub mod Asking
 -- The words of private clauses: reading a body from left to right.
 pub mod Reading

@@ -1,10 +1,8 @@
-//! What holds of frames and streams, whoever reads or writes them, and of each record of requests.
-//! Each law is a contract; its call does nothing.
+//! What holds of frames and streams, whoever reads or writes them. Each law is a contract; its call
+//! does nothing.
 
 ghost use Rattle.std.specs.Prelude.{◌≡◌, ◌++◌, ℕ, List, All};
-ghost use Rattle.wire.specs.Asking.{AsksOnce, after_message, after_tick};
 ghost use Rattle.wire.specs.Frames.{IsBodyOf, IsMessage, frame};
-ghost use Rattle.wire.specs.Record.{RequestsState};
 ghost use Rattle.wire.specs.Stream.{HasNoMessage, stream};
 ghost use Rattle.wire.specs.declared.message.Message.{Message};
 
@@ -24,12 +22,4 @@ pub fn no_frame_begins_another()
 pub fn one_reading()
     ensures { (ms ns : List Message) (r s : List ℕ) → All IsMessage ms → All IsMessage ns
         → HasNoMessage r → HasNoMessage s → stream ms r ≡ stream ns s → (ms ≡ ns) × (r ≡ s) }
-{}
-
-/// Where no server is asked the same thing twice, no answer and no tick changes that.
-pub fn asks_stay_once()
-    ensures answers { (from now : ℕ) (m : Message) (r : RequestsState)
-        → AsksOnce r.entries → AsksOnce (after_message from m now r).entries }
-    ensures ticks { (now : ℕ) (r : RequestsState)
-        → AsksOnce r.entries → AsksOnce (after_tick now r).entries }
 {}

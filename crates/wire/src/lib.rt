@@ -9,5 +9,3 @@ mod fields;
 pub mod kind;
 pub mod laws;
 pub mod message;
-mod places;
-pub mod requests;

@@ -1,5 +1,5 @@
 use Rattle.std.proofs.Common.{◌∙◌, ap, sym}
-use Rattle.wire.specs.Record.{asked_more}
+use Rattle.request_record.specs.Record.{asked_more}
 use Rattle.upload_core.proofs.Goes.{allocations_more}
 use Rattle.upload_core.proofs.course.allocate.Goals as goal
 

@@ -1,5 +1,5 @@
 use Rattle.std.proofs.Common.{◌≡◌, take}
-use Rattle.wire.specs.Record.{asked_all}
+use Rattle.request_record.specs.Record.{asked_all}
 use Rattle.upload_core.specs.Course.{allocations}
 use Rattle.upload_core.proofs.course.allocate.Given as goal
 

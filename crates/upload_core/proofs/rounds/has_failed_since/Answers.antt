@@ -2,7 +2,7 @@ use Rattle.std.proofs.Common.{rules, tests, ◌-◌, ◌∙◌, ap, drop, length
 use Rattle.std.specs.List.{list_any}
 use Rattle.std.proofs.lemmas.Iterator.{YieldsList-from_slice}
 use Rattle.std.proofs.lemmas.Iterator.Search.{any_from_yields_List}
-use Rattle.wire.proofs.RecordLaws.{rest_whole}
+use Rattle.request_record.proofs.RecordLaws.{rest_whole}
 use Rattle.upload_core.specs.Transfers.{has_failed}
 use Rattle.upload_core.proofs.rounds.has_failed_since.Goals as goal
 

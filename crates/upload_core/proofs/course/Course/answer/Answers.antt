@@ -1,7 +1,7 @@
 use Rattle.std.proofs.Common.{◌≡◌, ◌<◌, Some, length, sym, ap, subst, ◌∙◌, Option, ℕ}
 use Rattle.std.specs.Prelude.{slice_get}
-use Rattle.wire.specs.Asking.{after_message}
-use Rattle.wire.specs.Record.{RequestsState, asked_all, counts_at}
+use Rattle.request_record.specs.Asking.{after_message}
+use Rattle.request_record.specs.Record.{RequestsState, asked_all, counts_at}
 use Rattle.upload_core.specs.State.{UploadState, with_record}
 use Rattle.upload_core.specs.Moves.{AdvancesAt, GoesOn, follow_ups_at}
 use Rattle.upload_core.specs.declared.status.UploadStatus.TheVariants.{Running}

@@ -1,6 +1,6 @@
 use Rattle.std.proofs.Common.{◌≤◌, ◌∙◌, ap, length, refl, subst, eqb}
 use Rattle.std.specs.List.{IsDistinct}
-use Rattle.wire.specs.Asking.{begun}
+use Rattle.request_record.specs.Asking.{begun}
 use Rattle.upload_core.specs.declared.status.UploadStatus.TheVariants.{Running}
 use Rattle.upload_core.specs.State.{Goal, UploadState}
 use Rattle.upload_core.proofs.Goes.{begun_course, order_distinct}

@@ -1,5 +1,5 @@
 use Rattle.std.proofs.Common.{◌≡◌, ◌≤◌, All, length, take, sym, ap, subst, ◌∙◌, arith, ℕ}
-use Rattle.wire.specs.Record.{asked_all}
+use Rattle.request_record.specs.Record.{asked_all}
 use Rattle.upload_core.specs.State.{UploadState}
 use Rattle.upload_core.specs.Course.{MayPlace, allocations}
 use Rattle.upload_core.proofs.Goes.{round_course}

@@ -1,7 +1,7 @@
 use Rattle.std.proofs.Common.{◌≡◌, ◌<◌, Some, None, inl, inr, get_or, length, sym, ap, subst, ◌∙◌, List}
 use Rattle.std.specs.Prelude.{slice_get}
-use Rattle.wire.specs.declared.requests.Request.{Request}
-use Rattle.wire.specs.Record.{RequestsState, asked_all, asked_more}
+use Rattle.request_record.specs.declared.requests.Request.{Request}
+use Rattle.request_record.specs.Record.{RequestsState, asked_all, asked_more}
 use Rattle.upload_core.specs.State.{UploadState, with_record}
 use Rattle.upload_core.specs.Transfers.{follow_up}
 use Rattle.upload_core.specs.Moves.{follow_ups_at}

@@ -1,6 +1,6 @@
 use Rattle.std.proofs.Common.{◌<◌, ◌∙◌, ap, get_or, length, subst, sym}
 use Rattle.std.specs.Prelude.{slice_get}
-use Rattle.wire.specs.Record.{asked_all}
+use Rattle.request_record.specs.Record.{asked_all}
 use Rattle.upload_core.specs.State.{UploadState, with_record}
 use Rattle.upload_core.specs.Moves.{follow_ups_at}
 use Rattle.upload_core.proofs.Goes.{follow_more, follow_there}

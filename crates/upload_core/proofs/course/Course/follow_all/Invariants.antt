@@ -1,5 +1,5 @@
 use Rattle.std.proofs.Common.{◌≡◌, take}
-use Rattle.wire.specs.Record.{asked_all}
+use Rattle.request_record.specs.Record.{asked_all}
 use Rattle.upload_core.specs.Moves.{all_follow_ups}
 use Rattle.upload_core.specs.State.{with_record}
 use Rattle.upload_core.proofs.course.Course.follow_all.Given as goal

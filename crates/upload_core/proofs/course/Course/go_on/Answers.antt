@@ -1,9 +1,9 @@
 use Rattle.std.proofs.Common.{◌≡◌, ◌≢◌, ◌++◌, List, [], ℕ, length, map, inl, inr, sym, ap, subst, ◌∙◌, arith, true≢false}
 use Rattle.std.proofs.lemmas.Bool.{eq-eqb, eqb-true}
 use Rattle.std.proofs.lemmas.List.{length-map}
-use Rattle.wire.specs.declared.requests.Asked.{Asked}
-use Rattle.wire.specs.declared.requests.Asked.TheVariants.{Allocation}
-use Rattle.wire.specs.Record.{asked_all, outstanding_count}
+use Rattle.request_record.specs.declared.requests.Asked.{Asked}
+use Rattle.request_record.specs.declared.requests.Asked.TheVariants.{Allocation}
+use Rattle.request_record.specs.Record.{asked_all, outstanding_count}
 use Rattle.placement.specs.Matching.{IsLargestMatching, Pair}
 use Rattle.upload_core.specs.State.{UploadState}
 use Rattle.upload_core.specs.Acknowledged.{acked_pairs}

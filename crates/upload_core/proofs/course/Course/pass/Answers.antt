@@ -1,7 +1,7 @@
 use Rattle.std.proofs.Common.{◌≡◌, ◌≢◌, ◌<◌, ◌∙◌, All, List, [], ℕ, ap, arith, length, subst, sym, true≢false}
 use Rattle.std.proofs.lemmas.Bool.{eq-eqb}
-use Rattle.wire.specs.Asking.{after_tick, lost_by_tick}
-use Rattle.wire.specs.Record.{RequestsState, asked_all}
+use Rattle.request_record.specs.Asking.{after_tick, lost_by_tick}
+use Rattle.request_record.specs.Record.{RequestsState, asked_all}
 use Rattle.upload_core.specs.declared.status.UploadStatus.TheVariants.{Running}
 use Rattle.upload_core.specs.State.{UploadState, with_record}
 use Rattle.upload_core.specs.Moves.{GoesOn, all_follow_ups}

@@ -1,5 +1,5 @@
 use Rattle.std.proofs.Common.{◌≡◌, ◌++◌, ◌<◌, All, Contains, List, ℕ, length, sym, ap, subst, ◌∙◌}
-use Rattle.wire.specs.declared.requests.Request.{Request}
+use Rattle.request_record.specs.declared.requests.Request.{Request}
 use Rattle.placement.specs.Matching.{Pair}
 use Rattle.placement.specs.Plan.{IsPlan}
 use Rattle.upload_core.specs.State.{UploadState}

@@ -1,0 +1,343 @@
+-- How the record of requests goes on.
+use Rattle.std.proofs.Common.{◌≡◌, ℕ, zero, suc, ◌+◌, ◌-◌, ◌<◌, ◌≤◌, Bool, true, false, cond, List, [], ◌∷◌, ◌++◌, length, get_or, set, take, drop, map, Option, Some, None, refl, sym, ap, subst, ◌∙◌, arith, inl, inr}
+use Rattle.std.specs.Prelude.{◌==◌, ◌&&◌, not, slice_get, slice_set, nat_lt, nat_le, filter, option_map}
+use Rattle.std.specs.List.{All}
+use Rattle.std.proofs.lemmas.Bool.{ltb-true, cases_lt, eq-eqb}
+use Rattle.std.proofs.lemmas.List.{take_all, drop_all, take_at, take-append-le, take-set-le, take_more, length-append, length-map, length-take, length-drop, length-set, map-append, append-nil}
+use Rattle.std.proofs.Math.Seq.{take-set-lt}
+use Rattle.std.proofs.lemmas.List.Sums.{sum_by-append, sum_by-cons, sum_by-set}
+use Rattle.std.proofs.lemmas.List.Elements.{All-nil, All-cons, All-head, All-tail, All-push, All-weaker, All-append, All-set, All-map, All-more, All-same}
+use Rattle.std.proofs.lemmas.Option.{get_or_from_slice_get, slice_get-map}
+use Rattle.wire.specs.declared.message.Body.{Body}
+use Rattle.wire.specs.declared.message.Message.{Message}
+use Rattle.request_record.specs.declared.requests.Asked.{Asked}
+use Rattle.request_record.specs.declared.requests.Asked.TheVariants.{Holdings, Allocation, Writing, Closing, Reading, Aborting}
+use Rattle.request_record.specs.declared.requests.Outcome.{Outcome}
+use Rattle.request_record.specs.declared.requests.Outcome.TheVariants.{Unawaited, Outstanding, Answered, Lost}
+use Rattle.request_record.specs.declared.requests.Request.{Request}
+use Rattle.request_record.specs.Record.{RequestsState, IsRecord, IsIndexed, AreSettled, fits, is_outstanding, with_outcome, first_outcome, first_request, asked_more, asked_all, awaits_at, counts_at, without, without_lost, passed, age_of, is_lost_at, is_resent_at, is_lost_in, resent_one, ticked_one, places_from, resent_places, lost_places, IsSentFew, is_current, is_current_in, outstanding_count}
+use Rattle.request_record.specs.Asking.{asks_of, begun, fresh}
+
+-- ---- lists
+
+abbrev IsQuiet : Request → Type 0
+IsQuiet r = is_outstanding r.outcome ≡ false
+
+abbrev IsCurrentIn : List Request → ℕ → Type 0
+IsCurrentIn entries place = is_current_in (slice_get entries place) ≡ true
+
+pub get_push : {X : Type 0} (xs : List X) (x : X) (i : ℕ) → i < length xs → slice_get (xs ++ x ∷ []) i ≡ slice_get xs i
+get_push [] x i lt = absurd (omega (arith, lt))
+get_push (y ∷ ys) x zero lt = refl
+get_push (y ∷ ys) x (suc i) lt = get_push ys x i (omega (arith, lt))
+
+pub get_last : {X : Type 0} (xs : List X) (x : X) → slice_get (xs ++ x ∷ []) (length xs) ≡ Some x
+get_last [] x = refl
+get_last (y ∷ ys) x = get_last ys x
+
+get_set_other : {X : Type 0} (xs : List X) (i j : ℕ) (y : X) → (j ≡ i → ⊥) → slice_get (set xs i y) j ≡ slice_get xs j
+get_set_other [] i j y other = refl
+get_set_other (x ∷ xs) zero zero y other = absurd (other refl)
+get_set_other (x ∷ xs) zero (suc j) y other = refl
+get_set_other (x ∷ xs) (suc i) zero y other = refl
+get_set_other (x ∷ xs) (suc i) (suc j) y other = get_set_other xs i j y (λ e. other (ap suc e))
+
+-- what a filter keeps, where what it tests gives more
+all_kept : {X : Type 0} (P Q : X → Type 0) (test : X → Bool) → ((x : X) → P x → test x ≡ true → Q x) → (xs : List X) → All P xs → All Q (filter test xs)
+all_kept P Q test from [] all = All-nil Q
+all_kept P Q test from (x ∷ xs) all = go (test x) refl (all_kept P Q test from xs (All-tail P x xs all))
+  where
+    go : (b : Bool) → test x ≡ b → All Q (filter test xs) → All Q (cond b (x ∷ filter test xs) (filter test xs))
+    go true e rest = All-cons Q x (filter test xs) (from x (All-head P x xs all) e) rest
+    go false e rest = rest
+
+not_true : (b : Bool) → not b ≡ true → b ≡ true → ⊥
+not_true true e h = cc
+not_true false e h = cc
+
+both : (a b : Bool) → (a && b) ≡ true → (a ≡ true) × (b ≡ true)
+both true b e = (refl, e)
+both false b e = absurd cc
+
+-- ---- asking
+
+pub count_push : (entries : List Request) (r : Request) → outstanding_count (entries ++ r ∷ []) ≡ outstanding_count entries + cond (is_outstanding r.outcome) 1 0
+count_push entries r = sum_by-append (λ (q : Request). cond (is_outstanding q.outcome) 1 0) entries (r ∷ []) ∙ omega arith
+
+few_push : (server now : ℕ) (asked : Asked) (entries : List Request) → All IsSentFew entries → All IsSentFew (entries ++ first_request server asked now ∷ [])
+few_push server now asked entries few = All-push IsSentFew entries (first_request server asked now) few (omega arith, omega arith)
+
+there_push : (entries : List Request) (r : Request) (outgoing : List ℕ) → All (λ place. place < length entries) outgoing → All (λ place. place < length (entries ++ r ∷ [])) (outgoing ++ length entries ∷ [])
+there_push entries r outgoing there =
+    let len : length (entries ++ r ∷ []) ≡ length entries + 1 = length-append entries (r ∷ []) in
+    All-push (λ place. place < length (entries ++ r ∷ [])) outgoing (length entries)
+    (All-weaker (λ place. place < length entries) (λ place. place < length (entries ++ r ∷ [])) (λ place lt. omega (arith, lt, len)) outgoing there)
+    (omega (arith, len))
+
+first_current : (asked : Asked) → is_current (first_outcome asked) ≡ true
+first_current Holdings = refl
+first_current (Allocation share len) = refl
+first_current (Writing share offset len) = refl
+first_current (Closing share) = refl
+first_current (Reading share offset len) = refl
+first_current (Aborting share) = refl
+
+current_push : (entries : List Request) (r : Request) (outgoing : List ℕ) → is_current r.outcome ≡ true → All (λ place. place < length entries) outgoing → All (IsCurrentIn entries) outgoing → All (IsCurrentIn (entries ++ r ∷ [])) (outgoing ++ length entries ∷ [])
+current_push entries r outgoing new there current =
+    All-push (IsCurrentIn (entries ++ r ∷ [])) outgoing (length entries)
+    (λ k d lt. ap is_current_in (get_push entries r (get_or outgoing k d) (there k d lt)) ∙ current k d lt)
+    (ap is_current_in (get_last entries r) ∙ new)
+
+pub asked_right : (server : ℕ) (asked : Asked) (r : RequestsState) → IsRecord r → IsRecord (asked_more server asked r)
+asked_right server asked r right = record {
+  few = few_push server r.clock asked r.entries right.few;
+  there = there_push r.entries (first_request server asked r.clock) r.outgoing right.there;
+  current = current_push r.entries (first_request server asked r.clock) r.outgoing (first_current asked) right.there right.current;
+}
+
+settled_push : (place : ℕ) (entries : List Request) (r : Request) → AreSettled place entries → AreSettled place (entries ++ r ∷ [])
+settled_push place entries r s = record {
+  within = omega (arith, s.within, length-append entries (r ∷ []));
+  settled = All-same IsQuiet (take place (entries ++ r ∷ [])) (take place entries) (take-append-le place entries (r ∷ []) s.within) s.settled;
+}
+
+pub asked_indexed : (n more place : ℕ) (entries : List Request) (r : Request) → IsIndexed n place entries → more ≡ cond (is_outstanding r.outcome) 1 0 → IsIndexed (n + more) place (entries ++ r ∷ [])
+asked_indexed n more place entries r i e = record {
+  counts = omega (arith, count_push entries r, i.counts, e);
+  before = settled_push place entries r i.before;
+}
+
+-- one more is asked behind all others
+pub asked_snoc : (asks : List (ℕ × Asked)) (ask : ℕ × Asked) (r : RequestsState) → asked_all (asks ++ ask ∷ []) r ≡ asked_more ask.0 ask.1 (asked_all asks r)
+asked_snoc [] ask r = refl
+asked_snoc (a ∷ asks) ask r = asked_snoc asks ask (asked_more a.0 a.1 r)
+
+-- the servers up to one are asked
+pub begun_more : (servers : List ℕ) (i session now : ℕ) → i < length servers → begun (take (i + 1) servers) session now ≡ asked_more (get_or servers i 0) Holdings (begun (take i servers) session now)
+begun_more servers i session now lt =
+    ap (λ (ss : List ℕ). begun ss session now) (take_more servers i 0 lt)
+    ∙ ap (λ (asks : List (ℕ × Asked)). asked_all asks (fresh session now)) (map-append (λ (s : ℕ). (s, Holdings)) (take i servers) (get_or servers i 0 ∷ []))
+    ∙ asked_snoc (asks_of (take i servers)) (get_or servers i 0, Holdings) (fresh session now)
+
+-- ---- answers
+
+-- a request that an answer counts for is there and waits
+pub record Awaits (entries : List Request) (place : ℕ) : Type 0 where
+  pub request : Request
+  pub there : slice_get entries place ≡ Some request
+  pub waits : is_outstanding request.outcome ≡ true
+
+chosen : (b : Bool) (x y : ℕ) → cond b (Some x) None ≡ Some y → (b ≡ true) × (x ≡ y)
+chosen true x y e = (refl, cc)
+chosen false x y e = absurd cc
+
+awaits_is : (from : ℕ) (body : Body) (entries : List Request) (place : ℕ) (o : Option Request) → slice_get entries place ≡ o → awaits_at from body o ≡ true → Awaits entries place
+awaits_is from body entries place None there e = absurd cc
+awaits_is from body entries place (Some r) there e =
+    let t = both (is_outstanding r.outcome && (r.server == from)) (fits r.asked body) e in
+    record { request = r; there = there; waits = (both (is_outstanding r.outcome) (r.server == from) t.0).0 }
+
+pub counts_is : (from : ℕ) (m : Message) (s : RequestsState) (place : ℕ) → counts_at from m s ≡ Some place → Awaits s.entries place
+counts_is from m s place e =
+    let at = slice_get s.entries (m.number - 1) in
+    let t = chosen ((m.session == s.session) && not (m.number == 0) && awaits_at from m.body at) (m.number - 1) place e in
+    let last = (both ((m.session == s.session) && not (m.number == 0)) (awaits_at from m.body at) t.0).1 in
+    subst (Awaits s.entries) t.1 (awaits_is from m.body s.entries (m.number - 1) at refl last)
+
+-- the entries after an answer
+abbrev pub settled : (entries : List Request) (place : ℕ) → Awaits entries place → Body → List Request
+settled entries place a body = slice_set entries place (with_outcome a.request (Answered body))
+
+pub count_settled : (entries : List Request) (place : ℕ) (a : Awaits entries place) (body : Body) → place < length entries → outstanding_count (settled entries place a body) + 1 ≡ outstanding_count entries
+count_settled entries place a body lt =
+    let f : Request → ℕ = λ q. cond (is_outstanding q.outcome) 1 0 in
+    let e = sum_by-set f entries place (with_outcome a.request (Answered body)) a.request lt in
+    let was : f (get_or entries place a.request) ≡ 1 = ap f (get_or_from_slice_get entries place a.request a.request a.there) ∙ ap (λ (b : Bool). cond b 1 0) a.waits in
+    omega (arith, e, was)
+
+few_settled : (entries : List Request) (place : ℕ) (a : Awaits entries place) (body : Body) → place < length entries → All IsSentFew entries → All IsSentFew (settled entries place a body)
+few_settled entries place a body lt few =
+    let was : IsSentFew a.request = subst IsSentFew (get_or_from_slice_get entries place a.request a.request a.there) (few place a.request lt) in
+    All-set IsSentFew entries place (with_outcome a.request (Answered body)) was few
+
+pub answered_right : (r : RequestsState) (place : ℕ) (a : Awaits r.entries place) (body : Body) → place < length r.entries → IsRecord r
+    → (new : RequestsState) → new.entries ≡ settled r.entries place a body → new.outgoing ≡ without place r.outgoing → IsRecord new
+answered_right r place a body lt right new entries-are outgoing-are =
+    let len : length new.entries ≡ length r.entries = ap length entries-are ∙ length-set r.entries place (with_outcome a.request (Answered body)) in
+    let there : All (λ p. p < length new.entries) (without place r.outgoing) = all_kept (λ p. p < length r.entries) (λ p. p < length new.entries) (λ (p : ℕ). not (p == place)) (λ p h e. omega (arith, h, len)) r.outgoing right.there in
+    let current : All (IsCurrentIn (settled r.entries place a body)) (without place r.outgoing) = all_kept (IsCurrentIn r.entries) (IsCurrentIn (settled r.entries place a body)) (λ (p : ℕ). not (p == place)) (λ p h e. ap is_current_in (get_set_other r.entries place p (with_outcome a.request (Answered body)) (λ same. not_true (p == place) e (eq-eqb p place same))) ∙ h) r.outgoing right.current in
+    record {
+      few = subst (All IsSentFew) (sym entries-are) (few_settled r.entries place a body lt right.few);
+      there = subst (All (λ p. p < length new.entries)) (sym outgoing-are) there;
+      current = subst (λ (es : List Request). All (IsCurrentIn es) new.outgoing) (sym entries-are) (subst (All (IsCurrentIn (settled r.entries place a body))) (sym outgoing-are) current);
+    }
+
+settled_set : (from place : ℕ) (entries : List Request) (r : Request) → IsQuiet r → AreSettled from entries → AreSettled from (set entries place r)
+settled_set from place entries r quiet s = record {
+  within = omega (arith, s.within, length-set entries place r);
+  settled = elim (cases_lt place from) [
+    | inl lt ↦ All-same IsQuiet (take from (set entries place r)) (set (take from entries) place r) (take-set-lt from entries place r lt) (All-set IsQuiet (take from entries) place r quiet s.settled)
+    | inr le ↦ All-same IsQuiet (take from (set entries place r)) (take from entries) (take-set-le from entries place r le) s.settled
+  ];
+}
+
+pub answered_indexed : (n from place : ℕ) (entries : List Request) (a : Awaits entries place) (body : Body) → place < length entries → IsIndexed (n + 1) from entries → IsIndexed n from (settled entries place a body)
+answered_indexed n from place entries a body lt i = record {
+  counts = omega (arith, count_settled entries place a body lt, i.counts);
+  before = settled_set from place entries (with_outcome a.request (Answered body)) refl i.before;
+}
+
+-- ---- ticks
+
+few_one : (now : ℕ) (r : Request) → IsSentFew r → IsSentFew (ticked_one now r)
+few_one now r few = go (is_lost_at now r) (is_resent_at now r) refl
+  where
+    go : (lost again : Bool) → is_resent_at now r ≡ again → IsSentFew (cond lost (with_outcome r Lost) (cond again (resent_one now r) r))
+    go true again e = few
+    go false false e = few
+    go false true e =
+        let t = both (is_outstanding r.outcome && nat_lt (age_of now r) 20) (nat_lt r.marks (passed (age_of now r))) e in
+        let more : r.marks < passed (age_of now r) = ltb-true _ _ t.1 in
+        (omega arith, omega (arith, few.0, few.1, more))
+
+pub few_ticked : (now : ℕ) (entries : List Request) → All IsSentFew entries → All IsSentFew (map (ticked_one now) entries)
+few_ticked now entries few = All-map IsSentFew (ticked_one now) entries (All-weaker IsSentFew (λ r. IsSentFew (ticked_one now r)) (few_one now) entries few)
+
+places_there : (test : Request → Bool) (place : ℕ) (entries : List Request) (n : ℕ) → place + length entries ≤ n → All (λ p. p < n) (places_from test place entries)
+places_there test place [] n le = All-nil (λ p. p < n)
+places_there test place (r ∷ rs) n le = go (test r) (places_there test (place + 1) rs n (omega arith))
+  where
+    go : (b : Bool) → All (λ p. p < n) (places_from test (place + 1) rs) → All (λ p. p < n) (cond b (place ∷ places_from test (place + 1) rs) (places_from test (place + 1) rs))
+    go true rest = All-cons (λ p. p < n) place (places_from test (place + 1) rs) (omega arith) rest
+    go false rest = rest
+
+outstanding_current : (o : Outcome) → is_outstanding o ≡ true → is_current o ≡ true
+outstanding_current Unawaited e = refl
+outstanding_current Outstanding e = refl
+outstanding_current (Answered body) e = absurd cc
+outstanding_current Lost e = absurd cc
+
+resent_waits : (now : ℕ) (r : Request) → is_resent_at now r ≡ true → is_outstanding r.outcome ≡ true
+resent_waits now r e = (both (is_outstanding r.outcome) (nat_lt (age_of now r) 20) (both (is_outstanding r.outcome && nat_lt (age_of now r) 20) (nat_lt r.marks (passed (age_of now r))) e).0).0
+
+abbrev IsCurrentFrom : ℕ → List Request → ℕ → Type 0
+IsCurrentFrom place rs p = (place ≤ p) × IsCurrentIn rs (p - place)
+
+resent_current : (now place : ℕ) (rs : List Request) → All (IsCurrentFrom place rs) (places_from (is_resent_at now) place rs)
+resent_current now place [] = All-nil (IsCurrentFrom place [])
+resent_current now place (r ∷ rs) = go (is_resent_at now r) refl (All-weaker (IsCurrentFrom (place + 1) rs) (IsCurrentFrom place (r ∷ rs)) behind (places_from (is_resent_at now) (place + 1) rs) (resent_current now (place + 1) rs))
+  where
+    behind : (p : ℕ) → IsCurrentFrom (place + 1) rs p → IsCurrentFrom place (r ∷ rs) p
+    behind p h =
+        let next : p - place ≡ suc (p - (place + 1)) = omega (arith, h.0) in
+        (omega (arith, h.0), ap (λ (k : ℕ). is_current_in (slice_get (r ∷ rs) k)) next ∙ h.1)
+
+    go : (b : Bool) → is_resent_at now r ≡ b → All (IsCurrentFrom place (r ∷ rs)) (places_from (is_resent_at now) (place + 1) rs)
+        → All (IsCurrentFrom place (r ∷ rs)) (cond b (place ∷ places_from (is_resent_at now) (place + 1) rs) (places_from (is_resent_at now) (place + 1) rs))
+    go true e rest =
+        let first : place - place ≡ 0 = omega arith in
+        let here : IsCurrentFrom place (r ∷ rs) place = (omega arith, ap (λ (k : ℕ). is_current_in (slice_get (r ∷ rs) k)) first ∙ outstanding_current r.outcome (resent_waits now r e)) in
+        All-cons (IsCurrentFrom place (r ∷ rs)) place (places_from (is_resent_at now) (place + 1) rs) here rest
+    go false e rest = rest
+
+ticked_current : (now : ℕ) (o : Option Request) → is_current_in o ≡ true → not (is_lost_in now o) ≡ true → is_current_in (option_map (ticked_one now) o) ≡ true
+ticked_current now None h e = absurd cc
+ticked_current now (Some r) h e = go (is_lost_at now r) (is_resent_at now r) e
+  where
+    go : (lost again : Bool) → not lost ≡ true → is_current_in (Some (cond lost (with_outcome r Lost) (cond again (resent_one now r) r))) ≡ true
+    go true again stays = absurd cc
+    go false true stays = h
+    go false false stays = h
+
+pub ticked_right : (now : ℕ) (r : RequestsState) → IsRecord r → (new : RequestsState) → new.entries ≡ map (ticked_one now) r.entries → new.outgoing ≡ without_lost now r.entries (r.outgoing ++ resent_places now r.entries) → IsRecord new
+ticked_right now r right new entries-are outgoing-are =
+    let len : length new.entries ≡ length r.entries = ap length entries-are ∙ length-map r.entries (ticked_one now) in
+    let all = r.outgoing ++ resent_places now r.entries in
+    let test : ℕ → Bool = λ p. not (is_lost_in now (slice_get r.entries p)) in
+    let were_there : All (λ p. p < length r.entries) all = All-append (λ p. p < length r.entries) r.outgoing (resent_places now r.entries) right.there (places_there (is_resent_at now) 0 r.entries (length r.entries) (omega arith)) in
+    let again : All (IsCurrentIn r.entries) (resent_places now r.entries) = All-weaker (IsCurrentFrom 0 r.entries) (IsCurrentIn r.entries) (λ p h. subst (IsCurrentIn r.entries) (let e : p - 0 ≡ p = omega arith in e) h.1) (resent_places now r.entries) (resent_current now 0 r.entries) in
+    let were_current : All (IsCurrentIn r.entries) all = All-append (IsCurrentIn r.entries) r.outgoing (resent_places now r.entries) right.current again in
+    let there : All (λ p. p < length new.entries) (without_lost now r.entries all) = all_kept (λ p. p < length r.entries) (λ p. p < length new.entries) test (λ p h e. omega (arith, h, len)) all were_there in
+    let current : All (IsCurrentIn (map (ticked_one now) r.entries)) (without_lost now r.entries all) = all_kept (IsCurrentIn r.entries) (IsCurrentIn (map (ticked_one now) r.entries)) test (λ p h e. ap is_current_in (slice_get-map (ticked_one now) r.entries p) ∙ ticked_current now (slice_get r.entries p) h e) all were_current in
+    record {
+      few = subst (All IsSentFew) (sym entries-are) (few_ticked now r.entries right.few);
+      there = subst (All (λ p. p < length new.entries)) (sym outgoing-are) there;
+      current = subst (λ (es : List Request). All (IsCurrentIn es) new.outgoing) (sym entries-are) (subst (All (IsCurrentIn (map (ticked_one now) r.entries))) (sym outgoing-are) current);
+    }
+
+-- one request waits or not
+abbrev waiting_one : Request → ℕ
+waiting_one r = cond (is_outstanding r.outcome) 1 0
+
+count_cons : (r : Request) (rs : List Request) → outstanding_count (r ∷ rs) ≡ waiting_one r + outstanding_count rs
+count_cons r rs = sum_by-cons waiting_one r rs
+
+-- how many a tick finds lost
+pub count_ticked : (now place : ℕ) (entries : List Request) → outstanding_count (map (ticked_one now) entries) + length (places_from (is_lost_at now) place entries) ≡ outstanding_count entries
+count_ticked now place [] = refl
+count_ticked now place (r ∷ rs) = go (is_lost_at now r) (is_resent_at now r) refl (count_ticked now (place + 1) rs)
+  where
+    rest : List ℕ
+    rest = places_from (is_lost_at now) (place + 1) rs
+
+    go : (lost again : Bool) → is_lost_at now r ≡ lost → outstanding_count (map (ticked_one now) rs) + length rest ≡ outstanding_count rs
+        → outstanding_count (cond lost (with_outcome r Lost) (cond again (resent_one now r) r) ∷ map (ticked_one now) rs) + length (cond lost (place ∷ rest) rest) ≡ outstanding_count (r ∷ rs)
+    go true again e others =
+        let waits : waiting_one r ≡ 1 = ap (λ (b : Bool). cond b 1 0) (both (is_outstanding r.outcome) (nat_le 20 (age_of now r)) e).0 in
+        omega (arith, others, waits, count_cons r rs, count_cons (with_outcome r Lost) (map (ticked_one now) rs))
+    go false true e others = omega (arith, others, count_cons r rs, count_cons (resent_one now r) (map (ticked_one now) rs))
+    go false false e others = omega (arith, others, count_cons r rs, count_cons r (map (ticked_one now) rs))
+
+-- ---- those that are settled before a place
+
+lost_quiet : (now : ℕ) (r : Request) → IsQuiet r → is_lost_at now r ≡ false
+lost_quiet now r quiet = rw quiet refl
+
+resent_quiet : (now : ℕ) (r : Request) → IsQuiet r → is_resent_at now r ≡ false
+resent_quiet now r quiet = rw quiet refl
+
+ticked_quiet : (now : ℕ) (r : Request) → IsQuiet r → ticked_one now r ≡ r
+ticked_quiet now r quiet = rw (lost_quiet now r quiet, resent_quiet now r quiet) refl
+
+pub ticked_behind : (now n : ℕ) (entries : List Request) → All IsQuiet (take n entries) → take n entries ++ map (ticked_one now) (drop n entries) ≡ map (ticked_one now) entries
+ticked_behind now zero entries quiet = refl
+ticked_behind now (suc n) [] quiet = refl
+ticked_behind now (suc n) (r ∷ rs) quiet =
+    ap (λ (es : List Request). r ∷ es) (ticked_behind now n rs (All-tail IsQuiet r (take n rs) quiet))
+    ∙ ap (λ (q : Request). q ∷ map (ticked_one now) rs) (sym (ticked_quiet now r (All-head IsQuiet r (take n rs) quiet)))
+
+places_behind : (test : Request → Bool) → ((r : Request) → IsQuiet r → test r ≡ false) → (n place : ℕ) (entries : List Request) → All IsQuiet (take n entries) → places_from test (place + n) (drop n entries) ≡ places_from test place entries
+places_behind test none zero place entries quiet = ap (λ (p : ℕ). places_from test p entries) (omega arith)
+places_behind test none (suc n) place [] quiet = refl
+places_behind test none (suc n) place (r ∷ rs) quiet =
+    let at : place + suc n ≡ place + 1 + n = omega arith in
+    rw (none r (All-head IsQuiet r (take n rs) quiet)) (ap (λ (p : ℕ). places_from test p (drop n rs)) at ∙ places_behind test none n (place + 1) rs (All-tail IsQuiet r (take n rs) quiet))
+
+pub resent_behind : (now n : ℕ) (entries : List Request) → AreSettled n entries → places_from (is_resent_at now) n (drop n entries) ≡ resent_places now entries
+resent_behind now n entries s = ap (λ (p : ℕ). places_from (is_resent_at now) p (drop n entries)) (omega arith) ∙ places_behind (is_resent_at now) (resent_quiet now) n 0 entries s.settled
+
+pub lost_behind : (now n : ℕ) (entries : List Request) → AreSettled n entries → places_from (is_lost_at now) n (drop n entries) ≡ lost_places now entries
+lost_behind now n entries s = ap (λ (p : ℕ). places_from (is_lost_at now) p (drop n entries)) (omega arith) ∙ places_behind (is_lost_at now) (lost_quiet now) n 0 entries s.settled
+
+-- all that is left behind a place
+pub rest_whole : (n : ℕ) (entries : List Request) → take (length entries - n) (drop n entries) ≡ drop n entries
+rest_whole n entries = take_all (length entries - n) (drop n entries) (omega (arith, length-drop n entries))
+
+pub settled_front : (n : ℕ) (entries others : List Request) → AreSettled n entries → AreSettled n (take n entries ++ others)
+settled_front n entries others s =
+    let len : length (take n entries) ≡ n = omega (arith, length-take n entries, s.within) in
+    record {
+      within = omega (arith, length-append (take n entries) others, len);
+      settled = All-same IsQuiet (take n (take n entries ++ others)) (take n entries) (take_at (take n entries) others n len) s.settled;
+    }
+
+pub settled_more : (n : ℕ) (entries : List Request) (r : Request) → AreSettled n entries → n < length entries → r ≡ get_or entries n r → IsQuiet r → AreSettled (n + 1) entries
+settled_more n entries r s lt is quiet = record {
+  within = omega (arith, lt);
+  settled = All-more IsQuiet entries n r lt s.settled (subst IsQuiet is quiet);
+}
+
+-- what was written through a borrow of a whole list
+pub lent_whole : (old new : List Request) (len : ℕ) → length old ≡ len → length new ≡ length old → take len (new ++ drop (length new) old) ≡ new
+lent_whole old new len old-len new-len =
+    ap (λ (r : List Request). take len (new ++ r)) (drop_all (length new) old (omega (arith, new-len))) ∙ ap (take len) (append-nil new) ∙ take_all len new (omega (arith, old-len, new-len))

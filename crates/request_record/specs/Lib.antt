@@ -1,0 +1,4 @@
+-- What public contracts rest on.
+pub mod Limits
+pub mod Record
+pub mod Asking

@@ -1,0 +1,7 @@
+//! The record of what one operation asks of servers: what is outstanding, what is sent again, which
+//! answer counts, and what is lost.
+#![tactic(auto)]
+
+pub mod laws;
+mod places;
+pub mod requests;

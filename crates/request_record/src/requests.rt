@@ -1,0 +1,429 @@
+//! The record of what one operation asked of servers, and what became of it.
+
+ghost use Rattle.std.specs.Prelude.{◌≡◌, ◌≤◌, ◌<◌, ◌^◌, ◌+◌, ◌++◌, ◌↔◌, [], List, length, map};
+ghost use Rattle.std.specs.Prelude.{take, drop, max, slice_get, slice_set, Some, vec_len, All};
+ghost use Rattle.std.specs.Prelude.{IfOk, IfSome, IfNone, IsTrue, OnOk, OnErr};
+ghost use Rattle.request_record.specs.Record.{is_outstanding, with_outcome, fits, first_request, awaits};
+ghost use Rattle.request_record.specs.Record.{counts_at, counted, at, asked_more, age_of, passed, is_lost_at};
+ghost use Rattle.request_record.specs.Record.{is_resent_at, is_lost_in, ticked_one, places_from, without};
+ghost use Rattle.request_record.specs.Record.{without_lost, ticked, TakesNext, IsSentFew, IsRecord};
+ghost use Rattle.request_record.specs.Record.{AreSettled, outstanding_count};
+ghost use Rattle.request_record.specs.Asking.{fresh, begun, after_message, after_tick, lost_by_tick, HasWork};
+ghost use Rattle.request_record.specs.Asking.{Spells, IsWriting, message_at};
+ghost use Rattle.request_record.specs.declared.requests.Request.{Request};
+
+use wire::message::{Body, Message, NodeId, ReadLength, ShareId, ShareLength, StorageIndex};
+use crate::places::{Due, drop_lost, drop_place, find_due, first_waiting, settle, tick_from};
+use std::alloc::{AllocError, Global};
+use std::collections::VecDeque;
+use std::marker::Model;
+
+/// Seconds between the marks at which an unanswered request is sent again.
+const MARK: u64 = 5;
+
+/// How many marks there are.
+const MARKS: u64 = 3;
+
+/// The age in seconds at which an unanswered request is lost.
+const PATIENCE: u64 = 20;
+
+/// What a request asks, of which share. The operation's file is known to it; the bytes of a
+/// `Writing` are those of the share, and are not kept.
+#[derive(Clone, Copy, PartialEq, Eq)]
+pub enum Asked {
+    /// Which shares the server holds.
+    Holdings,
+    /// Room for a share of this length.
+    Allocation(u8, ShareLength),
+    /// To write the bytes from an offset on, as many as this.
+    Writing(u8, u64, u32),
+    /// To keep a share that was written whole.
+    Closing(u8),
+    /// The bytes from an offset on, as many as this.
+    Reading(u8, u64, ReadLength),
+    /// To give a share up.
+    Aborting(u8),
+}
+
+/// What became of a request.
+#[derive(Drop)]
+pub enum Outcome {
+    /// No answer is waited for: it is an `Aborting`.
+    Unawaited,
+    /// It waits for its answer.
+    Outstanding,
+    /// This is the answer that counted.
+    Answered(Body),
+    /// No answer came for 20 seconds.
+    Lost,
+}
+
+/// One request. Its number is its place in the record, counted from 1.
+#[derive(Drop)]
+pub struct Request {
+    /// The server asked.
+    pub server: NodeId,
+    pub asked: Asked,
+    /// The second at which it was first sent.
+    pub first_sent: u64,
+    /// How often it was sent.
+    pub sendings: u8,
+    /// How many of the marks 5, 10 and 15 seconds its sendings have used up.
+    pub marks: u8,
+    pub outcome: Outcome,
+}
+
+impl Asked {
+    /// Is this a kind of answer that fits?
+    pub fn fits(self, body: &Body) -> bool
+        ensures { result ≡ fits self body.now }
+    {
+        match self {
+            Asked::Holdings => matches!(body, Body::Have(_, _)),
+            Asked::Allocation(_, _) => matches!(
+                body,
+                Body::Already(_) | Body::Granted | Body::Busy | Body::Full
+            ),
+            Asked::Writing(_, _, _) => matches!(
+                body,
+                Body::Already(_) | Body::NoShare | Body::WrongOffset(_) | Body::Wrote(_)
+            ),
+            Asked::Closing(_) => matches!(
+                body,
+                Body::Closed(_) | Body::NoShare | Body::NotComplete(_)
+            ),
+            Asked::Reading(_, _, _) => matches!(body, Body::Data(_) | Body::NoShare),
+            Asked::Aborting(_) => false,
+        }
+    }
+
+    /// What the request's message says, for the file of this storage index. `None` for a
+    /// `Writing`, whose message is a `Body::Write` with the bytes.
+    pub fn body(self, index: StorageIndex) -> Option<Body>
+        ensures spells { IfSome result (λ body. Spells index self body) }
+        ensures none { IfNone result (IsWriting self) }
+    {
+        match self {
+            Asked::Holdings => Some(Body::Ask(index)),
+            Asked::Allocation(share, length) => {
+                Some(Body::Allocate(ShareId { index, share }, length))
+            }
+            Asked::Writing(_, _, _) => None,
+            Asked::Closing(share) => Some(Body::Close(ShareId { index, share })),
+            Asked::Reading(share, offset, length) => {
+                Some(Body::Read(ShareId { index, share }, offset, length))
+            }
+            Asked::Aborting(share) => Some(Body::Abort(ShareId { index, share })),
+        }
+    }
+}
+
+/// How many of the marks lie at or before this age.
+fn passed(age: u64) -> u8
+    ensures value { result ≡ passed age }
+    ensures bound { result ≤ 3 }
+{
+    (age / MARK).min(MARKS) as u8
+}
+
+impl Request {
+    /// A request that is sent first at this second.
+    fn new(server: NodeId, asked: Asked, now: u64) -> Request
+        ensures { result ≡ first_request server asked now }
+    {
+        let outcome = match &asked {
+            Asked::Aborting(_) => Outcome::Unawaited,
+            _ => Outcome::Outstanding,
+        };
+        Request {
+            server,
+            asked,
+            first_sent: now,
+            sendings: 1,
+            marks: 0,
+            outcome,
+        }
+    }
+
+    /// Would this answer from this server count?
+    pub fn awaits(&self, from: NodeId, body: &Body) -> bool
+        ensures { result ≡ awaits from body.now self.now }
+    {
+        self.is_outstanding() && self.server == from && self.asked.fits(body)
+    }
+
+    pub(crate) fn is_outstanding(&self) -> bool
+        ensures { result ≡ is_outstanding self.now.outcome }
+    {
+        matches!(self.outcome, Outcome::Outstanding)
+    }
+
+    fn age(&self, now: u64) -> u64
+        ensures { result ≡ age_of now self.now }
+    {
+        now.saturating_sub(self.first_sent)
+    }
+
+    /// Is it lost at a tick at this second?
+    pub(crate) fn is_lost_at(&self, now: u64) -> bool
+        ensures { result ≡ is_lost_at now self.now }
+    {
+        self.is_outstanding() && PATIENCE <= self.age(now)
+    }
+
+    /// Is it sent again at a tick at this second?
+    pub(crate) fn is_resent_at(&self, now: u64) -> bool
+        ensures { result ≡ is_resent_at now self.now }
+    {
+        let age = self.age(now);
+        self.is_outstanding() && age < PATIENCE && self.marks < passed(age)
+    }
+
+    /// Takes note of a tick at this second.
+    pub(crate) fn tick(&mut self, now: u64)
+        requires { IsSentFew self.old }
+        ensures { self.new ≡ ticked_one now self.old }
+    {
+        if self.is_lost_at(now) {
+            self.outcome = Outcome::Lost;
+        } else if self.is_resent_at(now) {
+            self.sendings += 1;
+            self.marks = passed(self.age(now));
+        }
+    }
+}
+
+/// The record of one operation: what it asked in order, and which requests are still to be sent.
+///
+/// A message costs what is outstanding or to send, and a tick what was asked since the first
+/// request that still waits: neither grows with all that was asked.
+#[derive(Drop)]
+pub struct Requests {
+    session: u64,
+    entries: Vec<Request>,
+    outgoing: VecDeque<usize>,
+    clock: u64,
+    /// How many requests wait for their answers.
+    outstanding: usize,
+    /// No request before this place waits for its answer.
+    settled: usize,
+}
+
+impl Model for Requests {
+    ghost use Rattle.std.specs.Prelude.{◌≡◌};
+    ghost use Rattle.request_record.specs.Record.{RequestsState, IsRecord, IsIndexed};
+
+    ghost Value = { RequestsState };
+
+    ghost view = { λ r. record {
+      session = r.session;
+      entries = r.entries.items;
+      outgoing = r.outgoing.items;
+      clock = r.clock;
+    } };
+
+    ghost invariant = { λ r.
+        IsRecord (record {
+          session = r.session;
+          entries = r.entries.items;
+          outgoing = r.outgoing.items;
+          clock = r.clock;
+        })
+        × IsIndexed r.outstanding r.settled r.entries.items };
+}
+
+impl Requests {
+    /// The record of an operation that asked nothing yet.
+    pub fn new(alloc: Global, session: u64, now: u64) -> Requests
+        ensures { result ≡ fresh session now }
+    {
+        Requests {
+            session,
+            entries: Vec::new(alloc),
+            outgoing: VecDeque::new(alloc),
+            clock: now,
+            outstanding: 0,
+            settled: 0,
+        }
+    }
+
+    /// The record of an operation that asks each of these servers which shares it holds.
+    pub fn begin(
+        alloc: Global,
+        servers: &[NodeId],
+        session: u64,
+        now: u64,
+    ) -> Result<Requests, AllocError>
+        ensures { IfOk result (λ r. r ≡ begun servers.now session now) }
+    {
+        let mut requests = Requests::new(alloc, session, now);
+        for server in servers {
+            requests.ask(*server, Asked::Holdings)?;
+        }
+        Ok(requests)
+    }
+
+    /// The operation's session.
+    pub fn session(&self) -> u64
+        ensures { result ≡ self.now.session }
+    {
+        self.session
+    }
+
+    /// The latest second that the operation was told.
+    pub fn clock(&self) -> u64
+        ensures { result ≡ self.now.clock }
+    {
+        self.clock
+    }
+
+    /// The requests in order: request `n` is at place `n - 1`.
+    pub fn entries(&self) -> &[Request]
+        ensures value { result.now ≡ self.now.entries }
+        ensures right { IsRecord self.now }
+    {
+        self.entries.as_slice()
+    }
+
+    /// Records a request, and puts it at the end of those to send.
+    pub fn ask(&mut self, server: NodeId, asked: Asked) -> Result<(), AllocError>
+        ensures ok { OnOk result (self.new ≡ asked_more server asked self.old) }
+        ensures err { OnErr result (self.new ≡ self.old) }
+    {
+        let place = self.entries.len();
+        let request = Request::new(server, asked, self.clock);
+        let outstanding = self.outstanding + usize::from(request.is_outstanding());
+        self.entries.reserve(1)?;
+        self.outgoing.push_back(place)?;
+        self.entries.push_reserved(request);
+        self.outstanding = outstanding;
+        Ok(())
+    }
+
+    /// The place of the request that a message from a server answers, where the answer counts.
+    pub fn counts_at(&self, from: NodeId, message: &Message) -> Option<usize>
+        ensures value { result ≡ counts_at from message.now self.now }
+        ensures there { IfSome result (λ place. place < length self.now.entries) }
+    {
+        if message.session != self.session || message.number == 0 {
+            return None;
+        }
+        let place = (message.number - 1) as usize;
+        match self.entries.get(place) {
+            Some(request) if request.awaits(from, &message.body) => Some(place),
+            _ => None,
+        }
+    }
+
+    /// Takes note of the time.
+    fn pass(&mut self, now: u64)
+        ensures { self.new ≡ at now self.old }
+    {
+        self.clock = self.clock.max(now);
+    }
+
+    /// Takes a message from a server over: keeps it where it answers a request and counts, with no
+    /// copy, and says at which place. The request is not sent any more.
+    pub fn take_answer(&mut self, from: NodeId, message: Message, now: u64) -> Option<usize>
+        ensures place { result ≡ counts_at from message self.old }
+        ensures record { self.new ≡ after_message from message now self.old }
+    {
+        let Some(place) = self.counts_at(from, &message) else {
+            self.pass(now);
+            return None;
+        };
+        settle(&mut self.entries, place, Outcome::Answered(message.body));
+        drop_place(&mut self.outgoing, place);
+        self.outstanding -= 1;
+        self.clock = self.clock.max(now);
+        Some(place)
+    }
+
+    /// As `take_answer`, of a copy of the message where it counts.
+    pub fn answer(
+        &mut self,
+        from: NodeId,
+        message: &Message,
+        now: u64,
+    ) -> Result<Option<usize>, AllocError>
+        ensures place { IfOk result (λ p. p ≡ counts_at from message.now self.old) }
+        ensures ok { OnOk result (self.new ≡ after_message from message.now now self.old) }
+        ensures err { OnErr result (self.new ≡ self.old) }
+    {
+        if self.counts_at(from, message).is_none() {
+            self.pass(now);
+            return Ok(None);
+        }
+        let message = message.clone()?;
+        Ok(self.take_answer(from, message, now))
+    }
+
+    /// Takes note of a tick: a request that is due is sent again, one that is 20 seconds old is
+    /// lost, and not sent any more. Gives the places of those that it finds lost.
+    pub fn tick(&mut self, now: u64) -> Result<Vec<usize>, AllocError>
+        ensures lost { IfOk result (λ places. places.items ≡ lost_by_tick now self.old) }
+        ensures ok { OnOk result (self.new ≡ after_tick now self.old) }
+        ensures err { OnErr result (self.new ≡ self.old) }
+    {
+        let now = self.clock.max(now);
+        let alloc = *self.entries.allocator();
+        let waiting = &self.entries.as_slice()[self.settled..];
+        let mut due = find_due(alloc, waiting, self.settled, now)?;
+        self.outgoing.append(&mut due.resent)?;
+        drop_lost(&mut self.outgoing, self.entries.as_slice(), now);
+        tick_from(self.entries.as_mut_slice(), self.settled, now);
+        self.settled = first_waiting(self.entries.as_slice(), self.settled);
+        self.outstanding -= due.lost.len();
+        self.clock = now;
+        let Due { resent: _, lost } = due;
+        Ok(lost)
+    }
+
+    /// How many requests wait for their answers.
+    pub fn outstanding(&self) -> usize
+        ensures { result ≡ outstanding_count self.now.entries }
+    {
+        self.outstanding
+    }
+
+    /// Does a request wait for its answer, or is one to be sent?
+    pub fn has_work(&self) -> bool
+        ensures { IsTrue result ↔ HasWork self.now }
+    {
+        0 < self.outstanding || 0 < self.outgoing.len()
+    }
+
+    /// The place of the first request to send.
+    pub fn first(&self) -> Option<usize>
+        ensures value { result ≡ slice_get self.now.outgoing 0 }
+        ensures there { IfSome result (λ place. place < length self.now.entries) }
+    {
+        self.outgoing.front().copied()
+    }
+
+    /// Takes the first of the requests to send.
+    pub fn take_next(&mut self) -> Option<usize>
+        ensures { TakesNext self.old result self.new }
+    {
+        self.outgoing.pop_front()
+    }
+
+    /// How many requests are to send.
+    pub fn outgoing_len(&self) -> usize
+        ensures { result ≡ length self.now.outgoing }
+    {
+        self.outgoing.len()
+    }
+
+    /// The message of the request at a place, which says this.
+    pub fn message_at(&self, place: usize, body: Body) -> Message
+        requires { place < length self.now.entries }
+        ensures { result ≡ message_at place body self.now }
+    {
+        Message {
+            session: self.session,
+            number: place as u64 + 1,
+            body,
+        }
+    }
+}

@@ -1,7 +1,0 @@
-use Rattle.std.proofs.Common.{◌≡◌, ◌++◌, map, take, drop}
-use Rattle.wire.specs.Record.{ticked_one}
-use Rattle.wire.proofs.places.tick_each.Given as goal
-
--- those before this one took note
-abbrev pub invariant-loop-request : goal.invariant-loop-request
-invariant-loop-request l = l.entries ≡ map (ticked_one l.now) (take l.request-index l.fn.entries) ++ drop l.request-index l.fn.entries

@@ -1,9 +1,0 @@
-use Rattle.std.proofs.Common.{sym, ◌∙◌, ap}
-use Rattle.wire.specs.declared.requests.Asked.TheVariants.{Holdings}
-use Rattle.wire.specs.Record.{asked_more}
-use Rattle.wire.proofs.RecordLaws.{begun_more}
-use Rattle.wire.proofs.requests.Requests.begin.Goals as goal
-
-pub loop-server-preserved : goal.loop-server-preserved
-loop-server-preserved c =
-    c.in_ok-ask.ensures.ok ∙ ap (asked_more _ Holdings) c.loop-server.invariant ∙ sym (begun_more c.args.servers.now c.loop-server.server-index c.args.session c.args.now c.loop-server-test.true)

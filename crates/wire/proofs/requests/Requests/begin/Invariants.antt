@@ -1,7 +1,0 @@
-use Rattle.std.proofs.Common.{◌≡◌, take}
-use Rattle.wire.specs.Asking.{begun}
-use Rattle.wire.proofs.requests.Requests.begin.Given as goal
-
--- the servers before this one are asked
-abbrev pub invariant-loop-server : goal.invariant-loop-server
-invariant-loop-server l = l.requests ≡ begun (take l.server-index l.servers) l.session l.now
