@@ -41,8 +41,8 @@ pub enum Cap {
 pub struct ReadCap {
     key: [u8; 16],
     ueb_hash: [u8; 32],
-    k: u16,
-    n: u16,
+    needed: u16,
+    total: u16,
     size: u64,
 }
 
@@ -52,24 +52,24 @@ impl Model for ReadCap {
     ghost view = { λ c. record {
       key = c.key;
       ueb_hash = c.ueb_hash;
-      needed = c.k;
-      total = c.n;
+      needed = c.needed;
+      total = c.total;
       size = c.size;
     } };
 
     ghost inverse = { λ v. record {
       key = v.key;
       ueb_hash = v.ueb_hash;
-      k = v.needed;
-      n = v.total;
+      needed = v.needed;
+      total = v.total;
       size = v.size;
     } };
 
     ghost invariant = { λ c. IsReadCap (record {
       key = c.key;
       ueb_hash = c.ueb_hash;
-      needed = c.k;
-      total = c.n;
+      needed = c.needed;
+      total = c.total;
       size = c.size;
     }) };
 }
@@ -80,27 +80,34 @@ impl ReadCap {
     ghost use Rattle.cap_text.specs.Cap.{AreParameters, IsReadCap, verify_cap_of};
     ghost use Rattle.cap_text.specs.CapText.{AreFields, read_cap_of};
 
-    /// The cap with these fields: `k` of `n` shares are needed, and the file has `size` bytes.
-    /// `BadParameters` where not 1 <= k <= n <= 256, or the size is not 56 to 2^40.
+    /// The cap with these fields: of `total` shares any `needed` give the file of `size` bytes back.
+    /// `BadParameters` where not 1 <= needed <= total <= 256, or the size is not 56 to 2^40.
     pub fn new(
         key: [u8; 16],
         ueb_hash: [u8; 32],
-        k: u16,
-        n: u16,
+        needed: u16,
+        total: u16,
         size: u64,
     ) -> Result<ReadCap, CapError>
-        ensures value { OkIff result (AreParameters k n size)
-            (record { key = key; ueb_hash = ueb_hash; needed = k; total = n; size = size }) }
-        ensures refused { (result ≡ Err CapError.BadParameters) ↔ ¬ (AreParameters k n size) }
+        ensures value { OkIff result (AreParameters needed total size)
+            (record {
+              key = key;
+              ueb_hash = ueb_hash;
+              needed = needed;
+              total = total;
+              size = size;
+            }) }
+        ensures refused { (result ≡ Err CapError.BadParameters)
+            ↔ ¬ (AreParameters needed total size) }
     {
-        if !are_parameters(u64::from(k), u64::from(n), size) {
+        if !are_parameters(u64::from(needed), u64::from(total), size) {
             return Err(CapError::BadParameters);
         }
         Ok(ReadCap {
             key,
             ueb_hash,
-            k,
-            n,
+            needed,
+            total,
             size,
         })
     }
@@ -115,8 +122,8 @@ impl ReadCap {
         ReadCap {
             key,
             ueb_hash,
-            k: fields.needed,
-            n: fields.total,
+            needed: fields.needed,
+            total: fields.total,
             size: fields.size,
         }
     }
@@ -138,19 +145,19 @@ impl ReadCap {
     }
 
     /// How many shares are needed: 1 to 256.
-    pub fn k(&self) -> u16
+    pub fn needed(&self) -> u16
         ensures value { result ≡ self.now.needed }
         ensures cap { IsReadCap self.now }
     {
-        self.k
+        self.needed
     }
 
-    /// How many shares there are: k to 256.
-    pub fn n(&self) -> u16
+    /// How many shares there are: as many as are needed, to 256.
+    pub fn total(&self) -> u16
         ensures value { result ≡ self.now.total }
         ensures cap { IsReadCap self.now }
     {
-        self.n
+        self.total
     }
 
     /// The size of the file in bytes.
@@ -169,8 +176,8 @@ impl ReadCap {
         VerifyCap {
             storage_index: tagged_hash::storage_index(&self.key),
             ueb_hash: self.ueb_hash,
-            k: self.k,
-            n: self.n,
+            needed: self.needed,
+            total: self.total,
             size: self.size,
         }
     }
@@ -182,8 +189,8 @@ impl ReadCap {
 pub struct VerifyCap {
     storage_index: [u8; 16],
     ueb_hash: [u8; 32],
-    k: u16,
-    n: u16,
+    needed: u16,
+    total: u16,
     size: u64,
 }
 
@@ -193,24 +200,24 @@ impl Model for VerifyCap {
     ghost view = { λ c. record {
       storage_index = c.storage_index;
       ueb_hash = c.ueb_hash;
-      needed = c.k;
-      total = c.n;
+      needed = c.needed;
+      total = c.total;
       size = c.size;
     } };
 
     ghost inverse = { λ v. record {
       storage_index = v.storage_index;
       ueb_hash = v.ueb_hash;
-      k = v.needed;
-      n = v.total;
+      needed = v.needed;
+      total = v.total;
       size = v.size;
     } };
 
     ghost invariant = { λ c. IsVerifyCap (record {
       storage_index = c.storage_index;
       ueb_hash = c.ueb_hash;
-      needed = c.k;
-      total = c.n;
+      needed = c.needed;
+      total = c.total;
       size = c.size;
     }) };
 }
@@ -230,8 +237,8 @@ impl VerifyCap {
         VerifyCap {
             storage_index,
             ueb_hash,
-            k: fields.needed,
-            n: fields.total,
+            needed: fields.needed,
+            total: fields.total,
             size: fields.size,
         }
     }
@@ -253,19 +260,19 @@ impl VerifyCap {
     }
 
     /// How many shares are needed: 1 to 256.
-    pub fn k(&self) -> u16
+    pub fn needed(&self) -> u16
         ensures value { result ≡ self.now.needed }
         ensures cap { IsVerifyCap self.now }
     {
-        self.k
+        self.needed
     }
 
-    /// How many shares there are: k to 256.
-    pub fn n(&self) -> u16
+    /// How many shares there are: as many as are needed, to 256.
+    pub fn total(&self) -> u16
         ensures value { result ≡ self.now.total }
         ensures cap { IsVerifyCap self.now }
     {
-        self.n
+        self.total
     }
 
     /// The size of the file in bytes.
@@ -331,9 +338,9 @@ impl LitCap {
 }
 
 // Whether a cap may have these numbers.
-pub(crate) fn are_parameters(k: u64, n: u64, size: u64) -> bool
-    ensures { IsTrue result ↔ AreParameters k n size }
+pub(crate) fn are_parameters(needed: u64, total: u64, size: u64) -> bool
+    ensures { IsTrue result ↔ AreParameters needed total size }
 {
-    let shares = 1 <= k && k <= n && n <= u64::from(MAX_SHARES);
+    let shares = 1 <= needed && needed <= total && total <= u64::from(MAX_SHARES);
     shares && MIN_SIZE <= size && size <= MAX_SIZE
 }

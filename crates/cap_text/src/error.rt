@@ -18,7 +18,7 @@ pub enum CapError {
     BadBase32,
     /// A number is not in decimal, has a leading zero, or is above 2^64 - 1.
     BadNumber,
-    /// k, n or the size is outside its range.
+    /// The shares needed, their total or the size is outside its range.
     BadParameters,
     /// There are not five parts after the beginning.
     WrongParts,

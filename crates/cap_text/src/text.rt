@@ -15,9 +15,10 @@ use std::fmt;
 
 impl Cap {
     /// Reads the text of a cap. That of a read cap is `URI:CHK:` and, with a colon between any two,
-    /// the base32 text of the key, the base32 text of the extension block's hash, k, n and the size
-    /// in decimal. That of a verify cap is `URI:CHK-Verifier:` and the same, with the storage index
-    /// in the key's place. That of a literal cap is `URI:LIT:` and the base32 text of the file.
+    /// the base32 text of the key, the base32 text of the extension block's hash, how many shares
+    /// are needed, how many there are, and the size in decimal. That of a verify cap is
+    /// `URI:CHK-Verifier:` and the same, with the storage index in the key's place. That of a
+    /// literal cap is `URI:LIT:` and the base32 text of the file.
     ///
     /// What comes first is told: `UnknownKind` where the text begins otherwise; `WrongParts` where
     /// not five parts follow; `BadBase32` where the first two are not base32 of 16 and of 32 bytes;
@@ -105,8 +106,8 @@ impl fmt::Display for ReadCap {
     fn fmt<W: fmt::Write>(&self, f: &mut fmt::Formatter<W>) -> fmt::Result {
         let key = Base32(self.key());
         let ueb_hash = Base32(self.ueb_hash());
-        let (k, n, size) = (self.k(), self.n(), self.size());
-        write!(f, "URI:CHK:{key}:{ueb_hash}:{k}:{n}:{size}")
+        let (needed, total, size) = (self.needed(), self.total(), self.size());
+        write!(f, "URI:CHK:{key}:{ueb_hash}:{needed}:{total}:{size}")
     }
 }
 
@@ -116,10 +117,10 @@ impl fmt::Display for VerifyCap {
     fn fmt<W: fmt::Write>(&self, f: &mut fmt::Formatter<W>) -> fmt::Result {
         let storage_index = Base32(self.storage_index());
         let ueb_hash = Base32(self.ueb_hash());
-        let (k, n, size) = (self.k(), self.n(), self.size());
+        let (needed, total, size) = (self.needed(), self.total(), self.size());
         write!(
             f,
-            "URI:CHK-Verifier:{storage_index}:{ueb_hash}:{k}:{n}:{size}"
+            "URI:CHK-Verifier:{storage_index}:{ueb_hash}:{needed}:{total}:{size}"
         )
     }
 }

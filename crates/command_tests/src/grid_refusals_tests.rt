@@ -366,8 +366,8 @@ fn inconsistent_share(
 fn put_inconsistent(rt: &HostRuntime) -> Option<String> {
     let block_hash = tagged(Tag::Block, &[7u8; 56]);
     let expect = Expect {
-        k: 1,
-        n: 1,
+        needed: 1,
+        total: 1,
         size: 56,
     };
     let block = Ueb::new(&expect, 56, [1; 32], [2; 32], block_hash)

@@ -18,3 +18,5 @@ pub mod KeyBytes
 pub mod OwnReading
 pub mod Parts
 pub mod OwnEvidence
+pub mod ShareSizes
+pub mod Encodable

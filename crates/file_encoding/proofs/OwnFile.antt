@@ -27,7 +27,7 @@ one_block share a b l m = (located_tail share a l).tail ∙ sym (located_tail sh
 -- which has one value for a cap
 one_ueb : (cap : VerifyCapValue) (block : List ℕ) (u v : Contents) → IsUebFor cap block u → IsUebFor cap block v → u ≡ v
 one_ueb cap block u v a b =
-    let expect : Expect = record { k = u.needed_shares; n = u.total_shares; size = u.size; in_range = a.grammar.contents.shape.file } in
+    let expect : Expect = record { needed = u.needed_shares; total = u.total_shares; size = u.size; in_range = a.grammar.contents.shape.file } in
     read_unique block expect u v (omega (arith, a.grammar.short)) a.grammar
     record { needed_shares = refl; total_shares = refl; size = refl } b.grammar
     record { needed_shares = b.needed ∙ sym a.needed; total_shares = b.total ∙ sym a.total; size = b.size ∙ sym a.size }

@@ -1,5 +1,5 @@
 -- The shares of an encoding pass.
-use Rattle.std.specs.Prelude.{◌≡◌, ℕ, ◌<◌, List, [], length, slice_index_or}
+use Rattle.std.specs.Prelude.{◌≡◌, ℕ, ◌<◌, ◌≤◌, ◌^◌, List, [], length, slice_index_or}
 use Rattle.merkle.specs.Tree.{tree_root}
 use Rattle.cap_text.specs.Cap.{VerifyCapValue, verify_cap_of}
 use Rattle.ueb.specs.Block.{ueb_text}
@@ -53,3 +53,12 @@ SharesHaveOneLength = (file secret : List ℕ) (p : Parameters)
     → (i j : ℕ) → i < p.total → j < p.total
     → let shares = (encoding_of file secret p).shares in
     length (slice_index_or shares i []) ≡ length (slice_index_or shares j [])
+
+-- a law: each share of a file's encoding has some bytes, and at most 2^41
+abbrev pub SharesAreNotLong : Type 0
+SharesAreNotLong = (file secret : List ℕ) (p : Parameters)
+    → IsShape p.needed p.total (length file)
+    (geometry_of (length file) p.needed p.total p.max_segment).segment_size
+    → (i : ℕ) → i < p.total
+    → let share = slice_index_or (encoding_of file secret p).shares i [] in
+    (1 ≤ length share) × (length share ≤ 2 ^ 41)

@@ -145,8 +145,8 @@ fn write_extension_block(
     ensures short { IfOk result (λ text. length text.items ≤ max_length) }
 {
     let expect = Expect {
-        k: geometry.needed(),
-        n: geometry.total(),
+        needed: geometry.needed(),
+        total: geometry.total(),
         size: geometry.size(),
     };
     let block = Ueb::new(

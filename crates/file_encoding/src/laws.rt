@@ -1,6 +1,7 @@
 //! Laws of the definitions. Each law is a contract; the calls do nothing.
 
-ghost use Rattle.file_encoding.specs.Laws.{AcceptedSharesPass, CiphertextSharesPass, FileSharesPass, SharesHaveOneLength};
+ghost use Rattle.file_encoding.specs.Laws.{AcceptedSharesPass, CiphertextSharesPass};
+ghost use Rattle.file_encoding.specs.Laws.{FileSharesPass, SharesAreNotLong, SharesHaveOneLength};
 ghost use Rattle.file_encoding.specs.OwnFile.{OwnSharesGiveTheFile};
 ghost use Rattle.file_encoding.specs.Parts.{EncodingHasParts, FileHasParts, OwnEvidenceIsWithin};
 
@@ -45,6 +46,11 @@ pub fn accepted_shares_pass()
 /// A law: all shares of a file's encoding have one length.
 pub fn shares_have_one_length()
     ensures { SharesHaveOneLength }
+{}
+
+/// A law: each share of a file's encoding has some bytes, and no more than a server takes.
+pub fn shares_are_not_long()
+    ensures { SharesAreNotLong }
 {}
 
 /// A law: what evidence of a file's own segments hashes is hashed for the file's encoding.

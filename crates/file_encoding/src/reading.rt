@@ -110,7 +110,7 @@ pub fn read_ciphertext(
         → AreInconsistent cap.now (map (λ s. s.0) shares.now) (map (λ s. s.1.now) shares.now) }
 {
     let places = take_lowest(alloc, cap, shares)?;
-    if places.len() < usize::from(cap.k()) {
+    if places.len() < usize::from(cap.needed()) {
         return Err(ReadError::NotEnoughShares);
     }
     read_taken(alloc, cap, shares, &places)

@@ -20,8 +20,8 @@ pub(crate) fn take_lowest(
     ensures { IfOk result (λ places. AreLowestAt cap.now (map (λ s. s.0) shares.now)
         (map (λ s. s.1.now) shares.now) cap.now.total places.items) }
 {
-    let mut places = Vec::with_capacity(alloc, usize::from(cap.k()))?;
-    for number in 0..cap.n() {
+    let mut places = Vec::with_capacity(alloc, usize::from(cap.needed()))?;
+    for number in 0..cap.total() {
         take_number(cap, number, shares, &mut places)?;
     }
     Ok(places)
@@ -39,7 +39,7 @@ fn take_number(
     ensures { OnOk result (AreLowestAt cap.now (map (λ s. s.0) shares.now)
         (map (λ s. s.1.now) shares.now) (number + 1) places.new.items) }
 {
-    if places.len() >= usize::from(cap.k()) {
+    if places.len() >= usize::from(cap.needed()) {
         return Ok(());
     }
     if let Some(place) = first_sound(cap, number, shares) {

@@ -417,8 +417,8 @@ fn blocks_that_are_no_code_word_are_inconsistent(rt: HostRuntime) -> Result<(), 
     let root = tagged_hash::pair(&hashes[0], &hashes[1]);
     let segment = tagged(Tag::CiphertextSegment, &[7; 56]);
     let expect = Expect {
-        k: 1,
-        n: 2,
+        needed: 1,
+        total: 2,
         size: 56,
     };
     let block = Ueb::new(&expect, 56, [1; 32], segment, root).write(alloc)?;

@@ -48,17 +48,7 @@ fn named(path: &str) -> io::Result<()> {
     Ok(())
 }
 
-/// Makes the folders of the first servers where they are not there.
-pub(crate) fn make_folders<R: Files + AllocGlobal>(
-    rt: &R,
-    grid: &str,
-    servers: u16,
-) -> Result<(), Fault> {
-    let alloc = rt.alloc();
-    for server in 0..servers {
-        let folder = server_folder(alloc, grid, server)?;
-        let path = folder.as_str();
-        at_path(alloc, fs::create_dir_all(rt, path), path)?;
-    }
-    Ok(())
+/// Makes the folder of a grid where it is not there.
+pub(crate) fn make_grid<R: Files + AllocGlobal>(rt: &R, grid: &str) -> Result<(), Fault> {
+    at_path(rt.alloc(), fs::create_dir_all(rt, grid), grid)
 }

@@ -71,10 +71,10 @@ where
     requires { F.IsAlwaysCallable passes }
 {
     let limit = greatest_share(cap);
-    let mut held: Vec<HeldShare> = Vec::with_capacity(rt.alloc(), usize::from(cap.k()))?;
+    let mut held: Vec<HeldShare> = Vec::with_capacity(rt.alloc(), usize::from(cap.needed()))?;
     for file in files {
         let number = u16::from(file.number);
-        if held.len() >= usize::from(cap.k()) {
+        if held.len() >= usize::from(cap.needed()) {
             break;
         }
         if held.last().is_some_and(|last| last.number == number) {
@@ -107,9 +107,9 @@ fn strings_of(alloc: Global, held: &[HeldShare]) -> Result<Vec<(u16, &[u8])>, Al
 // The length of the greatest share that a cap allows: the longest header, blocks, three trees over as
 // many segments as there can be, share hashes, and the longest extension block behind its length.
 fn greatest_share(cap: &ReadCap) -> u64 {
-    let data = cap.size().div_ceil(u64::from(cap.k().max(1)));
+    let data = cap.size().div_ceil(u64::from(cap.needed().max(1)));
     let segments = data.min(u64::from(ueb::MAX_SEGMENTS)) as u32;
     let nodes = (2u64 << height(segments)) - 1;
-    let hashes = 34 * u64::from(height(u32::from(cap.n())) + 1);
+    let hashes = 34 * u64::from(height(u32::from(cap.total())) + 1);
     68 + data + 3 * 32 * nodes + hashes + 8 + ueb::MAX_LENGTH as u64
 }

@@ -9,6 +9,7 @@ mod files;
 mod folders;
 mod get;
 mod put;
+mod servers;
 mod share_files;
 mod words;
 

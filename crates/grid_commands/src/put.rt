@@ -3,14 +3,17 @@
 ghost use Rattle.std.specs.Prelude.{◌≤◌, ◌<◌, length, IfOk};
 
 use crate::files::{at_path, read_at_most};
-use crate::folders::{MAX_SERVERS, can_be_grid, make_folders, server_folder};
-use crate::share_files::write_share;
+use crate::folders::{MAX_SERVERS, can_be_grid, make_grid};
+use crate::servers::{open_servers, server_names};
 use crate::words::PutWords;
-use cap_text::{Cap, ReadCap};
-use file_encoding::{Encoded, Params, Share, encode_all};
-use grid_rules::{Fault, happiness, server_of};
+use cap_text::Cap;
+use file_encoding::Params;
+use file_upload::prepared::{FileUpload, PreparedUpload, prepare};
+use grid_clients::upload::UploadClient;
+use grid_rules::{Fault, reached_happiness, servers_of};
 use std::rt::Files;
-use tagged_hash::storage_index;
+use upload_core::Upload;
+use upload_core::pieces::WholeShares;
 
 /// The greatest convergence secret, in bytes.
 const MAX_SECRET_SIZE: usize = 64;
@@ -20,6 +23,9 @@ const MAX_FILE_SIZE: u64 = 1 << 40;
 
 /// The greatest file that its cap holds, in bytes.
 const MAX_LITERAL_SIZE: usize = 55;
+
+/// The session of the one upload.
+const SESSION: u64 = 1;
 
 /// Stores a file, and gives the lines with its cap and its happiness. The cap of a small file holds
 /// it, and no server is needed.
@@ -32,13 +38,12 @@ where
     if words.secret.len() > MAX_SECRET_SIZE {
         return Err(Fault::BadParameters);
     }
-    let Encoded { cap, shares } = encode_file(rt, words, &params)?;
-    match cap {
-        Cap::Chk(cap) => {
-            write_shares(rt, words.grid, servers, &cap, &shares)?;
-            cap_and_happiness(rt, &cap, &params, servers)
+    match prepare_file(rt, words, &params)? {
+        FileUpload::Shares(upload) => place_shares(rt, words.grid, servers, upload),
+        FileUpload::Literal(cap) => {
+            let cap = Cap::Lit(cap);
+            Ok(format!(in rt.alloc(); "{cap}\n")?.into_bytes())
         }
-        cap => Ok(format!(in rt.alloc(); "{cap}\n")?.into_bytes()),
     }
 }
 
@@ -52,9 +57,9 @@ fn server_count(servers: u64) -> Result<u16, Fault>
     Ok(servers as u16)
 }
 
-// Reads the file and encodes it. Its bytes are let go before the shares are written. A fault of the
+// Reads the file and encodes it. Its bytes are let go before the shares are placed. A fault of the
 // file comes first, then one of the grid's folder, which a small file does not need.
-fn encode_file<R>(rt: &R, words: &PutWords, params: &Params) -> Result<Encoded, Fault>
+fn prepare_file<R>(rt: &R, words: &PutWords, params: &Params) -> Result<FileUpload, Fault>
 where
     R: Files + AllocGlobal + Clone + Drop,
     requires { length words.now.secret.now ≤ 64 }
@@ -71,45 +76,55 @@ where
     let Some(file) = file else {
         return Err(Fault::TooLarge);
     };
-    Ok(encode_all(alloc, &file, words.secret.as_bytes(), params)?)
+    Ok(prepare(alloc, &file, words.secret.as_bytes(), params)?)
 }
 
-// Writes each share into the folder of its server.
-fn write_shares<R>(
+// Places the shares on the servers, and gives the lines with the cap and the happiness, where it is
+// as great as was wanted.
+fn place_shares<R>(
     rt: &R,
     grid: &str,
     servers: u16,
-    cap: &ReadCap,
-    shares: &[Share],
-) -> Result<(), Fault>
-where
-    R: Files + AllocGlobal + Clone + Drop,
-    requires { 0 < servers }
-{
-    make_folders(rt, grid, servers)?;
-    let index = storage_index(cap.key());
-    for (share, number) in shares.iter().zip(0..=u8::MAX) {
-        let server = server_of(usize::from(number), servers);
-        let folder = server_folder(rt.alloc(), grid, server)?;
-        write_share(rt, folder.as_str(), &index, number, share.as_slice())?;
-    }
-    Ok(())
-}
-
-// The lines with the cap and the happiness, where it is as great as was wanted.
-fn cap_and_happiness<R>(
-    rt: &R,
-    cap: &ReadCap,
-    params: &Params,
-    servers: u16,
+    upload: PreparedUpload,
 ) -> Result<Vec<u8>, Fault>
 where
     R: Files + AllocGlobal + Clone + Drop,
+    requires { servers ≤ MAX_SERVERS }
 {
-    let reached = happiness(params.total(), servers);
-    let wanted = params.happy();
-    if reached < wanted {
-        return Err(Fault::Unhappy { reached, wanted });
-    }
-    Ok(format!(in rt.alloc(); "{cap}\nhappiness {reached}\n")?.into_bytes())
+    make_grid(rt, grid)?;
+    let alloc = rt.alloc();
+    let cap = format!(in alloc; "{}\n", upload.cap())?;
+    let wanted = upload.happy();
+    let happiness = run_upload(rt, grid, servers, upload, wanted)?;
+    Ok(format!(in alloc; "{cap}happiness {happiness}\n")?.into_bytes())
+}
+
+// Carries the upload to its end, and gives the happiness that it reached.
+fn run_upload<R>(
+    rt: &R,
+    grid: &str,
+    servers: u16,
+    upload: PreparedUpload,
+    wanted: u16,
+) -> Result<usize, Fault>
+where
+    R: Files + AllocGlobal + Clone + Drop,
+    requires { servers ≤ MAX_SERVERS }
+{
+    let names = server_names(rt.alloc(), servers)?;
+    let upload = begin_upload(rt, &names, upload)?;
+    let mut client = UploadClient::new(upload);
+    open_servers(rt, grid, &names)?.run(&mut client)?;
+    reached_happiness(client.status(), wanted)
+}
+
+fn begin_upload<R: AllocGlobal>(
+    rt: &R,
+    names: &[String],
+    upload: PreparedUpload,
+) -> Result<Upload<WholeShares>, Fault>
+    requires { length names.now ≤ 256 }
+{
+    let infos = servers_of(rt.alloc(), names)?;
+    Ok(upload.start(rt.alloc(), &infos, SESSION, 0)?)
 }

@@ -1,5 +1,6 @@
 -- The numbers and the exit statuses of the faults, and which fault an error becomes.
-use Rattle.std.specs.Prelude.{ℕ}
+use Rattle.std.specs.Prelude.{◌≡◌, ℕ, List}
+use Rattle.std.specs.String.{string_bytes}
 use Rattle.cap_text.specs.CapError.{number_of}
 use Rattle.cap_text.specs.declared.error.CapError.{CapError}
 use Rattle.cap_text.specs.declared.error.CapError.TheVariants as caps
@@ -7,11 +8,13 @@ use Rattle.file_encoding.specs.declared.error.EncodeError.{EncodeError}
 use Rattle.file_encoding.specs.declared.error.EncodeError.TheVariants as encodings
 use Rattle.file_encoding.specs.declared.reading.ReadError.{ReadError}
 use Rattle.file_encoding.specs.declared.reading.ReadError.TheVariants as readings
+use Rattle.local_grid.specs.declared.error.LoopError.{LoopError}
+use Rattle.local_grid.specs.declared.error.LoopError.TheVariants as loops
 use Rattle.grid_rules.specs.declared.fault.Fault.{Fault}
 use Rattle.grid_rules.specs.declared.fault.Fault.TheVariants.{OutOfMemory, BadParameters, Cap}
 use Rattle.grid_rules.specs.declared.fault.Fault.TheVariants.{TooLarge, TooManySegments, Unhappy}
 use Rattle.grid_rules.specs.declared.fault.Fault.TheVariants.{NotEnoughShares, Inconsistent, File}
-use Rattle.grid_rules.specs.declared.fault.Fault.TheVariants.{NeedsReadCap}
+use Rattle.grid_rules.specs.declared.fault.Fault.TheVariants.{NeedsReadCap, TurnLimit}
 
 -- the number of a fault
 abbrev pub fault_number : Fault → ℕ
@@ -24,6 +27,7 @@ fault_number (Unhappy _ _) = 70
 fault_number NotEnoughShares = 71
 fault_number Inconsistent = 72
 fault_number (File _) = 90
+fault_number TurnLimit = 92
 fault_number NeedsReadCap = 94
 
 -- the exit status that it gives
@@ -37,6 +41,7 @@ fault_status (Unhappy _ _) = 4
 fault_status NotEnoughShares = 5
 fault_status Inconsistent = 6
 fault_status (File _) = 7
+fault_status TurnLimit = 7
 fault_status NeedsReadCap = 3
 
 -- the fault that a cap's error becomes
@@ -61,3 +66,14 @@ abbrev pub fault_of_reading : ReadError → Fault
 fault_of_reading readings.OutOfMemory = OutOfMemory
 fault_of_reading readings.NotEnoughShares = NotEnoughShares
 fault_of_reading readings.Inconsistent = Inconsistent
+
+-- the fault that the loop's refusal becomes
+abbrev pub fault_of_loop : LoopError → Fault
+fault_of_loop loops.OutOfMemory = OutOfMemory
+fault_of_loop loops.TurnLimit = TurnLimit
+
+-- It is the fault of what has this path, or there was no memory to tell the path.
+abbrev pub TellsPath : List ℕ → Fault → Type 0
+TellsPath path OutOfMemory = Unit {0}
+TellsPath path (File told) = string_bytes told ≡ path
+TellsPath path fault = ⊥

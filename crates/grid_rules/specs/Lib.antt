@@ -1,3 +1,4 @@
 -- what public contracts rest on
 pub mod Fault
 pub mod CapLines
+pub mod Ending

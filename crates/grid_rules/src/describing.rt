@@ -23,6 +23,6 @@ pub fn cap_lines(alloc: Global, cap: &Cap) -> Result<String, AllocError>
 fn share_lines(alloc: Global, kind: &str, cap: &VerifyCap) -> Result<String, AllocError>
     ensures { IfOk result (λ lines. string_bytes lines ≡ share_lines kind.now cap.now) }
 {
-    let (needed, total, size) = (cap.k(), cap.n(), cap.size());
+    let (needed, total, size) = (cap.needed(), cap.total(), cap.size());
     format!(in alloc; "kind {kind}\nk {needed}\nn {total}\nsize {size}\nverify {cap}\n")
 }

@@ -1,11 +1,15 @@
 //! Why a command ended without its result: each fault has a number, an exit status and a text.
 
-ghost use Rattle.std.specs.Prelude.{◌≡◌};
+ghost use Rattle.std.specs.Prelude.{◌≡◌, ◌↔◌, IsTrue};
+ghost use Rattle.std_io.specs.IoError.{error_kind};
+ghost use Rattle.std_io.specs.declared.io.kind.ErrorKind.{ErrorKind};
 ghost use Rattle.grid_rules.specs.Fault.{fault_number, fault_of_cap, fault_of_encoding};
-ghost use Rattle.grid_rules.specs.Fault.{fault_of_reading, fault_status};
+ghost use Rattle.grid_rules.specs.Fault.{fault_of_loop};
+ghost use Rattle.grid_rules.specs.Fault.{TellsPath, fault_of_reading, fault_status};
 
 use cap_text::CapError;
 use file_encoding::{EncodeError, ReadError};
+use local_grid::error::LoopError;
 use std::alloc::{AllocError, AllocFailed, Global};
 use std::io;
 use thiserror::Error;
@@ -40,6 +44,9 @@ pub enum Fault {
     /// The file or the folder of this path could not be read or written.
     #[error("FileFault {0}")]
     File(String),
+    /// The servers did not come to an end within the turns that a command takes.
+    #[error("TurnLimit")]
+    TurnLimit,
     /// The cap has no key, and the command needs one.
     #[error("NeedsReadCap")]
     NeedsReadCap,
@@ -60,12 +67,13 @@ impl Fault {
             Fault::NotEnoughShares => 71,
             Fault::Inconsistent => 72,
             Fault::File(_) => 90,
+            Fault::TurnLimit => 92,
             Fault::NeedsReadCap => 94,
         }
     }
 
     /// The exit status: 3 for refused input, 4 for an unhappy upload, 5 for too few shares, 6 for
-    /// inconsistent ones, and 7 for memory, a file or a folder.
+    /// inconsistent ones, and 7 for memory, a file or a folder, and for too many turns.
     pub fn status(&self) -> u8
         ensures { result ≡ fault_status self.now }
     {
@@ -78,12 +86,16 @@ impl Fault {
             Fault::Unhappy { .. } => 4,
             Fault::NotEnoughShares => 5,
             Fault::Inconsistent => 6,
-            Fault::OutOfMemory | Fault::File(_) => 7,
+            Fault::OutOfMemory | Fault::File(_) | Fault::TurnLimit => 7,
         }
     }
 
-    /// The fault of a file or folder, whose failure may be one of memory.
-    pub fn of_path(alloc: Global, error: &io::Error, path: &str) -> Fault {
+    /// The fault of a file or folder, whose failure may be one of memory. Its path is told where
+    /// there is memory for it.
+    pub fn of_path(alloc: Global, error: &io::Error, path: &str) -> Fault
+        ensures memory { error_kind error.now ≡ ErrorKind.OutOfMemory → result ≡ Fault.OutOfMemory }
+        ensures path { TellsPath path.now result }
+    {
         if is_memory(error) {
             return Fault::OutOfMemory;
         }
@@ -95,7 +107,9 @@ impl Fault {
 }
 
 /// Whether a call on a file failed for want of memory.
-pub fn is_memory(error: &io::Error) -> bool {
+pub fn is_memory(error: &io::Error) -> bool
+    ensures { IsTrue result ↔ (error_kind error.now ≡ ErrorKind.OutOfMemory) }
+{
     error.kind() == io::ErrorKind::OutOfMemory
 }
 
@@ -131,6 +145,17 @@ impl From<ReadError> for Fault {
             ReadError::OutOfMemory => Fault::OutOfMemory,
             ReadError::NotEnoughShares => Fault::NotEnoughShares,
             ReadError::Inconsistent => Fault::Inconsistent,
+        }
+    }
+}
+
+impl From<LoopError> for Fault {
+    ghost from_gives = { λ error fault. fault ≡ fault_of_loop error };
+
+    fn from(error: LoopError) -> Fault {
+        match error {
+            LoopError::OutOfMemory => Fault::OutOfMemory,
+            LoopError::TurnLimit => Fault::TurnLimit,
         }
     }
 }

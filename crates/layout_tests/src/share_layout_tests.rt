@@ -12,8 +12,8 @@ use std::alloc::Global;
 use std::io;
 use std::test::Fail;
 
-// Size, k, N and greatest segment; segment size, segments, tail, block, tail's block; the header's
-// numbers.
+// Size, shares needed and in all, greatest segment; segment size, segments, tail, block, tail's
+// block; the header's numbers.
 const GEOMETRIES: [((u64, u16, u16, u32), [u32; 5], [u32; 9]); 6] = [
     (
         (56, 3, 10, 131_072),
@@ -53,9 +53,9 @@ const GEOMETRIES: [((u64, u16, u16, u32), [u32; 5], [u32; 9]); 6] = [
 
 #[test]
 fn geometries_have_their_sizes(rt: HostRuntime) -> Result<(), Fail> {
-    for &((size, k, n, max), sizes, numbers) in &GEOMETRIES {
-        let geometry = Geometry::of(size, k, n, max)?;
-        assert!(rt; (geometry.size(), geometry.needed(), geometry.total()) == (size, k, n));
+    for &((size, needed, total, max), sizes, numbers) in &GEOMETRIES {
+        let geometry = Geometry::of(size, needed, total, max)?;
+        assert!(rt; (geometry.size(), geometry.needed(), geometry.total()) == (size, needed, total));
         let [segment, segments, tail, block, tail_block] = sizes;
         assert!(rt; geometry.segment_size() == segment, "at {size}");
         assert!(rt; geometry.segment_count() == segments, "at {size}");
@@ -77,15 +77,15 @@ fn geometries_have_their_sizes(rt: HostRuntime) -> Result<(), Fail> {
 
 #[test]
 fn a_geometry_gives_itself(rt: HostRuntime) -> Result<(), Fail> {
-    for &((size, k, n, max), _, _) in &GEOMETRIES {
-        let geometry = Geometry::of(size, k, n, max)?;
-        let again = Geometry::of(size, k, n, geometry.segment_size())?;
+    for &((size, needed, total, max), _, _) in &GEOMETRIES {
+        let geometry = Geometry::of(size, needed, total, max)?;
+        let again = Geometry::of(size, needed, total, geometry.segment_size())?;
         assert!(rt; geometry == again, "at {size}");
     }
     Ok(())
 }
 
-// Size, k, N and greatest segment, and the refusal's number, or 0.
+// Size, shares needed and in all, greatest segment, and the refusal's number, or 0.
 const LIMITS: [((u64, u16, u16, u32), u8); 20] = [
     ((0, 3, 10, 131_072), 2),
     ((1, 3, 10, 131_072), 0),
@@ -111,12 +111,12 @@ const LIMITS: [((u64, u16, u16, u32), u8); 20] = [
 
 #[test]
 fn geometries_have_limits(rt: HostRuntime) {
-    for &((size, k, n, max), number) in &LIMITS {
-        let found = match Geometry::of(size, k, n, max) {
+    for &((size, needed, total, max), number) in &LIMITS {
+        let found = match Geometry::of(size, needed, total, max) {
             Ok(_) => 0,
             Err(error) => error.number(),
         };
-        assert!(rt; found == number, "at {size} {k} {n} {max}");
+        assert!(rt; found == number, "at {size} {needed} {total} {max}");
     }
 }
 

@@ -31,7 +31,7 @@ data_agrees inputs no_clash tag a b first second e = same_tagged tag a b (no_cla
 -- an extension block says one thing
 pub one_ueb : BlocksSayOneThing
 one_ueb cap block u v a b =
-    let expect : Expect = record { k = u.needed_shares; n = u.total_shares; size = u.size; in_range = a.grammar.contents.shape.file } in
+    let expect : Expect = record { needed = u.needed_shares; total = u.total_shares; size = u.size; in_range = a.grammar.contents.shape.file } in
     read_unique block expect u v (omega (arith, a.grammar.short)) a.grammar
     record { needed_shares = refl; total_shares = refl; size = refl } b.grammar
     record { needed_shares = b.needed ∙ sym a.needed; total_shares = b.total ∙ sym a.total; size = b.size ∙ sym a.size }

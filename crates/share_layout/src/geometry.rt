@@ -66,35 +66,35 @@ impl Geometry {
     ghost use Rattle.share_layout.specs.Layout.{header_numbers};
     ghost use Rattle.share_layout.specs.Pieces.{block_length, segment_length};
 
-    /// The geometry of a file of `size` bytes, of which `k` of `n` shares are needed, with segments
-    /// of at most `max` bytes, or of the least multiple of `k` from there on.
+    /// The geometry of a file of `size` bytes, of which `needed` of `total` shares are needed, with segments
+    /// of at most `max` bytes, or of the least multiple of `needed` from there on.
     ///
-    /// Otherwise the first fault in this order: `BadParameters` (size 0, not 1 <= k <= n <= 256, or
+    /// Otherwise the first fault in this order: `BadParameters` (size 0, not 1 <= needed <= total <= 256, or
     /// `max` not 1 to `ueb::MAX_SEGMENT_SIZE`), `TooLarge`, `TooManySegments`.
-    pub fn of(size: u64, k: u16, n: u16, max: u32) -> Result<Geometry, LayoutError>
-        ensures given { IfOk result (λ g. g ≡ geometry_of size k n max) }
-        ensures parameters { IfOk result (λ _. HasGeometry size k n max) }
+    pub fn of(size: u64, needed: u16, total: u16, max: u32) -> Result<Geometry, LayoutError>
+        ensures given { IfOk result (λ g. g ≡ geometry_of size needed total max) }
+        ensures parameters { IfOk result (λ _. HasGeometry size needed total max) }
         ensures valid { IfOk result IsGeometry }
         // What has a geometry is given it.
-        ensures complete { HasGeometry size k n max → result ≡ Ok (geometry_of size k n max) }
+        ensures complete { HasGeometry size needed total max → result ≡ Ok (geometry_of size needed total max) }
         // When each refusal comes.
         ensures refused { (error : LayoutError)
-            → (result ≡ Err error) ↔ IsGeometryFault size k n max error }
+            → (result ≡ Err error) ↔ IsGeometryFault size needed total max error }
     {
-        if size == 0 || k == 0 || k > n || n > MAX_SHARES || max == 0 || max > MAX_SEGMENT_SIZE {
+        if size == 0 || needed == 0 || needed > total || total > MAX_SHARES || max == 0 || max > MAX_SEGMENT_SIZE {
             return Err(LayoutError::BadParameters);
         }
         if size > MAX_FILE_SIZE {
             return Err(LayoutError::TooLarge);
         }
-        let segment_size = rounded_up(u64::from(max).min(size), k);
+        let segment_size = rounded_up(u64::from(max).min(size), needed);
         if size.div_ceil(segment_size) > u64::from(MAX_SEGMENTS) {
             return Err(LayoutError::TooManySegments);
         }
         Ok(Geometry {
             size,
-            needed: k,
-            total: n,
+            needed,
+            total,
             segment_size: segment_size as u32,
         })
     }

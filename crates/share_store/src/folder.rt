@@ -13,7 +13,7 @@ ghost use Rattle.share_store.specs.Folder.{length_of, length_at, IsOpenedAt, Oth
 ghost use Rattle.share_store.specs.Folder.{folder_calls};
 
 use crate::error::StoreError;
-use crate::files::{read_at, write_at};
+use crate::files::{read_at, rename_whole, write_at};
 use crate::names::{ClosedName, closed_path, open_path};
 use crate::shelf::{Place, place_of};
 use crate::store::Store;
@@ -180,7 +180,7 @@ fn rename_closed<R: Files>(
 {
     // room first: once the file is renamed, nothing may fail
     if let Entry::Vacant(room) = closed.entry(*place)? {
-        fs::rename(rt, paths.0, paths.1)?;
+        rename_whole(rt, paths.0, paths.1, share.length)?;
         room.insert(*share);
     }
     Ok(())

@@ -37,7 +37,7 @@ module _ (c : VerifyCapValue) (block : List ℕ) (u : Contents) (own : IsUebFor 
 
   pub one_contents : (v : Contents) → IsUebFor c block v → u ≡ v
   one_contents v its =
-      let expect : Expect = record { k = u.needed_shares; n = u.total_shares; size = u.size; in_range = own.grammar.contents.shape.file } in
+      let expect : Expect = record { needed = u.needed_shares; total = u.total_shares; size = u.size; in_range = own.grammar.contents.shape.file } in
       let agrees : Agrees expect u = record { needed_shares = refl; total_shares = refl; size = refl } in
       let also : Agrees expect v =
       record { needed_shares = its.needed ∙ sym own.needed; total_shares = its.total ∙ sym own.total; size = its.size ∙ sym own.size } in

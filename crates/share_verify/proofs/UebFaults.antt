@@ -15,17 +15,17 @@ use Rattle.share_verify.specs.declared.fault.ShareFault.{ShareFault}
 use Rattle.share_verify.specs.declared.fault.ShareFault.TheVariants.{Layout, OtherUeb, Ueb, Unused, CiphertextTree, BlockTree, ShareHashes, Data}
 
 -- what a cap says is expected in one way
-same_expect : (a b : Expect) → a.k ≡ b.k → a.n ≡ b.n → a.size ≡ b.size → a ≡ b
-same_expect a b k n size =
+same_expect : (a b : Expect) → a.needed ≡ b.needed → a.total ≡ b.total → a.size ≡ b.size → a ≡ b
+same_expect a b needed total size =
     λ i. record {
-      k = k i;
-      n = n i;
+      needed = needed i;
+      total = total i;
       size = size i;
-      in_range = prop→path_p (λ j. IsFile (k j) (n j) (size j)) (hlevel props) a.in_range b.in_range i;
+      in_range = prop→path_p (λ j. IsFile (needed j) (total j) (size j)) (hlevel props) a.in_range b.in_range i;
     }
 
 -- so a refusal is one by each reader that expects what the cap says
-pub refused_by : (cap : VerifyCapValue) (block : List ℕ) (error : UebError) (expect : Expect) → expect.k ≡ cap.needed → expect.n ≡ cap.total
+pub refused_by : (cap : VerifyCapValue) (block : List ℕ) (error : UebError) (expect : Expect) → expect.needed ≡ cap.needed → expect.total ≡ cap.total
     → expect.size ≡ cap.size → RefusesUeb cap block error → IsRefused block expect error
 refused_by cap block error expect k n size held =
     subst (λ e. IsRefused block e error) (same_expect held.expect expect (held.needed ∙ sym k) (held.total ∙ sym n) (held.size ∙ sym size)) held.refused

@@ -83,8 +83,8 @@ IsLayoutFault IsFault fault = ⊥
 pub record RefusesUeb (cap : VerifyCapValue) (extension_block : List ℕ)
     (error : UebError) : Type 0 where
   pub expect : Expect
-  pub needed : expect.k ≡ cap.needed
-  pub total : expect.n ≡ cap.total
+  pub needed : expect.needed ≡ cap.needed
+  pub total : expect.total ≡ cap.total
   pub size : expect.size ≡ cap.size
   pub refused : IsRefused extension_block expect error
 

@@ -107,13 +107,13 @@ fn is_hash_of(hash: &[u8; 32], extension_block: &[u8]) -> bool
 
 // What a reader with this cap expects of the extension block.
 fn expect_of(cap: &VerifyCap) -> Expect
-    ensures needed { result.k ≡ cap.now.needed }
-    ensures total { result.n ≡ cap.now.total }
+    ensures needed { result.needed ≡ cap.now.needed }
+    ensures total { result.total ≡ cap.now.total }
     ensures size { result.size ≡ cap.now.size }
 {
     Expect {
-        k: cap.k(),
-        n: cap.n(),
+        needed: cap.needed(),
+        total: cap.total(),
         size: cap.size(),
     }
 }

@@ -147,19 +147,19 @@ fn is_verify_text(alloc: Global, verify: VerifyCap, text: &str) -> bool {
         && Cap::parse(text.as_bytes()) == Ok(Cap::Verify(verify))
 }
 
-fn have_numbers(read: &ReadCap, verify: &VerifyCap, k: u16, n: u16, size: u64) -> bool {
-    (read.k(), read.n(), read.size()) == (k, n, size)
-        && (verify.k(), verify.n(), verify.size()) == (k, n, size)
+fn have_numbers(read: &ReadCap, verify: &VerifyCap, needed: u16, total: u16, size: u64) -> bool {
+    (read.needed(), read.total(), read.size()) == (needed, total, size)
+        && (verify.needed(), verify.total(), verify.size()) == (needed, total, size)
         && verify.ueb_hash() == read.ueb_hash()
 }
 
 #[test]
 fn reads_and_writes_caps(rt: HostRuntime) {
-    for &(text, verify_text, k, n, size) in &CAPS {
+    for &(text, verify_text, needed, total, size) in &CAPS {
         assert!(rt; comes_again(rt.alloc(), text), "{text}");
         assert!(rt; comes_again(rt.alloc(), verify_text), "{text}");
         assert!(rt;
-            are_of_one_file(rt.alloc(), text, verify_text, k, n, size),
+            are_of_one_file(rt.alloc(), text, verify_text, needed, total, size),
             "{text}"
         );
     }
@@ -170,15 +170,15 @@ fn are_of_one_file(
     alloc: Global,
     text: &str,
     verify_text: &str,
-    k: u16,
-    n: u16,
+    needed: u16,
+    total: u16,
     size: u64,
 ) -> bool {
     let Some(read) = read_cap(text) else {
         return false;
     };
     let verify = read.to_verify();
-    have_numbers(&read, &verify, k, n, size) && is_verify_text(alloc, verify, verify_text)
+    have_numbers(&read, &verify, needed, total, size) && is_verify_text(alloc, verify, verify_text)
 }
 
 // Literal caps and their files.
@@ -406,8 +406,8 @@ fn keeps_key_and_hash() -> bool {
     }
 }
 
-fn refuses(k: u16, n: u16, size: u64) -> bool {
-    match ReadCap::new([7; 16], [9; 32], k, n, size) {
+fn refuses(needed: u16, total: u16, size: u64) -> bool {
+    match ReadCap::new([7; 16], [9; 32], needed, total, size) {
         Ok(_) => false,
         Err(error) => error == CapError::BadParameters,
     }
@@ -416,8 +416,8 @@ fn refuses(k: u16, n: u16, size: u64) -> bool {
 #[test]
 fn keeps_ranges(rt: HostRuntime) {
     assert!(rt; keeps_key_and_hash());
-    for &(k, n, size) in &REFUSED {
-        assert!(rt; refuses(k, n, size), "{k} of {n}, {size} bytes");
+    for &(needed, total, size) in &REFUSED {
+        assert!(rt; refuses(needed, total, size), "{needed} of {total}, {size} bytes");
     }
     assert!(rt; matches!(LitCap::new(&[1; 56]), Err(CapError::LitTooLong)));
 }

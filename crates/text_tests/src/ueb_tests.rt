@@ -9,8 +9,8 @@ const GOOD: &str =
     "codec_name:3:crs,codec_params:7:57-3-10,crypttext_hash:32:abcdefghijklmnopqrstuvwxyz012345,crypttext_root_hash:32:ABCDEFGHIJKLMNOPQRSTUVWXYZ012345,needed_shares:1:3,num_segments:1:1,segment_size:2:57,share_root_hash:32:0123456789abcdefghijklmnopqrstuv,size:2:56,tail_codec_params:7:57-3-10,total_shares:2:10,";
 
 const EXPECT: Expect = Expect {
-    k: 3,
-    n: 10,
+    needed: 3,
+    total: 10,
     size: 56,
 };
 
@@ -54,23 +54,28 @@ const BLOCKS: [(u16, u16, u64, &[u8]); 5] = [
     ),
 ];
 
-fn expect(k: u16, n: u16, size: u64) -> Option<Expect> {
-    if k == 0 || k > n || n > MAX_SHARES || !(MIN_FILE_SIZE..=MAX_FILE_SIZE).contains(&size) {
+fn expect(needed: u16, total: u16, size: u64) -> Option<Expect> {
+    let sizes = MIN_FILE_SIZE..=MAX_FILE_SIZE;
+    if needed == 0 || needed > total || total > MAX_SHARES || !sizes.contains(&size) {
         return None;
     }
-    Some(Expect { k, n, size })
+    Some(Expect {
+        needed,
+        total,
+        size,
+    })
 }
 
 // Whether the block is read as that of a file with these numbers, and written the same.
-fn is_read_and_written(alloc: Global, k: u16, n: u16, size: u64, block: &[u8]) -> bool {
-    let Some(expect) = expect(k, n, size) else {
+fn is_read_and_written(alloc: Global, needed: u16, total: u16, size: u64, block: &[u8]) -> bool {
+    let Some(expect) = expect(needed, total, size) else {
         return false;
     };
     let Ok(ueb) = Ueb::read(block, &expect) else {
         return false;
     };
-    ueb.needed_shares() == k
-        && ueb.total_shares() == n
+    ueb.needed_shares() == needed
+        && ueb.total_shares() == total
         && ueb.size() == size
         && is_written(alloc, &ueb, block)
 }
@@ -84,9 +89,9 @@ fn is_written(alloc: Global, ueb: &Ueb, block: &[u8]) -> bool {
 
 #[test]
 fn reads_and_writes_blocks_of_files(rt: HostRuntime) {
-    for &(k, n, size, block) in &BLOCKS {
+    for &(needed, total, size, block) in &BLOCKS {
         assert!(rt;
-            is_read_and_written(rt.alloc(), k, n, size, block),
+            is_read_and_written(rt.alloc(), needed, total, size, block),
             "{size}"
         );
     }
@@ -427,8 +432,8 @@ fn tells_the_first_fault(rt: HostRuntime) {
 }
 
 // Whether the block is refused for this value as that of a file with these numbers.
-fn disagrees(k: u16, n: u16, size: u64, key: Key) -> bool {
-    match expect(k, n, size) {
+fn disagrees(needed: u16, total: u16, size: u64, key: Key) -> bool {
+    match expect(needed, total, size) {
         Some(expect) => {
             Ueb::read(GOOD.as_bytes(), &expect).err() == Some(UebError::Disagrees(key))
         }
@@ -438,7 +443,7 @@ fn disagrees(k: u16, n: u16, size: u64, key: Key) -> bool {
 
 #[test]
 fn compares_with_the_file(rt: HostRuntime) {
-    for (k, n, size, key) in [
+    for (needed, total, size, key) in [
         (2, 10, 56, Key::SegmentSize),
         (3, 11, 56, Key::CodecParams),
         (3, 10, 57, Key::Size),
@@ -446,7 +451,7 @@ fn compares_with_the_file(rt: HostRuntime) {
         (3, 10, 115, Key::NumSegments),
         (1, 1, 56, Key::SegmentSize),
     ] {
-        assert!(rt; disagrees(k, n, size, key), "{k} of {n}, {size} bytes");
+        assert!(rt; disagrees(needed, total, size, key), "{needed} of {total}, {size} bytes");
     }
 }
 

@@ -95,7 +95,7 @@ has_size expect bytes c u a = record {
 
 size_unique : (expect : Expect) (fields : List Field) (s t : ℕ) → HasSegmentSize expect fields s → HasSegmentSize expect fields t → s ≡ t
 size_unique expect fields s t p q =
-    decimal_injective s t (size_small expect.k expect.size s p.suits) (size_small expect.k expect.size t q.suits) (text_same (decimal s) (decimal t) (sym p.value ∙ q.value))
+    decimal_injective s t (size_small expect.needed expect.size s p.suits) (size_small expect.needed expect.size t q.suits) (text_same (decimal s) (decimal t) (sym p.value ∙ q.value))
 
 -- ---- what is read is not refused
 
@@ -233,7 +233,7 @@ lacks bytes fields key a first = record { fields = fields; are_fields = a; first
 
 -- a block of what is expected, with a segment size and hashes
 abbrev made : Expect → ℕ → List ℕ → List ℕ → List ℕ → Contents
-made expect segment_size h i j = record { needed_shares = expect.k; total_shares = expect.n; size = expect.size; segment_size = segment_size; crypttext_hash = h; crypttext_root_hash = i; share_root_hash = j }
+made expect segment_size h i j = record { needed_shares = expect.needed; total_shares = expect.total; size = expect.size; segment_size = segment_size; crypttext_hash = h; crypttext_root_hash = i; share_root_hash = j }
 
 pub numbers_made : (expect : Expect) (s : ℕ) (h i j : List ℕ) (c : Contents) → c ≡ made expect s h i j → SameNumbers c (numbers expect c.segment_size)
 numbers_made expect s h i j c e = record {

@@ -15,8 +15,8 @@ use Rattle.ueb.specs.Block.{value_text}
 
 -- the block is one of a file with these numbers
 pub record Agrees (expect : Expect) (c : Contents) : Type 0 where
-  pub needed_shares : c.needed_shares ≡ expect.k
-  pub total_shares : c.total_shares ≡ expect.n
+  pub needed_shares : c.needed_shares ≡ expect.needed
+  pub total_shares : c.total_shares ≡ expect.total
   pub size : c.size ≡ expect.size
 
 -- a known key is not there
@@ -26,8 +26,8 @@ IsMissing fields key = value_of (key_name key) fields ≡ None
 -- what follows from the file and the size of its segments: all but the hashes
 abbrev pub numbers : Expect → ℕ → Contents
 numbers expect segment_size = record {
-  needed_shares = expect.k;
-  total_shares = expect.n;
+  needed_shares = expect.needed;
+  total_shares = expect.total;
   size = expect.size;
   segment_size = segment_size;
   crypttext_hash = [];
@@ -56,7 +56,7 @@ Differs c fields key =
 -- the value of `segment_size` is this number, and such a file's segments may have this size
 pub record HasSegmentSize (expect : Expect) (fields : List Field) (segment_size : ℕ) : Type 0 where
   pub value : value_of (key_name SegmentSize) fields ≡ Some (decimal segment_size)
-  pub suits : IsSegmentSize expect.k expect.size segment_size
+  pub suits : IsSegmentSize expect.needed expect.size segment_size
 
 -- The first key that disagrees with the file: `segment_size` comes before all others, they in their
 -- order.

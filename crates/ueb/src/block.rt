@@ -9,16 +9,16 @@ use std::marker::Model;
 
 /// What a reader knows of a file before it has the file's extension block: the numbers in its cap.
 ///
-/// Its ranges are `1 <= k <= n <= 256`, and a size from `MIN_FILE_SIZE` to `MAX_FILE_SIZE`.
+/// Its ranges are `1 <= needed <= total <= 256`, and a size from `MIN_FILE_SIZE` to `MAX_FILE_SIZE`.
 #[derive(Clone, Copy, Debug, PartialEq, Eq)]
 pub struct Expect {
     /// How many shares give the file back.
-    pub k: u16,
+    pub needed: u16,
     /// How many shares there are in all.
-    pub n: u16,
+    pub total: u16,
     /// The file's size in bytes.
     pub size: u64,
-    pub ghost in_range: { IsFile k n size },
+    pub ghost in_range: { IsFile needed total size },
 }
 
 /// The contents of an extension block: four numbers and three hashes. The rest of its text follows
@@ -82,10 +82,10 @@ impl Ueb {
         crypttext_root_hash: [u8; 32],
         share_root_hash: [u8; 32],
     ) -> Ueb
-        requires { IsSegmentSize expect.now.k expect.now.size segment_size }
+        requires { IsSegmentSize expect.now.needed expect.now.size segment_size }
         ensures contents { result ≡ record {
-          needed_shares = expect.now.k;
-          total_shares = expect.now.n;
+          needed_shares = expect.now.needed;
+          total_shares = expect.now.total;
           size = expect.now.size;
           segment_size = segment_size;
           crypttext_hash = crypttext_hash;
@@ -95,8 +95,8 @@ impl Ueb {
         ensures valid { AreContents result }
     {
         Ueb {
-            needed_shares: expect.k,
-            total_shares: expect.n,
+            needed_shares: expect.needed,
+            total_shares: expect.total,
             size: expect.size,
             segment_size,
             crypttext_hash,

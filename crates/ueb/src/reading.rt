@@ -100,9 +100,9 @@ fn first_missing(bytes: &[u8]) -> Option<Key>
 
 // Whether a file's segments may have this size.
 fn is_segment_size(expect: &Expect, segment_size: u64) -> bool
-    ensures { IsTrue result ↔ IsSegmentSize expect.now.k expect.now.size segment_size }
+    ensures { IsTrue result ↔ IsSegmentSize expect.now.needed expect.now.size segment_size }
 {
-    let needed = u64::from(expect.k);
+    let needed = u64::from(expect.needed);
     segment_size > 0
         && segment_size % needed == 0
         && segment_size <= u64::from(MAX_SEGMENT_SIZE)
@@ -113,9 +113,9 @@ fn is_segment_size(expect: &Expect, segment_size: u64) -> bool
 // The segment size that a text gives, where the file's segments may have it.
 fn segment_size_of(text: &[u8], expect: &Expect) -> Option<u32>
     ensures found { IfSome result (λ size. (text.now ≡ decimal size)
-        × IsSegmentSize expect.now.k expect.now.size size) }
+        × IsSegmentSize expect.now.needed expect.now.size size) }
     ensures none { IfNone result ((size : ℕ) → text.now ≡ decimal size
-        → IsSegmentSize expect.now.k expect.now.size size → ⊥) }
+        → IsSegmentSize expect.now.needed expect.now.size size → ⊥) }
 {
     let size = read_decimal(text)?;
     if is_segment_size(expect, size) {

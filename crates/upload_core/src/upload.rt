@@ -1,10 +1,11 @@
 //! An upload: its course, and the source of its shares' bytes.
 
 ghost use Rattle.std.specs.Prelude.{◌≡◌, ◌<◌, ℕ, IfOk, OnOk, OnErr, length, map, nat_eq};
+ghost use Rattle.std.specs.Prelude.{is_some};
 ghost use Rattle.std.specs.List.{IsDistinct};
 ghost use Rattle.upload_core.specs.Course.{IsInside};
 ghost use Rattle.upload_core.specs.Moves.{Advances, Begins, TicksOn};
-ghost use Rattle.upload_core.specs.Sending.{IsBody, Takes};
+ghost use Rattle.upload_core.specs.Sending.{IsBody, Takes, first_to_send};
 ghost use Rattle.request_record.specs.declared.requests.Asked.TheVariants.{Writing};
 ghost use Rattle.upload_core.specs.declared.pieces.PieceFault.TheVariants.{OutOfMemory};
 ghost use Rattle.upload_core.specs.declared.status.ServerInfo.{ServerInfo};
@@ -116,6 +117,13 @@ impl<P: Pieces + Drop> Upload<P> {
                 Ok(None)
             }
         }
+    }
+
+    /// Is there a message to send?
+    pub fn has_outgoing(&self) -> bool
+        ensures { result ≡ is_some (first_to_send self.now.course) }
+    {
+        self.course.first().is_some()
     }
 
     // What a request's message says, with the bytes that the pieces give, or their fault.

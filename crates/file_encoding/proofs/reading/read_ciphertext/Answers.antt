@@ -14,7 +14,7 @@ takes_at c =
       taken = are.taken;
       takes = record {
         lowest = are.lowest;
-        enough = omega (arith, count, are.lowest.few, c.if-len-from.false, c.from.ensures, c.k.ensures.value, c.len.ensures, c.in_ok-places.places.ok);
+        enough = omega (arith, count, are.lowest.few, c.if-len-from.false, c.from.ensures, c.needed.ensures.value, c.len.ensures, c.in_ok-places.places.ok);
       };
       at = c.deref.ensures.value ∙ are.at;
     }
@@ -25,7 +25,7 @@ read_taken-requires-clause-takes c = takes_at c
 pub read_taken-requires-clause-some : goal.read_taken-requires-clause-some
 read_taken-requires-clause-some c =
     let all : length c.deref.result.now ≡ length c.in_ok-places.places.items = ap length c.deref.ensures.value in
-    omega (arith, all, c.k.ensures.cap.parameters.some, c.if-len-from.false, c.from.ensures, c.k.ensures.value, c.len.ensures, c.in_ok-places.places.ok)
+    omega (arith, all, c.needed.ensures.cap.parameters.some, c.if-len-from.false, c.from.ensures, c.needed.ensures.value, c.len.ensures, c.in_ok-places.places.ok)
 
 pub read_taken-requires-clause-inside : goal.read_taken-requires-clause-inside
 read_taken-requires-clause-inside c = λ k d inside.
@@ -39,10 +39,10 @@ returns-then-len-from-clause-not_enough c = λ _.
     record {
       taken = are.taken;
       lowest = are.lowest;
-      few = omega (arith, count, c.if-len-from.true, c.from.ensures, c.k.ensures.value, c.len.ensures, c.in_ok-places.places.ok);
+      few = omega (arith, count, c.if-len-from.true, c.from.ensures, c.needed.ensures.value, c.len.ensures, c.in_ok-places.places.ok);
     }
 
 pub returns-clause-lacking : goal.returns-clause-lacking
 returns-clause-lacking c = λ lacks.
     absurd (enough_places c.args.cap.now (map (λ s. s.0) c.args.shares.now) (map (λ s. s.1.now) c.args.shares.now) c.in_ok-places.places.items c.in_ok-places.ensures
-    (omega (arith, c.if-len-from.false, c.from.ensures, c.k.ensures.value, c.len.ensures, c.in_ok-places.places.ok)) lacks)
+    (omega (arith, c.if-len-from.false, c.from.ensures, c.needed.ensures.value, c.len.ensures, c.in_ok-places.places.ok)) lacks)

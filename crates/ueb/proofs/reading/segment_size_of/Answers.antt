@@ -11,4 +11,4 @@ returns-in_err-size-clause-none c =
 pub returns-else-is_segment_size-clause-none : goal.returns-else-is_segment_size-clause-none
 returns-else-is_segment_size-clause-none c size e s =
     let same : size ≡ c.in_ok-size.size = decimal_injective size c.in_ok-size.size (omega (arith, s.not_large)) (search rules) (sym e ∙ c.in_ok-size.ensures.value) in
-    both_ways _ c.if-is_segment_size.false (c.is_segment_size.ensures.1 (subst (λ (n : ℕ). IsSegmentSize c.args.expect.now.k c.args.expect.now.size n) same s))
+    both_ways _ c.if-is_segment_size.false (c.is_segment_size.ensures.1 (subst (λ (n : ℕ). IsSegmentSize c.args.expect.now.needed c.args.expect.now.size n) same s))

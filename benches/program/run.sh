@@ -1,0 +1,58 @@
+#!/bin/bash
+# Times the built program by processor time (user and system of its process), in turn with two bases:
+# SHA-256 of the kit over as many bytes as have to be hashed, built as the program is, and `sha256sum`
+# of the file. The best of six runs of each counts. Its words: the file's size in MiB (16 if none), and
+# the program (that of this repository if none, which is built first).
+set -e
+here=$(cd "$(dirname "$0")" && pwd)
+. "$here/../prepare.sh"
+mib=${1:-16}
+program=${2:-}
+prepare "sha2"
+processor=$("$root/processor")
+if [ -z "$program" ]; then
+    "$root/grid" cap URI:LIT:na > /dev/null
+    program=$root/crates/grid_main/out/grid_main
+fi
+export GLIBC_TUNABLES="glibc.malloc.hugetlb=1${GLIBC_TUNABLES:+:$GLIBC_TUNABLES}"
+rt run --cpu "$processor" -- 1 > /dev/null
+base=$PWD/out/bench
+cd "$work"
+head -c $((mib << 20)) /dev/urandom > file
+size=$((mib << 20))
+TIMEFORMAT='%3U %3S'
+
+# The processor time of a command, in milliseconds.
+spent() {
+    { time "$@" > out; } 2>&1 | awk '{ printf "%d\n", ($1 + $2) * 1000 + 0.5 }'
+}
+
+least() { [ -n "$1" ] && [ "$1" -le "$2" ] && echo "$1" || echo "$2"; }
+
+# The shares of the lowest numbers go, so that each block is decoded.
+without_lowest() {
+    for number in 0 1 2; do
+        rm -f grid/server-*/*."$number".*
+    done
+}
+
+for _ in 1 2 3 4 5 6; do
+    sum=$(least "$sum" "$(spent sha256sum file)")
+    base_put=$(least "$base_put" "$(spent "$base" $((size * 1305 / 100)))")
+    rm -rf grid
+    puts=$(least "$puts" "$(spent "$program" put file --grid grid)")
+    cap=$(head -n 1 out)
+    base_get=$(least "$base_get" "$(spent "$base" $((size * 201 / 100)))")
+    gets=$(least "$gets" "$(spent "$program" get "$cap" --grid grid)")
+    cmp -s out file || { echo "the file that came back is another"; exit 1; }
+    without_lowest
+    decodes=$(least "$decodes" "$(spent "$program" get "$cap" --grid grid)")
+    cmp -s out file || { echo "the file that came back is another"; exit 1; }
+done
+
+ratio() { awk -v a="$2" -v b="$3" -v c="$4" -v name="$1" \
+    'BEGIN { printf "%-22s %6d ms, %5.2f of its hashing, %5.2f of sha256sum\n", name, a, a / b, a / c }'; }
+echo "a file of $mib MiB at 3 of 10, $processor; sha256sum $sum ms"
+ratio put "$puts" "$base_put" "$sum"
+ratio get "$gets" "$base_get" "$sum"
+ratio "get of other shares" "$decodes" "$base_get" "$sum"

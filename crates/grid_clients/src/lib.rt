@@ -1,0 +1,4 @@
+//! The machines of operations as clients of the loop that carries their messages.
+#![tactic(auto)]
+
+pub mod upload;
