@@ -143,6 +143,17 @@ impl Message {
         Ok(out)
     }
 
+    /// Writes the message's frame to a buffer, in place of what the buffer had: its room is used
+    /// again.
+    pub fn encode_to(&self, out: &mut Vec<u8>) -> Result<(), AllocError>
+        ensures right { IsMessage self.now }
+        ensures frame { OnOk result (out.new.items ≡ frame self.now) }
+    {
+        out.clear();
+        out.put_u32(body_length(self) as u32)?;
+        put_body(out, self)
+    }
+
     /// The body of the message's frame, without its length.
     pub fn encode_body(&self, alloc: Global) -> Result<Vec<u8>, AllocError>
         ensures right { IsMessage self.now }
