@@ -1,0 +1,3 @@
+pub mod CourseLaws
+pub mod FrameLaws
+pub mod NodeLaws

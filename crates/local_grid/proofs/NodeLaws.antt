@@ -1,0 +1,41 @@
+-- A message to a node.
+use Rattle.std.proofs.Common.{◌≡◌, ℕ, ◌<◌, List, false, Option, Some, None, length, get_or, refl, sym, ap, subst, ◌∙◌, true≢false}
+use Rattle.std.specs.Prelude.{slice_get, slice_set}
+use Rattle.std.proofs.lemmas.List.{set-get_or}
+use Rattle.std.proofs.lemmas.Option.{slice_get_read}
+use Rattle.wire.specs.declared.message.Message.{Message}
+use Rattle.share_store.specs.Calls.{Calls}
+use Rattle.local_grid.specs.declared.link.Way.TheVariants.{ToServer}
+use Rattle.local_grid.specs.Nodes.{Carries, Exchanges, IsMet, NodeState}
+use Rattle.local_grid.specs.Turns.{Asks, AsksAt, GridState}
+
+module _ {S L : Type 0} (calls : Calls S) (carries : Carries L) where
+  -- a node that is not silent
+  pub exchanged : (old : NodeState S L) (m : Message) (now : ℕ) (link : L) (came answer : Option Message) (new : NodeState S L)
+      → old.silent ≡ false → carries old.link ToServer m came link → IsMet calls carries old link came now answer new → Exchanges calls carries old m now answer new
+  exchanged old m now link came answer new speaks carried met =
+      record { silent = λ e. absurd (true≢false (sym e ∙ speaks)); heard = λ _. (link, came, carried, met) }
+
+  module _ (old before : GridState S L) (place node : ℕ) (item : Option (NodeState S L)) (same : before ≡ old) (number : place ≡ node) (within : place < length before.nodes) (value : item ≡ get_or before.nodes place item) where
+    at : slice_get before.nodes place ≡ Some item
+    at = slice_get_read before.nodes (length before.nodes) place item refl within value
+
+    -- a node that is there
+    pub asked : (m : Message) (answer : Option Message) (n after : NodeState S L) → item ≡ Some n → Exchanges calls carries n m before.clock answer after
+        → Asks calls carries old node m answer (record { nodes = slice_set before.nodes place (Some after); clock = before.clock })
+    asked m answer n after is exchanges =
+        let there : slice_get before.nodes place ≡ Some (Some n) = at ∙ ap Some is in
+        subst (λ (o : GridState S L). Asks calls carries o node m answer (record { nodes = slice_set before.nodes place (Some after); clock = before.clock })) same
+        (subst (λ (k : ℕ). Asks calls carries before k m answer (record { nodes = slice_set before.nodes place (Some after); clock = before.clock })) number
+        (subst (λ (o : Option (Option (NodeState S L))). AsksAt calls carries before place o m answer (record { nodes = slice_set before.nodes place (Some after); clock = before.clock })) (sym there) (after, exchanges, refl)))
+
+    -- a node that is missing
+    pub missed : (m : Message) → item ≡ None → Asks calls carries old node m None (record { nodes = slice_set before.nodes place item; clock = before.clock })
+    missed m is =
+        let there : slice_get before.nodes place ≡ Some None = at ∙ ap Some is in
+        let stays : slice_set before.nodes place item ≡ before.nodes = ap (λ (x : Option (NodeState S L)). slice_set before.nodes place x) value ∙ set-get_or before.nodes place item in
+        let new : GridState S L = record { nodes = slice_set before.nodes place item; clock = before.clock } in
+        subst (λ (o : GridState S L). Asks calls carries o node m None new) same
+        (subst (λ (k : ℕ). Asks calls carries before k m None new) number
+        (subst (λ (o : Option (Option (NodeState S L))). AsksAt calls carries before place o m None new) (sym there)
+        (refl, ap (λ (nodes : List (Option (NodeState S L))). record { nodes = nodes; clock = before.clock }) stays)))

@@ -1,0 +1,7 @@
+-- What public contracts rest on.
+pub mod Refusals
+pub mod Clients
+pub mod Nodes
+pub mod Turns
+-- Words of private clauses.
+pub mod Streams

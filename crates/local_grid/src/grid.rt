@@ -1,0 +1,179 @@
+//! The grid of one process, and the loop over it.
+
+ghost use Rattle.std.specs.Prelude.{◌≡◌, ◌≤◌, ◌⊎◌, Some, None, true, IfOk, OnOk, OnErr, IsErrOf};
+ghost use Rattle.local_grid.specs.Turns.{Asks, Finishes, GoesOn, GoesPast, IsCutShort, RunsOut};
+ghost use Rattle.local_grid.specs.Turns.{Turns};
+ghost use Rattle.local_grid.specs.declared.error.LoopError.{LoopError};
+
+use crate::client::Client;
+use crate::error::LoopError;
+use crate::link::Link;
+use crate::node::Node;
+use share_store::store::Store;
+use std::alloc::{AllocError, Global};
+use std::marker::Model;
+use wire::message::{Message, NodeId};
+
+/// The most turns that the loop takes for one client.
+const MOST_TURNS: u64 = 100_000_000;
+
+/// The seconds that pass where there is nothing to carry.
+const STEP: u64 = 5;
+
+/// The servers of a grid, which one client asks, and the clock.
+#[derive(Drop)]
+pub struct LocalGrid<S: Store, L: Link> {
+    nodes: Vec<Option<Node<S, L>>>,
+    clock: u64,
+    // Room for the frame that is on its way.
+    frame: Vec<u8>,
+}
+
+impl<S: Store, L: Link> Model for LocalGrid<S, L> {
+    ghost use Rattle.local_grid.specs.Turns.{GridState};
+
+    ghost Value = { GridState S L };
+
+    ghost view = { λ g. record { nodes = g.nodes.items; clock = g.clock } };
+}
+
+impl<S: Store, L: Link> LocalGrid<S, L> {
+    /// The nodes stand at their numbers, and `None` at a number that no node has. The clock begins at
+    /// 0 seconds.
+    pub fn new(alloc: Global, nodes: Vec<Option<Node<S, L>>>) -> LocalGrid<S, L>
+        ensures { result ≡ record { nodes = nodes.items; clock = 0 } }
+    {
+        LocalGrid {
+            nodes,
+            clock: 0,
+            frame: Vec::new(alloc),
+        }
+    }
+
+    /// The nodes, by number.
+    pub fn nodes(&self) -> &[Option<Node<S, L>>]
+        ensures { result.now ≡ self.now.nodes }
+    {
+        &self.nodes
+    }
+
+    /// The second.
+    pub fn clock(&self) -> u64
+        ensures { result ≡ self.now.clock }
+    {
+        self.clock
+    }
+
+    /// Carries frames between a client and the nodes until the client is at its end: in each turn its
+    /// next message goes to its node, and the node's answer comes back. Where there is nothing to carry,
+    /// the clock goes on by 5 seconds, and the client ticks. A node whose store fails, or whose link
+    /// loses a message, is silent from then on, and the others go on.
+    ///
+    /// `TurnLimit` where the client still runs after 100,000,000 turns. `OutOfMemory` comes in the
+    /// middle of a turn.
+    pub fn run<C: Client>(&mut self, client: &mut C) -> Result<(), LoopError>
+        ensures ok { OnOk result (Finishes C.calls S.calls L.carries 100000000
+            (record { client = client.old; grid = self.old })
+            (record { client = client.new; grid = self.new })) }
+        ensures turn_limit { IsErrOf result LoopError.TurnLimit
+            → GoesPast C.calls S.calls L.carries 100000000
+            (record { client = client.old; grid = self.old })
+            (record { client = client.new; grid = self.new }) }
+        ensures memory { IsErrOf result LoopError.OutOfMemory
+            → RunsOut C.calls S.calls L.carries 100000000
+            (record { client = client.old; grid = self.old })
+            (record { client = client.new; grid = self.new }) }
+        ensures clock { self.old.clock ≤ self.new.clock }
+    {
+        self.run_within(client, MOST_TURNS)
+    }
+
+    /// The same with a limit of turns of the caller's.
+    pub fn run_within<C: Client>(&mut self, client: &mut C, limit: u64) -> Result<(), LoopError>
+        ensures ok { OnOk result (Finishes C.calls S.calls L.carries limit
+            (record { client = client.old; grid = self.old })
+            (record { client = client.new; grid = self.new })) }
+        ensures turn_limit { IsErrOf result LoopError.TurnLimit
+            → GoesPast C.calls S.calls L.carries limit
+            (record { client = client.old; grid = self.old })
+            (record { client = client.new; grid = self.new }) }
+        ensures memory { IsErrOf result LoopError.OutOfMemory
+            → RunsOut C.calls S.calls L.carries limit
+            (record { client = client.old; grid = self.old })
+            (record { client = client.new; grid = self.new }) }
+        ensures clock { self.old.clock ≤ self.new.clock }
+    {
+        for _ in 0..limit {
+            if !client.is_running() {
+                return Ok(());
+            }
+            self.turn(client)?;
+        }
+        if client.is_running() {
+            return Err(LoopError::TurnLimit);
+        }
+        Ok(())
+    }
+
+    // One turn of a client that runs.
+    fn turn<C: Client>(&mut self, client: &mut C) -> Result<(), AllocError>
+        requires { C.calls.runs client.old ≡ true }
+        ensures ok { OnOk result (Turns C.calls S.calls L.carries
+            (record { client = client.old; grid = self.old })
+            (record { client = client.new; grid = self.new })) }
+        ensures err { OnErr result (IsCutShort C.calls client.old client.new) }
+        ensures clock { self.old.clock ≤ self.new.clock }
+    {
+        let alloc = *self.frame.allocator();
+        match client.take_outgoing(alloc)? {
+            Some((node, message)) => self.carry(client, node, &message),
+            None => self.wait(client),
+        }
+    }
+
+    // Carries a message of the client's, and the answer.
+    fn carry<C: Client>(
+        &mut self,
+        client: &mut C,
+        node: NodeId,
+        message: &Message,
+    ) -> Result<(), AllocError>
+        ensures ok { OnOk result (GoesOn C.calls S.calls L.carries client.old self.old
+            (Some (node, message.now)) (record { client = client.new; grid = self.new })) }
+        ensures err { OnErr result
+            ((client.new ≡ client.old) ⊎ C.calls.gives_up client.old client.new) }
+        ensures clock { self.new.clock ≡ self.old.clock }
+    {
+        match self.ask(node, message)? {
+            Some(answer) => client.on_message(node, &answer, self.clock),
+            None => Ok(()),
+        }
+    }
+
+    // Lets five seconds pass.
+    fn wait<C: Client>(&mut self, client: &mut C) -> Result<(), AllocError>
+        ensures ok { OnOk result (GoesOn C.calls S.calls L.carries client.old self.old None
+            (record { client = client.new; grid = self.new })) }
+        ensures err { OnErr result (C.calls.gives_up client.old client.new) }
+        ensures clock { self.old.clock ≤ self.new.clock }
+    {
+        self.clock = self.clock.saturating_add(STEP);
+        client.tick(self.clock)
+    }
+
+    // What comes back from a node.
+    fn ask(&mut self, node: NodeId, message: &Message) -> Result<Option<Message>, AllocError>
+        ensures ok { IfOk result
+            (λ answer. Asks S.calls L.carries self.old node message.now answer self.new) }
+        ensures clock { self.new.clock ≡ self.old.clock }
+    {
+        let place = usize::from(node);
+        if place >= self.nodes.len() {
+            return Ok(None);
+        }
+        match &mut self.nodes[place] {
+            Some(asked) => asked.exchange(message, self.clock, &mut self.frame),
+            None => Ok(None),
+        }
+    }
+}
