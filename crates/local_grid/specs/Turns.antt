@@ -1,6 +1,6 @@
 -- The turns of the loop: each carries one message and its answer, or lets five seconds pass.
-use Rattle.std.specs.Prelude.{◌≡◌, ℕ, ◌+◌, ◌-◌, ◌^◌, ◌<◌, ◌≤◌, ◌⊎◌, min, List, [], ◌∷◌, true, Option, Some, None}
-use Rattle.std.specs.Prelude.{false, length, slice_get, slice_set}
+use Rattle.std.specs.Prelude.{◌≡◌, ℕ, ◌+◌, ◌-◌, ◌^◌, ◌<◌, ◌≤◌, ◌⊎◌, min, List, [], ◌∷◌, true}
+use Rattle.std.specs.Prelude.{false, Option, Some, None, length, slice_get, slice_set}
 use Rattle.wire.specs.declared.message.Message.{Message}
 use Rattle.share_store.specs.Calls.{Calls}
 use Rattle.local_grid.specs.Clients.{ClientCalls}

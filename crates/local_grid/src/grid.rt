@@ -38,8 +38,8 @@ impl<S: Store, L: Link> Model for LocalGrid<S, L> {
 }
 
 impl<S: Store, L: Link> LocalGrid<S, L> {
-    /// The nodes stand at their numbers, and `None` at a number that no node has. The clock begins at
-    /// 0 seconds.
+    /// The nodes stand at their numbers, and `None` at a number that no node has. The clock begins
+    /// at 0 seconds.
     pub fn new(alloc: Global, nodes: Vec<Option<Node<S, L>>>) -> LocalGrid<S, L>
         ensures { result ≡ record { nodes = nodes.items; clock = 0 } }
     {
@@ -64,13 +64,14 @@ impl<S: Store, L: Link> LocalGrid<S, L> {
         self.clock
     }
 
-    /// Carries frames between a client and the nodes until the client is at its end: in each turn its
-    /// next message goes to its node, and the node's answer comes back. Where there is nothing to carry,
-    /// the clock goes on by 5 seconds, and the client ticks. A node whose store fails, or whose link
-    /// loses a message, is silent from then on, and the others go on.
+    /// Carries frames between a client and the nodes until the client is at its end. In each turn
+    /// the client's next message goes to its node, and the node's answer comes back. Where there is
+    /// nothing to carry, the clock goes on by 5 seconds, and the client ticks. A node whose store
+    /// fails, or whose link loses a message, is silent from then on, and the others go on.
     ///
-    /// `TurnLimit` where the client still runs after 100,000,000 turns. `OutOfMemory` comes in the
-    /// middle of a turn.
+    /// `TurnLimit` where the client still runs after 100,000,000 turns, and `OutOfMemory` where
+    /// memory was refused in the middle of a turn: then a server may have done what was asked of it,
+    /// and its answer has not come.
     pub fn run<C: Client>(&mut self, client: &mut C) -> Result<(), LoopError>
         ensures ok { OnOk result (Finishes C.calls S.calls L.carries 100000000
             (record { client = client.old; grid = self.old })
