@@ -1,8 +1,7 @@
 //! Why a command ended without its result: each fault has a number, an exit status and a text.
 
 ghost use Rattle.std.specs.Prelude.{◌≡◌, ◌↔◌, IsTrue};
-ghost use Rattle.std_io.specs.IoError.{error_kind};
-ghost use Rattle.std_io.specs.declared.io.kind.ErrorKind.{ErrorKind};
+ghost use Rattle.std.specs.IoError.{error_kind};
 ghost use Rattle.grid_rules.specs.Fault.{fault_number, fault_of_cap, fault_of_encoding};
 ghost use Rattle.grid_rules.specs.Fault.{fault_of_loop};
 ghost use Rattle.grid_rules.specs.Fault.{TellsPath, fault_of_reading, fault_status};
@@ -11,7 +10,7 @@ use cap_text::CapError;
 use file_encoding::{EncodeError, ReadError};
 use local_grid::error::LoopError;
 use std::alloc::{AllocError, AllocFailed, Global};
-use std::io;
+use std::io::{self, ErrorKind};
 use thiserror::Error;
 
 /// A fault. Its text is its name and what belongs to it.
@@ -110,7 +109,7 @@ impl Fault {
 pub fn is_memory(error: &io::Error) -> bool
     ensures { IsTrue result ↔ (error_kind error.now ≡ ErrorKind.OutOfMemory) }
 {
-    error.kind() == io::ErrorKind::OutOfMemory
+    error.kind() == ErrorKind::OutOfMemory
 }
 
 impl From<CapError> for Fault {

@@ -1,7 +1,7 @@
 //! The servers of a grid, by the names of their folders.
 
-ghost use Rattle.std.specs.Prelude.{◌≡◌, ◌≤◌, IfOk, length, map};
-ghost use Rattle.std.specs.List.{range_with_len};
+ghost use Rattle.std.specs.Prelude.{◌≡◌, ◌≤◌, IfOk, length, map, nat_eq};
+ghost use Rattle.std.specs.List.{IsDistinct, range_with_len};
 ghost use Rattle.std.specs.String.{string_bytes};
 ghost use Rattle.sha1.specs.Sha1.{sha1};
 ghost use Rattle.upload_core.specs.declared.status.ServerInfo.{ServerInfo};
@@ -19,6 +19,8 @@ pub fn servers_of(alloc: Global, names: &[String]) -> Result<Vec<ServerInfo>, Al
         ≡ range_with_len 0 (length names.now)) }
     ensures ids { IfOk result (λ servers. map (λ (s : ServerInfo). s.id.0) servers.items
         ≡ map (λ name. sha1 (string_bytes name)) names.now) }
+    ensures distinct { IfOk result
+        (λ servers. IsDistinct nat_eq (map (λ (s : ServerInfo). s.node) servers.items)) }
 {
     let mut servers = Vec::with_capacity(alloc, names.len())?;
     for (place, name) in names.iter().enumerate() {
