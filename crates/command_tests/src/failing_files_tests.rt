@@ -221,6 +221,8 @@ enum Ending {
     Whole,
     // A file fault, and nothing else.
     FileFault,
+    // No server that keeps the share, and nothing else.
+    Unhappy,
     // Too few shares, and nothing else.
     NotEnoughShares,
     Other,
@@ -231,6 +233,9 @@ enum Ending {
 fn told_ending(status: u8, out: &[u8], err: &[u8], whole: &[u8]) -> Ending {
     match status {
         0 if out == whole && err.is_empty() => Ending::Whole,
+        4 if out.is_empty() && err == b"grid: 70 Unhappy reached 0 wanted 1\n".as_slice() => {
+            Ending::Unhappy
+        }
         5 if out.is_empty() && err == b"grid: 71 NotEnoughShares\n".as_slice() => {
             Ending::NotEnoughShares
         }
@@ -287,11 +292,12 @@ fn puts_again(rt: &HostRuntime) -> bool {
     put_gives(rt, ONES, 0, ZEROS_PUT, "") && has_share(rt, CLOSED, true)
 }
 
-// Whether `put` may end so: a fault leaves no closed share, and nothing in the way of a second try.
+// Whether `put` may end so: a fault of its file or of its server leaves no closed share, and nothing
+// in the way of a second try.
 fn is_put_ending(rt: &HostRuntime, ending: Ending) -> bool {
     match ending {
         Ending::Whole => has_share(rt, CLOSED, true),
-        Ending::FileFault => has_share(rt, CLOSED, false) && puts_again(rt),
+        Ending::FileFault | Ending::Unhappy => has_share(rt, CLOSED, false) && puts_again(rt),
         _ => false,
     }
 }
@@ -302,14 +308,15 @@ const PUT_CALLS: u64 = 40;
 #[test]
 fn put_tells_each_failed_call(rt: HostRuntime) {
     let calls = Calls::new();
-    let (mut has_fault, mut is_whole) = (false, false);
+    let (mut has_fault, mut was_silent, mut is_whole) = (false, false, false);
     for left in 0..PUT_CALLS {
         let ending = put_ending(&rt, &calls, left);
         assert!(rt; is_put_ending(&rt, ending), "{left}");
         has_fault |= ending == Ending::FileFault;
+        was_silent |= ending == Ending::Unhappy;
         is_whole = ending == Ending::Whole;
     }
-    assert!(rt; has_fault && is_whole && calls.left.get() < PUT_CALLS);
+    assert!(rt; has_fault && was_silent && is_whole && calls.left.get() < PUT_CALLS);
     assert!(rt; calls.has_cut_read.get() && calls.has_cut_write.get() && removes_all(&rt));
 }
 

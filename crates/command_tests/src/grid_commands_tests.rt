@@ -238,8 +238,8 @@ fn puts_and_gets_files(rt: HostRuntime) {
     assert!(rt; zeros_go_round(&rt) && removes_all(&rt));
 }
 
-fn has_size(rt: &HostRuntime, name: &str, size: u64) -> bool {
-    let Ok(file) = share_path(rt, name) else {
+fn has_size(rt: &HostRuntime, rest: &str, size: u64) -> bool {
+    let Ok(file) = path(rt, rest) else {
         return false;
     };
     match fs::metadata(rt, file.as_str()) {
@@ -256,15 +256,19 @@ pub(crate) fn has_share(rt: &HostRuntime, name: &str, wanted: bool) -> bool {
     }
 }
 
+// The share in the folder of the server that is first in the order of the file, by a program in
+// Python.
+const FIRST_OF_THREE: &str = "/grid/server-002/w3hm5rcm33g237wuaijiuuup7q.0.jtekwrxuxx27zctnem7ska6zjwudmdyta5yamq5667dqfdotpzra";
+
 // One share of 531 bytes under its closed name and no open one; and a folder for each server, also
 // where it gets no share.
 #[test]
 fn a_share_stands_under_its_name(rt: HostRuntime) {
     let options = "--k 1 --happy 1 --n 1 --servers 3";
     assert!(rt; makes_file(&rt, &[0; 56]) && put_gives(&rt, options, 0, ZEROS_PUT, ""));
-    assert!(rt; has_size(&rt, CLOSED, 531) && has_share(&rt, OPEN, false));
+    assert!(rt; has_size(&rt, FIRST_OF_THREE, 531) && has_share(&rt, CLOSED, false));
     assert!(rt;
-        is_there(&rt, "/grid/server-002", true) && is_there(&rt, "/grid/server-003", false)
+        is_there(&rt, "/grid/server-001", true) && is_there(&rt, "/grid/server-003", false)
     );
     assert!(rt; removes_all(&rt));
 }

@@ -164,15 +164,12 @@ fn refuses_missing_files_and_folders(rt: HostRuntime) {
     assert!(rt; is_there(&rt, "/grid", false) && removes_all(&rt));
 }
 
-// Whether `put` tells that it cannot write the open share, in the place of which a folder is made.
-fn put_tells_the_share(rt: &HostRuntime) -> bool {
-    let Ok(open) = share_path(rt, OPEN) else {
-        return false;
-    };
-    match fault_line(rt, open.as_str()) {
-        Ok(line) => {
+// Whether `put` is unhappy where a folder stands in the place of the open share.
+fn is_unhappy_without_the_share(rt: &HostRuntime) -> bool {
+    match share_path(rt, OPEN) {
+        Ok(open) => {
             fs::create_dir_all(rt, open.as_str()).is_ok()
-                && put_gives(rt, ONES, 7, "", line.as_str())
+                && put_gives(rt, ONES, 4, "", "grid: 70 Unhappy reached 0 wanted 1\n")
         }
         Err(_) => false,
     }
@@ -181,7 +178,7 @@ fn put_tells_the_share(rt: &HostRuntime) -> bool {
 // A folder stands where a share would be written: no half of it stands under a closed name.
 #[test]
 fn keeps_no_half_share(rt: HostRuntime) {
-    assert!(rt; makes_file(&rt, &[0; 56]) && put_tells_the_share(&rt));
+    assert!(rt; makes_file(&rt, &[0; 56]) && is_unhappy_without_the_share(&rt));
     assert!(rt; has_share(&rt, CLOSED, false) && removes_all(&rt));
 }
 
