@@ -1,13 +1,15 @@
 -- A message to a node.
-use Rattle.std.proofs.Common.{◌≡◌, ℕ, ◌<◌, List, false, Option, Some, None, length, get_or, refl, sym, ap, subst, ◌∙◌, true≢false}
+use Rattle.std.proofs.Common.{◌≡◌, ℕ, ◌<◌, max, List, Bool, true, false, cond, map, Option, Some, None, length, get_or, refl, sym, ap, subst, ◌∙◌, true≢false}
 use Rattle.std.specs.Prelude.{slice_get, slice_set}
 use Rattle.std.proofs.lemmas.List.{set-get_or}
 use Rattle.std.proofs.lemmas.Option.{slice_get_read}
 use Rattle.wire.specs.declared.message.Message.{Message}
 use Rattle.share_store.specs.Calls.{Calls}
 use Rattle.local_grid.specs.declared.link.Way.TheVariants.{ToServer}
-use Rattle.local_grid.specs.Nodes.{Carries, Exchanges, IsMet, NodeState}
-use Rattle.local_grid.specs.Turns.{Asks, AsksAt, GridState}
+use Rattle.server_core.specs.declared.bucket.Bucket.{Bucket}
+use Rattle.server_core.specs.Machine.{Machine, Ticks}
+use Rattle.local_grid.specs.Nodes.{Carries, Exchanges, IsMet, NodeState, ticked, ticked_node, ticked_server}
+use Rattle.local_grid.specs.Turns.{Asks, AsksAt, GridState, later, passed}
 
 module _ {S L : Type 0} (calls : Calls S) (carries : Carries L) where
   -- a node that is not silent
@@ -39,3 +41,32 @@ module _ {S L : Type 0} (calls : Calls S) (carries : Carries L) where
         (subst (λ (k : ℕ). Asks calls carries before k m None new) number
         (subst (λ (o : Option (Option (NodeState S L))). AsksAt calls carries before place o m None new) (sym there)
         (refl, ap (λ (nodes : List (Option (NodeState S L))). record { nodes = nodes; clock = before.clock }) stays)))
+
+-- a tick is the one that `Ticks` says
+server_ticked : {S : Type 0} (now : ℕ) (old new : Machine S) → Ticks old now new → new ≡ ticked_server now old
+server_ticked {S = S} now old new t =
+    ap (λ (x : S). record { store = x; buckets = new.buckets; clock = new.clock; capacity = new.capacity; readonly = new.readonly }) t.after.store
+    ∙ ap (λ (x : List Bucket). record { store = old.store; buckets = x; clock = new.clock; capacity = new.capacity; readonly = new.readonly }) t.after.buckets
+    ∙ ap (λ (x : ℕ). record { store = old.store; buckets = (ticked_server now old).buckets; clock = x; capacity = new.capacity; readonly = new.readonly }) t.clock
+    ∙ ap (λ (x : ℕ). record { store = old.store; buckets = (ticked_server now old).buckets; clock = max old.clock now; capacity = x; readonly = new.readonly }) t.terms.capacity
+    ∙ ap (λ (x : Bool). record { store = old.store; buckets = (ticked_server now old).buckets; clock = max old.clock now; capacity = old.capacity; readonly = x }) t.terms.readonly
+
+pub speaking_ticked : {S L : Type 0} (now : ℕ) (old : NodeState S L) (server : Machine S) → old.silent ≡ false → Ticks old.server now server
+    → record { server = server; link = old.link; silent = old.silent } ≡ ticked_node now old
+speaking_ticked {S = S} {L = L} now old server speaks t =
+    let after : NodeState S L = record { server = ticked_server now old.server; link = old.link; silent = old.silent } in
+    ap (λ (x : Machine S). record { server = x; link = old.link; silent = old.silent }) (server_ticked now old.server server t)
+    ∙ subst (λ (b : Bool). after ≡ cond b old after) (sym speaks) refl
+
+pub silent_ticked : {S L : Type 0} (now : ℕ) (old : NodeState S L) → old.silent ≡ true → old ≡ ticked_node now old
+silent_ticked {S = S} {L = L} now old silent =
+    let after : NodeState S L = record { server = ticked_server now old.server; link = old.link; silent = old.silent } in
+    subst (λ (b : Bool). old ≡ cond b old after) (sym silent) refl
+
+-- the grid five seconds later
+pub all_pass : {S L : Type 0} (before old : GridState S L) (items nodes : List (Option (NodeState S L))) (clock : ℕ) → before ≡ old → clock ≡ later before.clock
+    → items ≡ before.nodes → nodes ≡ map (ticked clock) items → record { nodes = nodes; clock = clock } ≡ passed old
+all_pass {S = S} {L = L} before old items nodes clock same time first after =
+    ap (λ (x : List (Option (NodeState S L))). record { nodes = x; clock = clock }) (after ∙ ap (map (ticked clock)) first)
+    ∙ ap (λ (x : ℕ). record { nodes = map (ticked x) before.nodes; clock = x }) time
+    ∙ ap passed same

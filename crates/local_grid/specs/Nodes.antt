@@ -1,9 +1,11 @@
 -- One message to a server over its link, and what comes back.
-use Rattle.std.specs.Prelude.{◌≡◌, ℕ, Bool, true, false, Option, Some, None, Ok, Err, is_none}
+use Rattle.std.specs.Prelude.{◌≡◌, ℕ, max, Bool, true, false, Option, Some, None, Ok, Err}
+use Rattle.std.specs.Prelude.{is_none, if◌then◌else◌}
+use Rattle.std.specs.List.{filter}
 use Rattle.wire.specs.declared.message.Message.{Message}
 use Rattle.share_store.specs.Calls.{Calls}
 use Rattle.server_core.specs.declared.error.ServerFault.TheVariants.{OutOfMemory, StoreFault}
-use Rattle.server_core.specs.Machine.{Machine, Outcome, Serves}
+use Rattle.server_core.specs.Machine.{Machine, Outcome, Serves, is_fresh_at}
 use Rattle.local_grid.specs.declared.link.Way.{Way}
 use Rattle.local_grid.specs.declared.link.Way.TheVariants.{ToServer, ToClient}
 
@@ -61,3 +63,25 @@ pub record Exchanges {S L : Type 0} (calls : Calls S) (carries : Carries L) (old
   pub silent : old.silent ≡ true → (answer ≡ None) × (new ≡ old)
   pub heard : old.silent ≡ false → (link : L) × (came : Option Message)
       × carries old.link ToServer m came link × IsMet calls carries old link came now answer new
+
+-- A server at a second drops the buckets that were left too long, as `Ticks` says.
+abbrev pub ticked_server : {S : Type 0} → ℕ → Machine S → Machine S
+ticked_server now s =
+    record {
+      store = s.store;
+      buckets = filter (is_fresh_at (max s.clock now)) s.buckets;
+      clock = max s.clock now;
+      capacity = s.capacity;
+      readonly = s.readonly;
+    }
+
+abbrev pub ticked_node : {S L : Type 0} → ℕ → NodeState S L → NodeState S L
+ticked_node now n =
+    if n.silent
+    then n
+    else record { server = ticked_server now n.server; link = n.link; silent = n.silent }
+
+-- A node that is missing or silent stays so.
+abbrev pub ticked : {S L : Type 0} → ℕ → Option (NodeState S L) → Option (NodeState S L)
+ticked now None = None
+ticked now (Some n) = Some (ticked_node now n)

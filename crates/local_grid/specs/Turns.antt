@@ -1,10 +1,10 @@
 -- The turns of the loop: each carries one message and its answer, or lets five seconds pass.
 use Rattle.std.specs.Prelude.{◌≡◌, ℕ, ◌+◌, ◌-◌, ◌^◌, ◌<◌, ◌≤◌, ◌⊎◌, min, List, [], ◌∷◌, true}
-use Rattle.std.specs.Prelude.{false, Option, Some, None, length, slice_get, slice_set}
+use Rattle.std.specs.Prelude.{false, Option, Some, None, map, length, slice_get, slice_set}
 use Rattle.wire.specs.declared.message.Message.{Message}
 use Rattle.share_store.specs.Calls.{Calls}
 use Rattle.local_grid.specs.Clients.{ClientCalls}
-use Rattle.local_grid.specs.Nodes.{Carries, Exchanges, NodeState}
+use Rattle.local_grid.specs.Nodes.{Carries, Exchanges, NodeState, ticked}
 
 -- the nodes by number, where a node may be missing, and the second
 pub record GridState (S L : Type 0) : Type 0 where
@@ -14,6 +14,14 @@ pub record GridState (S L : Type 0) : Type 0 where
 -- five seconds later; the clock stops at its greatest value
 abbrev pub later : ℕ → ℕ
 later now = min (now + 5) (2 ^ 64 - 1)
+
+-- the grid five seconds later, of which the nodes take note
+abbrev pub passed : {S L : Type 0} → GridState S L → GridState S L
+passed grid =
+    record {
+      nodes = map (ticked (later grid.clock)) grid.nodes;
+      clock = later grid.clock;
+    }
 
 -- A message to a node. From one that is missing nothing comes.
 abbrev pub AsksAt : {S L : Type 0} → Calls S → Carries L → GridState S L → ℕ
@@ -39,15 +47,15 @@ abbrev pub Hears : {C : Type 0} → ClientCalls C → C → ℕ → Option Messa
 Hears client old node None now new = new ≡ old
 Hears client old node (Some answer) now new = client.hears old node answer now new
 
--- What the client takes is carried. Where there is nothing to carry five seconds pass.
+-- What the client takes is carried. Where there is nothing to carry five seconds pass, of which the
+-- nodes and the client take note.
 abbrev pub GoesOn : {C S L : Type 0} → ClientCalls C → Calls S → Carries L → C → GridState S L
     → Option (ℕ × Message) → LoopState C S L → Type 0
 GoesOn client calls carries taken grid (Some m) new =
     (answer : Option Message) × Asks calls carries grid m.0 m.1 answer new.grid
     × Hears client taken m.0 answer grid.clock new.client
 GoesOn client calls carries taken grid None new =
-    (new.grid ≡ record { nodes = grid.nodes; clock = later grid.clock })
-    × client.ticks taken (later grid.clock) new.client
+    (new.grid ≡ passed grid) × client.ticks taken (later grid.clock) new.client
 
 -- one turn of a client that runs
 pub record Turns {C S L : Type 0} (client : ClientCalls C) (calls : Calls S) (carries : Carries L)

@@ -1,8 +1,10 @@
 //! The grid of one process, and the loop over it.
 
-ghost use Rattle.std.specs.Prelude.{◌≡◌, ◌≤◌, ◌⊎◌, Some, None, true, IfOk, OnOk, OnErr, IsErrOf};
+ghost use Rattle.std.specs.Prelude.{◌≡◌, ◌≤◌, ◌⊎◌, Some, None, map, true};
+ghost use Rattle.std.specs.Prelude.{IfOk, OnOk, OnErr, IsErrOf};
+ghost use Rattle.local_grid.specs.Nodes.{ticked};
 ghost use Rattle.local_grid.specs.Turns.{Asks, Finishes, GoesOn, GoesPast, IsCutShort, RunsOut};
-ghost use Rattle.local_grid.specs.Turns.{Turns};
+ghost use Rattle.local_grid.specs.Turns.{Turns, passed};
 ghost use Rattle.local_grid.specs.declared.error.LoopError.{LoopError};
 
 use crate::client::Client;
@@ -37,6 +39,24 @@ impl<S: Store, L: Link> Model for LocalGrid<S, L> {
     ghost view = { λ g. record { nodes = g.nodes.items; clock = g.clock } };
 }
 
+// A node takes note of a second, where there is one.
+fn tick_at<S: Store, L: Link>(place: &mut Option<Node<S, L>>, now: u64)
+    ensures { place.new ≡ ticked now place.old }
+{
+    if let Some(node) = place {
+        node.tick(now);
+    }
+}
+
+// Each node takes note of a second.
+fn tick_each<S: Store, L: Link>(nodes: &mut Vec<Option<Node<S, L>>>, now: u64)
+    ensures { nodes.new.items ≡ map (ticked now) nodes.old.items }
+{
+    for place in nodes.iter_mut() {
+        tick_at(place, now);
+    }
+}
+
 impl<S: Store, L: Link> LocalGrid<S, L> {
     /// The nodes stand at their numbers, and `None` at a number that no node has. The clock begins
     /// at 0 seconds.
@@ -66,12 +86,12 @@ impl<S: Store, L: Link> LocalGrid<S, L> {
 
     /// Carries frames between a client and the nodes until the client is at its end. In each turn
     /// the client's next message goes to its node, and the node's answer comes back. Where there is
-    /// nothing to carry, the clock goes on by 5 seconds, and the client ticks. A node whose store
-    /// fails, or whose link loses a message, is silent from then on, and the others go on.
+    /// nothing to carry, the clock goes on by 5 seconds, and nodes and client tick. A node whose
+    /// store fails, or whose link loses a message, is silent from then on, and the others go on.
     ///
     /// `TurnLimit` where the client still runs after 100,000,000 turns, and `OutOfMemory` where
-    /// memory was refused in the middle of a turn: then a server may have done what was asked of it,
-    /// and its answer has not come.
+    /// memory was refused in the middle of a turn: then a server may have done what was asked of
+    /// it, and its answer has not come.
     pub fn run<C: Client>(&mut self, client: &mut C) -> Result<(), LoopError>
         ensures ok { OnOk result (Finishes C.calls S.calls L.carries 100000000
             (record { client = client.old; grid = self.old })
@@ -151,15 +171,24 @@ impl<S: Store, L: Link> LocalGrid<S, L> {
         }
     }
 
-    // Lets five seconds pass.
+    // Lets five seconds pass, of which the nodes and the client take note.
     fn wait<C: Client>(&mut self, client: &mut C) -> Result<(), AllocError>
         ensures ok { OnOk result (GoesOn C.calls S.calls L.carries client.old self.old None
             (record { client = client.new; grid = self.new })) }
         ensures err { OnErr result (C.calls.gives_up client.old client.new) }
         ensures clock { self.old.clock ≤ self.new.clock }
     {
-        self.clock = self.clock.saturating_add(STEP);
+        self.pass();
         client.tick(self.clock)
+    }
+
+    // Five seconds, of which the nodes take note.
+    fn pass(&mut self)
+        ensures passed { self.new ≡ passed self.old }
+        ensures clock { self.old.clock ≤ self.new.clock }
+    {
+        self.clock = self.clock.saturating_add(STEP);
+        tick_each(&mut self.nodes, self.clock);
     }
 
     // What comes back from a node.

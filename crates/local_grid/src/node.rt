@@ -1,7 +1,7 @@
 //! A server of the grid, with its link.
 
 ghost use Rattle.std.specs.Prelude.{◌≡◌, false, is_none, IfOk, OnErr};
-ghost use Rattle.local_grid.specs.Nodes.{Exchanges, IsServed, client_node};
+ghost use Rattle.local_grid.specs.Nodes.{Exchanges, IsServed, client_node, ticked_node};
 ghost use Rattle.local_grid.specs.declared.link.Way.TheVariants.{ToClient};
 
 use crate::link::{Link, Way};
@@ -56,6 +56,15 @@ impl<S: Store, L: Link> Node<S, L> {
         ensures { result ≡ self.now.silent }
     {
         self.silent
+    }
+
+    /// The time.
+    pub(crate) fn tick(&mut self, now: u64)
+        ensures { self.new ≡ ticked_node now self.old }
+    {
+        if !self.silent {
+            self.server.tick(now);
+        }
     }
 
     /// Carries a message to the server, and its answer back. `frame` is room for frames.

@@ -44,6 +44,7 @@ enum Said {
     Wrote(u64),
     Closed(Digest),
     Data(usize),
+    NoShare,
     Other,
 }
 
@@ -70,6 +71,7 @@ fn heard_of(body: &Body) -> Said {
         Body::Wrote(next) => Said::Wrote(*next),
         Body::Closed(digest) => Said::Closed(*digest),
         Body::Data(bytes) => Said::Data(bytes.as_slice().len()),
+        Body::NoShare => Said::NoShare,
         _ => Said::Other,
     }
 }
@@ -322,7 +324,7 @@ const CASES: [Case; 8] = [
             (1, 0, 1, Said::Granted),
             (0, 0, 3, Said::Have(0)),
             (1, 0, 5, Said::Wrote(2)),
-            (0, 0, 6, Said::Other),
+            (0, 0, 6, Said::NoShare),
         ],
         seen: Seen {
             ending: 0,
@@ -429,6 +431,28 @@ fn goes_on_after_the_limit(rt: HostRuntime) -> Result<(), Fail> {
     assert_eq!(rt; ending(grid.run(&mut asker)), 0);
     assert_eq!(rt; grid.clock(), 10);
     assert!(rt; asker.heard.as_slice() == &WHOLE_SHARE_HEARD[..]);
+    Ok(())
+}
+
+// What is heard of a write where so many ticks came between it and its share's beginning.
+fn write_after(alloc: Global, ticks: u64) -> Result<Option<Said>, AllocError> {
+    let mut grid = grid(alloc, &[Honest])?;
+    let mut first = Asker::new(alloc, &[(0, Request::Allocate(10))], ticks);
+    let mut second = Asker::new(alloc, &[(0, Request::Write(0, b"01"))], 1);
+    if ending(grid.run(&mut first)) != 0 || ending(grid.run(&mut second)) != 0 {
+        return Err(AllocError);
+    }
+    Ok(match second.heard.as_slice() {
+        [(_, _, _, said)] => Some(*said),
+        _ => None,
+    })
+}
+
+// The servers tick too: a bucket is dropped after 600 seconds.
+#[test]
+fn servers_tick(rt: HostRuntime) -> Result<(), Fail> {
+    assert!(rt; write_after(rt.alloc(), 119)? == Some(Said::Wrote(2)));
+    assert!(rt; write_after(rt.alloc(), 120)? == Some(Said::NoShare));
     Ok(())
 }
 
