@@ -1,5 +1,9 @@
 pub mod Follow
 pub mod Records
+pub mod Numbers
 pub mod Servers
+pub mod Acked
+pub mod Placed
 pub mod Goes
 pub mod Sends
+pub mod Right

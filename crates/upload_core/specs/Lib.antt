@@ -5,6 +5,7 @@ pub mod Pieces
 pub mod Acknowledged
 pub mod Transfers
 pub mod Rounds
+pub mod Right
 pub mod Moves
 pub mod Sending
 -- words of private clauses

@@ -82,12 +82,22 @@ pub record AreInOrder (index : List ℕ) (servers : List ServerInfo) (nodes : Li
       (λ i j. rank_cmp index (map (λ (s : ServerInfo). s.id) servers) i j ≡ Less) places
   pub nodes_are : nodes ≡ map (node_at servers) places
 
--- an upload begins: all servers are asked, in the order of the file
+-- a running upload that has asked these servers which shares they hold
+abbrev pub initial : Goal → ℕ → List ℕ → ℕ → ℕ → UploadState
+initial goal happy nodes session now =
+    record {
+      goal = goal;
+      wanted = happy;
+      servers = nodes;
+      requests = begun nodes session now;
+      round = 0;
+      status = Running;
+    }
+
+-- An upload begins: all servers are asked, in the order of the file. With none it ends at once.
 pub record Begins (goal : Goal) (happy : ℕ) (servers : List ServerInfo) (session now : ℕ)
     (u : UploadState) : Type 0 where
   pub goal_is : u.goal ≡ goal
   pub wanted : u.wanted ≡ happy
   pub ordered : AreInOrder goal.cap.storage_index servers u.servers
-  pub asks : u.requests ≡ begun u.servers session now
-  pub round : u.round ≡ 0
-  pub running : u.status ≡ Running
+  pub goes : GoesOn (initial goal happy u.servers session now) (begun u.servers session now) u

@@ -5,9 +5,9 @@ ghost use Rattle.upload_core.specs.Acknowledged.{acked_answer, acked_by, acked_h
 ghost use Rattle.upload_core.specs.Acknowledged.{acked_share};
 
 use crate::status::UploadGoal;
+use request_record::requests::{Asked, Outcome, Request};
 use std::alloc::{AllocError, Global};
 use wire::message::{Body, Digest, HeldShare, NodeId};
-use request_record::requests::{Asked, Outcome, Request};
 
 /// The pairs that the answers of these requests acknowledge.
 pub(crate) fn acked_pairs(

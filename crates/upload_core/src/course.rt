@@ -23,10 +23,10 @@ use crate::rounds::{has_failed_since, servers_of};
 use crate::status::{NodeList, PairList, ServerInfo, UploadGoal, UploadStatus};
 use crate::transfers::follow_up;
 use placement::{Matching, ServerId, happiness, order, place};
+use request_record::requests::{Asked, Requests};
 use std::alloc::{AllocError, Global};
 use std::marker::Model;
 use wire::message::{Body, Message, NodeId, ShareLength, StorageIndex};
-use request_record::requests::{Asked, Requests};
 
 /// An upload without the source of its bytes.
 #[derive(Drop)]
@@ -66,7 +66,7 @@ impl Model for Course {
 }
 
 impl Course {
-    /// Asks all servers, in the order of the file, which shares they hold.
+    /// Asks all servers, in the order of the file, which shares they hold. With none it ends.
     pub(crate) fn begin(
         alloc: Global,
         goal: UploadGoal,
@@ -80,14 +80,16 @@ impl Course {
     {
         let servers = nodes_in_order(alloc, &goal, servers)?;
         let requests = Requests::begin(alloc, servers.as_slice(), session, now)?;
-        Ok(Course {
+        let mut course = Course {
             goal,
             wanted,
             servers,
             requests,
             round: 0,
             status: UploadStatus::Running,
-        })
+        };
+        course.go_on()?;
+        Ok(course)
     }
 
     /// Takes a message at a second.

@@ -1,6 +1,7 @@
 //! Rounds: which servers take shares, where shares are placed, and how an upload ends.
 
-ghost use Rattle.std.specs.Prelude.{◌≡◌, ◌≤◌, IfOk, drop, filter, length, nat_eq, not};
+ghost use Rattle.std.specs.Prelude.{◌≡◌, ◌≤◌, ◌++◌, IfOk, drop, false, filter, length};
+ghost use Rattle.std.specs.Prelude.{nat_eq, not, true};
 ghost use Rattle.std.specs.Set.{is_member};
 ghost use Rattle.upload_core.specs.Acknowledged.{acked_pairs};
 ghost use Rattle.upload_core.specs.Rounds.{answered_as, answers_as, has_answered_as, has_failed_since};
@@ -9,9 +10,9 @@ ghost use Rattle.upload_core.specs.Transfers.{failed_servers};
 
 use crate::status::UploadGoal;
 use crate::transfers::has_failed;
+use request_record::requests::{Asked, Outcome, Request};
 use std::alloc::{AllocError, Global};
 use wire::message::{Body, NodeId};
-use request_record::requests::{Asked, Outcome, Request};
 
 /// The servers that answered their Asks, by what they take.
 #[derive(Drop)]
@@ -30,11 +31,50 @@ pub(crate) fn servers_of(
     ensures readonly { IfOk result (λ s. s.readonly.items ≡ readonly_servers goal.now entries.now) }
 {
     let failed = failed_servers(alloc, goal, entries)?;
-    let open = answered_as(alloc, false, entries)?;
-    let mut readonly = answered_as(alloc, true, entries)?;
-    readonly.append(&mut servers_in(alloc, &open, &failed)?)?;
-    let writable = servers_not_in(alloc, &open, &failed)?;
+    let writable = open_servers(alloc, &failed, entries)?;
+    let readonly = closed_servers(alloc, &failed, entries)?;
     Ok(Servers { writable, readonly })
+}
+
+// Those that take shares, without those of the list.
+fn open_servers(
+    alloc: Global,
+    failed: &[NodeId],
+    entries: &[Request],
+) -> Result<Vec<NodeId>, AllocError>
+    ensures { IfOk result (λ servers. servers.items
+        ≡ filter (λ s. not (is_member nat_eq failed.now s)) (answered_as false entries.now)) }
+{
+    let open = answered_as(alloc, false, entries)?;
+    servers_not_in(alloc, &open, failed)
+}
+
+// Those that take no shares, and behind them those of the list that said that they take some.
+fn closed_servers(
+    alloc: Global,
+    failed: &[NodeId],
+    entries: &[Request],
+) -> Result<Vec<NodeId>, AllocError>
+    ensures { IfOk result (λ servers. servers.items ≡ answered_as true entries.now
+        ++ filter (λ s. is_member nat_eq failed.now s) (answered_as false entries.now)) }
+{
+    let mut closed = answered_as(alloc, true, entries)?;
+    let mut shut = shut_servers(alloc, failed, entries)?;
+    closed.append(&mut shut)?;
+    Ok(closed)
+}
+
+// Those of the list that said that they take shares.
+fn shut_servers(
+    alloc: Global,
+    failed: &[NodeId],
+    entries: &[Request],
+) -> Result<Vec<NodeId>, AllocError>
+    ensures { IfOk result (λ servers. servers.items
+        ≡ filter (λ s. is_member nat_eq failed.now s) (answered_as false entries.now)) }
+{
+    let open = answered_as(alloc, false, entries)?;
+    servers_in(alloc, &open, failed)
 }
 
 // Those of the servers that are in the list.

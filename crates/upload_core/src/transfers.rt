@@ -9,8 +9,8 @@ ghost use Rattle.upload_core.specs.State.{Goal};
 ghost use Rattle.request_record.specs.declared.requests.Outcome.TheVariants.{Answered};
 
 use crate::status::UploadGoal;
-use wire::message::{Body, ShareLength};
 use request_record::requests::{Asked, Outcome, Request};
+use wire::message::{Body, ShareLength};
 
 /// The most bytes of a piece.
 pub(crate) const MAX_PIECE: u64 = 32_768;

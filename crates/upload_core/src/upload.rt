@@ -5,6 +5,7 @@ ghost use Rattle.std.specs.Prelude.{is_some};
 ghost use Rattle.std.specs.List.{IsDistinct};
 ghost use Rattle.upload_core.specs.Course.{IsInside};
 ghost use Rattle.upload_core.specs.Moves.{Advances, Begins, TicksOn};
+ghost use Rattle.upload_core.specs.Right.{IsRight};
 ghost use Rattle.upload_core.specs.Sending.{IsBody, Takes, first_to_send};
 ghost use Rattle.request_record.specs.declared.requests.Asked.TheVariants.{Writing};
 ghost use Rattle.upload_core.specs.declared.pieces.PieceFault.TheVariants.{OutOfMemory};
@@ -14,10 +15,10 @@ ghost use Rattle.upload_core.specs.declared.status.UploadStatus.TheVariants.{Fai
 use crate::course::Course;
 use crate::pieces::{PieceFault, Pieces};
 use crate::status::{ServerInfo, UploadGoal, UploadStatus};
+use request_record::requests::Asked;
 use std::alloc::{AllocError, Global};
 use std::marker::Model;
 use wire::message::{Body, Message, NodeId, ShareId, WriteData};
-use request_record::requests::Asked;
 
 /// An upload of the shares that `P` gives the bytes of.
 #[derive(Drop)]
@@ -28,6 +29,7 @@ pub struct Upload<P: Pieces + Drop> {
 
 impl<P: Pieces + Drop> Model for Upload<P> {
     ghost use Rattle.std.specs.Prelude.{◌≡◌};
+    ghost use Rattle.upload_core.specs.Right.{IsRight};
     ghost use Rattle.upload_core.specs.Sending.{Uploading};
 
     ghost Value = { Uploading P };
@@ -36,12 +38,14 @@ impl<P: Pieces + Drop> Model for Upload<P> {
 
     ghost invariant = { λ u.
         (P.digests u.pieces ≡ u.course.goal.digests)
-        × (P.share_length u.pieces ≡ u.course.goal.share_length) };
+        × (P.share_length u.pieces ≡ u.course.goal.share_length)
+        × IsRight u.course };
 }
 
 impl<P: Pieces + Drop> Upload<P> {
-    /// Asks each of the servers, in the order of the file, which shares it holds. The servers are of
-    /// distinct nodes, and the pieces are those of the goal's shares.
+    /// Asks each of the servers, in the order of the file, which shares it holds. With no server the
+    /// upload ends at once. The servers are of distinct nodes, and the pieces are those of the goal's
+    /// shares.
     pub fn start(
         alloc: Global,
         pieces: P,
@@ -93,9 +97,10 @@ impl<P: Pieces + Drop> Upload<P> {
         outcome
     }
 
-    /// Where the upload stands.
+    /// Where the upload stands. While it runs a request is outstanding, and what ended stays as it is.
     pub fn status(&self) -> &UploadStatus
-        ensures { result.now ≡ self.now.course.status }
+        ensures value { result.now ≡ self.now.course.status }
+        ensures right { IsRight self.now.course }
     {
         self.course.status()
     }

@@ -1,6 +1,8 @@
 //! Whole uploads of three shares to four servers in memory, some of which do not do as they should.
 
-ghost use Rattle.std.specs.Prelude.{◌≡◌, IfSome, length};
+ghost use Rattle.std.specs.Prelude.{◌≡◌, IfSome, length, map, nat_eq};
+ghost use Rattle.std.specs.List.{IsDistinct};
+ghost use Rattle.upload_core.specs.declared.status.ServerInfo.{ServerInfo};
 
 use cap_text::{ReadCap, VerifyCap};
 use placement::ServerId;
@@ -98,8 +100,10 @@ fn share(alloc: Global, value: u8) -> Option<Vec<u8>>
     vec![in alloc; value; SHARE_LENGTH].ok()
 }
 
-// An upload of three shares to the four servers.
-fn begun(alloc: Global, happy: u16) -> Option<Upload<WholeShares>> {
+// An upload of three shares to these servers.
+fn begun_at(alloc: Global, happy: u16, servers: &[ServerInfo]) -> Option<Upload<WholeShares>>
+    requires { IsDistinct nat_eq (map (λ (s : ServerInfo). s.node) servers.now) }
+{
     let all = vec![in alloc; share(alloc, 7)?, share(alloc, 8)?, share(alloc, 9)?].ok()?;
     let shares = WholeShares::new(all);
     let digests = shares.digests(alloc).ok()?;
@@ -108,7 +112,12 @@ fn begun(alloc: Global, happy: u16) -> Option<Upload<WholeShares>> {
         digests,
         ShareLength::new(SHARE_LENGTH as u64)?,
     );
-    Upload::start(alloc, shares, goal, happy, &SERVERS, 5, 0).ok()
+    Upload::start(alloc, shares, goal, happy, servers, 5, 0).ok()
+}
+
+// An upload of three shares to the four servers.
+fn begun(alloc: Global, happy: u16) -> Option<Upload<WholeShares>> {
+    begun_at(alloc, happy, &SERVERS)
 }
 
 fn server(alloc: Global, conduct: Conduct) -> Server<MemoryStore> {
@@ -253,4 +262,14 @@ fn asks_in_order(rt: HostRuntime) {
         None => false,
     };
     assert!(rt; is_right);
+}
+
+// With no server to ask, an upload ends as it begins.
+#[test]
+fn ends_without_servers(rt: HostRuntime) {
+    let has_ended = match begun_at(rt.alloc(), 1, &[]) {
+        Some(upload) => matches!(upload.status(), UploadStatus::Unhappy(0, _)),
+        None => false,
+    };
+    assert!(rt; has_ended);
 }

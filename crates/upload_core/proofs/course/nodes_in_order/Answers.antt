@@ -2,7 +2,7 @@ use Rattle.std.proofs.Common.{◌≡◌, ◌<◌, ◌∙◌, All, IsPermutation,
 use Rattle.std.specs.List.{range_with_len}
 use Rattle.std.proofs.lemmas.List.{length-map}
 use Rattle.std.proofs.lemmas.List.Sorted.{All-permutation}
-use Rattle.upload_core.proofs.Servers.{below_all}
+use Rattle.upload_core.proofs.Placed.{below_all}
 use Rattle.upload_core.proofs.course.nodes_in_order.Goals as goal
 
 pub nodes_at-requires : goal.nodes_at-requires

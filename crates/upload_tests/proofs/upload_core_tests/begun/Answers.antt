@@ -2,7 +2,7 @@ use Rattle.std.proofs.Common.{refl}
 use Rattle.std.specs.List.{IsDistinct}
 use Rattle.upload_tests.proofs.upload_core_tests.begun.Goals as goal
 
-pub start-requires-clause-distinct : goal.start-requires-clause-distinct
+pub begun_at-requires : goal.begun_at-requires
 unfolding IsDistinct
-start-requires-clause-distinct g =
+begun_at-requires g =
     ((refl, (refl, (refl, tt))), ((refl, (refl, tt)), ((refl, tt), (tt, tt))))

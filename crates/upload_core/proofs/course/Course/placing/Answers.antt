@@ -6,7 +6,9 @@ use Rattle.upload_core.specs.State.{UploadState}
 use Rattle.upload_core.specs.Acknowledged.{acked_pairs}
 use Rattle.upload_core.specs.Rounds.{Placing, readonly_servers, writable_servers}
 use Rattle.upload_core.specs.Course.{MayPlace}
-use Rattle.upload_core.proofs.Servers.{acked_known, plan_may, servers_distinct}
+use Rattle.upload_core.proofs.Acked.{acked_known}
+use Rattle.upload_core.proofs.Placed.{plan_may}
+use Rattle.upload_core.proofs.Servers.{servers_distinct}
 use Rattle.upload_core.proofs.Goes.{plan_at}
 use Rattle.upload_core.proofs.course.Course.placing.Goals as goal
 

@@ -1,0 +1,12 @@
+use Rattle.std.proofs.Common.{◌∙◌, ap, sym}
+use Rattle.upload_core.specs.State.{Goal}
+use Rattle.upload_core.proofs.Right.{begins_right}
+use Rattle.upload_core.proofs.upload.Upload.start.Goals as goal
+
+pub invariant_of-result : goal.invariant_of-result
+invariant_of-result g c =
+    let b = c.in_ok-course.ensures in (
+      c.requires.own ∙ ap (λ (a : Goal). a.digests) (sym b.goal_is),
+      c.requires.long ∙ ap (λ (a : Goal). a.share_length) (sym b.goal_is),
+      begins_right c.args.goal c.args.happy c.args.servers.now c.args.session c.args.now c.in_ok-course.course b,
+    )

@@ -1,0 +1,21 @@
+-- What holds of each upload.
+use Rattle.std.specs.Prelude.{◌≡◌, ◌<◌, Bool, true, false}
+use Rattle.request_record.specs.Record.{outstanding_count}
+use Rattle.upload_core.specs.declared.status.UploadStatus.{UploadStatus}
+use Rattle.upload_core.specs.declared.status.UploadStatus.TheVariants.{Running, Happy}
+use Rattle.upload_core.specs.declared.status.UploadStatus.TheVariants.{Unhappy, Failed}
+use Rattle.upload_core.specs.State.{UploadState}
+use Rattle.upload_core.specs.Rounds.{EndsAs, IsSettled}
+
+-- did it end by what was acknowledged?
+abbrev pub has_ended : UploadStatus → Bool
+has_ended Running = false
+has_ended (Happy pairs) = true
+has_ended (Unhappy reached blocking) = true
+has_ended (Failed fault) = false
+
+-- A running upload waits for an answer. What ended is settled, and ended as its record says.
+pub record IsRight (u : UploadState) : Type 0 where
+  pub works : u.status ≡ Running → 0 < outstanding_count u.requests.entries
+  pub settled : has_ended u.status ≡ true → IsSettled u.requests.entries
+  pub over : has_ended u.status ≡ true → EndsAs u.goal u.wanted u.requests.entries u.status
