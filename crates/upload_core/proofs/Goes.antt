@@ -2,24 +2,24 @@
 use Rattle.std.proofs.Common.{◌≡◌, ◌≢◌, ℕ, zero, suc, ◌+◌, ◌<◌, ◌≤◌, ◌==◌, ◌⊎◌, inl, inr, Bool, true, false, cond, ◌&&◌, ◌||◌, List, [], ◌∷◌, ◌++◌, All, Option, Some, None, Result, Ok, Err, length, take, map, get_or, eqb, nat_lt, IsPermutation, refl, sym, ap, subst, ◌∙◌, arith, true≢false}
 use Rattle.std.specs.Prelude.{max, slice_get}
 use Rattle.std.specs.Result.{IfOk, OnOk, OnErr}
-use Rattle.std.specs.List.{IsDistinct, range_with_len}
+use Rattle.std.specs.List.{AllByRecursion, IsDistinct, range_with_len}
 use Rattle.std.specs.Cmp.{nat_eq_equiv}
 use Rattle.std.proofs.lemmas.Grind.{flat_map-append}
 use Rattle.std.proofs.lemmas.List.Sorted.{IsPermutation-map}
 use Rattle.std.proofs.lemmas.Map.Keys.{IsDistinct-IsPermutation}
-use Rattle.std.proofs.lemmas.Bool.{eqb-true, eq-eqb, ltb-true, ltb-false}
+use Rattle.std.proofs.lemmas.Bool.{cases_lt, eqb-true, eq-eqb, ltb-true, ltb-false}
 use Rattle.std.proofs.lemmas.List.{append-nil, append_assoc, length-append, length-map, map-append, take_more}
-use Rattle.std.proofs.lemmas.List.Elements.{All-cons, All-map, All-nil, All-take, All-weaker}
+use Rattle.std.proofs.lemmas.List.Elements.{All-cons, All-head, All-nil, All-tail, All-take}
 use Rattle.std.proofs.lemmas.Option.{slice_get-get_or, slice_get_within}
 use Rattle.wire.specs.declared.message.Body.{Body}
 use Rattle.wire.specs.declared.message.Message.{Message}
 use Rattle.request_record.specs.declared.requests.Asked.{Asked}
 use Rattle.request_record.specs.declared.requests.Asked.TheVariants.{Holdings, Allocation, Writing, Closing, Reading, Aborting}
 use Rattle.request_record.specs.declared.requests.Request.{Request}
-use Rattle.request_record.specs.Record.{RequestsState, answered_in, asked_all, asked_more, at, counted_at, counts_at, first_request, is_lost_at, is_outstanding, places_from}
+use Rattle.request_record.specs.Record.{RequestsState, TakesNext, answered_in, asked_all, asked_more, at, counted_at, counts_at, first_request, is_lost_at, is_outstanding, places_from}
 use Rattle.request_record.specs.Asking.{after_message, after_tick, asks_of, begun, fresh, lost_by_tick}
-use Rattle.request_record.proofs.RecordLaws.{Awaits, asked_snoc, counts_is}
-use Rattle.placement.specs.Matching.{IsLargestMatching, Pair}
+use Rattle.request_record.proofs.RecordLaws.{Awaits, asked_snoc, counts_is, get_last, get_push}
+use Rattle.placement.specs.Matching.{IsLargestMatching, Pair, shares_of}
 use Rattle.placement.specs.Plan.{IsPlan}
 use Rattle.upload_core.specs.declared.status.ServerInfo.{ServerInfo}
 use Rattle.upload_core.specs.State.{Goal, UploadState, with_record}
@@ -28,8 +28,9 @@ use Rattle.upload_core.specs.Transfers.{follow_up}
 use Rattle.upload_core.specs.Rounds.{IsToPlace, has_failed_since}
 use Rattle.upload_core.specs.Moves.{AreInOrder, GoesOn, TicksWith, all_follow_ups, asks_after, ends, follow_ups_at, places, waits}
 use Rattle.upload_core.specs.Course.{IsCourse, IsInside, IsOfTold, MayPlace, allocations, asked_servers, is_holdings}
-use Rattle.upload_core.proofs.Follow.{follow_good, follow_none}
-use Rattle.upload_core.proofs.Records.{Goes, MayAsk, both, course_all, course_goes, either, goes_refl, goes_settled, goes_ticked, length_goes, or_left, or_right}
+use Rattle.upload_core.specs.Trails.{AreFollowed, AreTrails, IsAbout, IsAtEnd, IsBefore, IsNew, rank_of, share_of}
+use Rattle.upload_core.proofs.Follow.{IsOnward, follow_none, follow_onward}
+use Rattle.upload_core.proofs.Records.{Goes, MayAsk, both, course_asked, course_goes, told_push, either, goes_refl, goes_settled, goes_ticked, length_goes, or_left, or_right}
 
 pub settled_by : {X E : Type 0} (r : Result X E) (P Q : Type 0) → OnOk r P → OnErr r Q → P ⊎ Q
 settled_by (Ok x) P Q p q = inl p
@@ -50,19 +51,41 @@ holdings_is (Aborting share) h = absurd (true≢false (sym h))
 -- ---- what follows a request
 
 module _ (u : UploadState) (place : ℕ) (r : Request) (is : r ≡ get_or u.requests.entries place r) (lt : place < length u.requests.entries) where
-  pub may_follow : (asked : Asked) → IsCourse u → follow_up u.goal r ≡ Some asked → MayAsk u (r.server, asked)
-  may_follow asked c e =
-      let inside = subst (λ (q : Request). IsInside u.goal q.asked) (sym is) (c.inside place r lt) in
-      let of-told : IsOfTold u.requests.entries r = subst (IsOfTold u.requests.entries) (sym is) (c.of_told place r lt) in (
-        follow_good u.goal r asked inside e,
-        elim of-told [
-          | inl h ↦ absurd (follow_none u.goal r asked (holdings_is r.asked h) e)
-          | inr t ↦ t
-        ],
-      )
-
   there : slice_get u.requests.entries place ≡ Some r
   there = slice_get-get_or u.requests.entries place r lt ∙ ap Some (sym is)
+
+  onward : (asked : Asked) → IsCourse u → follow_up u.goal r ≡ Some asked → IsOnward u.goal r.asked asked
+  onward asked c e = follow_onward u.goal r asked (subst (λ (q : Request). IsInside u.goal q.asked) (sym is) (c.inside place r lt)) e
+
+  pub may_follow : (asked : Asked) → IsCourse u → IsAtEnd u.requests.entries place → follow_up u.goal r ≡ Some asked → MayAsk u (r.server, asked)
+  may_follow asked c end e =
+      let of-told : IsOfTold u.requests.entries r = subst (IsOfTold u.requests.entries) (sym is) (c.of_told place r lt) in
+      let on = onward asked c e in
+      record {
+        good = on.good;
+        told = elim of-told [
+          | inl h ↦ absurd (follow_none u.goal r asked (holdings_is r.asked h) e)
+          | inr t ↦ t
+        ];
+        further = λ i a share first about has. further i a share c end on first about (sym on.same ∙ has);
+      }
+    where
+      further : (i : ℕ) (a : Request) (share : ℕ) → IsCourse u → IsAtEnd u.requests.entries place → IsOnward u.goal r.asked asked → slice_get u.requests.entries i ≡ Some a → IsAbout (r.server, share) a → share_of r.asked ≡ Some share → IsBefore u.goal a asked
+      further i a share c end on first about has =
+          let one : Some end.request ≡ Some r = sym end.there ∙ there in
+          let same : end.request ≡ r = cc in
+          elim (cases_lt i place) [
+            | inl before ↦ (let b = c.trails i place a r (r.server, share) before first there about (refl, has) in record { quiet = b.quiet; further = omega (arith, b.further, on.further) })
+            | inr le ↦ (elim (cases_lt place i) [
+              | inl behind ↦ absurd (end.last i a (r.server, share) behind first (ap (λ (q : Request). q.server) same, ap (λ (q : Request). share_of q.asked) same ∙ has) about)
+              | inr ge ↦ (
+                  let at : i ≡ place = omega (arith, le, ge) in
+                  let two : Some a ≡ Some end.request = sym first ∙ ap (slice_get u.requests.entries) at ∙ end.there in
+                  let is-end : a ≡ end.request = cc in
+                  let is-r : a ≡ r = is-end ∙ same in
+                  record { quiet = ap (λ (q : Request). is_outstanding q.outcome) is-end ∙ end.quiet; further = subst (λ (q : Request). rank_of u.goal q.asked < rank_of u.goal asked) (sym is-r) on.further })
+            ])
+          ]
 
   pub follows : (o : Option Asked) → follow_up u.goal r ≡ o → follow_ups_at u.goal (slice_get u.requests.entries place) ≡ asks_after r o
   follows o e = ap (follow_ups_at u.goal) there ∙ ap (asks_after r) e
@@ -126,14 +149,72 @@ allocations_more len pairs i d r lt =
     ∙ ap (λ (asks : List (ℕ × Asked)). asked_all asks r) (map-append ask (take i pairs) (get_or pairs i d ∷ []))
     ∙ asked_snoc (map ask (take i pairs)) (ask (get_or pairs i d)) r
 
-pub round_course : (u : UploadState) (pairs : List Pair) (k round : ℕ) (new : RequestsState) → round ≤ length u.requests.entries → new ≡ asked_all (allocations u.goal.share_length (take k pairs)) u.requests → All (MayPlace u) pairs → IsCourse u → IsCourse (record u { requests = new; round = round })
-round_course u pairs k round new le e may c =
-    let ask : Pair → ℕ × Asked = λ (p : Pair). (p.0, Allocation p.1 u.goal.share_length) in
-    let asks : List (ℕ × Asked) = map ask (take k pairs) in
-    let good : (p : Pair) → MayPlace u p → MayAsk u (ask p) = λ p h. (record { inside = (h.1, refl); share = refl }, h.0) in
-    let mays : All (MayAsk u) asks = All-map (MayAsk u) ask (take k pairs) (All-weaker (MayPlace u) (λ (p : Pair). MayAsk u (ask p)) good (take k pairs) (All-take (MayPlace u) k pairs may)) in
-    let t : IsCourse (with_record u new) = subst (λ (r : RequestsState). IsCourse (with_record u r)) (sym e) (course_all u asks mays c) in
-    record { few = t.few; distinct = t.distinct; inside = t.inside; of_told = t.of_told; begun = omega (arith, le, length_asked asks u.requests, ap (λ (r : RequestsState). length r.entries) e) }
+-- a share of another number is another pair
+other_share : (p q : Pair) (asked : Asked) → eqb p.1 q.1 ≡ false → share_of asked ≡ Some p.1 → share_of asked ≡ Some q.1 → ⊥
+other_share p q asked apart first second =
+    let one : Some p.1 ≡ Some q.1 = sym first ∙ second in
+    let same : p.1 ≡ q.1 = cc in
+    true≢false (sym (eq-eqb p.1 q.1 same) ∙ apart)
+
+new_push : (es : List Request) (new : Request) (p q : Pair) → share_of new.asked ≡ Some p.1 → eqb p.1 q.1 ≡ false → IsNew es q → IsNew (es ++ new ∷ []) q
+new_push es new p q has apart is-new i r e about =
+    let len : length (es ++ new ∷ []) ≡ length es + 1 = length-append es (new ∷ []) in
+    let within : i < length (es ++ new ∷ []) = slice_get_within (es ++ new ∷ []) i r e in
+    elim (cases_lt i (length es)) [
+      | inl inside ↦ is-new i r (sym (get_push es new i inside) ∙ e) about
+      | inr le ↦ (
+          let last : i ≡ length es = omega (arith, le, within, len) in
+          let is : Some new ≡ Some r = sym (get_last es new) ∙ sym (ap (slice_get (es ++ new ∷ [])) last) ∙ e in
+          let same : new ≡ r = cc in
+          other_share p q new.asked apart has (ap (λ (x : Request). share_of x.asked) same ∙ about.1))
+    ]
+
+may_push : (u : UploadState) (p q : Pair) → eqb p.1 q.1 ≡ false → MayPlace u q → MayPlace (with_record u (asked_more p.0 (Allocation p.1 u.goal.share_length) u.requests)) q
+may_push u p q apart may =
+    let new : Request = first_request p.0 (Allocation p.1 u.goal.share_length) u.requests.clock in
+    record {
+      told = told_push u.requests.entries new q.0 may.told;
+      within = may.within;
+      is_new = new_push u.requests.entries new p q refl apart may.is_new;
+    }
+
+mays_push : (u : UploadState) (p : Pair) (qs : List Pair) → AllByRecursion (λ (y : ℕ). eqb p.1 y ≡ false) (shares_of qs) → All (MayPlace u) qs → All (MayPlace (with_record u (asked_more p.0 (Allocation p.1 u.goal.share_length) u.requests))) qs
+mays_push u p [] apart may = All-nil (MayPlace (with_record u (asked_more p.0 (Allocation p.1 u.goal.share_length) u.requests)))
+mays_push u p (q ∷ qs) apart may =
+    let new : UploadState = with_record u (asked_more p.0 (Allocation p.1 u.goal.share_length) u.requests) in
+    All-cons (MayPlace new) q qs (may_push u p q apart.0 (All-head (MayPlace u) q qs may)) (mays_push u p qs apart.1 (All-tail (MayPlace u) q qs may))
+
+-- room for pairs of distinct shares is asked for
+course_pairs : (u : UploadState) (pairs : List Pair) → All (MayPlace u) pairs → IsDistinct eqb (shares_of pairs) → IsCourse u → IsCourse (with_record u (asked_all (allocations u.goal.share_length pairs) u.requests))
+unfolding IsDistinct
+course_pairs u [] may once c = c
+course_pairs u (p ∷ ps) may once c =
+    let ask : ℕ × Asked = (p.0, Allocation p.1 u.goal.share_length) in
+    let new : UploadState = with_record u (asked_more ask.0 ask.1 u.requests) in
+    let here = All-head (MayPlace u) p ps may in
+    let good : MayAsk u ask = record {
+      good = record { inside = (here.within, refl); share = refl };
+      told = here.told;
+      further = λ i a share e about has. absurd (here.is_new i a e (about.0, let one : Some p.1 ≡ Some share = has in about.1 ∙ sym one));
+    } in
+    course_pairs new ps (mays_push u p ps once.0 (All-tail (MayPlace u) p ps may)) once.1 (course_asked u ask good c)
+
+kept_front : (P : ℕ → Type 0) (k : ℕ) (xs : List Pair) → AllByRecursion P (shares_of xs) → AllByRecursion P (shares_of (take k xs))
+kept_front P zero xs all = tt
+kept_front P (suc k) [] all = tt
+kept_front P (suc k) (x ∷ xs) all = (all.0, kept_front P k xs all.1)
+
+distinct_front : (k : ℕ) (xs : List Pair) → IsDistinct eqb (shares_of xs) → IsDistinct eqb (shares_of (take k xs))
+unfolding IsDistinct
+distinct_front zero xs d = tt
+distinct_front (suc k) [] d = tt
+distinct_front (suc k) (x ∷ xs) d = (kept_front (λ (y : ℕ). eqb x.1 y ≡ false) k xs d.0, distinct_front k xs d.1)
+
+pub round_course : (u : UploadState) (pairs : List Pair) (k round : ℕ) (new : RequestsState) → round ≤ length u.requests.entries → new ≡ asked_all (allocations u.goal.share_length (take k pairs)) u.requests → All (MayPlace u) pairs → IsDistinct eqb (shares_of pairs) → IsCourse u → IsCourse (record u { requests = new; round = round })
+round_course u pairs k round new le e may once c =
+    let asks : List (ℕ × Asked) = allocations u.goal.share_length (take k pairs) in
+    let t : IsCourse (with_record u new) = subst (λ (r : RequestsState). IsCourse (with_record u r)) (sym e) (course_pairs u (take k pairs) (All-take (MayPlace u) k pairs may) (distinct_front k pairs once) c) in
+    record { few = t.few; distinct = t.distinct; inside = t.inside; of_told = t.of_told; trails = t.trails; begun = omega (arith, le, length_asked asks u.requests, ap (λ (r : RequestsState). length r.entries) e) }
 
 pub plan_at : (ro ro2 w w2 : List ℕ) (held held2 : List Pair) (n n2 : ℕ) (m1 m2 m3 left : List Pair) (un : List ℕ) → ro ≡ ro2 → w ≡ w2 → held ≡ held2 → n ≡ n2 → IsPlan ro w held n m1 m2 m3 left un → IsPlan ro2 w2 held2 n2 m1 m2 m3 left un
 plan_at ro ro2 w w2 held held2 n n2 m1 m2 m3 left un a b c d p =
@@ -167,12 +248,7 @@ module _ (u : UploadState) (chosen : List Pair) (largest : IsLargestMatching (ac
 
 -- ---- what was lost
 
-get_push : {X : Type 0} (xs : List X) (x : X) (i : ℕ) → i < length xs → slice_get (xs ++ x ∷ []) i ≡ slice_get xs i
-get_push [] x i lt = absurd (omega (arith, lt))
-get_push (y ∷ ys) x zero lt = refl
-get_push (y ∷ ys) x (suc i) lt = get_push ys x i (omega (arith, lt))
-
-get_asked_all : (asks : List (ℕ × Asked)) (r : RequestsState) (p : ℕ) → p < length r.entries → slice_get (asked_all asks r).entries p ≡ slice_get r.entries p
+pub get_asked_all : (asks : List (ℕ × Asked)) (r : RequestsState) (p : ℕ) → p < length r.entries → slice_get (asked_all asks r).entries p ≡ slice_get r.entries p
 get_asked_all [] r p lt = refl
 get_asked_all (ask ∷ asks) r p lt =
     let new : RequestsState = asked_more ask.0 ask.1 r in
@@ -233,6 +309,21 @@ of_told_begun : (es : List Request) (now : ℕ) (servers : List ℕ) → All (Is
 of_told_begun es now [] = All-nil (IsOfTold es)
 of_told_begun es now (s ∷ ss) = All-cons (IsOfTold es) (first_request s Holdings now) (asks_at now ss) (inl refl) (of_told_begun es now ss)
 
+-- no Ask is about a share
+none_begun : (now : ℕ) (servers : List ℕ) (i : ℕ) (r : Request) → slice_get (asks_at now servers) i ≡ Some r → share_of r.asked ≡ None
+none_begun now [] i r e = absurd cc
+none_begun now (s ∷ ss) zero r e = let is : first_request s Holdings now ≡ r = cc in ap (λ (q : Request). share_of q.asked) (sym is)
+none_begun now (s ∷ ss) (suc i) r e = none_begun now ss i r e
+
+none_about : (now : ℕ) (servers : List ℕ) (i : ℕ) (r : Request) (pair : Pair) → slice_get (asks_at now servers) i ≡ Some r → IsAbout pair r → ⊥
+none_about now servers i r pair e about = let none : None ≡ Some pair.1 = sym (none_begun now servers i r e) ∙ about.1 in absurd cc
+
+trails_begun : (g : Goal) (now : ℕ) (servers : List ℕ) → AreTrails g (asks_at now servers)
+trails_begun g now servers i j a b pair lt first second about next = absurd (none_about now servers i a pair first about)
+
+pub followed_begun : (g : Goal) (session now : ℕ) (servers : List ℕ) → AreFollowed g (begun servers session now).entries
+followed_begun g session now servers i r pair e about = absurd (none_about now servers i r pair (sym (ap (λ (es : List Request). slice_get es i) (begun_from servers (fresh session now))) ∙ e) about)
+
 pub begun_course : (u : UploadState) (servers : List ℕ) (session now : ℕ) → u.requests ≡ begun servers session now → u.round ≡ 0 → length u.goal.digests ≤ 256 → IsDistinct eqb servers → IsCourse u
 begun_course u servers session now e first few d =
     let is : u.requests.entries ≡ asks_at now servers = ap (λ (r : RequestsState). r.entries) e ∙ begun_from servers (fresh session now) in
@@ -241,6 +332,7 @@ begun_course u servers session now e first few d =
       distinct = subst (IsDistinct eqb) (sym (ap asked_servers is ∙ asked_begun now servers)) d;
       inside = subst (All (λ (r : Request). IsInside u.goal r.asked)) (sym is) (inside_begun u.goal now servers);
       of_told = subst (All (IsOfTold u.requests.entries)) (sym is) (of_told_begun u.requests.entries now servers);
+      trails = subst (AreTrails u.goal) (sym is) (trails_begun u.goal now servers);
       begun = omega (arith, first);
     }
 
@@ -284,3 +376,10 @@ map_twice f g (x ∷ xs) = ap (λ l. f (g x) ∷ l) (map_twice f g xs)
 pub if_ok : {X E : Type 0} (r : Result X E) (P Q : X → Type 0) → ((x : X) → P x → Q x) → IfOk r P → IfOk r Q
 if_ok (Ok x) P Q f p = f x p
 if_ok (Err e) P Q f p = p
+
+taken_entries : (old new : RequestsState) (o : Option ℕ) → TakesNext old o new → new.entries ≡ old.entries
+taken_entries old new None t = ap (λ (r : RequestsState). r.entries) t.1
+taken_entries old new (Some place) t = ap (λ (r : RequestsState). r.entries) t.1
+
+pub taken_course : (u : UploadState) (o : Option ℕ) (new : RequestsState) → TakesNext u.requests o new → IsCourse u → IsCourse (with_record u new)
+taken_course u o new t c = course_goes u new (subst (Goes u.requests.entries) (sym (taken_entries u.requests new o t)) (goes_refl u.requests.entries)) c

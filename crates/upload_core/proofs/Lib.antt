@@ -1,9 +1,13 @@
+pub mod Lists
+pub mod Numbers
 pub mod Follow
 pub mod Records
-pub mod Numbers
 pub mod Servers
 pub mod Acked
-pub mod Placed
 pub mod Goes
-pub mod Sends
+pub mod Stands
+pub mod Followed
+pub mod Ends
+pub mod Placed
 pub mod Right
+pub mod Sends

@@ -1,6 +1,6 @@
 -- How the record of an upload goes on, and what stays true of it.
-use Rattle.std.proofs.Common.{◌≡◌, ℕ, zero, suc, ◌-◌, ◌⊎◌, inl, inr, Bool, true, false, cond, ◌&&◌, ◌||◌, List, [], ◌∷◌, ◌++◌, All, Some, length, map, filter, eqb, refl, sym, ap, subst, ◌∙◌, arith, true≢false}
-use Rattle.std.specs.Prelude.{slice_get, slice_set, nat_le}
+use Rattle.std.proofs.Common.{◌≡◌, ℕ, zero, suc, ◌+◌, ◌<◌, ◌-◌, ◌⊎◌, inl, inr, Bool, true, false, cond, ◌&&◌, ◌||◌, List, [], ◌∷◌, ◌++◌, All, Some, length, map, filter, eqb, refl, sym, ap, subst, ◌∙◌, arith, true≢false}
+use Rattle.std.specs.Prelude.{slice_get, slice_set, nat_le, nat_lt}
 use Rattle.std.specs.List.{IsDistinct}
 use Rattle.std.proofs.lemmas.List.{append-nil, length-append}
 use Rattle.std.proofs.lemmas.List.Elements.{All-nil, All-cons, All-head, All-tail, All-push, All-weaker, filter-append}
@@ -11,10 +11,15 @@ use Rattle.request_record.specs.declared.requests.Asked.TheVariants.{Holdings, A
 use Rattle.request_record.specs.declared.requests.Outcome.{Outcome}
 use Rattle.request_record.specs.declared.requests.Outcome.TheVariants.{Unawaited, Outstanding, Answered, Lost}
 use Rattle.request_record.specs.declared.requests.Request.{Request}
-use Rattle.request_record.specs.Record.{RequestsState, asked_all, asked_more, first_request, is_lost_at, is_outstanding, is_resent_at, resent_one, ticked_one, with_outcome}
+use Rattle.request_record.specs.Record.{RequestsState, asked_more, first_request, is_lost_at, is_outstanding, is_resent_at, age_of, passed, resent_one, ticked_one, with_outcome}
 use Rattle.upload_core.specs.State.{Goal, UploadState, with_record}
 use Rattle.upload_core.specs.Rounds.{asked_answered_as, has_answered_as}
 use Rattle.upload_core.specs.Course.{IsCourse, IsInside, IsOfTold, asked_servers, has_told, is_holdings, is_told}
+use Rattle.upload_core.specs.Trails.{AreTrails, GoesFurther, IsAbout, IsBefore, rank_of, share_of}
+use Rattle.placement.specs.Matching.{Pair}
+use Rattle.request_record.proofs.RecordLaws.{get_last, get_push}
+use Rattle.std.proofs.lemmas.Bool.{cases_lt}
+use Rattle.std.proofs.lemmas.Option.{slice_get_within}
 use Rattle.upload_core.proofs.Follow.{IsGood}
 
 -- ---- the same requests, and more answers
@@ -23,6 +28,7 @@ pub record IsSame (r n : Request) : Type 0 where
   pub server : n.server ≡ r.server
   pub asked : n.asked ≡ r.asked
   pub told : has_told r ≡ true → has_told n ≡ true
+  pub still : is_outstanding r.outcome ≡ false → n ≡ r
 
 abbrev pub Goes : List Request → List Request → Type 0
 Goes [] [] = Unit {0}
@@ -31,7 +37,7 @@ Goes (r ∷ rs) [] = ⊥
 Goes (r ∷ rs) (n ∷ ns) = IsSame r n × Goes rs ns
 
 same_refl : (r : Request) → IsSame r r
-same_refl r = record { server = refl; asked = refl; told = λ h. h }
+same_refl r = record { server = refl; asked = refl; told = λ h. h; still = λ q. refl }
 
 pub goes_refl : (es : List Request) → Goes es es
 goes_refl [] = tt
@@ -73,15 +79,18 @@ untold r w h = elim (either (has_answered_as true r) (has_answered_as false r) h
 
 -- a request that waits, with any outcome
 same_settled : (r : Request) (o : Outcome) → is_outstanding r.outcome ≡ true → IsSame r (with_outcome r o)
-same_settled r o w = record { server = refl; asked = refl; told = λ h. absurd (untold r w h) }
+same_settled r o w = record { server = refl; asked = refl; told = λ h. absurd (untold r w h); still = λ q. absurd (true≢false (sym w ∙ q)) }
 
-same_ticked : (now : ℕ) (r : Request) → IsSame r (ticked_one now r)
-same_ticked now r = by (is_lost_at now r) (is_resent_at now r) refl
+pub same_ticked : (now : ℕ) (r : Request) → IsSame r (ticked_one now r)
+same_ticked now r = by (is_lost_at now r) (is_resent_at now r) refl refl
   where
-    by : (lost again : Bool) → is_lost_at now r ≡ lost → IsSame r (cond lost (with_outcome r Lost) (cond again (resent_one now r) r))
-    by true again e = same_settled r Lost (both (is_outstanding r.outcome) (nat_le 20 (now - r.first_sent)) e).0
-    by false true e = record { server = refl; asked = refl; told = λ h. h }
-    by false false e = same_refl r
+    waits_again : is_resent_at now r ≡ true → is_outstanding r.outcome ≡ true
+    waits_again f = (both (is_outstanding r.outcome) (nat_lt (age_of now r) 20) (both (is_outstanding r.outcome && nat_lt (age_of now r) 20) (nat_lt r.marks (passed (age_of now r))) f).0).0
+
+    by : (lost again : Bool) → is_lost_at now r ≡ lost → is_resent_at now r ≡ again → IsSame r (cond lost (with_outcome r Lost) (cond again (resent_one now r) r))
+    by true again e f = same_settled r Lost (both (is_outstanding r.outcome) (nat_le 20 (now - r.first_sent)) e).0
+    by false true e f = record { server = refl; asked = refl; told = λ h. h; still = λ q. absurd (true≢false (sym (waits_again f) ∙ q)) }
+    by false false e f = same_refl r
 
 pub goes_ticked : (now : ℕ) (es : List Request) → Goes es (map (ticked_one now) es)
 goes_ticked now [] = tt
@@ -93,6 +102,35 @@ goes_settled (q ∷ qs) zero r body e w =
     let same : q ≡ r = cc in
     (subst (λ (x : Request). IsSame x (with_outcome r (Answered body))) (sym same) (same_settled r (Answered body) w), goes_refl qs)
 goes_settled (q ∷ qs) (suc place) r body e w = (same_refl q, goes_settled qs place r body e w)
+
+-- the request that was at a place
+pub record Was (es : List Request) (i : ℕ) (n : Request) : Type 0 where
+  pub request : Request
+  pub there : slice_get es i ≡ Some request
+  pub same : IsSame request n
+
+pub was_goes : (es ns : List Request) → Goes es ns → (i : ℕ) (n : Request) → slice_get ns i ≡ Some n → Was es i n
+was_goes [] [] g i n e = absurd cc
+was_goes [] (m ∷ ms) g i n e = absurd g
+was_goes (r ∷ rs) [] g i n e = absurd g
+was_goes (r ∷ rs) (m ∷ ms) g zero n e = let is : m ≡ n = cc in record { request = r; there = refl; same = subst (IsSame r) is g.0 }
+was_goes (r ∷ rs) (m ∷ ms) g (suc i) n e = let w = was_goes rs ms g.1 i n e in record { request = w.request; there = w.there; same = w.same }
+
+-- the request that is at a place now
+pub record Becomes (ns : List Request) (i : ℕ) (r : Request) : Type 0 where
+  pub request : Request
+  pub there : slice_get ns i ≡ Some request
+  pub same : IsSame r request
+
+pub becomes_goes : (es ns : List Request) → Goes es ns → (i : ℕ) (r : Request) → slice_get es i ≡ Some r → Becomes ns i r
+becomes_goes [] ns g i r e = absurd cc
+becomes_goes (q ∷ qs) [] g i r e = absurd g
+becomes_goes (q ∷ qs) (m ∷ ms) g zero r e = let is : q ≡ r = cc in record { request = m; there = refl; same = subst (λ (x : Request). IsSame x m) is g.0 }
+becomes_goes (q ∷ qs) (m ∷ ms) g (suc i) r e = let b = becomes_goes qs ms g.1 i r e in record { request = b.request; there = b.there; same = b.same }
+
+-- what waits no more stays as it is
+pub stays_goes : (es ns : List Request) → Goes es ns → (i : ℕ) (r : Request) → slice_get es i ≡ Some r → is_outstanding r.outcome ≡ false → slice_get ns i ≡ Some r
+stays_goes es ns g i r e quiet = let b = becomes_goes es ns g i r e in b.there ∙ ap Some (b.same.still quiet)
 
 pub length_goes : (es ns : List Request) → Goes es ns → length ns ≡ length es
 length_goes [] [] g = refl
@@ -147,12 +185,27 @@ of_told_goes old new (r ∷ rs) (n ∷ ns) more k all =
     ])
     (of_told_goes old new rs ns more k.1 (All-tail (IsOfTold old) r rs all))
 
+-- a request is about the pair that the one before it was about
+pub about_was : (pair : Pair) (r n : Request) → IsSame r n → IsAbout pair n → IsAbout pair r
+about_was pair r n s a = (sym s.server ∙ a.0, ap share_of (sym s.asked) ∙ a.1)
+
+trails_goes : (g : Goal) (es ns : List Request) → Goes es ns → AreTrails g es → AreTrails g ns
+trails_goes g es ns k trails i j a b pair lt first second about next =
+    let f = was_goes es ns k i a first in
+    let s = was_goes es ns k j b second in
+    let before = trails i j f.request s.request pair lt f.there s.there (about_was pair f.request a f.same about) (about_was pair s.request b s.same next) in
+    record {
+      quiet = ap (λ (r : Request). is_outstanding r.outcome) (f.same.still before.quiet) ∙ before.quiet;
+      further = subst (λ (x : Asked). rank_of g a.asked < rank_of g x) (sym s.same.asked) (subst (λ (x : Asked). rank_of g x < rank_of g s.request.asked) (sym f.same.asked) before.further);
+    }
+
 pub course_goes : (u : UploadState) (r : RequestsState) → Goes u.requests.entries r.entries → IsCourse u → IsCourse (with_record u r)
 course_goes u r k c = record {
   few = c.few;
   distinct = subst (IsDistinct eqb) (sym (asked_goes u.requests.entries r.entries k)) c.distinct;
   inside = inside_goes u.goal u.requests.entries r.entries k c.inside;
   of_told = of_told_goes u.requests.entries r.entries u.requests.entries r.entries (λ s h. told_goes s u.requests.entries r.entries k h) k c.of_told;
+  trails = trails_goes u.goal u.requests.entries r.entries k c.trails;
   begun = omega (arith, c.begun, length_goes u.requests.entries r.entries k);
 }
 
@@ -170,9 +223,28 @@ asked_push es r e =
     none true h = absurd (true≢false h)
     none false h = refl
 
+-- one more request, which goes on from those of its trail
+trails_push : (g : Goal) (es : List Request) (new : Request) → GoesFurther g es (new.server, new.asked) → AreTrails g es → AreTrails g (es ++ new ∷ [])
+trails_push g es new more trails i j a b pair lt first second about next =
+    let len : length (es ++ new ∷ []) ≡ length es + 1 = length-append es (new ∷ []) in
+    let within : j < length (es ++ new ∷ []) = slice_get_within (es ++ new ∷ []) j b second in
+    let before : i < length es = omega (arith, lt, within, len) in
+    let was : slice_get es i ≡ Some a = sym (get_push es new i before) ∙ first in
+    elim (cases_lt j (length es)) [
+      | inl inside ↦ trails i j a b pair lt was (sym (get_push es new j inside) ∙ second) about next
+      | inr le ↦ (
+          let last : j ≡ length es = omega (arith, le, within, len) in
+          let is : Some new ≡ Some b = sym (get_last es new) ∙ sym (ap (slice_get (es ++ new ∷ [])) last) ∙ second in
+          let same : new ≡ b = cc in
+          let here : IsAbout pair new = subst (IsAbout pair) (sym same) next in
+          subst (λ (q : Request). IsBefore g a q.asked) same (more i a pair.1 was (about.0 ∙ sym here.0, about.1) here.1))
+    ]
+
 -- it is good to ask this of a server
-abbrev pub MayAsk : UploadState → ℕ × Asked → Type 0
-MayAsk u ask = IsGood u.goal ask.1 × (is_told u.requests.entries ask.0 ≡ true)
+pub record MayAsk (u : UploadState) (ask : ℕ × Asked) : Type 0 where
+  pub good : IsGood u.goal ask.1
+  pub told : is_told u.requests.entries ask.0 ≡ true
+  pub further : GoesFurther u.goal u.requests.entries ask
 
 pub course_asked : (u : UploadState) (ask : ℕ × Asked) → MayAsk u ask → IsCourse u → IsCourse (with_record u (asked_more ask.0 ask.1 u.requests))
 course_asked u ask may c =
@@ -180,18 +252,11 @@ course_asked u ask may c =
     let new : Request = first_request ask.0 ask.1 u.requests.clock in
     record {
       few = c.few;
-      distinct = subst (IsDistinct eqb) (sym (asked_push es new may.0.share)) c.distinct;
-      inside = All-push (IsIn u.goal) es new c.inside may.0.inside;
+      distinct = subst (IsDistinct eqb) (sym (asked_push es new may.good.share)) c.distinct;
+      inside = All-push (IsIn u.goal) es new c.inside may.good.inside;
       of_told = All-push (IsOfTold (es ++ new ∷ [])) es new
           (All-weaker (IsOfTold es) (IsOfTold (es ++ new ∷ [])) (λ q h. elim h [ inl x ↦ inl x | inr t ↦ inr (told_push es new q.server t) ]) es c.of_told)
-          (inr (told_push es new ask.0 may.1));
+          (inr (told_push es new ask.0 may.told));
+      trails = trails_push u.goal es new may.further c.trails;
       begun = omega (arith, c.begun, length-append es (new ∷ []));
     }
-
-pub course_all : (u : UploadState) (asks : List (ℕ × Asked)) → All (MayAsk u) asks → IsCourse u → IsCourse (with_record u (asked_all asks u.requests))
-course_all u [] may c = c
-course_all u (ask ∷ asks) may c =
-    let new : UploadState = with_record u (asked_more ask.0 ask.1 u.requests) in
-    course_all new asks
-    (All-weaker (MayAsk u) (MayAsk new) (λ q h. (h.0, told_push u.requests.entries (first_request ask.0 ask.1 u.requests.clock) q.0 h.1)) asks (All-tail (MayAsk u) ask asks may))
-    (course_asked u ask (All-head (MayAsk u) ask asks may) c)

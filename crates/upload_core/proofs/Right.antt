@@ -1,204 +1,181 @@
 -- What holds of each upload, as it goes on.
-use Rattle.std.proofs.Common.{◌≡◌, ◌≢◌, ℕ, zero, suc, ◌+◌, ◌<◌, ◌⊎◌, inl, inr, Bool, true, false, cond, List, [], ◌∷◌, ◌++◌, Option, Some, None, Result, Ok, Err, length, map, refl, sym, ap, subst, ◌∙◌, arith, true≢false}
-use Rattle.std.specs.Prelude.{max, slice_get}
-use Rattle.std.specs.Result.{OnOk, is_err}
-use Rattle.std.proofs.lemmas.List.Sums.{sum_by-cons}
+use Rattle.std.proofs.Common.{◌≡◌, ℕ, zero, suc, ◌<◌, inl, inr, Bool, true, false, cond, List, [], ◌∷◌, ◌++◌, Option, Some, None, Result, Ok, Err, map, filter, eqb, refl, sym, ap, subst, ◌∙◌, arith, true≢false}
+use Rattle.std.specs.Prelude.{slice_get}
+use Rattle.std.specs.Result.{OnErr, OnOk}
+use Rattle.std.specs.List.{AllByRecursion, IsDistinct}
+use Rattle.std.proofs.lemmas.Bool.{eq-eqb}
 use Rattle.wire.specs.declared.message.Message.{Message}
-use Rattle.request_record.specs.declared.requests.Asked.TheVariants.{Allocation}
+use Rattle.request_record.specs.declared.requests.Asked.{Asked}
+use Rattle.request_record.specs.declared.requests.Asked.TheVariants.{Holdings, Allocation, Writing, Closing, Reading, Aborting}
 use Rattle.request_record.specs.declared.requests.Request.{Request}
-use Rattle.request_record.specs.Record.{RequestsState, asked_all, asked_more, at, counted_at, counts_at, first_request, is_outstanding, outstanding_count, ticked_one}
-use Rattle.request_record.specs.Asking.{after_message, after_tick, begun, lost_by_tick}
-use Rattle.request_record.proofs.RecordLaws.{count_push, count_ticked, counts_is}
-use Rattle.placement.specs.Matching.{Pair}
-use Rattle.upload_core.specs.declared.status.UploadStatus.{UploadStatus}
-use Rattle.upload_core.specs.declared.status.UploadStatus.TheVariants.{Running, Happy, Unhappy, Failed}
-use Rattle.upload_core.specs.declared.pieces.PieceFault.{PieceFault}
-use Rattle.upload_core.specs.State.{Goal, UploadState, with_record}
-use Rattle.upload_core.specs.Rounds.{EndsAs, IsSettled}
-use Rattle.upload_core.specs.Right.{IsRight, has_ended}
+use Rattle.request_record.specs.Record.{RequestsState, asked_all, counts_at}
+use Rattle.request_record.specs.Asking.{AreApart, AsksOnce, after_message, after_tick, lost_by_tick}
 use Rattle.upload_core.specs.declared.status.ServerInfo.{ServerInfo}
-use Rattle.upload_core.specs.Moves.{Advances, AdvancesAt, AreInOrder, Begins, GoesOn, TicksOn, TicksWith, ends, initial, places, waits}
+use Rattle.upload_core.specs.declared.status.UploadStatus.{UploadStatus}
+use Rattle.upload_core.specs.declared.status.UploadStatus.TheVariants.{Running, Failed}
+use Rattle.upload_core.specs.declared.pieces.PieceFault.{PieceFault}
+use Rattle.upload_core.specs.declared.pieces.PieceFault.TheVariants.{OutOfMemory}
+use Rattle.upload_core.specs.State.{Goal, UploadState, with_record}
+use Rattle.upload_core.specs.Right.{IsRight}
+use Rattle.upload_core.specs.Moves.{Advances, AdvancesAt, Begins, GoesOn, TicksOn, TicksWith, all_follow_ups, ends, places, waits}
 use Rattle.upload_core.specs.Sending.{one_sent}
+use Rattle.upload_core.specs.Course.{CanGoOn, IsCourse, IsInside, IsKept, asked_servers, is_holdings}
+use Rattle.upload_core.specs.Trails.{AreFollowed, rank_of, share_of}
+use Rattle.upload_core.proofs.Followed.{inside_at, followed_message, followed_placed, followed_tick}
+use Rattle.upload_core.proofs.Goes.{followed_begun, on_ok}
+use Rattle.upload_core.proofs.Stands.{Stands, advances_stands, begins_stands, counted_none, is_running, stands_failed, stands_sent, ticks_stands}
 
--- ---- how many wait
+-- ---- nothing is asked twice
 
-abbrev waiting_one : Request → ℕ
-waiting_one r = cond (is_outstanding r.outcome) 1 0
+apart_of : (g : Goal) (a b : Asked) → IsInside g a → (a ≡ b → ⊥) → AreApart a b
+apart_of g Holdings b i other = other
+apart_of g (Allocation share len) b i other = other
+apart_of g (Writing share offset len) b i other = other
+apart_of g (Closing share) b i other = other
+apart_of g (Reading share offset len) b i other = absurd i
+apart_of g (Aborting share) b i other = other
 
-count_cons : (r : Request) (rs : List Request) → outstanding_count (r ∷ rs) ≡ waiting_one r + outstanding_count rs
-count_cons r rs = sum_by-cons waiting_one r rs
+no_share : (g : Goal) (a : Asked) → IsInside g a → share_of a ≡ None → is_holdings a ≡ true
+no_share g Holdings i e = refl
+no_share g (Allocation share len) i e = absurd cc
+no_share g (Writing share offset len) i e = absurd cc
+no_share g (Closing share) i e = absurd cc
+no_share g (Reading share offset len) i e = absurd i
+no_share g (Aborting share) i e = absurd cc
 
--- room for each pair is waited for
-pub count_allocations : (len : ℕ) (pairs : List Pair) (r : RequestsState) → outstanding_count (asked_all (map (λ (pair : Pair). (pair.0, Allocation pair.1 len)) pairs) r).entries ≡ outstanding_count r.entries + length pairs
-count_allocations len [] r = omega arith
-count_allocations len (p ∷ ps) r =
-    let new : RequestsState = asked_more p.0 (Allocation p.1 len) r in
-    omega (arith, count_allocations len ps new, count_push r.entries (first_request p.0 (Allocation p.1 len) r.clock))
-
--- in a settled record none waits
-pub quiet_of : (rs : List Request) → outstanding_count rs ≡ 0 → (i : ℕ) (r : Request) → slice_get rs i ≡ Some r → is_outstanding r.outcome ≡ false
-quiet_of [] settled i r e = absurd cc
-quiet_of (q ∷ qs) settled zero r e =
-    let same : q ≡ r = cc in
-    ap (λ (x : Request). is_outstanding x.outcome) (sym same) ∙ by (is_outstanding q.outcome) refl
+-- an Ask's server is among those that were asked
+asked_there : (es : List Request) (s : ℕ) (i : ℕ) (b : Request) → AllByRecursion (λ (y : ℕ). eqb s y ≡ false) (asked_servers es) → slice_get es i ≡ Some b → is_holdings b.asked ≡ true → eqb s b.server ≡ false
+asked_there [] s i b all e h = absurd cc
+asked_there (q ∷ qs) s zero b all e h =
+    let is : q ≡ b = cc in
+    subst (λ (x : Request). eqb s x.server ≡ false) is (by (is_holdings q.asked) (ap (λ (x : Request). is_holdings x.asked) is ∙ h) all)
   where
-    by : (b : Bool) → is_outstanding q.outcome ≡ b → b ≡ false
-    by true k = absurd (let one : waiting_one q ≡ 1 = ap (λ (c : Bool). cond c 1 0) k in omega (arith, settled, one, count_cons q qs))
-    by false k = refl
-quiet_of (q ∷ qs) settled (suc i) r e = quiet_of qs (omega (arith, settled, count_cons q qs)) i r e
+    by : (t : Bool) → t ≡ true → AllByRecursion (λ (y : ℕ). eqb s y ≡ false) (map (λ (r : Request). r.server) (cond t (q ∷ filter (λ (r : Request). is_holdings r.asked) qs) (filter (λ (r : Request). is_holdings r.asked) qs))) → eqb s q.server ≡ false
+    by true k a = a.0
+    by false k a = absurd (true≢false (sym k))
+asked_there (q ∷ qs) s (suc i) b all e h = asked_there qs s i b (by (is_holdings q.asked) all) e h
+  where
+    by : (t : Bool) → AllByRecursion (λ (y : ℕ). eqb s y ≡ false) (map (λ (r : Request). r.server) (cond t (q ∷ filter (λ (r : Request). is_holdings r.asked) qs) (filter (λ (r : Request). is_holdings r.asked) qs))) → AllByRecursion (λ (y : ℕ). eqb s y ≡ false) (asked_servers qs)
+    by true a = a.1
+    by false a = a
 
-ticked_settled : (now : ℕ) (rs : List Request) → outstanding_count rs ≡ 0 → map (ticked_one now) rs ≡ rs
-ticked_settled now [] settled = refl
-ticked_settled now (q ∷ qs) settled =
-    let rest : map (ticked_one now) qs ≡ qs = ticked_settled now qs (omega (arith, settled, count_cons q qs)) in
-    let quiet : is_outstanding q.outcome ≡ false = quiet_of (q ∷ qs) settled 0 q refl in
-    let same : ticked_one now q ≡ q = rw quiet refl in
-    ap (λ (x : Request). x ∷ map (ticked_one now) qs) same ∙ ap (λ (xs : List Request). q ∷ xs) rest
+asks_apart : (es : List Request) → IsDistinct eqb (asked_servers es) → (i j : ℕ) (a b : Request) → i < j → slice_get es i ≡ Some a → slice_get es j ≡ Some b → is_holdings a.asked ≡ true → is_holdings b.asked ≡ true → a.server ≡ b.server → ⊥
+unfolding IsDistinct
+asks_apart [] d i j a b lt e f h k same = absurd cc
+asks_apart (q ∷ qs) d i zero a b lt e f h k same = absurd (omega (arith, lt))
+asks_apart (q ∷ qs) d zero (suc j) a b lt e f h k same =
+    let is : q ≡ a = cc in
+    true≢false (sym (eq-eqb q.server b.server (ap (λ (x : Request). x.server) is ∙ same)) ∙ asked_there qs q.server j b (by (is_holdings q.asked) (ap (λ (x : Request). is_holdings x.asked) is ∙ h) d) f k)
+  where
+    by : (t : Bool) → t ≡ true → IsDistinct eqb (map (λ (r : Request). r.server) (cond t (q ∷ filter (λ (r : Request). is_holdings r.asked) qs) (filter (λ (r : Request). is_holdings r.asked) qs))) → AllByRecursion (λ (y : ℕ). eqb q.server y ≡ false) (asked_servers qs)
+    by true k x = x.0
+    by false k x = absurd (true≢false (sym k))
+asks_apart (q ∷ qs) d (suc i) (suc j) a b lt e f h k same = asks_apart qs (by (is_holdings q.asked) d) i j a b (omega (arith, lt)) e f h k same
+  where
+    by : (t : Bool) → IsDistinct eqb (map (λ (r : Request). r.server) (cond t (q ∷ filter (λ (r : Request). is_holdings r.asked) qs) (filter (λ (r : Request). is_holdings r.asked) qs))) → IsDistinct eqb (asked_servers qs)
+    by true x = x.1
+    by false x = x
 
-counted_none : (from : ℕ) (m : Message) (now : ℕ) (r : RequestsState) → counts_at from m r ≡ None → (after_message from m now r).entries ≡ r.entries
-counted_none from m now r e = ap (λ (o : Option ℕ). (counted_at m (at now r) o).entries) e
+once_of : (u : UploadState) → IsCourse u → AsksOnce u.requests.entries
+once_of u c i j a b lt first second servers = apart_of u.goal a.asked b.asked inside other
+  where
+    inside : IsInside u.goal a.asked
+    inside = inside_at u.goal u.requests.entries i a c.inside first
 
--- no message counts for a settled record
-settled_none : (from : ℕ) (m : Message) (r : RequestsState) → IsSettled r.entries → (o : Option ℕ) → counts_at from m r ≡ o → o ≡ None
-settled_none from m r settled None e = refl
-settled_none from m r settled (Some place) e =
-    let a = counts_is from m r place e in
-    absurd (true≢false (sym a.waits ∙ quiet_of r.entries settled place a.request a.there))
+    by : (o : Option ℕ) → share_of a.asked ≡ o → a.asked ≡ b.asked → ⊥
+    by None e same =
+        let h : is_holdings a.asked ≡ true = no_share u.goal a.asked inside e in
+        asks_apart u.requests.entries c.distinct i j a b lt first second h (ap is_holdings (sym same) ∙ h) servers
+    by (Some share) e same =
+        let before = c.trails i j a b (a.server, share) lt first second (refl, e) (sym servers, ap share_of (sym same) ∙ e) in
+        absurd (omega (arith, before.further, ap (rank_of u.goal) same))
 
-pub message_settled : (from : ℕ) (m : Message) (now : ℕ) (r : RequestsState) → IsSettled r.entries → (after_message from m now r).entries ≡ r.entries
-message_settled from m now r settled = counted_none from m now r (settled_none from m r settled (counts_at from m r) refl)
+    other : a.asked ≡ b.asked → ⊥
+    other = by (share_of a.asked) refl
 
-pub tick_settled : (now : ℕ) (r : RequestsState) → IsSettled r.entries → (after_tick now r).entries ≡ r.entries
-tick_settled now r settled = ticked_settled (max r.clock now) r.entries settled
+-- ---- what an upload goes on from
 
--- ---- it goes on
+goes_on_from : (u : UploadState) (r : RequestsState) (new : UploadState) → GoesOn u r new → AreFollowed u.goal r.entries → CanGoOn new
+goes_on_from u r new g followed = elim g [
+  | waits unsettled e ↦ subst CanGoOn (sym e) (record { followed = followed })
+  | places p settled to placing some e ↦ subst CanGoOn (sym e) (record { followed = followed_placed u.goal u.goal.share_length (p.m3 ++ p.leftovers) r followed })
+  | ends status settled over so e ↦ subst CanGoOn (sym e) (record { followed = followed })
+]
 
-ends_running : (g : Goal) (wanted : ℕ) (es : List Request) (s : UploadStatus) → EndsAs g wanted es s → s ≡ Running → ⊥
-ends_running g wanted es s e is = subst (EndsAs g wanted es) is e
+same_goes : (u : UploadState) (r : RequestsState) → r.entries ≡ u.requests.entries → CanGoOn u → CanGoOn (with_record u r)
+same_goes u r e c = record { followed = subst (AreFollowed u.goal) (sym e) c.followed }
 
-running_ended : (s : UploadStatus) → s ≡ Running → has_ended s ≡ true → ⊥
-running_ended s is e = true≢false (sym e ∙ ap has_ended is)
+pub begins_going : (goal : Goal) (happy : ℕ) (servers : List ServerInfo) (session now : ℕ) (u : UploadState) → Begins goal happy servers session now u → CanGoOn u
+begins_going goal happy servers session now u b = goes_on_from _ _ u b.goes (followed_begun goal session now u.servers)
 
-some_of : {X Y : Type 0} (f : X → Y) (xs : List X) → map f xs ≢ [] → 0 < length xs
-some_of f [] n = absurd (n refl)
-some_of f (x ∷ xs) n = omega arith
-
--- the record does not matter to the status
-same_entries : (u : UploadState) (r : RequestsState) → r.entries ≡ u.requests.entries → IsRight u → IsRight (with_record u r)
-same_entries u r e right = record {
-  works = λ is. subst (λ (es : List Request). 0 < outstanding_count es) (sym e) (right.works is);
-  settled = λ h. subst IsSettled (sym e) (right.settled h);
-  over = λ h. subst (λ (es : List Request). EndsAs u.goal u.wanted es u.status) (sym e) (right.over h);
-}
-
-pub right_failed : (u : UploadState) (fault : PieceFault) → IsRight u → IsRight (record u { status = Failed fault })
-right_failed u fault right = record {
-  works = λ is. absurd cc;
-  settled = λ h. absurd (true≢false (sym h));
-  over = λ h. absurd (true≢false (sym h));
-}
-
-pub right_sent : (u : UploadState) → IsRight u → IsRight (with_record u (one_sent u.requests))
-right_sent u right = same_entries u (one_sent u.requests) refl right
-
-waits_right : (u : UploadState) (r : RequestsState) → u.status ≡ Running → 0 < outstanding_count r.entries → IsRight (with_record u r)
-waits_right u r running more = record {
-  works = λ is. more;
-  settled = λ h. absurd (running_ended u.status running h);
-  over = λ h. absurd (running_ended u.status running h);
-}
-
-goes_right : (u : UploadState) (r : RequestsState) (new : UploadState) → u.status ≡ Running → GoesOn u r new → IsRight new
-goes_right u r new running g = elim g [
-  | waits unsettled e ↦ subst IsRight (sym e) (waits_right u r running (by (outstanding_count r.entries) refl unsettled))
-  | places p settled to placing some e ↦ (
-      let more : 0 < length (p.m3 ++ p.leftovers) = some_of (λ (pair : Pair). (pair.0, Allocation pair.1 u.goal.share_length)) (p.m3 ++ p.leftovers) some in
-      let count = count_allocations u.goal.share_length (p.m3 ++ p.leftovers) r in
-      subst IsRight (sym e) (record {
-        works = λ is. omega (arith, more, count);
-        settled = λ h. absurd (running_ended u.status running h);
-        over = λ h. absurd (running_ended u.status running h);
-      }))
-  | ends status settled over so e ↦ subst IsRight (sym e) (record {
-    works = λ is. absurd (ends_running u.goal u.wanted r.entries status so is);
-    settled = λ h. settled;
-    over = λ h. so;
-  })
+advances_going : (from : ℕ) (m : Message) (now : ℕ) (old new : UploadState) → Advances from m now old new → IsKept old → new.status ≡ Running → CanGoOn new
+advances_going from m now old new a kept is = elim (is_running old.status) [
+  | inl running ↦ by running (counts_at from m old.requests) refl (a.running running)
+  | inr over ↦ absurd (over (sym (ap (λ (u : UploadState). u.status) (a.ended over)) ∙ is))
 ]
   where
-    by : (n : ℕ) → outstanding_count r.entries ≡ n → (IsSettled r.entries → ⊥) → 0 < outstanding_count r.entries
-    by zero e unsettled = absurd (unsettled e)
-    by (suc n) e unsettled = omega (arith, e)
+    by : old.status ≡ Running → (o : Option ℕ) → counts_at from m old.requests ≡ o → AdvancesAt o (after_message from m now old.requests) old new → CanGoOn new
+    by running None e same = subst CanGoOn (sym same) (same_goes old (after_message from m now old.requests) (counted_none from m now old.requests e) (kept.going running))
+    by running (Some place) e goes = goes_on_from old _ new goes (followed_message old.goal from m now old.requests place e kept.course.inside (kept.going running).followed)
+
+ticks_going : (now : ℕ) (old new : UploadState) → TicksOn now old new → IsKept old → new.status ≡ Running → CanGoOn new
+ticks_going now old new a kept is = elim (is_running old.status) [
+  | inl running ↦ by running (lost_by_tick now old.requests) (a.running running)
+  | inr over ↦ absurd (over (sym (ap (λ (u : UploadState). u.status) (a.ended over)) ∙ is))
+]
+  where
+    followed : old.status ≡ Running → (lost : List ℕ) → AreFollowed old.goal (asked_all (all_follow_ups old.goal (after_tick now old.requests).entries lost) (after_tick now old.requests)).entries
+    followed running lost = followed_tick old.goal now old.requests kept.course.inside (kept.going running).followed lost
+
+    by : old.status ≡ Running → (lost : List ℕ) → TicksWith lost (after_tick now old.requests) old new → CanGoOn new
+    by running [] same = subst CanGoOn (sym same) (record { followed = followed running [] })
+    by running (p ∷ ps) goes = goes_on_from old _ new goes (followed running (p ∷ ps))
 
 -- ---- the calls
 
-pub begins_right : (goal : Goal) (happy : ℕ) (servers : List ServerInfo) (session now : ℕ) (u : UploadState) → Begins goal happy servers session now u → IsRight u
-begins_right goal happy servers session now u b = goes_right _ _ u refl b.goes
+-- an upload is right, and what is kept of it holds
+pub record IsFine (u : UploadState) : Type 0 where
+  pub right : IsRight u
+  pub kept : IsKept u
 
--- a status is Running or not
-pub is_running : (s : UploadStatus) → (s ≡ Running) ⊎ (s ≢ Running)
-is_running Running = inl refl
-is_running (Happy pairs) = inr (λ e. absurd cc)
-is_running (Unhappy reached blocking) = inr (λ e. absurd cc)
-is_running (Failed fault) = inr (λ e. absurd cc)
+stands_of : (u : UploadState) → IsRight u → Stands u
+stands_of u right = record { works = right.works; settled = right.settled; over = right.over }
 
-ended_right : (old : UploadState) (r : RequestsState) → old.status ≢ Running → (IsSettled old.requests.entries → r.entries ≡ old.requests.entries) → IsRight old → IsRight (with_record old r)
-ended_right old r not-running same right = record {
-  works = λ is. absurd (not-running is);
-  settled = λ h. subst IsSettled (sym (same (right.settled h))) (right.settled h);
-  over = λ h. subst (λ (es : List Request). EndsAs old.goal old.wanted es old.status) (sym (same (right.settled h))) (right.over h);
+fine_of : (u : UploadState) → Stands u → IsCourse u → (u.status ≡ Running → CanGoOn u) → IsFine u
+fine_of u stands course going = record {
+  right = record { works = stands.works; once = once_of u course; settled = stands.settled; over = stands.over };
+  kept = record { course = course; going = going };
 }
 
-pub advances_right : (from : ℕ) (m : Message) (now : ℕ) (old new : UploadState) → Advances from m now old new → IsRight old → IsRight new
-advances_right from m now old new a right = elim (is_running old.status) [
-  | inl running ↦ by running (counts_at from m old.requests) refl (a.running running)
-  | inr over ↦ subst IsRight (sym (a.ended over)) (ended_right old (after_message from m now old.requests) over (message_settled from m now old.requests) right)
-]
-  where
-    by : old.status ≡ Running → (o : Option ℕ) → counts_at from m old.requests ≡ o → AdvancesAt o (after_message from m now old.requests) old new → IsRight new
-    by running None e is = subst IsRight (sym is) (same_entries old (after_message from m now old.requests) (counted_none from m now old.requests e) right)
-    by running (Some place) e goes = goes_right old _ new running goes
+pub course_status : (u : UploadState) (status : UploadStatus) → IsCourse u → IsCourse (record u { status = status })
+course_status u status c = record { few = c.few; distinct = c.distinct; inside = c.inside; of_told = c.of_told; trails = c.trails; begun = c.begun }
 
-pub ticks_right : (now : ℕ) (old new : UploadState) → TicksOn now old new → IsRight old → IsRight new
-ticks_right now old new a right = elim (is_running old.status) [
-  | inl running ↦ by running (lost_by_tick now old.requests) refl (a.running running)
-  | inr over ↦ subst IsRight (sym (a.ended over)) (ended_right old (after_tick now old.requests) over (tick_settled now old.requests) right)
-]
-  where
-    by : old.status ≡ Running → (lost : List ℕ) → lost_by_tick now old.requests ≡ lost → TicksWith lost (after_tick now old.requests) old new → IsRight new
-    by running [] e is =
-        let none : length (lost_by_tick now old.requests) ≡ 0 = ap length e in
-        subst IsRight (sym is) (waits_right old (after_tick now old.requests) running (omega (arith, none, right.works running, count_ticked (max old.requests.clock now) 0 old.requests.entries)))
-    by running (p ∷ ps) e goes = goes_right old _ new running goes
+pub begins_fine : (goal : Goal) (happy : ℕ) (servers : List ServerInfo) (session now : ℕ) (u : UploadState) → Begins goal happy servers session now u → IsCourse u → IsFine u
+begins_fine goal happy servers session now u b c = fine_of u (begins_stands goal happy servers session now u b) c (λ is. begins_going goal happy servers session now u b)
 
--- ---- the beginning
+pub failed_fine : (u : UploadState) (fault : PieceFault) → IsCourse u → IsFine (record u { status = Failed fault })
+failed_fine u fault c = fine_of (record u { status = Failed fault }) (stands_failed u fault) (course_status u (Failed fault) c) (λ is. absurd cc)
 
--- what goes on is for the same goal, with the same servers
-pub record IsFor (u new : UploadState) : Type 0 where
-  pub goal : new.goal ≡ u.goal
-  pub wanted : new.wanted ≡ u.wanted
-  pub servers : new.servers ≡ u.servers
+pub sent_fine : (u : UploadState) → IsRight u → IsKept u → IsFine (with_record u (one_sent u.requests))
+sent_fine u right kept =
+    let c = kept.course in
+    fine_of (with_record u (one_sent u.requests)) (stands_sent u (stands_of u right)) (record { few = c.few; distinct = c.distinct; inside = c.inside; of_told = c.of_told; trails = c.trails; begun = c.begun }) (λ is. record { followed = (kept.going is).followed })
 
-pub goes_for : (u : UploadState) (r : RequestsState) (new : UploadState) → GoesOn u r new → IsFor u new
-goes_for u r new g = elim g [
-  | waits unsettled e ↦ subst (IsFor u) (sym e) (record { goal = refl; wanted = refl; servers = refl })
-  | places p settled to placing some e ↦ subst (IsFor u) (sym e) (record { goal = refl; wanted = refl; servers = refl })
-  | ends status settled over so e ↦ subst (IsFor u) (sym e) (record { goal = refl; wanted = refl; servers = refl })
-]
+-- a step that went on, or found no memory
+module _ {X E : Type 0} (mid new : UploadState) (c : IsCourse new) where
+  step_fine : (r : Result X E) → OnOk r (Stands mid × (mid.status ≡ Running → CanGoOn mid)) → OnOk r (new ≡ mid) → OnErr r (new ≡ record mid { status = Failed OutOfMemory }) → IsFine new
+  step_fine (Ok x) f e n = fine_of new (subst Stands (sym e) f.0) c (λ is. subst CanGoOn (sym e) (f.1 (sym (ap (λ (u : UploadState). u.status) e) ∙ is)))
+  step_fine (Err x) f e n = fine_of new (subst Stands (sym n) (stands_failed mid OutOfMemory)) c (λ is. absurd (failed_runs OutOfMemory (sym (ap (λ (u : UploadState). u.status) n) ∙ is)))
+    where
+      failed_runs : (fault : PieceFault) → Failed fault ≡ Running → ⊥
+      failed_runs fault e = cc
 
-pub begins_from : (goal : Goal) (happy : ℕ) (servers : List ServerInfo) (session now : ℕ) (nodes : List ℕ) (old new : UploadState) → old ≡ initial goal happy nodes session now → AreInOrder goal.cap.storage_index servers nodes → GoesOn old old.requests new → Begins goal happy servers session now new
-begins_from goal happy servers session now nodes old new is order g =
-    let first : UploadState = initial goal happy nodes session now in
-    let goes : GoesOn first first.requests new = subst (λ (u : UploadState). GoesOn u u.requests new) is g in
-    let same = goes_for first first.requests new goes in
-    record {
-      goal_is = same.goal;
-      wanted = same.wanted;
-      ordered = subst (AreInOrder goal.cap.storage_index servers) (sym same.servers) order;
-      goes = subst (λ (ns : List ℕ). GoesOn (initial goal happy ns session now) (begun ns session now) new) (sym same.servers) goes;
-    }
+  pub step_goal : (r : Result X E) → OnOk r (new ≡ mid) → OnErr r (new ≡ record mid { status = Failed OutOfMemory }) → new.goal ≡ mid.goal
+  step_goal (Ok x) e n = ap (λ (u : UploadState). u.goal) e
+  step_goal (Err x) e n = ap (λ (u : UploadState). u.goal) n
 
--- what an outcome that is no error says
-pub ok_of : {X E : Type 0} (r : Result X E) (P : Type 0) → is_err r ≡ false → OnOk r P → P
-ok_of (Ok x) P e p = p
-ok_of (Err x) P e p = absurd (true≢false e)
+  pub message_fine : (r : Result X E) (from : ℕ) (m : Message) (now : ℕ) (old : UploadState) → OnOk r (Advances from m now old mid) → OnOk r (new ≡ mid) → OnErr r (new ≡ record mid { status = Failed OutOfMemory }) → IsRight old → IsKept old → IsFine new
+  message_fine r from m now old a e n right kept = step_fine r (on_ok r (Advances from m now old mid) _ (λ moves. (advances_stands from m now old mid moves (stands_of old right), advances_going from m now old mid moves kept)) a) e n
+
+  pub tick_fine : (r : Result X E) (now : ℕ) (old : UploadState) → OnOk r (TicksOn now old mid) → OnOk r (new ≡ mid) → OnErr r (new ≡ record mid { status = Failed OutOfMemory }) → IsRight old → IsKept old → IsFine new
+  tick_fine r now old a e n right kept = step_fine r (on_ok r (TicksOn now old mid) _ (λ moves. (ticks_stands now old mid moves (stands_of old right), ticks_going now old mid moves kept)) a) e n

@@ -7,7 +7,8 @@ use Rattle.wire.specs.declared.message.Body.{Body}
 use Rattle.wire.specs.declared.message.Body.TheVariants.{Have, Already, Closed}
 use Rattle.wire.specs.declared.message.HeldShare.{HeldShare}
 use Rattle.request_record.specs.declared.requests.Asked.{Asked}
-use Rattle.request_record.specs.declared.requests.Asked.TheVariants.{Holdings, Allocation, Writing, Closing}
+use Rattle.request_record.specs.declared.requests.Asked.TheVariants.{Holdings, Allocation, Writing}
+use Rattle.request_record.specs.declared.requests.Asked.TheVariants.{Closing}
 use Rattle.request_record.specs.declared.requests.Outcome.{Outcome}
 use Rattle.request_record.specs.declared.requests.Outcome.TheVariants.{Unawaited, Outstanding}
 use Rattle.request_record.specs.declared.requests.Outcome.TheVariants.{Answered, Lost}

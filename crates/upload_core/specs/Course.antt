@@ -3,13 +3,16 @@ use Rattle.std.specs.Prelude.{◌≡◌, ◌⊎◌, ℕ, ◌+◌, ◌<◌, ◌�
 use Rattle.std.specs.Prelude.{Bool, true, false, List, map, filter, length, nat_eq, All}
 use Rattle.std.specs.List.{IsDistinct, list_any}
 use Rattle.request_record.specs.declared.requests.Asked.{Asked}
-use Rattle.request_record.specs.declared.requests.Asked.TheVariants.{Holdings, Allocation, Writing, Closing}
+use Rattle.request_record.specs.declared.requests.Asked.TheVariants.{Holdings, Allocation, Writing}
+use Rattle.request_record.specs.declared.requests.Asked.TheVariants.{Closing}
 use Rattle.request_record.specs.declared.requests.Asked.TheVariants.{Reading, Aborting}
 use Rattle.request_record.specs.declared.requests.Request.{Request}
 use Rattle.wire.specs.Limits.{most_data}
 use Rattle.placement.specs.Matching.{Pair}
 use Rattle.upload_core.specs.declared.status.UploadStatus.{UploadStatus}
+use Rattle.upload_core.specs.declared.status.UploadStatus.TheVariants.{Running}
 use Rattle.upload_core.specs.State.{Goal, UploadState}
+use Rattle.upload_core.specs.Trails.{AreFollowed, AreTrails, IsNew}
 use Rattle.upload_core.specs.Rounds.{EndsAs, IsPlacing, Placing, has_answered_as}
 
 abbrev pub is_holdings : Asked → Bool
@@ -48,12 +51,14 @@ IsInside g (Aborting share) = share < length g.digests
 abbrev pub IsOfTold : List Request → Request → Type 0
 IsOfTold entries r = (is_holdings r.asked ≡ true) ⊎ (is_told entries r.server ≡ true)
 
--- No server is asked twice which shares it holds, and each request is for the goal.
+-- No server is asked twice which shares it holds, each request is for the goal, and each trail goes
+-- on.
 pub record IsCourse (u : UploadState) : Type 0 where
   pub few : length u.goal.digests ≤ 256
   pub distinct : IsDistinct nat_eq (asked_servers u.requests.entries)
   pub inside : All (λ (r : Request). IsInside u.goal r.asked) u.requests.entries
   pub of_told : All (IsOfTold u.requests.entries) u.requests.entries
+  pub trails : AreTrails u.goal u.requests.entries
   pub begun : u.round ≤ length u.requests.entries
 
 -- ---- a round
@@ -65,10 +70,11 @@ allocations len pairs = map (λ (pair : Pair). (pair.0, Allocation pair.1 len)) 
 abbrev pub transfers : Goal → List Pair → List (ℕ × Asked)
 transfers g pairs = allocations g.share_length pairs
 
--- It is a share of the goal, for a server that answered its Ask.
-abbrev pub MayPlace : UploadState → Pair → Type 0
-MayPlace u pair =
-    (is_told u.requests.entries pair.0 ≡ true) × (pair.1 < length u.goal.digests)
+-- It is a share of the goal, for a server that answered its Ask and was not asked about it.
+pub record MayPlace (u : UploadState) (pair : Pair) : Type 0 where
+  pub told : is_told u.requests.entries pair.0 ≡ true
+  pub within : pair.1 < length u.goal.digests
+  pub is_new : IsNew u.requests.entries pair
 
 -- these are the pairs of a placing
 abbrev pub Places : Goal → List Request → List Pair → Type 0
@@ -80,3 +86,12 @@ abbrev pub Ends : UploadState → UploadState → Type 0
 Ends old new =
     (status : UploadStatus) × EndsAs old.goal old.wanted old.requests.entries status
     × (new ≡ record old { status = status })
+
+-- what a running upload goes on from: what became of each transfer is known
+pub record CanGoOn (u : UploadState) : Type 0 where
+  pub followed : AreFollowed u.goal u.requests.entries
+
+-- what is kept of each upload
+pub record IsKept (u : UploadState) : Type 0 where
+  pub course : IsCourse u
+  pub going : u.status ≡ Running → CanGoOn u

@@ -9,4 +9,5 @@ pub mod Right
 pub mod Moves
 pub mod Sending
 -- words of private clauses
+pub mod Trails
 pub mod Course

@@ -1,5 +1,6 @@
 -- What holds of each upload.
 use Rattle.std.specs.Prelude.{◌≡◌, ◌<◌, Bool, true, false}
+use Rattle.request_record.specs.Asking.{AsksOnce}
 use Rattle.request_record.specs.Record.{outstanding_count}
 use Rattle.upload_core.specs.declared.status.UploadStatus.{UploadStatus}
 use Rattle.upload_core.specs.declared.status.UploadStatus.TheVariants.{Running, Happy}
@@ -14,8 +15,10 @@ has_ended (Happy pairs) = true
 has_ended (Unhappy reached blocking) = true
 has_ended (Failed fault) = false
 
--- A running upload waits for an answer. What ended is settled, and ended as its record says.
+-- A running upload waits for an answer. No server is asked the same thing twice. What ended is
+-- settled, and ended as its record says.
 pub record IsRight (u : UploadState) : Type 0 where
   pub works : u.status ≡ Running → 0 < outstanding_count u.requests.entries
+  pub once : AsksOnce u.requests.entries
   pub settled : has_ended u.status ≡ true → IsSettled u.requests.entries
   pub over : has_ended u.status ≡ true → EndsAs u.goal u.wanted u.requests.entries u.status

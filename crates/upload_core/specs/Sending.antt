@@ -1,5 +1,6 @@
 -- An upload with the source of its shares' bytes, and what it sends.
-use Rattle.std.specs.Prelude.{◌≡◌, ℕ, List, Option, Some, None, Result, Ok, Err, drop, length, slice_get}
+use Rattle.std.specs.Prelude.{◌≡◌, ℕ, List, Option, Some, None, Result, Ok, Err, drop, length}
+use Rattle.std.specs.Prelude.{slice_get}
 use Rattle.wire.specs.declared.message.Body.{Body}
 use Rattle.wire.specs.declared.message.Body.TheVariants.{Write}
 use Rattle.wire.specs.declared.message.Message.{Message}
@@ -64,7 +65,8 @@ IsBody gives fails index old asked (Err fault) new = Faults fails old asked faul
 pub data Takes {P : Type 0} (gives : P → ℕ → ℕ → List ℕ → P → Type 0)
     (fails : P → ℕ → ℕ → ℕ → PieceFault → P → Type 0) (old : Uploading P)
     (taken : Option (ℕ × Message)) (new : Uploading P) : Type 0 where
-  nothing : first_to_send old.course ≡ None → taken ≡ None → new ≡ old → Takes gives fails old taken new
+  nothing : first_to_send old.course ≡ None → taken ≡ None → new ≡ old
+      → Takes gives fails old taken new
   ceases : (place server : ℕ) (asked : Asked) (fault : PieceFault)
       → first_to_send old.course ≡ Some place → AsksAt old.course place server asked
       → Faults fails old.pieces asked fault new.pieces → taken ≡ None

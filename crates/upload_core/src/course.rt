@@ -1,21 +1,23 @@
 //! The course of an upload: what it asks and how it ends, whatever the bytes of its shares are.
 
 ghost use Rattle.std.specs.Prelude.{◌≡◌, ◌<◌, ◌==◌, ◌&&◌, ◌||◌, ◌↔◌, ℕ, All, IfOk, IfSome};
-ghost use Rattle.std.specs.Prelude.{IsTrue, OnOk, Some};
+ghost use Rattle.std.specs.Prelude.{IsTrue, OnErr, OnOk, Some};
 ghost use Rattle.std.specs.Prelude.{length, map, nat_eq, nat_lt, slice_get, take};
 ghost use Rattle.std.specs.List.{IsDistinct};
 ghost use Rattle.request_record.specs.Asking.{message_at};
 ghost use Rattle.request_record.specs.Record.{asked_all};
-ghost use Rattle.placement.specs.Matching.{IsHappiness};
+ghost use Rattle.placement.specs.Matching.{IsHappiness, shares_of};
+ghost use Rattle.upload_core.specs.declared.pieces.PieceFault.TheVariants.{OutOfMemory};
 ghost use Rattle.upload_core.specs.declared.status.ServerInfo.{ServerInfo};
 ghost use Rattle.upload_core.specs.Acknowledged.{acked_pairs};
-ghost use Rattle.upload_core.specs.Course.{Ends, IsCourse, IsInside, MayPlace, Places, allocations};
-ghost use Rattle.upload_core.specs.Course.{transfers};
+ghost use Rattle.upload_core.specs.Course.{CanGoOn, Ends, IsCourse, IsInside, MayPlace, Places};
+ghost use Rattle.upload_core.specs.Course.{allocations, transfers};
 ghost use Rattle.upload_core.specs.Moves.{Advances, AreInOrder, Begins, GoesOn, TicksOn};
 ghost use Rattle.upload_core.specs.Moves.{all_follow_ups, follow_ups_at, node_at};
 ghost use Rattle.upload_core.specs.Sending.{AsksAt, first_to_send, one_sent};
-ghost use Rattle.upload_core.specs.Rounds.{has_failed_since};
+ghost use Rattle.upload_core.specs.Rounds.{IsSettled, has_failed_since};
 ghost use Rattle.upload_core.specs.State.{with_record};
+ghost use Rattle.upload_core.specs.Trails.{AreFollowed, IsAtEnd};
 
 use crate::acknowledged::acked_pairs;
 use crate::pieces::PieceFault;
@@ -76,7 +78,8 @@ impl Course {
         now: u64,
     ) -> Result<Course, AllocError>
         requires distinct { IsDistinct nat_eq (map (λ (s : ServerInfo). s.node) servers.now) }
-        ensures { IfOk result (Begins goal wanted servers.now session now) }
+        ensures ok { IfOk result (Begins goal wanted servers.now session now) }
+        ensures right { IfOk result IsCourse }
     {
         let servers = nodes_in_order(alloc, &goal, servers)?;
         let requests = Requests::begin(alloc, servers.as_slice(), session, now)?;
@@ -99,6 +102,7 @@ impl Course {
         message: &Message,
         now: u64,
     ) -> Result<(), AllocError>
+        requires { self.old.status ≡ UploadStatus.Running → CanGoOn self.old }
         ensures ok { OnOk result (Advances from message.now now self.old self.new) }
         ensures goal { self.new.goal ≡ self.old.goal }
     {
@@ -114,6 +118,7 @@ impl Course {
 
     /// Takes note of a second.
     pub(crate) fn pass(&mut self, now: u64) -> Result<(), AllocError>
+        requires { self.old.status ≡ UploadStatus.Running → CanGoOn self.old }
         ensures ok { OnOk result (TicksOn now self.old self.new) }
         ensures goal { self.new.goal ≡ self.old.goal }
     {
@@ -137,6 +142,19 @@ impl Course {
         ensures { IsTrue result ↔ (self.now.status ≡ UploadStatus.Running) }
     {
         matches!(self.status, UploadStatus::Running)
+    }
+
+    /// It fails where this outcome of a step found no memory.
+    pub(crate) fn fail_by(&mut self, outcome: &Result<(), AllocError>)
+        ensures ok { OnOk outcome.now (self.new ≡ self.old) }
+        ensures err { OnErr outcome.now
+            (self.new ≡ record self.old { status = UploadStatus.Failed OutOfMemory }) }
+        ensures right { IsCourse self.new }
+    {
+        let status = &mut self.status;
+        if outcome.is_err() {
+            *status = UploadStatus::Failed(PieceFault::OutOfMemory);
+        }
     }
 
     /// It ends for this fault.
@@ -188,7 +206,8 @@ impl Course {
 
     // Asks what follows the answer to the request at a place, or its loss.
     fn follow(&mut self, place: usize) -> Result<(), AllocError>
-        requires { place < length self.old.requests.entries }
+        requires there { place < length self.old.requests.entries }
+        requires at_end { IsAtEnd self.old.requests.entries place }
         ensures ok { OnOk result (self.new ≡ with_record self.old (asked_all
             (follow_ups_at self.old.goal (slice_get self.old.requests.entries place))
             self.old.requests)) }
@@ -204,7 +223,10 @@ impl Course {
 
     // Asks what follows the requests at these places.
     fn follow_all(&mut self, places: &[usize]) -> Result<(), AllocError>
-        requires { All (λ place. place < length self.old.requests.entries) places.now }
+        requires there { All (λ place. place < length self.old.requests.entries) places.now }
+        requires at_end { All (IsAtEnd self.old.requests.entries) places.now }
+        requires once { IsDistinct nat_eq places.now }
+        requires right { IsCourse self.old }
         ensures ok { OnOk result (self.new ≡ with_record self.old (asked_all
             (all_follow_ups self.old.goal self.old.requests.entries places.now)
             self.old.requests)) }
@@ -218,6 +240,7 @@ impl Course {
 
     // Waits where a request is outstanding, and else places shares or ends.
     fn go_on(&mut self) -> Result<(), AllocError>
+        requires { AreFollowed self.old.goal self.old.requests.entries }
         ensures ok { OnOk result (GoesOn self.old self.old.requests self.new) }
         ensures goal { self.new.goal ≡ self.old.goal }
     {
@@ -254,10 +277,13 @@ impl Course {
         alloc: Global,
         acked: &[(NodeId, u16)],
     ) -> Result<Vec<(NodeId, u16)>, AllocError>
-        requires { acked.now ≡ acked_pairs self.now.goal self.now.requests.entries }
+        requires acked { acked.now ≡ acked_pairs self.now.goal self.now.requests.entries }
+        requires settled { IsSettled self.now.requests.entries }
+        requires followed { AreFollowed self.now.goal self.now.requests.entries }
         ensures placing { IfOk result
             (λ pairs. Places self.now.goal self.now.requests.entries pairs.items) }
         ensures may { IfOk result (λ pairs. All (MayPlace self.now) pairs.items) }
+        ensures once { IfOk result (λ pairs. IsDistinct nat_eq (shares_of pairs.items)) }
     {
         let servers = servers_of(alloc, &self.goal, self.requests.entries())?;
         let count = self.goal.share_count() as u16;
@@ -273,7 +299,8 @@ impl Course {
 
     // Begins the transfer of each pair.
     fn begin_round(&mut self, pairs: &[(NodeId, u16)]) -> Result<(), AllocError>
-        requires { All (MayPlace self.old) pairs.now }
+        requires may { All (MayPlace self.old) pairs.now }
+        requires once { IsDistinct nat_eq (shares_of pairs.now) }
         ensures ok { OnOk result (self.new ≡ record self.old {
           requests = asked_all (transfers self.old.goal pairs.now) self.old.requests;
           round = length self.old.requests.entries;
@@ -307,7 +334,8 @@ fn allocate(
     length: ShareLength,
 ) -> Result<(), AllocError>
     requires { All (λ pair. pair.1 < 256) pairs.now }
-    ensures ok { OnOk result (requests.new ≡ asked_all (allocations length pairs.now) requests.old) }
+    ensures ok { OnOk result
+        (requests.new ≡ asked_all (allocations length pairs.now) requests.old) }
     ensures some { (k : ℕ)
         × (requests.new ≡ asked_all (allocations length (take k pairs.now)) requests.old) }
 {

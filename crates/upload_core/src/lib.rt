@@ -1,8 +1,8 @@
 //! Uploads: what one asks of servers, what they acknowledge, and how it ends.
 //!
-//! An upload asks every server what it holds, places the shares, carries each transfer to its end, and
-//! says Happy only by what servers acknowledged by digest. It does not care where the bytes of its
-//! shares come from: `trait Pieces` gives them as they are sent.
+//! An upload asks every server what it holds, places the shares, carries each transfer to its end,
+//! and says Happy only by what servers acknowledged by digest. It does not care where the bytes of
+//! its shares come from: `trait Pieces` gives them as they are sent.
 #![tactic(auto)]
 
 mod acknowledged;

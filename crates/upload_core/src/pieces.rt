@@ -36,8 +36,8 @@ impl PieceFault {
     }
 }
 
-/// A source of the pieces of an upload's shares, by relations of its own: what each call gives, from
-/// the state before it to the state after it.
+/// A source of the pieces of an upload's shares, by relations of its own: what each call gives,
+/// from the state before it to the state after it.
 pub trait Pieces {
     /// The digests of its shares, by number, and the length that all of them have.
     ghost digests: { Self → List (List ℕ) };

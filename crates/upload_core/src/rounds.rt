@@ -4,7 +4,8 @@ ghost use Rattle.std.specs.Prelude.{◌≡◌, ◌≤◌, ◌++◌, IfOk, drop, 
 ghost use Rattle.std.specs.Prelude.{nat_eq, not, true};
 ghost use Rattle.std.specs.Set.{is_member};
 ghost use Rattle.upload_core.specs.Acknowledged.{acked_pairs};
-ghost use Rattle.upload_core.specs.Rounds.{answered_as, answers_as, has_answered_as, has_failed_since};
+ghost use Rattle.upload_core.specs.Rounds.{answered_as, answers_as, has_answered_as};
+ghost use Rattle.upload_core.specs.Rounds.{has_failed_since};
 ghost use Rattle.upload_core.specs.Rounds.{readonly_servers, writable_servers};
 ghost use Rattle.upload_core.specs.Transfers.{failed_servers};
 

@@ -157,7 +157,8 @@ pub enum UploadStatus {
     Running,
     /// A largest matching of the acknowledged pairs, of at least as many as were wanted.
     Happy(PairList),
-    /// The happiness that was reached, which is less than the one that was wanted, and a blocking set.
+    /// The happiness that was reached, which is less than the one that was wanted, and a blocking
+    /// set.
     Unhappy(u16, NodeList),
     /// A call found no memory, or a piece of a share could not be had.
     Failed(PieceFault),

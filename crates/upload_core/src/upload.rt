@@ -29,6 +29,7 @@ pub struct Upload<P: Pieces + Drop> {
 
 impl<P: Pieces + Drop> Model for Upload<P> {
     ghost use Rattle.std.specs.Prelude.{◌≡◌};
+    ghost use Rattle.upload_core.specs.Course.{IsKept};
     ghost use Rattle.upload_core.specs.Right.{IsRight};
     ghost use Rattle.upload_core.specs.Sending.{Uploading};
 
@@ -39,13 +40,14 @@ impl<P: Pieces + Drop> Model for Upload<P> {
     ghost invariant = { λ u.
         (P.digests u.pieces ≡ u.course.goal.digests)
         × (P.share_length u.pieces ≡ u.course.goal.share_length)
-        × IsRight u.course };
+        × IsRight u.course
+        × IsKept u.course };
 }
 
 impl<P: Pieces + Drop> Upload<P> {
-    /// Asks each of the servers, in the order of the file, which shares it holds. With no server the
-    /// upload ends at once. The servers are of distinct nodes, and the pieces are those of the goal's
-    /// shares.
+    /// Asks each of the servers, in the order of the file, which shares it holds. With no server
+    /// the upload ends at once. The servers are of distinct nodes, and the pieces are those of the
+    /// goal's shares.
     pub fn start(
         alloc: Global,
         pieces: P,
@@ -78,9 +80,7 @@ impl<P: Pieces + Drop> Upload<P> {
         ensures pieces { self.new.pieces ≡ self.old.pieces }
     {
         let outcome = self.course.answer(from, message, now);
-        if outcome.is_err() {
-            self.course.fail(PieceFault::OutOfMemory);
-        }
+        self.course.fail_by(&outcome);
         outcome
     }
 
@@ -91,13 +91,11 @@ impl<P: Pieces + Drop> Upload<P> {
         ensures pieces { self.new.pieces ≡ self.old.pieces }
     {
         let outcome = self.course.pass(now);
-        if outcome.is_err() {
-            self.course.fail(PieceFault::OutOfMemory);
-        }
+        self.course.fail_by(&outcome);
         outcome
     }
 
-    /// Where the upload stands. While it runs a request is outstanding, and what ended stays as it is.
+    /// Where the upload stands. While it runs a request is outstanding, and what ended stays so.
     pub fn status(&self) -> &UploadStatus
         ensures value { result.now ≡ self.now.course.status }
         ensures right { IsRight self.now.course }

@@ -5,6 +5,10 @@ use Rattle.request_record.specs.Record.{RequestsState, asked_all, counts_at}
 use Rattle.upload_core.specs.State.{UploadState, with_record}
 use Rattle.upload_core.specs.Moves.{AdvancesAt, GoesOn, follow_ups_at}
 use Rattle.upload_core.specs.declared.status.UploadStatus.TheVariants.{Running}
+use Rattle.upload_core.specs.Course.{CanGoOn}
+use Rattle.upload_core.specs.Trails.{AreFollowed, IsAtEnd}
+use Rattle.upload_core.proofs.Ends.{answered_end}
+use Rattle.upload_core.proofs.Followed.{followed_message}
 use Rattle.upload_core.proofs.Goes.{counted_there, goes_on_from, message_course, on_ok}
 use Rattle.upload_core.proofs.course.Course.answer.Goals as goal
 
@@ -13,8 +17,13 @@ invariant_of-self-2 c =
     let u : UploadState = record { goal = c.self.inside.goal; wanted = c.self.inside.wanted; servers = c.self.inside.servers.items; requests = c.self.inside.requests; round = c.self.inside.round; status = c.self.inside.status } in
     message_course u c.args.from c.args.message.now c.args.now c.answer.new.self c.in_ok-place.ensures.ok c.self.invariant
 
-pub follow-requires : goal.follow-requires
-follow-requires c =
+pub invariant_of-self-in_default : goal.invariant_of-self-in_default
+invariant_of-self-in_default c =
+    let u : UploadState = record { goal = c.self.inside.goal; wanted = c.self.inside.wanted; servers = c.self.inside.servers.items; requests = c.self.inside.requests; round = c.self.inside.round; status = c.self.inside.status } in
+    message_course u c.args.from c.args.message.now c.args.now c.answer.new.self c.in_ok-place.ensures.ok c.self.invariant
+
+pub follow-requires-clause-there : goal.follow-requires-clause-there
+follow-requires-clause-there c =
     let u : UploadState = record { goal = c.self.inside.goal; wanted = c.self.inside.wanted; servers = c.self.inside.servers.items; requests = c.self.inside.requests; round = c.self.inside.round; status = c.self.inside.status } in
     let counts : counts_at c.args.from c.args.message.now u.requests ≡ Some c.in-Some.place = sym c.in_ok-place.ensures.place ∙ c.in-Some.is in
     subst (λ (r : RequestsState). c.in-Some.place < length r.entries) (sym c.in_ok-place.ensures.ok) (counted_there c.args.from c.args.message.now c.args.now u.requests c.in-Some.place counts)
@@ -34,3 +43,21 @@ returns-clause-ok c =
       running = λ r. subst (λ (o : Option ℕ). AdvancesAt o R v c.go_on.new.self) (sym counts) (goes_on_from v S c.go_on.new.self (subst (λ (s : UploadState). GoesOn s s.requests c.go_on.new.self) followed g));
       ended = λ ne. absurd (ne (ap (λ (s : UploadState). s.status) (sym c.self.view_is) ∙ running));
     }) c.go_on.ensures.ok
+
+pub follow-requires-clause-at_end : goal.follow-requires-clause-at_end
+follow-requires-clause-at_end c =
+    let u : UploadState = record { goal = c.self.inside.goal; wanted = c.self.inside.wanted; servers = c.self.inside.servers.items; requests = c.self.inside.requests; round = c.self.inside.round; status = c.self.inside.status } in
+    let counts : counts_at c.args.from c.args.message.now u.requests ≡ Some c.in-Some.place = sym c.in_ok-place.ensures.place ∙ c.in-Some.is in
+    subst (λ (r : RequestsState). IsAtEnd r.entries c.in-Some.place) (sym c.in_ok-place.ensures.ok) (answered_end u.goal c.args.from c.args.message.now c.args.now u.requests c.in-Some.place counts c.self.invariant.trails)
+
+pub go_on-requires : goal.go_on-requires
+go_on-requires c =
+    let u : UploadState = record { goal = c.self.inside.goal; wanted = c.self.inside.wanted; servers = c.self.inside.servers.items; requests = c.self.inside.requests; round = c.self.inside.round; status = c.self.inside.status } in
+    let counts : counts_at c.args.from c.args.message.now u.requests ≡ Some c.in-Some.place = sym c.in_ok-place.ensures.place ∙ c.in-Some.is in
+    let R : RequestsState = after_message c.args.from c.args.message.now c.args.now u.requests in
+    let running : u.status ≡ Running = c.is_running.ensures.0 c.if-not-is_running.false in
+    let going : CanGoOn u = subst CanGoOn (sym c.self.view_is) (c.requires (ap (λ (s : UploadState). s.status) (sym c.self.view_is) ∙ running)) in
+    let w : with_record u c.answer.new.self ≡ with_record u R = ap (with_record u) c.in_ok-place.ensures.ok in
+    let S : RequestsState = asked_all (follow_ups_at u.goal (slice_get R.entries c.in-Some.place)) R in
+    let followed : c.follow.new.self ≡ with_record u S = c.in_ok-follow.ensures.ok ∙ ap (λ (s : UploadState). with_record s (asked_all (follow_ups_at s.goal (slice_get s.requests.entries c.in-Some.place)) s.requests)) w in
+    subst (λ (s : UploadState). AreFollowed s.goal s.requests.entries) (sym followed) (followed_message u.goal c.args.from c.args.message.now c.args.now u.requests c.in-Some.place counts c.self.invariant.inside going.followed)

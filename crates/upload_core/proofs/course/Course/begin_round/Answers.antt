@@ -8,8 +8,8 @@ use Rattle.upload_core.proofs.course.Course.begin_round.Goals as goal
 pub invariant_of-self : goal.invariant_of-self
 invariant_of-self c =
     let u : UploadState = record { goal = c.self.inside.goal; wanted = c.self.inside.wanted; servers = c.self.inside.servers.items; requests = c.self.inside.requests; round = c.self.inside.round; status = c.self.inside.status } in
-    let may : All (MayPlace u) c.args.pairs.now = subst (λ (s : UploadState). All (MayPlace s) c.args.pairs.now) (sym c.self.view_is) c.requires in
+    let may : All (MayPlace u) c.args.pairs.now = subst (λ (s : UploadState). All (MayPlace s) c.args.pairs.now) (sym c.self.view_is) c.requires.may in
     let k : ℕ = c.allocate.ensures.some.0 in
     let new : c.allocate.new.requests ≡ asked_all (allocations u.goal.share_length (take k c.args.pairs.now)) u.requests = c.allocate.ensures.some.1 ∙ ap (λ (len : ℕ). asked_all (allocations len (take k c.args.pairs.now)) u.requests) c.share_length.ensures in
     let le : length c.entries.result.now ≤ length u.requests.entries = omega (arith, ap length c.entries.ensures.value) in
-    round_course u c.args.pairs.now k (length c.entries.result.now) c.allocate.new.requests le new may c.self.invariant
+    round_course u c.args.pairs.now k (length c.entries.result.now) c.allocate.new.requests le new may c.requires.once c.self.invariant

@@ -1,10 +1,15 @@
-use Rattle.std.proofs.Common.{◌≡◌, ◌≢◌, ◌<◌, ◌∙◌, All, List, [], ℕ, ap, arith, length, subst, sym, true≢false}
+use Rattle.std.proofs.Common.{◌≡◌, ◌≢◌, ◌<◌, ◌∙◌, All, List, [], ℕ, ap, arith, eqb, length, subst, sym, true≢false}
 use Rattle.std.proofs.lemmas.Bool.{eq-eqb}
 use Rattle.request_record.specs.Asking.{after_tick, lost_by_tick}
 use Rattle.request_record.specs.Record.{RequestsState, asked_all}
 use Rattle.upload_core.specs.declared.status.UploadStatus.TheVariants.{Running}
 use Rattle.upload_core.specs.State.{UploadState, with_record}
 use Rattle.upload_core.specs.Moves.{GoesOn, all_follow_ups}
+use Rattle.std.specs.List.{IsDistinct}
+use Rattle.upload_core.specs.Course.{CanGoOn}
+use Rattle.upload_core.specs.Trails.{AreFollowed, IsAtEnd}
+use Rattle.upload_core.proofs.Ends.{lost_ends, lost_once}
+use Rattle.upload_core.proofs.Followed.{followed_tick}
 use Rattle.upload_core.proofs.Goes.{goes_on_from, lost_there, on_ok, tick_course, ticks_with}
 use Rattle.upload_core.proofs.course.Course.pass.Goals as goal
 
@@ -13,8 +18,8 @@ invariant_of-self-2 c =
     let u : UploadState = record { goal = c.self.inside.goal; wanted = c.self.inside.wanted; servers = c.self.inside.servers.items; requests = c.self.inside.requests; round = c.self.inside.round; status = c.self.inside.status } in
     tick_course u c.args.now c.tick.new.self c.in_ok-lost.ensures.ok c.self.invariant
 
-pub follow_all-requires : goal.follow_all-requires
-follow_all-requires c =
+pub follow_all-requires-clause-there : goal.follow_all-requires-clause-there
+follow_all-requires-clause-there c =
     let u : UploadState = record { goal = c.self.inside.goal; wanted = c.self.inside.wanted; servers = c.self.inside.servers.items; requests = c.self.inside.requests; round = c.self.inside.round; status = c.self.inside.status } in
     subst (λ (xs : List ℕ). All (λ (p : ℕ). p < length c.tick.new.self.entries) xs) (sym (c.deref.ensures.value ∙ c.in_ok-lost.ensures.lost))
     (subst (λ (r : RequestsState). All (λ (p : ℕ). p < length r.entries) (lost_by_tick c.args.now u.requests)) (sym c.in_ok-lost.ensures.ok) (lost_there c.args.now u.requests))
@@ -41,3 +46,30 @@ returns-clause-ok c =
       running = λ r. ticks_with v R lost c.go_on.new.self some (goes_on_from v S c.go_on.new.self (subst (λ (s : UploadState). GoesOn s s.requests c.go_on.new.self) followed g));
       ended = λ ne. absurd (ne (ap (λ (s : UploadState). s.status) (sym c.self.view_is) ∙ running));
     }) c.go_on.ensures.ok
+
+pub follow_all-requires-clause-at_end : goal.follow_all-requires-clause-at_end
+follow_all-requires-clause-at_end c =
+    let u : UploadState = record { goal = c.self.inside.goal; wanted = c.self.inside.wanted; servers = c.self.inside.servers.items; requests = c.self.inside.requests; round = c.self.inside.round; status = c.self.inside.status } in
+    subst (λ (xs : List ℕ). All (IsAtEnd c.tick.new.self.entries) xs) (sym (c.deref.ensures.value ∙ c.in_ok-lost.ensures.lost))
+    (subst (λ (r : RequestsState). All (IsAtEnd r.entries) (lost_by_tick c.args.now u.requests)) (sym c.in_ok-lost.ensures.ok) (lost_ends u.goal c.args.now u.requests c.self.invariant.trails))
+
+pub follow_all-requires-clause-once : goal.follow_all-requires-clause-once
+follow_all-requires-clause-once c =
+    let u : UploadState = record { goal = c.self.inside.goal; wanted = c.self.inside.wanted; servers = c.self.inside.servers.items; requests = c.self.inside.requests; round = c.self.inside.round; status = c.self.inside.status } in
+    subst (IsDistinct eqb) (sym (c.deref.ensures.value ∙ c.in_ok-lost.ensures.lost)) (lost_once c.args.now u.requests)
+
+pub go_on-requires : goal.go_on-requires
+go_on-requires c =
+    let u : UploadState = record { goal = c.self.inside.goal; wanted = c.self.inside.wanted; servers = c.self.inside.servers.items; requests = c.self.inside.requests; round = c.self.inside.round; status = c.self.inside.status } in
+    let R : RequestsState = after_tick c.args.now u.requests in
+    let running : u.status ≡ Running = c.is_running.ensures.0 c.if-not-is_running.false in
+    let going : CanGoOn u = subst CanGoOn (sym c.self.view_is) (c.requires (ap (λ (s : UploadState). s.status) (sym c.self.view_is) ∙ running)) in
+    let w : with_record u c.tick.new.self ≡ with_record u R = ap (with_record u) c.in_ok-lost.ensures.ok in
+    let S : RequestsState = asked_all (all_follow_ups u.goal R.entries c.deref.result.now) R in
+    let followed : c.follow_all.new.self ≡ with_record u S = c.in_ok-follow_all.ensures.ok ∙ ap (λ (s : UploadState). with_record s (asked_all (all_follow_ups s.goal s.requests.entries c.deref.result.now) s.requests)) w in
+    subst (λ (s : UploadState). AreFollowed s.goal s.requests.entries) (sym followed) (followed_tick u.goal c.args.now u.requests c.self.invariant.inside going.followed c.deref.result.now)
+
+pub follow_all-requires-clause-right : goal.follow_all-requires-clause-right
+follow_all-requires-clause-right c =
+    let u : UploadState = record { goal = c.self.inside.goal; wanted = c.self.inside.wanted; servers = c.self.inside.servers.items; requests = c.self.inside.requests; round = c.self.inside.round; status = c.self.inside.status } in
+    tick_course u c.args.now c.tick.new.self c.in_ok-lost.ensures.ok c.self.invariant

@@ -1,13 +1,14 @@
-use Rattle.std.proofs.Common.{◌≡◌, ◌++◌, ◌<◌, All, Contains, List, ℕ, length, sym, ap, subst, ◌∙◌}
+use Rattle.std.proofs.Common.{◌≡◌, ◌++◌, ◌<◌, All, Contains, List, ℕ, eqb, length, sym, ap, subst, ◌∙◌}
 use Rattle.request_record.specs.declared.requests.Request.{Request}
-use Rattle.placement.specs.Matching.{Pair}
+use Rattle.std.specs.List.{IsDistinct}
+use Rattle.placement.specs.Matching.{Pair, shares_of}
 use Rattle.placement.specs.Plan.{IsPlan}
 use Rattle.upload_core.specs.State.{UploadState}
 use Rattle.upload_core.specs.Acknowledged.{acked_pairs}
 use Rattle.upload_core.specs.Rounds.{Placing, readonly_servers, writable_servers}
 use Rattle.upload_core.specs.Course.{MayPlace}
 use Rattle.upload_core.proofs.Acked.{acked_known}
-use Rattle.upload_core.proofs.Placed.{plan_may}
+use Rattle.upload_core.proofs.Placed.{placed_once, plan_may}
 use Rattle.upload_core.proofs.Servers.{servers_distinct}
 use Rattle.upload_core.proofs.Goes.{plan_at}
 use Rattle.upload_core.proofs.course.Course.placing.Goals as goal
@@ -26,7 +27,7 @@ place-requires-clause-known c =
     let es : List Request = u.requests.entries in
     let ro : c.deref.result.now ≡ readonly_servers u.goal es = c.deref.ensures.value ∙ c.in_ok-servers.ensures.readonly ∙ ap (readonly_servers u.goal) c.entries.ensures.value in
     let w : c.deref-2.result.now ≡ writable_servers u.goal es = c.deref-2.ensures.value ∙ c.in_ok-servers.ensures.writable ∙ ap (writable_servers u.goal) c.entries.ensures.value in
-    let acked : c.args.acked.now ≡ acked_pairs u.goal es = c.requires ∙ sym (ap (λ (s : UploadState). acked_pairs s.goal s.requests.entries) c.self.view_is) in
+    let acked : c.args.acked.now ≡ acked_pairs u.goal es = c.requires.acked ∙ sym (ap (λ (s : UploadState). acked_pairs s.goal s.requests.entries) c.self.view_is) in
     let n : c.share_count-count.result ≡ length u.goal.digests = c.share_count-count.ensures.count in
     let known : All (λ (p : Pair). Contains (readonly_servers u.goal es ++ writable_servers u.goal es) p.0 × (p.1 < length u.goal.digests)) (acked_pairs u.goal es) = acked_known u.goal es c.self.invariant.of_told in
     subst (λ (k : ℕ). All (λ (p : Pair). Contains (c.deref.result.now ++ c.deref-2.result.now) p.0 × (p.1 < k)) c.args.acked.now) (sym n)
@@ -45,7 +46,7 @@ is_plan c =
     let w : c.deref-2.result.now ≡ writable_servers v.goal v.requests.entries = c.deref-2.ensures.value ∙ c.in_ok-servers.ensures.writable ∙ ap (writable_servers u.goal) c.entries.ensures.value ∙ ap (λ (s : UploadState). writable_servers s.goal s.requests.entries) c.self.view_is in
     let n : c.share_count-count.result ≡ length v.goal.digests = c.share_count-count.ensures.count ∙ ap (λ (s : UploadState). length s.goal.digests) c.self.view_is in
     plan_at c.deref.result.now (readonly_servers v.goal v.requests.entries) c.deref-2.result.now (writable_servers v.goal v.requests.entries) c.args.acked.now (acked_pairs v.goal v.requests.entries) c.share_count-count.result (length v.goal.digests)
-    c.in-Ok.plan.m1.items c.in-Ok.plan.m2.items c.in-Ok.plan.m3.items c.in-Ok.plan.leftovers.items c.in-Ok.plan.unplaced.items ro w c.requires n
+    c.in-Ok.plan.m1.items c.in-Ok.plan.m2.items c.in-Ok.plan.m3.items c.in-Ok.plan.leftovers.items c.in-Ok.plan.unplaced.items ro w c.requires.acked n
     (record { first_largest = c.in-Ok.ensures.m1; second_largest = c.in-Ok.ensures.m2; third_paired = c.in-Ok.ensures.m3; rest_spread = c.in-Ok.ensures.leftovers })
 
 pub returns-in-Ok-clause-placing : goal.returns-in-Ok-clause-placing
@@ -59,4 +60,10 @@ pub returns-in-Ok-clause-may : goal.returns-in-Ok-clause-may
 returns-in-Ok-clause-may c =
     let v : UploadState = c.args.self.now in
     let items : c.extend_from_slice.new.self.items ≡ c.in-Ok.plan.m3.items ++ c.in-Ok.plan.leftovers.items = c.in_ok-extend_from_slice-in-Ok.ensures.items ∙ ap (λ (l : List Pair). c.in-Ok.plan.m3.items ++ l) c.deref-in-Ok.ensures.value in
-    subst (All (MayPlace v)) (sym items) (plan_may v _ _ _ _ _ (is_plan c))
+    subst (All (MayPlace v)) (sym items) (plan_may v _ _ _ _ _ (is_plan c) c.requires.settled c.requires.followed)
+
+pub returns-in-Ok-clause-once : goal.returns-in-Ok-clause-once
+returns-in-Ok-clause-once c =
+    let v : UploadState = c.args.self.now in
+    let items : c.extend_from_slice.new.self.items ≡ c.in-Ok.plan.m3.items ++ c.in-Ok.plan.leftovers.items = c.in_ok-extend_from_slice-in-Ok.ensures.items ∙ ap (λ (l : List Pair). c.in-Ok.plan.m3.items ++ l) c.deref-in-Ok.ensures.value in
+    subst (λ (ps : List Pair). IsDistinct eqb (shares_of ps)) (sym items) (placed_once v _ _ _ _ _ (is_plan c))

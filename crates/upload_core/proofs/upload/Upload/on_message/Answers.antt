@@ -1,15 +1,21 @@
-use Rattle.std.proofs.Common.{◌∙◌, ap, sym}
+use Rattle.std.proofs.Common.{◌≡◌, ◌∙◌, ap, sym}
 use Rattle.upload_core.specs.State.{Goal}
-use Rattle.upload_core.specs.Moves.{Advances}
-use Rattle.upload_core.proofs.Right.{advances_right, ok_of}
+use Rattle.upload_core.proofs.Right.{message_fine, step_goal}
 use Rattle.upload_core.proofs.upload.Upload.on_message.Goals as goal
 
-pub invariant_of-self-else-is_err : goal.invariant_of-self-else-is_err
-invariant_of-self-else-is_err g c =
+pub answer-outcome-requires : goal.answer-outcome-requires
+answer-outcome-requires g c = c.self.invariant.3.going
+
+pub invariant_of-self : goal.invariant_of-self
+invariant_of-self g c =
     let old = c.self.inside.course in
-    let new = c.answer-outcome.new.self in
-    let moves : Advances c.args.from c.args.message.now c.args.now old new = ok_of c.answer-outcome.result _ (sym c.is_err.ensures.value ∙ c.if-is_err.false) c.answer-outcome.ensures.ok in (
-      c.self.invariant.0 ∙ ap (λ (a : Goal). a.digests) (sym c.answer-outcome.ensures.goal),
-      c.self.invariant.1 ∙ ap (λ (a : Goal). a.share_length) (sym c.answer-outcome.ensures.goal),
-      advances_right c.args.from c.args.message.now c.args.now old new moves c.self.invariant.2,
+    let mid = c.answer-outcome.new.self in
+    let new = c.fail_by.new.self in
+    let e = c.fail_by.ensures in
+    let fine = message_fine mid new e.right c.answer-outcome.result c.args.from c.args.message.now c.args.now old c.answer-outcome.ensures.ok e.ok e.err c.self.invariant.2 c.self.invariant.3 in
+    let same : old.goal ≡ new.goal = sym c.answer-outcome.ensures.goal ∙ sym (step_goal mid new e.right c.answer-outcome.result e.ok e.err) in (
+      c.self.invariant.0 ∙ ap (λ (a : Goal). a.digests) same,
+      c.self.invariant.1 ∙ ap (λ (a : Goal). a.share_length) same,
+      fine.right,
+      fine.kept,
     )

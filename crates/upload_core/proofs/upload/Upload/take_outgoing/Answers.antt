@@ -1,5 +1,10 @@
 use Rattle.std.proofs.Common.{◌≡◌, Some, sym, ap, subst, ◌∙◌}
-use Rattle.upload_core.specs.Sending.{AsksAt, IsBody, Uploading, first_to_send}
+use Rattle.upload_core.specs.declared.status.UploadStatus.TheVariants.{Failed}
+use Rattle.upload_core.specs.State.{UploadState, with_record}
+use Rattle.upload_core.specs.Right.{IsRight}
+use Rattle.upload_core.specs.Course.{IsKept}
+use Rattle.upload_core.specs.Sending.{AsksAt, IsBody, Uploading, first_to_send, one_sent}
+use Rattle.upload_core.proofs.Right.{failed_fine, sent_fine}
 use Rattle.upload_core.proofs.Sends.{ceases_now, sends_first}
 use Rattle.upload_core.proofs.upload.Upload.take_outgoing.Goals as goal
 
@@ -22,3 +27,25 @@ returns-in-Err-clause-ok g c =
     let body : IsBody g.P.Pieces.gives g.P.Pieces.fails old.course.goal.cap.storage_index old.pieces c.request_at-server.result.1 c.in_ok-body.field-0 mid.pieces = subst (λ (x : Uploading g.row.P.Denot). IsBody g.P.Pieces.gives g.P.Pieces.fails old.course.goal.cap.storage_index old.pieces c.request_at-server.result.1 c.in_ok-body.field-0 x.pieces) (sym c.self-2.view_is) c.in_ok-body.ensures.ok in
     let same : mid.course ≡ old.course = ap (λ (x : Uploading g.row.P.Denot). x.course) c.self-2.view_is ∙ c.in_ok-body.ensures.course in
     ceases_now g.P.Pieces.gives g.P.Pieces.fails old mid c.in-Some.place c.request_at-server.result.0 c.request_at-server.result.1 c.in_ok-body.field-0 first asks body same c.in-Err.fault c.fail.new.self c.in-Err.is c.fail.ensures
+
+pub invariant_of-self : goal.invariant_of-self
+invariant_of-self g c =
+    let u : UploadState = c.self-2.inside.course in
+    let fine = sent_fine u c.self-2.invariant.2 c.self-2.invariant.3 in
+    let sent : c.send.new.self ≡ with_record u (one_sent u.requests) = c.send.ensures.sent in (
+      c.self-2.invariant.0 ∙ ap (λ (x : UploadState). x.goal.digests) (sym sent),
+      c.self-2.invariant.1 ∙ ap (λ (x : UploadState). x.goal.share_length) (sym sent),
+      subst IsRight (sym sent) fine.right,
+      subst IsKept (sym sent) fine.kept,
+    )
+
+pub invariant_of-self-in-Err : goal.invariant_of-self-in-Err
+invariant_of-self-in-Err g c =
+    let u : UploadState = c.self-2.inside.course in
+    let fine = failed_fine u c.in-Err.fault c.self-2.invariant.3.course in
+    let failed : c.fail.new.self ≡ record u { status = Failed c.in-Err.fault } = c.fail.ensures in (
+      c.self-2.invariant.0 ∙ ap (λ (x : UploadState). x.goal.digests) (sym failed),
+      c.self-2.invariant.1 ∙ ap (λ (x : UploadState). x.goal.share_length) (sym failed),
+      subst IsRight (sym failed) fine.right,
+      subst IsKept (sym failed) fine.kept,
+    )
