@@ -60,8 +60,8 @@ impl Layout {
     }
 }
 
-/// The number at a place.
-pub(crate) fn number_at(layout: Layout, bytes: &[u8], place: usize) -> u64
+/// The number at a place of a share, in as many bytes as the layout gives it.
+pub fn number_at(layout: Layout, bytes: &[u8], place: usize) -> u64
     requires { place + width layout ≤ length bytes.now }
     ensures { result ≡ number_at layout bytes.now place }
 {

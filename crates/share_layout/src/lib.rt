@@ -23,10 +23,11 @@ mod writer;
 
 pub use error::{LayoutError, Section};
 pub use geometry::{Geometry, geometry_gives_itself, segments_are_pieces, segments_have_lengths};
-pub use layout::Layout;
+pub use layout::{Layout, number_at};
 pub use places::Places;
 pub use reader::{
-    headers_tell_their_places, locate_ueb, shares_have_one_reading, shares_locate_their_blocks,
+    has_header, headers_tell_their_places, locate_ueb, shares_have_one_reading,
+    shares_locate_their_blocks,
 };
 pub use share_hashes::carries_numbers;
 pub use view::ShareView;

@@ -153,8 +153,8 @@ fn cut(bytes: &[u8], places: Places) -> Result<ShareView<'_>, LayoutError>
     })
 }
 
-// Whether bytes begin with the header of each share of a geometry.
-fn has_header(bytes: &[u8], geometry: &Geometry) -> bool
+/// Whether bytes begin with the header of each share of a file with this geometry.
+pub fn has_header(bytes: &[u8], geometry: &Geometry) -> bool
     ensures { IsTrue result ↔ HasHeader geometry.now bytes.now }
 {
     let mut header = [0; 68];

@@ -1,0 +1,15 @@
+//! Laws of the reads that an opening makes.
+
+ghost use Rattle.share_opening.specs.Reads.{LeadOn, Rise};
+
+/// A law of the definitions: with the bytes that its next read brought, the reads of an opening
+/// lead to the opening that it goes on to. The law is the contract; the call does nothing.
+pub fn reads_lead_on()
+    ensures { LeadOn }
+{}
+
+/// A law of the definitions: each read of an opening begins where what was read before it ends, or
+/// behind that. The law is the contract; the call does nothing.
+pub fn reads_rise()
+    ensures { Rise }
+{}
