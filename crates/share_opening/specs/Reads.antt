@@ -51,7 +51,7 @@ end_of (Second start) = 36
 end_of (Header h) = header_size h.places.layout
 end_of (Block b) = b.header.places.extension_block + width b.header.places.layout
 
--- a law: with the bytes that the next read brought, the reads lead to the opening that it goes on to
+-- a law: with the bytes that the next read brought, the reads lead to the opening that comes of it
 abbrev pub LeadOn : Type 0
 LeadOn = (cap : VerifyCapValue) (reads more : List Brought) (old new : Opening) (bytes : List ℕ)
     → IsLedToBy reads old → Advances cap old bytes (Next new)

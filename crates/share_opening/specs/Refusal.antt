@@ -40,8 +40,8 @@ IsLengthRefusal told errors.TooLong = max_length < told
 IsLengthRefusal told errors.NoBlock = told ≡ 0
 IsLengthRefusal told error = ⊥
 
--- why these bytes are refused as the extension block of the cap's file, behind this header: they are
--- not it, or it asks for another header
+-- why these bytes are refused as the extension block of the cap's file, behind this header: they
+-- are not it, or it asks for another header
 abbrev pub IsBlockRefusal : VerifyCapValue → List ℕ → List ℕ → OpeningError → Type 0
 IsBlockRefusal cap header bytes (errors.Ueb fault) = IsUebFault cap bytes fault
 IsBlockRefusal cap header bytes errors.OtherHeader =

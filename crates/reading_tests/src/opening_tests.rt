@@ -6,8 +6,8 @@ use share_opening::{Opened, Opening, OpeningError, Progress};
 use share_verify::{Check, ShareFault};
 use std::test::Fail;
 
-// The extension block of a file of 56 zero bytes, one of one, and the hash of it that its cap holds.
-// Both were computed by two programs of their own.
+// The extension block of a file of 56 zero bytes, one of one, and the hash of it that its cap
+// holds. Both were computed by two programs of their own.
 const HASH: [u8; 32] = [
     0x65, 0x16, 0xf3, 0xd3, 0xd2, 0x00, 0xe3, 0x41, 0xd7, 0x76, 0xec, 0xd2, 0x23, 0xb5, 0x80, 0xbf,
     0x5a, 0x9c, 0x43, 0xfc, 0x3a, 0x02, 0xad, 0xc0, 0x14, 0x1c, 0xb2, 0x15, 0xa8, 0x16, 0x7d, 0xcd,

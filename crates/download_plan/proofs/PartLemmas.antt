@@ -1,0 +1,248 @@
+-- The parts of a plan lie in their sections, and apart from each other.
+use Rattle.std.proofs.Common.{◌≡◌, ◌⊎◌, ℕ, ◌+◌, ◌-◌, ◌*◌, ◌/◌, ◌^◌, ◌<◌, ◌≤◌, inl, inr, ap, refl, sym, subst, arith}
+use Rattle.std.proofs.Math.Nat.{mul-le-mul_right, pow-le-pow_right}
+use Rattle.std.proofs.lemmas.Bool.{cases_lt, cases_order}
+use Rattle.std.proofs.lemmas.Nat.{div-add-mod', div_below, le-div, mod_below, pow_pos, pow-add}
+use Rattle.std.proofs.lemmas.Grind.{div_ceil_times}
+use Rattle.merkle.proofs.HeightLemmas.{height_below, height_room}
+use Rattle.share_layout.specs.Geometry.{Geometry, block_size, hashes_size, segment_count, share_data_size, tree_size}
+use Rattle.share_layout.specs.Layout.{header_size, layout_of, places_of}
+use Rattle.download_plan.specs.Level.{level_at, row_of, tree_height}
+use Rattle.download_plan.specs.Plan.{IsNodePiece, IsPart, data_end, data_start, length_of, max_nodes, max_read, nodes_at, nodes_of, nodes_place, place_of}
+use Rattle.download_plan.specs.Range.{IsRange}
+use Rattle.download_plan.specs.Laws.{AreApart, IsInBlock, IsInPiece, LevelsHoldGroups, LiesIn, PartsAreApart, PartsHoldTheBlocks, PartsLieInside, section_end, section_start}
+use Rattle.download_plan.specs.declared.level.Level.{Level}
+use Rattle.download_plan.specs.declared.part.NodePiece.{NodePiece}
+use Rattle.download_plan.specs.declared.part.Nodes.{Nodes}
+use Rattle.download_plan.specs.declared.part.Part.{Part}
+use Rattle.download_plan.specs.declared.part.Part.TheVariants.{ShareHashes, BlockTree, CiphertextTree, Data}
+use Rattle.download_plan.proofs.NumberLemmas.{below_ceil, end_inside, holds_group, piece_begins, row_high, rows_rise}
+
+-- a segment's block begins before the blocks end
+pub block_begins : (g : Geometry) (a b : ℕ) → IsRange g a b → a * block_size g < share_data_size g
+block_begins g a b r =
+    let whole : block_size g * g.needed ≡ g.segment_size = omega (arith, div-add-mod' g.segment_size g.needed, r.valid.multiple) in
+    let product : a * (block_size g * g.needed) ≡ a * g.segment_size = ap (λ n. a * n) whole in
+    let before : g.segment_size * a < g.size = piece_begins g.size g.segment_size a r.valid.some_segment (let s = r.some in let w = r.within in omega arith) in
+    elim (cases_lt (a * block_size g) (share_data_size g)) [
+      | inl below ↦ below
+      | inr above ↦ absurd (omega (arith, product, before, mul-le-mul_right {m = share_data_size g} {n = a * block_size g} g.needed above, (div_ceil_times g.size g.needed r.valid.some_needed).0))
+    ]
+
+pub data_begins : (g : Geometry) (a b : ℕ) → IsRange g a b → data_start g a ≤ data_end g b
+data_begins g a b r =
+    let s = r.some in
+    omega (arith, block_begins g a b r, mul-le-mul_right {m = a} {n = b} (block_size g) (omega arith))
+
+-- some nodes of a row
+pub record Lie (m : ℕ) (n : Nodes) : Type 0 where
+  pub some : 0 < n.count
+  pub few : n.count ≤ max_nodes
+  pub inside : n.from + n.count ≤ 2 ^ n.row
+  pub low : n.row ≤ m
+
+pub piece_lies : (g : Geometry) (a b : ℕ) (p : NodePiece) → IsRange g a b → IsNodePiece g a b p → Lie (tree_height g) (nodes_of g a b p)
+piece_lies g a b p r is =
+    let m = tree_height g in
+    let row = row_of m p.level in
+    let l = level_at g a b p.level in
+    let begins : max_nodes * p.index < l.end - l.first = piece_begins (l.end - l.first) max_nodes p.index (omega arith) is.index in
+    let high = row_high m p.level is.level in
+    let end = end_inside m row b (segment_count g) high.1 (height_room (segment_count g)) in
+    record {
+      some = omega (arith, begins);
+      few = omega arith;
+      inside = omega (arith, begins, end);
+      low = high.1;
+    }
+
+-- nodes of a tree lie in its section
+pub nodes_lie : (g : Geometry) (section : ℕ) (n : Nodes) → Lie (tree_height g) n
+    → LiesIn section (section + tree_size g) (nodes_place section n) (32 * n.count)
+nodes_lie g section n l =
+    let m = tree_height g in
+    let rows = pow-le-pow_right {n = 2} (omega arith) {i = n.row} {j = m} l.low in
+    let some = l.some in
+    let few = l.few in
+    let inside = l.inside in
+    record {
+      some = omega arith;
+      few = omega arith;
+      begins = omega arith;
+      ends = omega (arith, rows, pow_pos n.row, pow_pos m);
+    }
+
+-- the places of the sections
+hashes_low : (g : Geometry) (a b : ℕ) → IsRange g a b → hashes_size g ≤ 306
+hashes_low g a b r = let s = r.valid.shares in omega (arith, height_below g.total 8 (omega arith))
+
+pub lie_inside : PartsLieInside
+lie_inside g a b ShareHashes r is = record {
+  some = omega arith;
+  few = omega (arith, hashes_low g a b r);
+  begins = omega arith;
+  ends = omega arith;
+}
+lie_inside g a b (BlockTree p) r is =
+    let l = nodes_lie g (places_of g).block_tree (nodes_of g a b p) (piece_lies g a b p r is) in
+    record { some = l.some; few = l.few; begins = l.begins; ends = omega (arith, l.ends) }
+lie_inside g a b (CiphertextTree p) r is =
+    let l = nodes_lie g (places_of g).ciphertext_tree (nodes_of g a b p) (piece_lies g a b p r is) in
+    record { some = l.some; few = l.few; begins = l.begins; ends = omega (arith, l.ends) }
+lie_inside g a b (Data i) r is =
+    let begins = piece_begins (data_end g b - data_start g a) max_read i (omega arith) is in
+    record {
+      some = omega (arith, begins);
+      few = omega arith;
+      begins = omega arith;
+      ends = omega (arith, begins);
+    }
+
+-- pieces of one level
+same_level : (l : Level) (i j : ℕ) → i < j
+    → (nodes_at l i).from + (nodes_at l i).count ≤ (nodes_at l j).from
+same_level l i j before = omega arith
+
+-- nodes before others in a section
+before_nodes : (section : ℕ) (n o : Nodes) → n.row ≡ o.row → n.from + n.count ≤ o.from → nodes_place section n + 32 * n.count ≤ nodes_place section o
+before_nodes section n o same before = omega (arith, before, ap (λ row. 2 ^ row) same)
+
+above_nodes : (section : ℕ) (n o : Nodes) → n.from + n.count ≤ 2 ^ n.row → n.row < o.row → nodes_place section n + 32 * n.count ≤ nodes_place section o
+above_nodes section n o inside above =
+    let next : 2 ^ n.row * 2 ≤ 2 ^ o.row = omega (arith, pow-le-pow_right {n = 2} (omega arith) {i = n.row + 1} {j = o.row} (omega arith), pow-add 2 n.row 1) in
+    omega (arith, inside, next, pow_pos n.row)
+
+-- the pieces of a tree are apart
+module _ (g : Geometry) (a b section : ℕ) (r : IsRange g a b) where
+  start : NodePiece → ℕ
+  start p = nodes_place section (nodes_of g a b p)
+
+  size : NodePiece → ℕ
+  size p = 32 * (nodes_of g a b p).count
+
+  on_level : (l : ℕ) (i j : ℕ) → i < j → nodes_place section (nodes_at (level_at g a b l) i) + 32 * (nodes_at (level_at g a b l) i).count
+      ≤ nodes_place section (nodes_at (level_at g a b l) j)
+  on_level l i j before =
+      before_nodes section (nodes_at (level_at g a b l) i) (nodes_at (level_at g a b l) j) refl (same_level (level_at g a b l) i j before)
+
+  above : (p q : NodePiece) → IsNodePiece g a b p → IsNodePiece g a b q → p.level < q.level
+      → nodes_place section (nodes_of g a b p) + 32 * (nodes_of g a b p).count ≤ nodes_place section (nodes_of g a b q)
+  above p q is also low =
+      above_nodes section (nodes_of g a b p) (nodes_of g a b q) (piece_lies g a b p r is).inside (rows_rise (tree_height g) p.level q.level low also.level)
+
+  beside : (p q : NodePiece) → p.level ≡ q.level → p.index < q.index
+      → nodes_place section (nodes_of g a b p) + 32 * (nodes_of g a b p).count ≤ nodes_place section (nodes_of g a b q)
+  beside p q same before =
+      subst (λ l. nodes_place section (nodes_of g a b p) + 32 * (nodes_of g a b p).count ≤ nodes_place section (nodes_at (level_at g a b l) q.index)) same
+      (on_level p.level p.index q.index before)
+
+  pub nodes_apart : (p q : NodePiece) → IsNodePiece g a b p → IsNodePiece g a b q → (p ≡ q)
+      ⊎ AreApart (nodes_place section (nodes_of g a b p)) (32 * (nodes_of g a b p).count)
+      (nodes_place section (nodes_of g a b q)) (32 * (nodes_of g a b q).count)
+  nodes_apart p q is also =
+      elim (cases_order p.level q.level) [
+        | inl same ↦ elim (cases_order p.index q.index) [
+          | inl one ↦ inl (λ i. record { level = same i; index = one i })
+          | inr other ↦ elim other [
+            | inl before ↦ inr (inl (beside p q same before))
+            | inr after ↦ inr (inr (beside q p (sym same) after))
+          ]
+        ]
+        | inr other ↦ elim other [
+          | inl low ↦ inr (inl (above p q is also low))
+          | inr high ↦ inr (inr (above q p also is high))
+        ]
+      ]
+
+-- what lies in an earlier section is before what lies in a later one
+earlier : (s e place len s' e' place' len' : ℕ) → LiesIn s e place len → LiesIn s' e' place' len' → e ≤ s' → place + len ≤ place'
+earlier s e place len s' e' place' len' one other order = let f = one.ends in let t = other.begins in omega arith
+
+data_apart : (g : Geometry) (a b i j : ℕ) → (Data i ≡ Data j)
+    ⊎ AreApart (place_of g a b (Data i)) (length_of g a b (Data i)) (place_of g a b (Data j)) (length_of g a b (Data j))
+data_apart g a b i j =
+    elim (cases_order i j) [
+      | inl same ↦ inl (ap Data same)
+      | inr other ↦ elim other [
+        | inl before ↦ inr (inl (omega arith))
+        | inr after ↦ inr (inr (omega arith))
+      ]
+    ]
+
+-- parts of two sections are apart
+module _ (g : Geometry) (a b : ℕ) (r : IsRange g a b) (p q : Part) (is : IsPart g a b p) (also : IsPart g a b q) where
+  first : section_end (places_of g) p ≤ section_start (places_of g) q
+      → AreApart (place_of g a b p) (length_of g a b p) (place_of g a b q) (length_of g a b q)
+  first order = inl (earlier _ _ _ _ _ _ _ _ (lie_inside g a b p r is) (lie_inside g a b q r also) order)
+
+  second : section_end (places_of g) q ≤ section_start (places_of g) p
+      → AreApart (place_of g a b p) (length_of g a b p) (place_of g a b q) (length_of g a b q)
+  second order = inr (earlier _ _ _ _ _ _ _ _ (lie_inside g a b q r also) (lie_inside g a b p r is) order)
+
+one_of : {X Y : Type 0} {x y : X} (f : X → Y) {A : Type 0} → (x ≡ y) ⊎ A → (f x ≡ f y) ⊎ A
+one_of f (inl same) = inl (ap f same)
+one_of f (inr other) = inr other
+
+pub are_apart : PartsAreApart
+are_apart g a b ShareHashes ShareHashes r is also = inl refl
+are_apart g a b ShareHashes (BlockTree q) r is also = inr (second g a b r ShareHashes (BlockTree q) is also (omega arith))
+are_apart g a b ShareHashes (CiphertextTree q) r is also = inr (second g a b r ShareHashes (CiphertextTree q) is also (omega arith))
+are_apart g a b ShareHashes (Data j) r is also = inr (second g a b r ShareHashes (Data j) is also (omega arith))
+are_apart g a b (BlockTree p) ShareHashes r is also = inr (first g a b r (BlockTree p) ShareHashes is also (omega arith))
+are_apart g a b (BlockTree p) (BlockTree q) r is also = one_of BlockTree (nodes_apart g a b (places_of g).block_tree r p q is also)
+are_apart g a b (BlockTree p) (CiphertextTree q) r is also = inr (second g a b r (BlockTree p) (CiphertextTree q) is also (omega arith))
+are_apart g a b (BlockTree p) (Data j) r is also = inr (second g a b r (BlockTree p) (Data j) is also (omega arith))
+are_apart g a b (CiphertextTree p) ShareHashes r is also = inr (first g a b r (CiphertextTree p) ShareHashes is also (omega arith))
+are_apart g a b (CiphertextTree p) (BlockTree q) r is also = inr (first g a b r (CiphertextTree p) (BlockTree q) is also (omega arith))
+are_apart g a b (CiphertextTree p) (CiphertextTree q) r is also = one_of CiphertextTree (nodes_apart g a b (places_of g).ciphertext_tree r p q is also)
+are_apart g a b (CiphertextTree p) (Data j) r is also = inr (second g a b r (CiphertextTree p) (Data j) is also (omega arith))
+are_apart g a b (Data i) ShareHashes r is also = inr (first g a b r (Data i) ShareHashes is also (omega arith))
+are_apart g a b (Data i) (BlockTree q) r is also = inr (first g a b r (Data i) (BlockTree q) is also (omega arith))
+are_apart g a b (Data i) (CiphertextTree q) r is also = inr (first g a b r (Data i) (CiphertextTree q) is also (omega arith))
+are_apart g a b (Data i) (Data j) r is also = data_apart g a b i j
+
+-- the byte of a piece is one of a block
+in_block : (g : Geometry) (a b i place : ℕ) → IsInPiece g a b i place → (number : ℕ) × (a ≤ number) × (number < b) × IsInBlock g number place
+in_block g a b i place is =
+    let h = header_size (layout_of g) in
+    let size = block_size g in
+    let begins = is.begins in
+    let ends = is.ends in
+    let from : a * size ≤ place - h = omega arith in
+    let before : place - h < b * size = omega arith in
+    let inside : place - h < share_data_size g = omega arith in
+    let some : 0 < size = elim (cases_lt 0 size) [ inl found ↦ found | inr none ↦ let z : size ≡ 0 = omega arith in absurd (omega (arith, before, ap (λ n. b * n) z)) ] in
+    let number = (place - h) / size in
+    let split = div-add-mod' (place - h) size in
+    let rest = mod_below (place - h) size some in (
+      number,
+      le-div a (place - h) size some from,
+      div_below (place - h) size b some before,
+      record { begins = omega (arith, split); ends = omega (arith, split, rest, inside) },
+    )
+
+-- the byte of a block is one of a piece
+in_piece : (g : Geometry) (a b place number : ℕ) → a ≤ number → number < b → IsInBlock g number place → (i : ℕ) × IsInPiece g a b i place
+in_piece g a b place number from before is =
+    let h = header_size (layout_of g) in
+    let size = block_size g in
+    let begins = is.begins in
+    let ends = is.ends in
+    let low : a * size ≤ number * size = mul-le-mul_right size from in
+    let high : number * size + size ≤ b * size = omega (arith, mul-le-mul_right {m = number + 1} {n = b} size (omega arith)) in
+    let start : data_start g a ≤ place = omega arith in
+    let end : place < data_end g b = omega arith in (
+      (place - data_start g a) / max_read,
+      record {
+        part = below_ceil (data_end g b - data_start g a) max_read (place - data_start g a) (omega arith) (omega arith);
+        begins = omega arith;
+        ends = omega arith;
+      },
+    )
+
+pub hold_the_blocks : PartsHoldTheBlocks
+hold_the_blocks g a b place r = (λ i. in_block g a b i place, in_piece g a b place)
+
+pub hold_groups : LevelsHoldGroups
+hold_groups g a b level number node r there from before same above =
+    holds_group (tree_height g) (row_of (tree_height g) level) a b (segment_count g) number node from before same above

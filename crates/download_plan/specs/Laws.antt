@@ -1,0 +1,78 @@
+-- Laws of plans.
+use Rattle.std.specs.Prelude.{◌≡◌, ◌⊎◌, ℕ, ◌+◌, ◌*◌, ◌/◌, ◌<◌, ◌≤◌}
+use Rattle.share_layout.specs.declared.places.Places.{Places}
+use Rattle.share_layout.specs.Geometry.{Geometry, block_size, segment_count}
+use Rattle.share_layout.specs.Layout.{header_size, layout_of, places_of}
+use Rattle.share_layout.specs.Pieces.{block_length}
+use Rattle.download_plan.specs.Level.{group_size, leaves_below, level_at, level_count, tree_height}
+use Rattle.download_plan.specs.Plan.{IsPart, length_of, place_of, max_read}
+use Rattle.download_plan.specs.Range.{IsRange}
+use Rattle.download_plan.specs.declared.part.Part.{Part}
+use Rattle.download_plan.specs.declared.part.Part.TheVariants.{ShareHashes, BlockTree}
+use Rattle.download_plan.specs.declared.part.Part.TheVariants.{CiphertextTree, Data}
+
+-- one ends before the other begins
+abbrev pub AreApart : ℕ → ℕ → ℕ → ℕ → Type 0
+AreApart place len place' len' = (place + len ≤ place') ⊎ (place' + len' ≤ place)
+
+-- a law: two parts of a plan are one, or they have no byte in common
+abbrev pub PartsAreApart : Type 0
+PartsAreApart = (g : Geometry) (a b : ℕ) (p q : Part) → IsRange g a b
+    → IsPart g a b p → IsPart g a b q → (p ≡ q)
+    ⊎ AreApart (place_of g a b p) (length_of g a b p) (place_of g a b q) (length_of g a b q)
+
+-- the section that a part is of: where it begins, and where it ends
+abbrev pub section_start : Places → Part → ℕ
+section_start s ShareHashes = s.share_hashes
+section_start s (BlockTree p) = s.block_tree
+section_start s (CiphertextTree p) = s.ciphertext_tree
+section_start s (Data i) = header_size s.layout
+
+abbrev pub section_end : Places → Part → ℕ
+section_end s ShareHashes = s.extension_block
+section_end s (BlockTree p) = s.share_hashes
+section_end s (CiphertextTree p) = s.block_tree
+section_end s (Data i) = s.unused
+
+-- some bytes, 32,768 at most, lie in a section
+pub record LiesIn (start end place len : ℕ) : Type 0 where
+  pub some : 0 < len
+  pub few : len ≤ max_read
+  pub begins : start ≤ place
+  pub ends : place + len ≤ end
+
+-- a law: each part lies in its section
+abbrev pub PartsLieInside : Type 0
+PartsLieInside = (g : Geometry) (a b : ℕ) (p : Part) → IsRange g a b → IsPart g a b p
+    → LiesIn (section_start (places_of g) p) (section_end (places_of g) p)
+    (place_of g a b p) (length_of g a b p)
+
+-- a place of a share lies in the block of this segment
+pub record IsInBlock (g : Geometry) (number place : ℕ) : Type 0 where
+  pub begins : header_size (layout_of g) + number * block_size g ≤ place
+  pub ends : place
+      < header_size (layout_of g) + number * block_size g + block_length g number
+
+-- a place lies in a piece of the data
+pub record IsInPiece (g : Geometry) (a b i place : ℕ) : Type 0 where
+  pub part : IsPart g a b (Data i)
+  pub begins : place_of g a b (Data i) ≤ place
+  pub ends : place < place_of g a b (Data i) + length_of g a b (Data i)
+
+-- a law: the pieces of the data hold the bytes of these segments' blocks, and no others
+abbrev pub PartsHoldTheBlocks : Type 0
+PartsHoldTheBlocks = (g : Geometry) (a b place : ℕ) → IsRange g a b
+    → ((i : ℕ) → IsInPiece g a b i place
+    → (number : ℕ) × (a ≤ number) × (number < b) × IsInBlock g number place)
+    × ((number : ℕ) → a ≤ number → number < b → IsInBlock g number place
+    → (i : ℕ) × IsInPiece g a b i place)
+
+-- a law: what is read of a level has each node in a group above a wanted segment that has a segment
+-- below it
+abbrev pub LevelsHoldGroups : Type 0
+LevelsHoldGroups = (g : Geometry) (a b level number node : ℕ) → IsRange g a b
+    → level < level_count (tree_height g) → a ≤ number → number < b
+    → let l = level_at g a b level in let m = tree_height g in
+    node / group_size l.row ≡ number / leaves_below m l.row / group_size l.row
+    → node * leaves_below m l.row < segment_count g
+    → (l.first ≤ node) × (node < l.end)

@@ -1,0 +1,95 @@
+-- The parts of the plan for the segments `a` to before `b`.
+use Rattle.std.specs.Prelude.{◌≡◌, ℕ, ◌+◌, ◌-◌, ◌*◌, ◌<◌, min, Option, Some, None}
+use Rattle.std.specs.Prelude.{nat_lt, if◌then◌else◌}
+use Rattle.std.specs.Int.{div_ceil}
+use Rattle.merkle.specs.Tree.{node_number}
+use Rattle.share_layout.specs.Geometry.{Geometry, block_size, hashes_size, share_data_size}
+use Rattle.share_layout.specs.Layout.{header_size, layout_of, places_of}
+use Rattle.download_plan.specs.Level.{level_at, level_count, tree_height}
+use Rattle.download_plan.specs.declared.level.Level.{Level}
+use Rattle.download_plan.specs.declared.part.NodePiece.{NodePiece}
+use Rattle.download_plan.specs.declared.part.Nodes.{Nodes}
+use Rattle.download_plan.specs.declared.part.Part.{Part}
+use Rattle.download_plan.specs.declared.part.Part.TheVariants.{ShareHashes, BlockTree}
+use Rattle.download_plan.specs.declared.part.Part.TheVariants.{CiphertextTree, Data}
+
+-- the most bytes of a read, and the most nodes
+abbrev pub max_read : ℕ
+max_read = 32768
+
+abbrev pub max_nodes : ℕ
+max_nodes = 1024
+
+-- the pieces of a level, and the nodes of one
+abbrev pub pieces_of : Level → ℕ
+pieces_of l = div_ceil (l.end - l.first) max_nodes
+
+abbrev pub nodes_at : Level → ℕ → Nodes
+nodes_at l index = let from = l.first + max_nodes * index in record {
+  row = l.row;
+  from = from;
+  count = min max_nodes (l.end - from);
+}
+
+abbrev pub nodes_of : Geometry → ℕ → ℕ → NodePiece → Nodes
+nodes_of g a b p = nodes_at (level_at g a b p.level) p.index
+
+-- the level has this piece
+pub record IsNodePiece (g : Geometry) (a b : ℕ) (p : NodePiece) : Type 0 where
+  pub level : p.level < level_count (tree_height g)
+  pub index : p.index < pieces_of (level_at g a b p.level)
+
+-- the pieces of a tree in their order, upper levels first
+abbrev pub first_piece : Geometry → Option NodePiece
+first_piece g =
+    if nat_lt 0 (level_count (tree_height g)) then Some (record { level = 0; index = 0 }) else None
+
+abbrev pub next_piece : Geometry → ℕ → ℕ → NodePiece → Option NodePiece
+next_piece g a b p =
+    if nat_lt (p.index + 1) (pieces_of (level_at g a b p.level))
+    then Some (record { level = p.level; index = p.index + 1 }) else
+    if nat_lt (p.level + 1) (level_count (tree_height g))
+    then Some (record { level = p.level + 1; index = 0 }) else
+    None
+
+-- where the blocks of the segments begin in a share, and where they end
+abbrev pub data_start : Geometry → ℕ → ℕ
+data_start g a = header_size (layout_of g) + a * block_size g
+
+abbrev pub data_end : Geometry → ℕ → ℕ
+data_end g b = header_size (layout_of g) + min (b * block_size g) (share_data_size g)
+
+-- how many pieces they have
+abbrev pub data_pieces : Geometry → ℕ → ℕ → ℕ
+data_pieces g a b = div_ceil (data_end g b - data_start g a) max_read
+
+-- it is a part of the plan
+abbrev pub IsPart : Geometry → ℕ → ℕ → Part → Type 0
+IsPart g a b ShareHashes = Unit {0}
+IsPart g a b (BlockTree p) = IsNodePiece g a b p
+IsPart g a b (CiphertextTree p) = IsNodePiece g a b p
+IsPart g a b (Data i) = i < data_pieces g a b
+
+-- the place of some nodes in the section of a tree
+abbrev pub nodes_place : ℕ → Nodes → ℕ
+nodes_place section n = section + 32 * node_number n.row n.from
+
+-- the place of a part in the share, and its length
+abbrev pub place_of : Geometry → ℕ → ℕ → Part → ℕ
+place_of g a b ShareHashes = (places_of g).share_hashes
+place_of g a b (BlockTree p) = nodes_place (places_of g).block_tree (nodes_of g a b p)
+place_of g a b (CiphertextTree p) = nodes_place (places_of g).ciphertext_tree (nodes_of g a b p)
+place_of g a b (Data i) = data_start g a + max_read * i
+
+abbrev pub length_of : Geometry → ℕ → ℕ → Part → ℕ
+length_of g a b ShareHashes = hashes_size g
+length_of g a b (BlockTree p) = 32 * (nodes_of g a b p).count
+length_of g a b (CiphertextTree p) = 32 * (nodes_of g a b p).count
+length_of g a b (Data i) = min max_read (data_end g b - (data_start g a + max_read * i))
+
+-- a read of so many bytes from this place on is a part of the plan
+pub record IsPlanned (g : Geometry) (a b place len : ℕ) : Type 0 where
+  pub part : Part
+  pub is : IsPart g a b part
+  pub place_is : place ≡ place_of g a b part
+  pub len_is : len ≡ length_of g a b part

@@ -1,0 +1,28 @@
+//! Laws of plans.
+
+ghost use Rattle.download_plan.specs.Laws.{LevelsHoldGroups, PartsAreApart, PartsHoldTheBlocks};
+ghost use Rattle.download_plan.specs.Laws.{PartsLieInside};
+
+/// A law of the definitions: two parts of a plan are one, or they have no byte in common. The law
+/// is the contract; the call does nothing.
+pub fn parts_are_apart()
+    ensures { PartsAreApart }
+{}
+
+/// A law of the definitions: each part of a plan lies in its section, which ends before the
+/// extension block's length. The law is the contract; the call does nothing.
+pub fn parts_lie_inside()
+    ensures { PartsLieInside }
+{}
+
+/// A law of the definitions: the pieces of the data hold the bytes of the wanted segments' blocks,
+/// and no others. The law is the contract; the call does nothing.
+pub fn parts_hold_the_blocks()
+    ensures { PartsHoldTheBlocks }
+{}
+
+/// A law of the definitions: of each level all nodes that have a segment below them are read in
+/// each group above a wanted segment. The law is the contract; the call does nothing.
+pub fn levels_hold_groups()
+    ensures { LevelsHoldGroups }
+{}
