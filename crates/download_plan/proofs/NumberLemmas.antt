@@ -1,10 +1,11 @@
 -- The rows of levels, and the nodes of a row that are read.
-use Rattle.std.proofs.Common.{◌≡◌, ℕ, ◌+◌, ◌-◌, ◌*◌, ◌/◌, ◌^◌, ◌<◌, ◌≤◌, min, inl, inr, ap, ◌∙◌, arith}
+use Rattle.std.proofs.Common.{◌≡◌, ℕ, ◌+◌, ◌-◌, ◌*◌, ◌/◌, ◌%◌, ◌^◌, ◌<◌, ◌≤◌, min, ◌⊎◌, inl, inr, ap, refl, sym, ◌∙◌, arith}
 use Rattle.std.specs.Int.{div_ceil}
-use Rattle.std.proofs.Math.Nat.{div-mul-le_self, mul-le-mul_right}
+use Rattle.std.proofs.Math.Nat.{div-mul-le_self, lt_of_mul-lt-mul_left, mul-le-mul_right}
 use Rattle.std.proofs.lemmas.Bool.{cases_lt}
-use Rattle.std.proofs.lemmas.Nat.{div-add-mod', div_below, le-div, mod_below, pow_pos, pow-add}
+use Rattle.std.proofs.lemmas.Nat.{div-add-mod', div-mul-add, div_below, le-div, mod_below, pow_pos, pow-add}
 use Rattle.std.proofs.lemmas.Grind.{div_ceil_times}
+use Rattle.ueb.specs.Shape.{rounded_up}
 use Rattle.download_plan.specs.Level.{end_node, first_node, group_size, leaves_below, level_count, row_of}
 
 -- what is below a number of whole pieces is in one of them
@@ -85,4 +86,64 @@ holds_group m row a b count number node from before same above =
     let inside = pieces_below count w node w_some above in (
       omega (arith, mul-le-mul_right {m = a / w / k} {n = node / k} k low, div-mul-le_self node k),
       omega (arith, inside, below_pieces node k (div_ceil (div_ceil b w) k) k_some high),
+    )
+
+-- the most nodes of a read are so many groups
+pub group_of : (row : ℕ) → 1024 ≡ group_size row * 2 ^ (10 - min row 7)
+group_of row = let e : 10 ≡ min row 7 + (10 - min row 7) = omega arith in ap (λ k. 2 ^ k) e ∙ pow-add 2 (min row 7) (10 - min row 7)
+
+-- what is read begins with a group, and ends with one or with the last node that has a leaf below it
+pub first_multiple : (m row a : ℕ) → (n : ℕ) × (first_node m row a ≡ n * group_size row)
+unfolding first_node
+first_multiple m row a = (a / leaves_below m row / group_size row, refl)
+
+pub end_multiple : (m row b count : ℕ)
+    → ((n : ℕ) × (end_node m row b count ≡ n * group_size row)) ⊎ (end_node m row b count ≡ div_ceil count (leaves_below m row))
+unfolding end_node
+end_multiple m row b count =
+    elim (cases_lt (rounded_up (div_ceil b (leaves_below m row)) (group_size row)) (div_ceil count (leaves_below m row))) [
+      | inl before ↦ inl (div_ceil (div_ceil b (leaves_below m row)) (group_size row), omega (arith, before))
+      | inr behind ↦ inr (omega (arith, behind))
+    ]
+
+-- so the group above a segment begins among what is read
+pub group_begins : (m row a b count number : ℕ) → a ≤ number → number < b → b ≤ count
+    → (first_node m row a ≤ first_node m row number) × (first_node m row number < end_node m row b count)
+unfolding first_node
+group_begins m row a b count number from before within =
+    let w = leaves_below m row in
+    let k = group_size row in
+    let above = number / w in
+    let start = above / k * k in
+    let own : start / k ≡ above / k = let e : start + 0 ≡ start = omega arith in ap (λ n. n / k) (sym e) ∙ div-mul-add (above / k) k 0 (pow_pos (min row 7)) in
+    holds_group m row a b count number start from before own
+    (omega (arith, mul-le-mul_right {m = start} {n = above} w (div-mul-le_self above k), div-mul-le_self number w))
+
+-- groups that begin in a piece end in it
+group_ends : (k c x i : ℕ) → 1024 ≡ k * c → x * k < (i + 1) * 1024 → x * k + k ≤ (i + 1) * 1024
+group_ends k c x i whole low =
+    let size : (i + 1) * 1024 ≡ (i + 1) * (k * c) = ap (λ n. (i + 1) * n) whole in
+    let fewer : x < (i + 1) * c = lt_of_mul-lt-mul_left k {m = x} {n = (i + 1) * c} (omega (arith, size, low)) in
+    omega (arith, size, mul-le-mul_right {m = x + 1} {n = (i + 1) * c} k (omega (arith, fewer)))
+
+-- the piece in which a group begins has all of it
+pub group_within : (m row a number node : ℕ) → a ≤ number → node / group_size row ≡ number / leaves_below m row / group_size row
+    → let i = (first_node m row number - first_node m row a) / 1024 in
+    (first_node m row a + 1024 * i ≤ node) × (node < first_node m row a + 1024 * i + 1024)
+unfolding first_node
+group_within m row a number node from same =
+    let w = leaves_below m row in
+    let k = group_size row in
+    let k_some : 0 < k = pow_pos (min row 7) in
+    let low = a / w / k in
+    let high = number / w / k in
+    let order : low ≤ high = div_le (a / w) (number / w) k k_some (div_le a number w (pow_pos (m - row)) from) in
+    let x = high - low in
+    let sum : (low + x) * k ≡ high * k = let e : low + x ≡ high = omega arith in ap (λ n. n * k) e in
+    let i = (high * k - low * k) / 1024 in
+    let before : x * k < (i + 1) * 1024 = omega (arith, sum) in
+    let within = group_ends k (2 ^ (10 - min row 7)) x i (group_of row) before in
+    let place : node ≡ high * k + node % k = omega (arith, div-add-mod' node k, ap (λ n. n * k) same) in (
+      omega (arith, place, sum),
+      omega (arith, place, sum, within, mod_below node k k_some),
     )

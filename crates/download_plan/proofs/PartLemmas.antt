@@ -1,22 +1,35 @@
 -- The parts of a plan lie in their sections, and apart from each other.
-use Rattle.std.proofs.Common.{◌≡◌, ◌⊎◌, ℕ, ◌+◌, ◌-◌, ◌*◌, ◌/◌, ◌^◌, ◌<◌, ◌≤◌, inl, inr, ap, refl, sym, subst, arith}
-use Rattle.std.proofs.Math.Nat.{mul-le-mul_right, pow-le-pow_right}
+use Rattle.std.proofs.Common.{◌≡◌, ◌⊎◌, ℕ, ◌+◌, ◌-◌, ◌*◌, ◌/◌, ◌%◌, ◌^◌, ◌<◌, ◌≤◌, min, inl, inr, ap, refl, sym, subst, ◌∙◌, arith}
+use Rattle.std.proofs.Math.Nat.{mul-le-mul_right, mul-mod_left, pow-le-pow_right}
 use Rattle.std.proofs.lemmas.Bool.{cases_lt, cases_order}
 use Rattle.std.proofs.lemmas.Nat.{div-add-mod', div_below, le-div, mod_below, pow_pos, pow-add}
 use Rattle.std.proofs.lemmas.Grind.{div_ceil_times}
 use Rattle.merkle.proofs.HeightLemmas.{height_below, height_room}
-use Rattle.share_layout.specs.Geometry.{Geometry, block_size, hashes_size, segment_count, share_data_size, tree_size}
+use Rattle.share_layout.specs.Geometry.{Geometry, IsGeometry, block_size, hashes_size, segment_count, share_data_size, tree_size}
+use Rattle.share_layout.specs.declared.layout.Layout.{Layout}
+use Rattle.share_layout.specs.declared.layout.Layout.TheVariants.{One, Two}
 use Rattle.share_layout.specs.Layout.{header_size, layout_of, places_of}
-use Rattle.download_plan.specs.Level.{level_at, row_of, tree_height}
-use Rattle.download_plan.specs.Plan.{IsNodePiece, IsPart, data_end, data_start, length_of, max_nodes, max_read, nodes_at, nodes_of, nodes_place, place_of}
+use Rattle.share_layout.specs.Pieces.{block_length}
+use Rattle.download_plan.specs.Level.{IsAbove, first_node, group_size, level_at, row_of, tree_height}
+use Rattle.download_plan.specs.Plan.{IsAmong, IsNodePiece, IsPart, block_place, data_end, data_pieces, length_of, max_nodes, max_read, nodes_at, nodes_of, nodes_place, piece_at, pieces_of, place_of}
 use Rattle.download_plan.specs.Range.{IsRange}
-use Rattle.download_plan.specs.Laws.{AreApart, IsInBlock, IsInPiece, LevelsHoldGroups, LiesIn, PartsAreApart, PartsHoldTheBlocks, PartsLieInside, section_end, section_start}
+use Rattle.download_plan.specs.Laws.{AreApart, IsInBlock, IsInPiece, LevelsHoldGroups, LiesIn, PartsAreApart, PartsHoldTheBlocks, PartsLieInside, PiecesAreGroups, section_end, section_start}
 use Rattle.download_plan.specs.declared.level.Level.{Level}
 use Rattle.download_plan.specs.declared.part.NodePiece.{NodePiece}
 use Rattle.download_plan.specs.declared.part.Nodes.{Nodes}
 use Rattle.download_plan.specs.declared.part.Part.{Part}
 use Rattle.download_plan.specs.declared.part.Part.TheVariants.{ShareHashes, BlockTree, CiphertextTree, Data}
-use Rattle.download_plan.proofs.NumberLemmas.{below_ceil, end_inside, holds_group, piece_begins, row_high, rows_rise}
+use Rattle.download_plan.proofs.NumberLemmas.{below_ceil, ceil_most, end_inside, end_multiple, first_multiple, group_begins, group_of, group_within, holds_group, piece_begins, row_high, rows_rise}
+
+-- headers and shares are not long
+header_short : (l : Layout) → header_size l ≤ 68
+header_short One = omega arith
+header_short Two = omega arith
+
+share_low : (g : Geometry) → IsGeometry g → share_data_size g ≤ 2 ^ 40
+share_low g valid =
+    let low = valid.not_large in
+    ceil_most g.size g.needed (2 ^ 40) valid.some_needed (omega (arith, low, mul-le-mul_right {m = 1} {n = g.needed} (2 ^ 40) valid.some_needed))
 
 -- a segment's block begins before the blocks end
 pub block_begins : (g : Geometry) (a b : ℕ) → IsRange g a b → a * block_size g < share_data_size g
@@ -29,10 +42,19 @@ block_begins g a b r =
       | inr above ↦ absurd (omega (arith, product, before, mul-le-mul_right {m = share_data_size g} {n = a * block_size g} g.needed above, (div_ceil_times g.size g.needed r.valid.some_needed).0))
     ]
 
-pub data_begins : (g : Geometry) (a b : ℕ) → IsRange g a b → data_start g a ≤ data_end g b
+block_some : (g : Geometry) → IsGeometry g → 0 < block_size g
+block_some g valid =
+    elim (cases_lt 0 (block_size g)) [
+      | inl found ↦ found
+      | inr none ↦
+          let zero : block_size g ≡ 0 = omega (arith, none) in
+          absurd (omega (arith, ap (λ n. n * g.needed) zero, div-add-mod' g.segment_size g.needed, valid.multiple, valid.some_segment))
+    ]
+
+pub data_begins : (g : Geometry) (a b : ℕ) → IsRange g a b → block_place g a < data_end g b
 data_begins g a b r =
     let s = r.some in
-    omega (arith, block_begins g a b r, mul-le-mul_right {m = a} {n = b} (block_size g) (omega arith))
+    omega (arith, block_begins g a b r, block_some g r.valid, mul-le-mul_right {m = a + 1} {n = b} (block_size g) (omega arith))
 
 -- some nodes of a row
 pub record Lie (m : ℕ) (n : Nodes) : Type 0 where
@@ -90,7 +112,7 @@ lie_inside g a b (CiphertextTree p) r is =
     let l = nodes_lie g (places_of g).ciphertext_tree (nodes_of g a b p) (piece_lies g a b p r is) in
     record { some = l.some; few = l.few; begins = l.begins; ends = omega (arith, l.ends) }
 lie_inside g a b (Data i) r is =
-    let begins = piece_begins (data_end g b - data_start g a) max_read i (omega arith) is in
+    let begins = piece_begins (data_end g b - block_place g a) max_read i (omega arith) is in
     record {
       some = omega (arith, begins);
       few = omega arith;
@@ -230,11 +252,11 @@ in_piece g a b place number from before is =
     let ends = is.ends in
     let low : a * size ≤ number * size = mul-le-mul_right size from in
     let high : number * size + size ≤ b * size = omega (arith, mul-le-mul_right {m = number + 1} {n = b} size (omega arith)) in
-    let start : data_start g a ≤ place = omega arith in
+    let start : block_place g a ≤ place = omega arith in
     let end : place < data_end g b = omega arith in (
-      (place - data_start g a) / max_read,
+      (place - block_place g a) / max_read,
       record {
-        part = below_ceil (data_end g b - data_start g a) max_read (place - data_start g a) (omega arith) (omega arith);
+        part = below_ceil (data_end g b - block_place g a) max_read (place - block_place g a) (omega arith) (omega arith);
         begins = omega arith;
         ends = omega arith;
       },
@@ -244,5 +266,77 @@ pub hold_the_blocks : PartsHoldTheBlocks
 hold_the_blocks g a b place r = (λ i. in_block g a b i place, in_piece g a b place)
 
 pub hold_groups : LevelsHoldGroups
-hold_groups g a b level number node r there from before same above =
-    holds_group (tree_height g) (row_of (tree_height g) level) a b (segment_count g) number node from before same above
+hold_groups g a b level number node r there from before is =
+    holds_group (tree_height g) (row_of (tree_height g) level) a b (segment_count g) number node from before is.group is.some
+
+-- the pieces of a tree are whole groups
+pub are_groups : PiecesAreGroups
+are_groups g a b p r is =
+    let m = tree_height g in
+    let row = row_of m p.level in
+    let k = group_size row in
+    let lie = piece_lies g a b p r is in
+    let n = nodes_of g a b p in
+    let begins = first_multiple m row a in
+    let whole : n.from ≡ (begins.0 + 2 ^ (10 - min row 7) * p.index) * k =
+    omega (arith, begins.1, ap (λ size. size * p.index) (group_of row)) in
+    let next : n.from + max_nodes ≡ (begins.0 + 2 ^ (10 - min row 7) * (p.index + 1)) * k =
+    omega (arith, whole, group_of row) in
+    record {
+      begin = ap (λ size. size % k) whole ∙ mul-mod_left (begins.0 + 2 ^ (10 - min row 7) * p.index) k;
+      end = elim (cases_lt ((level_at g a b p.level).end - n.from) max_nodes) [
+        | inr full ↦ inl (ap (λ size. size % k) (let e : n.from + n.count ≡ n.from + max_nodes = omega arith in e ∙ next) ∙ mul-mod_left _ k)
+        | inl short ↦ let e : n.from + n.count ≡ (level_at g a b p.level).end = (let some = lie.some in omega arith) in
+            elim (end_multiple m row b (segment_count g)) [
+              | inl end ↦ inl (ap (λ size. size % k) (e ∙ end.1) ∙ mul-mod_left end.0 k)
+              | inr last ↦ inr (e ∙ last)
+            ]
+      ];
+    }
+
+-- the piece with a group above a segment
+module _ (g : Geometry) (a b level number : ℕ) (r : IsRange g a b) (from : a ≤ number) (before : number < b) where
+  pub above_there : (index : ℕ) → index ≡ (first_node (tree_height g) (row_of (tree_height g) level) number - (level_at g a b level).first) / max_nodes
+      → index < pieces_of (level_at g a b level)
+  above_there index is =
+      let l = level_at g a b level in
+      let begins = group_begins (tree_height g) l.row a b (segment_count g) number from before r.within in
+      subst (λ i. i < pieces_of l) (sym is) (below_ceil (l.end - l.first) max_nodes (first_node (tree_height g) l.row number - l.first) (omega arith) (omega (arith, begins)))
+
+  pub above_holds : (index : ℕ) → index ≡ (first_node (tree_height g) (row_of (tree_height g) level) number - (level_at g a b level).first) / max_nodes
+      → (node : ℕ) → IsAbove g (row_of (tree_height g) level) number node → IsAmong (nodes_at (level_at g a b level) index) node
+  above_holds index is node above =
+      let l = level_at g a b level in
+      let inside = holds_group (tree_height g) l.row a b (segment_count g) number node from before above.group above.some in
+      let within = group_within (tree_height g) l.row a number node from above.group in
+      subst (λ i. IsAmong (nodes_at l i) node) (sym is) (omega (arith, within), omega (arith, within, inside))
+
+-- the block of a wanted segment
+pub block_low : (g : Geometry) (number : ℕ) → IsGeometry g → number < segment_count g → block_place g number ≤ 2 ^ 40 + 68
+block_low g number valid there =
+    let begins = block_begins g number (number + 1) (record { valid = valid; some = omega arith; within = omega (arith, there) }) in
+    omega (arith, begins, header_short (layout_of g), share_low g valid)
+
+-- its pieces are some of the data's
+pub block_within : (g : Geometry) (a b number : ℕ) → IsRange g a b → a ≤ number → number < b → 0 < block_length g number
+    → piece_at g a (block_place g number + block_length g number - 1) < data_pieces g a b
+block_within g a b number r from before some =
+    let size = block_size g in
+    let low = mul-le-mul_right {m = a} {n = number} size from in
+    let high = mul-le-mul_right {m = number + 1} {n = b} size (omega (arith, before)) in
+    below_ceil (data_end g b - block_place g a) max_read (block_place g number + block_length g number - 1 - block_place g a) (omega arith)
+    (omega (arith, low, high, some))
+
+-- numbers that are one by what they stand for
+pub same_node : (g : Geometry) (level number h r node : ℕ) → h ≡ tree_height g → r ≡ row_of (tree_height g) level → node ≡ first_node h r number
+    → node ≡ first_node (tree_height g) (row_of (tree_height g) level) number
+same_node g level number h r node height row is = is ∙ (λ i. first_node (height i) (row i) number)
+
+pub same_pieces : (g : Geometry) (a b number place start len size : ℕ) → IsRange g a b → a ≤ number → number < b → 0 < len → place ≡ block_place g number
+    → start ≡ block_place g a → len ≡ block_length g number → size ≡ max_read → (place - start + len - 1) / size + 1 ≤ data_pieces g a b
+same_pieces g a b number place start len size r from before some here begins long most =
+    let within = block_within g a b number r from before (omega (arith, some, long)) in
+    let low = mul-le-mul_right {m = a} {n = number} (block_size g) from in
+    let last : place - start + len - 1 ≡ block_place g number + block_length g number - 1 - block_place g a = omega (arith, here, begins, long, some, low) in
+    let piece : (place - start + len - 1) / size ≡ piece_at g a (block_place g number + block_length g number - 1) = λ i. last i / most i in
+    omega (arith, piece, within)

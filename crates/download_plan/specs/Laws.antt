@@ -1,12 +1,17 @@
 -- Laws of plans.
-use Rattle.std.specs.Prelude.{◌≡◌, ◌⊎◌, ℕ, ◌+◌, ◌*◌, ◌/◌, ◌<◌, ◌≤◌}
+use Rattle.std.specs.Prelude.{◌≡◌, ◌⊎◌, ℕ, ◌+◌, ◌%◌, ◌<◌, ◌≤◌}
+use Rattle.std.specs.Int.{div_ceil}
 use Rattle.share_layout.specs.declared.places.Places.{Places}
-use Rattle.share_layout.specs.Geometry.{Geometry, block_size, segment_count}
-use Rattle.share_layout.specs.Layout.{header_size, layout_of, places_of}
+use Rattle.share_layout.specs.Geometry.{Geometry, segment_count}
+use Rattle.share_layout.specs.Layout.{header_size, places_of}
 use Rattle.share_layout.specs.Pieces.{block_length}
-use Rattle.download_plan.specs.Level.{group_size, leaves_below, level_at, level_count, tree_height}
-use Rattle.download_plan.specs.Plan.{IsPart, length_of, place_of, max_read}
+use Rattle.download_plan.specs.Level.{IsAbove, group_size, leaves_below, level_at, level_count}
+use Rattle.download_plan.specs.Level.{tree_height}
+use Rattle.download_plan.specs.Plan.{IsNodePiece, IsPart, block_place, length_of, max_read}
+use Rattle.download_plan.specs.Plan.{nodes_of, place_of}
 use Rattle.download_plan.specs.Range.{IsRange}
+use Rattle.download_plan.specs.declared.part.NodePiece.{NodePiece}
+use Rattle.download_plan.specs.declared.part.Nodes.{Nodes}
 use Rattle.download_plan.specs.declared.part.Part.{Part}
 use Rattle.download_plan.specs.declared.part.Part.TheVariants.{ShareHashes, BlockTree}
 use Rattle.download_plan.specs.declared.part.Part.TheVariants.{CiphertextTree, Data}
@@ -49,9 +54,8 @@ PartsLieInside = (g : Geometry) (a b : ℕ) (p : Part) → IsRange g a b → IsP
 
 -- a place of a share lies in the block of this segment
 pub record IsInBlock (g : Geometry) (number place : ℕ) : Type 0 where
-  pub begins : header_size (layout_of g) + number * block_size g ≤ place
-  pub ends : place
-      < header_size (layout_of g) + number * block_size g + block_length g number
+  pub begins : block_place g number ≤ place
+  pub ends : place < block_place g number + block_length g number
 
 -- a place lies in a piece of the data
 pub record IsInPiece (g : Geometry) (a b i place : ℕ) : Type 0 where
@@ -72,7 +76,17 @@ PartsHoldTheBlocks = (g : Geometry) (a b place : ℕ) → IsRange g a b
 abbrev pub LevelsHoldGroups : Type 0
 LevelsHoldGroups = (g : Geometry) (a b level number node : ℕ) → IsRange g a b
     → level < level_count (tree_height g) → a ≤ number → number < b
-    → let l = level_at g a b level in let m = tree_height g in
-    node / group_size l.row ≡ number / leaves_below m l.row / group_size l.row
-    → node * leaves_below m l.row < segment_count g
+    → let l = level_at g a b level in IsAbove g l.row number node
     → (l.first ≤ node) × (node < l.end)
+
+-- Some nodes of a row are whole groups: they begin with a group, and end with one, or with the last
+-- node that has a segment below it.
+pub record AreGroups (g : Geometry) (n : Nodes) : Type 0 where
+  pub begin : n.from % group_size n.row ≡ 0
+  pub end : ((n.from + n.count) % group_size n.row ≡ 0)
+      ⊎ (n.from + n.count ≡ div_ceil (segment_count g) (leaves_below (tree_height g) n.row))
+
+-- a law: the pieces of a tree are whole groups
+abbrev pub PiecesAreGroups : Type 0
+PiecesAreGroups = (g : Geometry) (a b : ℕ) (p : NodePiece) → IsRange g a b
+    → IsNodePiece g a b p → AreGroups g (nodes_of g a b p)

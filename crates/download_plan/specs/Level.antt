@@ -1,7 +1,7 @@
 -- The levels of a tree with a leaf for each segment: every seventh row, counted from the leaves,
 -- down from the root, which is none of them. The nodes of a level under one node of the level above
 -- are a group: all nodes between are computed from it.
-use Rattle.std.specs.Prelude.{ℕ, ◌-◌, ◌*◌, ◌/◌, ◌^◌, min}
+use Rattle.std.specs.Prelude.{◌≡◌, ℕ, ◌-◌, ◌*◌, ◌/◌, ◌^◌, ◌<◌, min}
 use Rattle.std.specs.Int.{div_ceil}
 use Rattle.merkle.specs.Tree.{height}
 use Rattle.ueb.specs.Shape.{rounded_up}
@@ -44,3 +44,9 @@ level_at g a b level = let row = row_of (tree_height g) level in record {
   first = first_node (tree_height g) row a;
   end = end_node (tree_height g) row b (segment_count g);
 }
+
+-- the node of this row is in the group above a segment's leaf, and has a segment below it
+pub record IsAbove (g : Geometry) (row number node : ℕ) : Type 0 where
+  pub group : node / group_size row
+      ≡ number / leaves_below (tree_height g) row / group_size row
+  pub some : node * leaves_below (tree_height g) row < segment_count g

@@ -1,5 +1,5 @@
 -- The parts of the plan for the segments `a` to before `b`.
-use Rattle.std.specs.Prelude.{◌≡◌, ℕ, ◌+◌, ◌-◌, ◌*◌, ◌<◌, min, Option, Some, None}
+use Rattle.std.specs.Prelude.{◌≡◌, ℕ, ◌+◌, ◌-◌, ◌*◌, ◌/◌, ◌<◌, ◌≤◌, min, Option, Some, None}
 use Rattle.std.specs.Prelude.{nat_lt, if◌then◌else◌}
 use Rattle.std.specs.Int.{div_ceil}
 use Rattle.merkle.specs.Tree.{node_number}
@@ -34,6 +34,10 @@ nodes_at l index = let from = l.first + max_nodes * index in record {
 abbrev pub nodes_of : Geometry → ℕ → ℕ → NodePiece → Nodes
 nodes_of g a b p = nodes_at (level_at g a b p.level) p.index
 
+-- the node at this place of their row is one of these
+abbrev pub IsAmong : Nodes → ℕ → Type 0
+IsAmong n place = (n.from ≤ place) × (place < n.from + n.count)
+
 -- the level has this piece
 pub record IsNodePiece (g : Geometry) (a b : ℕ) (p : NodePiece) : Type 0 where
   pub level : p.level < level_count (tree_height g)
@@ -52,16 +56,20 @@ next_piece g a b p =
     then Some (record { level = p.level + 1; index = 0 }) else
     None
 
--- where the blocks of the segments begin in a share, and where they end
-abbrev pub data_start : Geometry → ℕ → ℕ
-data_start g a = header_size (layout_of g) + a * block_size g
+-- where the block of a segment begins in a share
+abbrev pub block_place : Geometry → ℕ → ℕ
+block_place g number = header_size (layout_of g) + number * block_size g
 
+-- where the blocks of the segments before `b` end
 abbrev pub data_end : Geometry → ℕ → ℕ
 data_end g b = header_size (layout_of g) + min (b * block_size g) (share_data_size g)
 
--- how many pieces they have
+-- how many pieces the blocks of these segments have, and the one in which a place of them lies
 abbrev pub data_pieces : Geometry → ℕ → ℕ → ℕ
-data_pieces g a b = div_ceil (data_end g b - data_start g a) max_read
+data_pieces g a b = div_ceil (data_end g b - block_place g a) max_read
+
+abbrev pub piece_at : Geometry → ℕ → ℕ → ℕ
+piece_at g a place = (place - block_place g a) / max_read
 
 -- it is a part of the plan
 abbrev pub IsPart : Geometry → ℕ → ℕ → Part → Type 0
@@ -79,13 +87,13 @@ abbrev pub place_of : Geometry → ℕ → ℕ → Part → ℕ
 place_of g a b ShareHashes = (places_of g).share_hashes
 place_of g a b (BlockTree p) = nodes_place (places_of g).block_tree (nodes_of g a b p)
 place_of g a b (CiphertextTree p) = nodes_place (places_of g).ciphertext_tree (nodes_of g a b p)
-place_of g a b (Data i) = data_start g a + max_read * i
+place_of g a b (Data i) = block_place g a + max_read * i
 
 abbrev pub length_of : Geometry → ℕ → ℕ → Part → ℕ
 length_of g a b ShareHashes = hashes_size g
 length_of g a b (BlockTree p) = 32 * (nodes_of g a b p).count
 length_of g a b (CiphertextTree p) = 32 * (nodes_of g a b p).count
-length_of g a b (Data i) = min max_read (data_end g b - (data_start g a + max_read * i))
+length_of g a b (Data i) = min max_read (data_end g b - (block_place g a + max_read * i))
 
 -- a read of so many bytes from this place on is a part of the plan
 pub record IsPlanned (g : Geometry) (a b place len : ℕ) : Type 0 where

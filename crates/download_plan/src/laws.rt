@@ -1,7 +1,7 @@
 //! Laws of plans.
 
 ghost use Rattle.download_plan.specs.Laws.{LevelsHoldGroups, PartsAreApart, PartsHoldTheBlocks};
-ghost use Rattle.download_plan.specs.Laws.{PartsLieInside};
+ghost use Rattle.download_plan.specs.Laws.{PartsLieInside, PiecesAreGroups};
 
 /// A law of the definitions: two parts of a plan are one, or they have no byte in common. The law
 /// is the contract; the call does nothing.
@@ -25,4 +25,10 @@ pub fn parts_hold_the_blocks()
 /// each group above a wanted segment. The law is the contract; the call does nothing.
 pub fn levels_hold_groups()
     ensures { LevelsHoldGroups }
+{}
+
+/// A law of the definitions: the pieces of a tree are whole groups, so that the nodes of each prove
+/// themselves by the level above. The law is the contract; the call does nothing.
+pub fn pieces_are_groups()
+    ensures { PiecesAreGroups }
 {}

@@ -11,7 +11,9 @@ mod level;
 mod part;
 mod plan;
 
-pub use laws::{levels_hold_groups, parts_are_apart, parts_hold_the_blocks, parts_lie_inside};
+pub use laws::{
+    levels_hold_groups, parts_are_apart, parts_hold_the_blocks, parts_lie_inside, pieces_are_groups,
+};
 pub use level::Level;
-pub use part::{NodePiece, Nodes, Part, Read};
+pub use part::{DataPieces, NodePiece, Nodes, Part, Read};
 pub use plan::{MAX_NODES, MAX_READ, Plan};

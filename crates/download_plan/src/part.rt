@@ -33,6 +33,15 @@ pub struct Nodes {
     pub count: u32,
 }
 
+/// Pieces of the wanted segments' blocks, one behind another.
+#[derive(Clone, Copy, Debug, PartialEq, Eq)]
+pub struct DataPieces {
+    /// The first of them.
+    pub first: u32,
+    /// The one behind the last.
+    pub end: u32,
+}
+
 /// Bytes of a share.
 #[derive(Clone, Copy, Debug, PartialEq, Eq)]
 pub struct Read {

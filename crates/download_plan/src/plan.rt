@@ -1,18 +1,20 @@
 //! The plan of a download from one share.
 
-ghost use Rattle.std.specs.Prelude.{◌≡◌, ◌+◌, ◌-◌, ◌*◌, ◌^◌, ◌<◌, ◌≤◌};
+ghost use Rattle.std.specs.Prelude.{◌≡◌, ℕ, ◌+◌, ◌-◌, ◌*◌, ◌^◌, ◌<◌, ◌≤◌};
 ghost use Rattle.merkle.specs.Tree.{node_number};
 ghost use Rattle.share_layout.specs.Geometry.{segment_count};
 ghost use Rattle.share_layout.specs.Layout.{places_of};
 ghost use Rattle.download_plan.specs.Level.{first_node, end_node, level_at, level_count, row_of};
-ghost use Rattle.download_plan.specs.Level.{group_size, leaves_below, tree_height};
-ghost use Rattle.download_plan.specs.Plan.{IsNodePiece, IsPart, data_end, data_pieces, data_start};
+ghost use Rattle.share_layout.specs.Pieces.{block_length};
+ghost use Rattle.download_plan.specs.Level.{IsAbove, group_size, leaves_below, tree_height};
+ghost use Rattle.download_plan.specs.Plan.{IsAmong, IsNodePiece, IsPart, block_place, data_end};
+ghost use Rattle.download_plan.specs.Plan.{data_pieces, piece_at};
 ghost use Rattle.download_plan.specs.Plan.{first_piece, length_of, max_nodes, max_read};
 ghost use Rattle.download_plan.specs.Plan.{next_piece, nodes_of, nodes_place, pieces_of, place_of};
 ghost use Rattle.download_plan.specs.Range.{IsRange};
 
 use crate::level::Level;
-use crate::part::{NodePiece, Nodes, Part, Read};
+use crate::part::{DataPieces, NodePiece, Nodes, Part, Read};
 use merkle::{height, node_number};
 use share_layout::{Geometry, Places};
 
@@ -133,6 +135,26 @@ impl Plan {
         }
     }
 
+    /// The piece of a level that holds the group above a wanted segment's leaf.
+    pub fn piece_above(&self, level: u32, segment: u32) -> NodePiece
+        requires there { level < level_count (tree_height self.now.geometry) }
+        requires from { self.now.first ≤ segment }
+        requires before { segment < self.now.end }
+        ensures level { result.level ≡ level }
+        ensures piece { IsNodePiece self.now.geometry self.now.first self.now.end result }
+        // It holds the whole group.
+        ensures holds { (node : ℕ)
+            → IsAbove self.now.geometry (row_of (tree_height self.now.geometry) level) segment node
+            → IsAmong (nodes_of self.now.geometry self.now.first self.now.end result) node }
+    {
+        let found = self.level(level);
+        let node = first_node(self.height(), found.row, segment);
+        NodePiece {
+            level,
+            index: (node - found.first) / MAX_NODES,
+        }
+    }
+
     /// The nodes of a piece.
     pub fn nodes(&self, piece: &NodePiece) -> Nodes
         requires { IsNodePiece self.now.geometry self.now.first self.now.end piece.now }
@@ -153,20 +175,44 @@ impl Plan {
 
     /// How many pieces the blocks of the wanted segments have.
     pub fn data_piece_count(&self) -> u32
-        ensures { result ≡ data_pieces self.now.geometry self.now.first self.now.end }
+        ensures value { result ≡ data_pieces self.now.geometry self.now.first self.now.end }
+        ensures some { 0 < result }
     {
-        (self.data_end() - self.data_start()).div_ceil(u64::from(MAX_READ)) as u32
+        (self.data_end() - self.block_place(self.first)).div_ceil(u64::from(MAX_READ)) as u32
     }
 
-    // The place of the first byte of the wanted segments' blocks.
-    fn data_start(&self) -> u64
-        ensures value { result ≡ data_start self.now.geometry self.now.first }
+    /// The place of the block of a segment in each share.
+    pub fn block_place(&self, segment: u32) -> u64
+        requires there { segment < segment_count self.now.geometry }
+        ensures value { result ≡ block_place self.now.geometry segment }
+        ensures low { result ≤ 2 ^ 40 + 68 }
     {
         let header = self.geometry.layout().header_size() as u64;
-        header + u64::from(self.first) * u64::from(self.geometry.block_size())
+        header + u64::from(segment) * u64::from(self.geometry.block_size())
     }
 
-    // The place behind the last.
+    /// The pieces of the data that hold the block of a wanted segment: from the one with its first
+    /// byte to the one with its last.
+    pub fn block_pieces(&self, segment: u32) -> DataPieces
+        requires from { self.now.first ≤ segment }
+        requires before { segment < self.now.end }
+        ensures first { result.first ≡ piece_at self.now.geometry self.now.first
+            (block_place self.now.geometry segment) }
+        ensures end { result.end ≡ piece_at self.now.geometry self.now.first
+            (block_place self.now.geometry segment
+            + block_length self.now.geometry segment - 1) + 1 }
+        ensures some { result.first < result.end }
+        ensures within { result.end ≤ data_pieces self.now.geometry self.now.first self.now.end }
+    {
+        let begin = self.block_place(segment) - self.block_place(self.first);
+        let last = begin + u64::from(self.geometry.block_length(segment)) - 1;
+        DataPieces {
+            first: (begin / u64::from(MAX_READ)) as u32,
+            end: (last / u64::from(MAX_READ)) as u32 + 1,
+        }
+    }
+
+    // The place behind the last byte of the wanted segments' blocks.
     fn data_end(&self) -> u64
         ensures value { result ≡ data_end self.now.geometry self.now.end }
         ensures low { result ≤ 2 ^ 40 + 68 }
@@ -217,13 +263,13 @@ impl Plan {
     // The bytes of a piece of the data.
     fn read_data(&self, index: u32) -> Read
         requires { index < data_pieces self.now.geometry self.now.first self.now.end }
-        ensures place { result.place ≡ data_start self.now.geometry self.now.first
+        ensures place { result.place ≡ block_place self.now.geometry self.now.first
             + max_read * index }
         ensures length { result.length
             ≡ length_of self.now.geometry self.now.first self.now.end (Part.Data index) }
         ensures range { (0 < result.length) × (result.length ≤ max_read) }
     {
-        let place = self.data_start() + u64::from(MAX_READ) * u64::from(index);
+        let place = self.block_place(self.first) + u64::from(MAX_READ) * u64::from(index);
         let left = self.data_end() - place;
         Read {
             place,
