@@ -1,4 +1,5 @@
 pub mod OwnBlocks
+pub mod Drafting
 pub mod OwnHashes
 pub mod OwnShares
 pub mod FileGeometry

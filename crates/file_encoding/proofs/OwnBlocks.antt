@@ -16,7 +16,7 @@ module _ (b k i : ℕ) (some : 0 < k) where
   div_ceil_more : (r : ℕ) → div_ceil (b * k + r) k ≡ b + div_ceil r k
   div_ceil_more r = rw (mul-add-div_right some b r, mul-add-mod_self_right b k r) (omega arith)
 
-  div_ceil_within : (r : ℕ) → r ≤ b * k → div_ceil r k ≤ b
+  pub div_ceil_within : (r : ℕ) → r ≤ b * k → div_ceil r k ≤ b
   div_ceil_within r low =
       elim (cases_lt b (div_ceil r k)) [
         | inl above ↦ let next : (b + 1) * k ≡ b * k + k = omega arith in absurd (omega (arith, next, mul-le-mul_right {m = b + 1} {n = div_ceil r k} k (omega arith), (div_ceil_times r k some).1))

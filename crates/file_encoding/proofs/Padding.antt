@@ -38,7 +38,7 @@ rounded_up-over n k some = (div_ceil_times n k some).0
 pub rounded_up-near : (n k : ℕ) → 0 < k → rounded_up n k < n + k
 rounded_up-near n k some = (div_ceil_times n k some).1
 
-rounded_up-whole : (n k : ℕ) → k ∣ rounded_up n k
+pub rounded_up-whole : (n k : ℕ) → k ∣ rounded_up n k
 rounded_up-whole n k = dvd-mul_left k (n / k + min 1 (n % k))
 
 -- a multiple stays

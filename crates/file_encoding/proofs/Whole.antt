@@ -1,33 +1,31 @@
 -- The parts that the encoder writes are those of the file's encoding.
-use Rattle.std.proofs.Common.{◌≡◌, ℕ, suc, ◌+◌, ◌-◌, ◌*◌, ◌^◌, ◌<◌, ◌≤◌, List, [], ◌++◌, length, map, replicate, get_or, ap, sym, ◌∙◌, arith}
+use Rattle.std.proofs.Common.{◌≡◌, ℕ, suc, ◌+◌, ◌-◌, ◌*◌, ◌<◌, ◌≤◌, List, ◌++◌, length, map, ap, sym, ◌∙◌, arith}
 use Rattle.std.specs.List.{range_with_len}
-use Rattle.std.proofs.lemmas.List.{append_assoc, ext_get_or, length-map}
-use Rattle.std.proofs.lemmas.List.FromFn.{get_or-map-range_with_len, length-map-range_with_len}
+use Rattle.std.proofs.lemmas.List.{append_assoc}
 use Rattle.std.proofs.lemmas.Simd.{map-map}
 use Rattle.std.proofs.lemmas.Grind.{div_ceil_times}
 use Rattle.std.proofs.lemmas.Nat.Gcd.{dvd_of_mod-eq-zero}
 use Rattle.tagged_hash.specs.TaggedHash.{tagged_hash}
-use Rattle.tagged_hash.specs.declared.tag.Tag.TheVariants.{CiphertextSegment, ExtensionBlock}
-use Rattle.merkle.specs.Tree.{height, tree_nodes, tree_root}
-use Rattle.merkle.proofs.TreeLemmas.{length-tree_nodes}
+use Rattle.tagged_hash.specs.declared.tag.Tag.TheVariants.{ExtensionBlock}
+use Rattle.merkle.specs.Tree.{tree_nodes, tree_root}
 use Rattle.aes_ctr.specs.CounterMode.{xored}
 use Rattle.tagged_hash.specs.ConvergentKey.{convergent_key_of}
 use Rattle.cap_text.specs.Cap.{ReadCapValue}
 use Rattle.ueb.specs.Block.{ueb_text}
-use Rattle.share_layout.specs.Geometry.{Geometry, IsGeometry, geometry_of, segment_count, tree_size}
-use Rattle.share_layout.specs.Layout.{header, layout_of, spelled}
-use Rattle.share_verify.specs.Pieces.{block_hashes, joined}
+use Rattle.share_layout.specs.Geometry.{Geometry, IsGeometry, geometry_of, segment_count}
+use Rattle.share_layout.specs.Layout.{layout_of, spelled}
+use Rattle.share_layout.specs.Writing.{ending}
+use Rattle.share_verify.specs.Pieces.{block_hashes}
 use Rattle.share_layout.specs.Pieces.{pieces, segments_of}
 use Rattle.file_encoding.specs.Encoding.{blocks_of, Parameters, ciphertext_encoding, encoding_of, extension_block_contents, padded_segment, share_hashes, share_leaves, share_of}
 use Rattle.proved_parts.specs.FileOf.{segment_hashes}
-use Rattle.file_encoding.specs.Blocks.{padded_block, padded_blocks, share_beginning, share_end}
-use Rattle.file_encoding.proofs.Numbers.{double}
+use Rattle.file_encoding.specs.Blocks.{drafted, finished, padded_block, padded_blocks, share_beginning}
+use Rattle.file_encoding.specs.Drafts.{Drafted}
 use Rattle.file_encoding.proofs.Padding.{pieces-padded}
-use Rattle.proved_parts.proofs.Files.{length-pieces}
 
 -- the encoder's blocks are those of the segments
 pub blocks_are : (g : Geometry) (text : List ℕ) (i : ℕ) → IsGeometry g → length text ≡ g.size
-    → padded_blocks g.needed i (segment_count g) g.segment_size (padded_segment g.needed text) ≡ blocks_of g.needed i (segments_of g text)
+    → padded_blocks g i (padded_segment g.needed text) ≡ blocks_of g.needed i (segments_of g text)
 blocks_are g text i valid size =
     let bounds = div_ceil_times g.size g.segment_size valid.some_segment in
     let count : ℕ = segment_count g in
@@ -44,72 +42,40 @@ blocks_are g text i valid size =
 
 -- the roots are the leaves of the share tree
 pub roots_are : (g : Geometry) (text : List ℕ) → IsGeometry g → length text ≡ g.size
-    → map (λ i. tree_root (block_hashes (padded_blocks g.needed i (segment_count g) g.segment_size (padded_segment g.needed text)))) (range_with_len 0 g.total)
+    → map (λ i. tree_root (block_hashes (padded_blocks g i (padded_segment g.needed text)))) (range_with_len 0 g.total)
     ≡ share_leaves g (segments_of g text)
 roots_are g text valid size = λ p. map (λ i. tree_root (block_hashes (blocks_are g text i valid size p))) (range_with_len 0 g.total)
 
--- a section that holds the ciphertext tree has its length
-pub nodes_size : (g : Geometry) (text : List ℕ) → length (tree_nodes (segment_hashes (segments_of g text))) * 32 ≡ tree_size g
-nodes_size g text =
-    let leaves : List (List ℕ) = segment_hashes (segments_of g text) in
-    let count : length leaves ≡ segment_count g =
-    length-map (segments_of g text) (tagged_hash CiphertextSegment) ∙ length-pieces (segment_count g) g.segment_size text in
-    let all = length-tree_nodes leaves in
-    let twice = double (height (length leaves)) in
-    let some : length (tree_nodes leaves) ≡ 2 * 2 ^ height (length leaves) - 1 = omega (arith, all, twice) in
-    ap (λ n. n * 32) some ∙ ap (λ n. (2 * 2 ^ height n - 1) * 32) count
-
-append_three : (a b c d : List ℕ) → a ++ (b ++ c ++ d) ≡ a ++ b ++ c ++ d
-append_three a b c d = sym (append_assoc a (b ++ c) d) ∙ ap (λ x. x ++ d) (sym (append_assoc a b c))
-
--- a share's beginning and its end are the share
+-- a draft with the rest is the share
 pub share_is : (g : Geometry) (text extension_block : List ℕ) (i : ℕ) → IsGeometry g → length text ≡ g.size
-    → share_beginning (header g)
-    (padded_blocks g.needed i (segment_count g) g.segment_size (padded_segment g.needed text)) (tree_nodes (segment_hashes (segments_of g text)))
-    ++ share_end (layout_of g) (share_leaves g (segments_of g text)) i extension_block
+    → finished (share_leaves g (segments_of g text)) extension_block
+    (drafted g (padded_segment g.needed text) (tree_nodes (segment_hashes (segments_of g text))) i)
     ≡ share_of g (segments_of g text) extension_block i
 share_is g text extension_block i valid size =
     let segments : List (List ℕ) = segments_of g text in
-    let blocks : List (List ℕ) = blocks_of g.needed i segments in
-    let end : List ℕ = share_end (layout_of g) (share_leaves g segments) i extension_block in
-    (λ p. share_beginning (header g) (blocks_are g text i valid size p) (tree_nodes (segment_hashes segments)) ++ end)
-    ∙ append_three (share_beginning (header g) blocks (tree_nodes (segment_hashes segments)))
-    (share_hashes (share_leaves g segments) i) (spelled (layout_of g) (length extension_block)) extension_block
-    ∙ (λ p. header g ++ joined blocks ++ replicate (nodes_size g text p) 0
-    ++ joined (tree_nodes (segment_hashes segments)) ++ joined (tree_nodes (block_hashes blocks)) ++ share_hashes (share_leaves g segments) i
-    ++ spelled (layout_of g) (length extension_block) ++ extension_block)
+    let leaves : List (List ℕ) = share_leaves g segments in
+    (λ p. share_beginning g (blocks_are g text i valid size p) (tree_nodes (segment_hashes segments)) ++ share_hashes leaves i ++ ending g extension_block)
+    ∙ sym (append_assoc (share_beginning g (blocks_of g.needed i segments) (tree_nodes (segment_hashes segments)) ++ share_hashes leaves i)
+    (spelled (layout_of g) (length extension_block)) extension_block)
 
 -- what the encoder has of a ciphertext when its shares are finished
-pub record Finished (g : Geometry) (text extension_block : List ℕ) (leaves begun shares : List (List ℕ)) : Type 0 where
-  pub roots : leaves ≡ map (λ i. tree_root (block_hashes (padded_blocks g.needed i (segment_count g) g.segment_size (padded_segment g.needed text)))) (range_with_len 0 g.total)
-  pub begun_all : begun ≡ map (λ i. share_beginning (header g)
-      (padded_blocks g.needed i (segment_count g) g.segment_size (padded_segment g.needed text)) (tree_nodes (segment_hashes (segments_of g text)))) (range_with_len 0 g.total)
+pub record Finished (g : Geometry) (text extension_block : List ℕ) (own_leaves : List (List ℕ)) (drafts : List Drafted) (shares : List (List ℕ)) : Type 0 where
+  pub leaves : own_leaves ≡ share_leaves g (segments_of g text)
+  pub begun : drafts ≡ map (drafted g (padded_segment g.needed text) (tree_nodes (segment_hashes (segments_of g text)))) (range_with_len 0 g.total)
   pub block : extension_block ≡ ueb_text (extension_block_contents g text (segments_of g text))
-  pub count : length shares ≡ length begun
-  pub finished : (i : ℕ) → i < length begun → get_or shares i [] ≡ get_or begun i [] ++ share_end (layout_of g) leaves i extension_block
+  pub all : shares ≡ map (finished own_leaves extension_block) drafts
 
 -- then they are the encoding's
-pub shares_are : (g : Geometry) (key text extension_block : List ℕ) (leaves begun shares : List (List ℕ)) → IsGeometry g → length text ≡ g.size
-    → Finished g text extension_block leaves begun shares → shares ≡ (ciphertext_encoding g key text).shares
+pub shares_are : (g : Geometry) (key text extension_block : List ℕ) (leaves : List (List ℕ)) (drafts : List Drafted) (shares : List (List ℕ))
+    → IsGeometry g → length text ≡ g.size → Finished g text extension_block leaves drafts shares → shares ≡ (ciphertext_encoding g key text).shares
 unfolding ciphertext_encoding
-shares_are g key text extension_block leaves begun shares valid size done =
+shares_are g key text extension_block leaves drafts shares valid size done =
     let segments : List (List ℕ) = segments_of g text in
-    let begin : ℕ → List ℕ = λ i. share_beginning (header g)
-    (padded_blocks g.needed i (segment_count g) g.segment_size (padded_segment g.needed text)) (tree_nodes (segment_hashes segments)) in
-    let same : leaves ≡ share_leaves g segments = done.roots ∙ roots_are g text valid size in
-    let total : length leaves ≡ g.total = ap length done.roots ∙ length-map-range_with_len _ 0 g.total in
-    let many : length begun ≡ g.total = ap length done.begun_all ∙ length-map-range_with_len begin 0 g.total in
-    let all : length shares ≡ length (map (share_of g segments extension_block) (range_with_len 0 g.total)) =
-    done.count ∙ many ∙ sym (length-map-range_with_len (share_of g segments extension_block) 0 g.total) in
-    ext_get_or [] shares (map (share_of g segments extension_block) (range_with_len 0 g.total)) all
-    (λ i inside.
-    let below : i < length begun = omega (arith, inside, done.count) in
-    let number : i < g.total = omega (arith, below, many) in
-    done.finished i below
-    ∙ (λ p. get_or (done.begun_all p) i [] ++ share_end (layout_of g) (same p) i extension_block)
-    ∙ ap (λ b. b ++ share_end (layout_of g) (share_leaves g segments) i extension_block) (get_or-map-range_with_len begin 0 g.total i i [] number (omega arith))
-    ∙ share_is g text extension_block i valid size
-    ∙ sym (get_or-map-range_with_len (share_of g segments extension_block) 0 g.total i i [] number (omega arith)))
+    let begin : ℕ → Drafted = drafted g (padded_segment g.needed text) (tree_nodes (segment_hashes segments)) in
+    done.all
+    ∙ (λ p. map (finished (done.leaves p) extension_block) (done.begun p))
+    ∙ map-map (finished (share_leaves g segments) extension_block) begin (range_with_len 0 g.total)
+    ∙ (λ p. map (λ i. share_is g text extension_block i valid size p) (range_with_len 0 g.total))
     ∙ ap (λ b. map (share_of g segments b) (range_with_len 0 g.total)) done.block
 
 pub cap_is : (g : Geometry) (key text extension_block ueb_hash : List ℕ) (cap : ReadCapValue)

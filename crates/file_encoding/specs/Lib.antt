@@ -9,7 +9,9 @@ pub mod Reading
 pub mod OwnFile
 pub mod Parts
 -- words of private clauses
+pub mod Drafts
 pub mod Blocks
+pub mod BegunFiles
 pub mod Decoding
 pub mod LowestShares
 pub use Rattle.share_verify.specs.CapBlock

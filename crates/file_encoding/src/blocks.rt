@@ -5,11 +5,11 @@ ghost use Rattle.tagged_hash.specs.TaggedHash.{tagged_hash};
 ghost use Rattle.tagged_hash.specs.declared.tag.Tag.TheVariants.{Block, CiphertextSegment};
 ghost use Rattle.zfec_code.specs.ShareValue.{share_block};
 ghost use Rattle.zfec_code.specs.Shares.{IsShareOf};
-ghost use Rattle.share_verify.specs.Pieces.{block_hashes, joined};
+ghost use Rattle.share_layout.specs.Geometry.{IsGeometry, segment_count};
 ghost use Rattle.share_layout.specs.Pieces.{pieces};
 ghost use Rattle.proved_parts.specs.FileOf.{segment_hashes};
-ghost use Rattle.file_encoding.specs.Blocks.{padded_block, padded_blocks};
 
+use share_layout::Geometry;
 use std::alloc::{AllocError, Global};
 use tagged_hash::{Tag, tagged};
 use zfec_code::Code;
@@ -23,6 +23,23 @@ pub(crate) struct Segments<'a> {
 }
 
 impl<'a> Segments<'a> {
+    /// The segments of a file's text with this geometry, which may be padded.
+    pub(crate) fn of(geometry: &Geometry, text: &'a [u8]) -> Segments<'a>
+        ensures text { result.text.now ≡ text.now }
+        ensures size { result.size ≡ geometry.now.segment_size }
+        ensures count { result.count ≡ segment_count geometry.now }
+        ensures few { result.count ≤ 2 ^ 20 }
+        ensures small { result.size ≤ 2 ^ 21 }
+        ensures some { 0 < result.count }
+        ensures valid { IsGeometry geometry.now }
+    {
+        Segments {
+            text,
+            size: geometry.segment_size() as usize,
+            count: geometry.segment_count() as usize,
+        }
+    }
+
     /// The segment of this number.
     pub(crate) fn segment(&self, number: usize) -> &'a [u8]
         requires few { number < 2 ^ 20 }
@@ -49,66 +66,16 @@ impl<'a> Segments<'a> {
         }
         Ok(hashes)
     }
-
-    /// Appends to a share its blocks of the segments, of which the last is padded already. Gives
-    /// the blocks' hashes.
-    pub(crate) fn push_blocks(
-        &self,
-        alloc: Global,
-        code: &Code,
-        needed: u16,
-        share: u16,
-        out: &mut Vec<u8>,
-    ) -> Result<Vec<[u8; 32]>, AllocError>
-        requires few { self.now.count ≤ 2 ^ 20 }
-        requires small { self.now.size ≤ 2 ^ 21 }
-        requires some { 0 < needed }
-        requires shares { needed ≤ 256 }
-        requires needed { needed ≡ code.now.k }
-        requires whole { length self.now.text.now % needed ≡ 0 }
-        requires segments { self.now.size % needed ≡ 0 }
-        requires in_range { share < code.now.n }
-        ensures blocks { OnOk result (out.new.items ≡ out.old.items ++ joined
-            (padded_blocks needed share self.now.count self.now.size self.now.text.now)) }
-        ensures hashes { IfOk result (λ hashes. hashes.items ≡ block_hashes
-            (padded_blocks needed share self.now.count self.now.size self.now.text.now)) }
-        ensures count { IfOk result (λ hashes. length hashes.items ≡ self.now.count) }
-    {
-        let mut hashes = Vec::with_capacity(alloc, self.count)?;
-        for number in 0..self.count {
-            let hash = push_block(code, needed, share, self.segment(number), out)?;
-            hashes.push(hash)?;
-        }
-        Ok(hashes)
-    }
 }
 
-// Appends to a share its block of a padded segment, and gives the block's hash.
-fn push_block(
+/// Writes the block of a share of a padded segment, and gives the block's hash.
+pub(crate) fn write_block(
     code: &Code,
     needed: u16,
     share: u16,
     segment: &[u8],
-    out: &mut Vec<u8>,
-) -> Result<[u8; 32], AllocError>
-    requires some { 0 < needed }
-    requires few { needed ≤ 256 }
-    requires needed { needed ≡ code.now.k }
-    requires whole { length segment.now % needed ≡ 0 }
-    requires in_range { share < code.now.n }
-    ensures block { OnOk result (out.new.items ≡ out.old.items
-        ++ padded_block needed share segment.now) }
-    ensures hash { IfOk result (λ hash. hash ≡ tagged_hash Block
-        (padded_block needed share segment.now)) }
-{
-    let start = out.len();
-    let size = segment.len() / usize::from(needed);
-    out.resize(start + size, 0)?;
-    Ok(write_block(code, needed, share, segment, &mut out[start..]))
-}
-
-// Writes the block of a share of a padded segment, and gives the block's hash.
-fn write_block(code: &Code, needed: u16, share: u16, segment: &[u8], block: &mut [u8]) -> [u8; 32]
+    block: &mut [u8],
+) -> [u8; 32]
     requires few { needed ≤ 256 }
     requires needed { needed ≡ code.now.k }
     requires size { length segment.now ≡ needed * length block.old }
@@ -118,14 +85,4 @@ fn write_block(code: &Code, needed: u16, share: u16, segment: &[u8], block: &mut
 {
     code.encode(segment, share, block);
     tagged(Tag::Block, block)
-}
-
-/// Appends hashes, one after another.
-pub(crate) fn push_hashes(hashes: &[[u8; 32]], out: &mut Vec<u8>) -> Result<(), AllocError>
-    ensures { OnOk result (out.new.items ≡ out.old.items ++ joined hashes.now) }
-{
-    for hash in hashes {
-        out.extend_from_slice(hash)?;
-    }
-    Ok(())
 }

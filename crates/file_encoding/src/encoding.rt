@@ -6,30 +6,30 @@ ghost use Rattle.aes_ctr.specs.CounterMode.{xored};
 ghost use Rattle.cap_text.specs.declared.cap.Cap.TheVariants.{Chk, Lit};
 ghost use Rattle.cap_text.specs.Cap.{ReadCapValue};
 ghost use Rattle.merkle.specs.Tree.{height, tree_nodes, tree_root};
-ghost use Rattle.ueb.specs.Shape.{IsFile, IsSegmentSize};
+ghost use Rattle.ueb.specs.Shape.{IsFile, IsSegmentSize, rounded_up};
 ghost use Rattle.ueb.specs.Limits.{max_file_size, max_length, min_file_size};
 ghost use Rattle.ueb.specs.Block.{ueb_text};
 ghost use Rattle.share_layout.specs.Geometry.{geometry_of, segment_count};
-ghost use Rattle.share_layout.specs.Layout.{header};
 ghost use Rattle.share_verify.specs.Pieces.{block_hashes};
 ghost use Rattle.file_encoding.specs.Encoding.{ciphertext_encoding, encoding_of, padded_segment, share_hashes};
 ghost use Rattle.proved_parts.specs.FileOf.{segment_hashes};
 ghost use Rattle.share_layout.specs.Pieces.{segments_of};
-ghost use Rattle.file_encoding.specs.Blocks.{padded_blocks, share_beginning, share_end};
+ghost use Rattle.file_encoding.specs.BegunFiles.{IsBegun};
+ghost use Rattle.file_encoding.specs.Blocks.{drafted, padded_blocks};
 ghost use Rattle.file_encoding.specs.Params.{HasTooManySegments, IsEncodable, parameters_of};
 
 use crate::blocks::Segments;
 use crate::error::EncodeError;
 use crate::params::Params;
 use crate::share::Share;
-use crate::shares::{AllBegun, Common, begin_shares, build_tree, finish_shares};
+use crate::shares::{Begun, Common, begin_shares, build_share_tree, build_tree, finish_shares};
 use aes_ctr::Aes128;
 use cap_text::{Cap, LitCap, ReadCap};
 use merkle::Tree;
 use share_layout::Geometry;
 use std::alloc::{AllocError, Global};
 use tagged_hash::{Tag, convergent_key, tagged};
-use ueb::{Expect, MAX_FILE_SIZE, MAX_LENGTH, MIN_FILE_SIZE, Ueb};
+use ueb::{Expect, MAX_FILE_SIZE, MIN_FILE_SIZE, Ueb};
 use zfec_code::{Code, CodeError};
 
 /// An encoded file: its cap and its shares, by number.
@@ -57,11 +57,7 @@ fn ciphertext_tree(
     ensures { IfOk result (λ tree. tree ≡ segment_hashes
         (segments_of geometry.now ciphertext.now)) }
 {
-    let segments = Segments {
-        text: ciphertext,
-        size: geometry.segment_size() as usize,
-        count: geometry.segment_count() as usize,
-    };
+    let segments = Segments::of(geometry, ciphertext);
     build_tree(alloc, &segments.hashes(alloc)?)
 }
 
@@ -81,16 +77,14 @@ fn begin_file(
     geometry: &Geometry,
     padded: &[u8],
     ciphertext_tree: &Tree,
-) -> Result<AllBegun, AllocError>
-    requires whole { length padded.now % geometry.now.needed ≡ 0 }
-    ensures shares { IfOk result (λ begun. begun.shares.items ≡ map (λ i. share_beginning
-        (header geometry.now)
-        (padded_blocks geometry.now.needed i
-        (segment_count geometry.now) geometry.now.segment_size padded.now)
-        (tree_nodes ciphertext_tree.now)) (range_with_len 0 geometry.now.total)) }
-    ensures roots { IfOk result (λ begun. begun.roots.items ≡ map (λ i. tree_root (block_hashes
-        (padded_blocks geometry.now.needed i
-        (segment_count geometry.now) geometry.now.segment_size padded.now)))
+) -> Result<Vec<Begun>, AllocError>
+    requires padded { length padded.now ≡ rounded_up geometry.now.size geometry.now.needed }
+    requires leaves { length ciphertext_tree.now ≡ segment_count geometry.now }
+    ensures drafts { IfOk result (λ begun. map (λ b. b.draft) begun.items ≡ map
+        (drafted geometry.now padded.now (tree_nodes ciphertext_tree.now))
+        (range_with_len 0 geometry.now.total)) }
+    ensures roots { IfOk result (λ begun. map (λ b. b.root) begun.items ≡ map
+        (λ i. tree_root (block_hashes (padded_blocks geometry.now i padded.now)))
         (range_with_len 0 geometry.now.total)) }
 {
     let code = match Code::new(alloc, geometry.needed(), geometry.total()) {
@@ -98,28 +92,16 @@ fn begin_file(
         Err(CodeError::OutOfMemory) => return Err(AllocError),
         Err(_) => unreachable!(),
     };
-    let mut header = [0; 68];
-    let length = geometry.header(&mut header);
+    let unused = vec![in alloc; 0u8; geometry.tree_size() as usize]?;
+    let mut block = vec![in alloc; 0u8; geometry.block_size() as usize]?;
     let common = Common {
-        header: &header[..length],
-        needed: geometry.needed(),
+        geometry,
         code: &code,
-        segments: Segments {
-            text: padded,
-            size: geometry.segment_size() as usize,
-            count: geometry.segment_count() as usize,
-        },
+        padded,
+        unused: &unused,
         ciphertext_tree,
     };
-    begin_shares(alloc, &common, geometry.total(), share_size(geometry))
-}
-
-// The greatest length of a share, in bytes.
-fn share_size(geometry: &Geometry) -> usize {
-    let trees = 3 * u64::from(geometry.tree_size()) + u64::from(geometry.hashes_size());
-    let layout = geometry.layout();
-    let sections = (geometry.share_data_size() + trees) as usize;
-    layout.header_size() + sections + layout.width() + MAX_LENGTH
+    begin_shares(alloc, &common, &mut block)
 }
 
 // The extension block of a file.
@@ -185,6 +167,67 @@ fn file_cap(geometry: &Geometry, key: [u8; 16], ueb_hash: [u8; 32]) -> ReadCap
     }
 }
 
+// A file's shares up to their block trees, and what they leave to tell in the extension block.
+#[derive(Drop)]
+struct BegunFile {
+    crypttext_hash: [u8; 32],
+    ciphertext_root: [u8; 32],
+    shares: Vec<Begun>,
+}
+
+// Begins all shares of a ciphertext.
+fn begin_ciphertext(
+    alloc: Global,
+    geometry: &Geometry,
+    ciphertext: Vec<u8>,
+) -> Result<BegunFile, AllocError>
+    requires { length ciphertext.items ≡ geometry.now.size }
+    ensures { IfOk result (IsBegun geometry.now ciphertext.items) }
+{
+    let crypttext_hash = tagged(Tag::Ciphertext, &ciphertext);
+    let ciphertext_tree = ciphertext_tree(alloc, geometry, &ciphertext)?;
+    let padded = pad(ciphertext, geometry.needed())?;
+    let shares = begin_file(alloc, geometry, &padded, &ciphertext_tree)?;
+    Ok(BegunFile {
+        crypttext_hash,
+        ciphertext_root: ciphertext_tree.root(),
+        shares,
+    })
+}
+
+// The cap and the shares of a ciphertext whose shares are begun, and its key.
+fn finish_ciphertext(
+    alloc: Global,
+    geometry: &Geometry,
+    key: [u8; 16],
+    begun: BegunFile,
+) -> Result<Encoded, AllocError>
+    requires begun { (ciphertext : List ℕ) × IsBegun geometry.now ciphertext begun }
+    requires least { min_file_size ≤ geometry.now.size }
+    requires segments { IsSegmentSize geometry.now.needed geometry.now.size
+        geometry.now.segment_size }
+    ensures cap { (ciphertext : List ℕ) → IsBegun geometry.now ciphertext begun
+        → IfOk result (λ e. e.cap ≡ Chk (ciphertext_encoding geometry.now key ciphertext).cap) }
+    ensures shares { (ciphertext : List ℕ) → IsBegun geometry.now ciphertext begun
+        → IfOk result (λ e. e.shares.items
+        ≡ (ciphertext_encoding geometry.now key ciphertext).shares) }
+{
+    let share_tree = build_share_tree(alloc, &begun.shares)?;
+    let extension_block = write_extension_block(
+        alloc,
+        geometry,
+        begun.crypttext_hash,
+        begun.ciphertext_root,
+        share_tree.root(),
+    )?;
+    let shares = finish_shares(alloc, begun.shares, &share_tree, &extension_block)?;
+    let cap = file_cap(geometry, key, tagged(Tag::ExtensionBlock, &extension_block));
+    Ok(Encoded {
+        cap: Cap::Chk(cap),
+        shares,
+    })
+}
+
 // The cap and the shares of a ciphertext and its key.
 fn encode_ciphertext(
     alloc: Global,
@@ -201,30 +244,8 @@ fn encode_ciphertext(
     ensures shares { IfOk result (λ e. e.shares.items ≡
         (ciphertext_encoding geometry.now key ciphertext.items).shares) }
 {
-    let crypttext_hash = tagged(Tag::Ciphertext, &ciphertext);
-    let ciphertext_tree = ciphertext_tree(alloc, geometry, &ciphertext)?;
-    let padded = pad(ciphertext, geometry.needed())?;
-    let begun = begin_file(alloc, geometry, &padded, &ciphertext_tree)?;
-    let share_tree = build_tree(alloc, &begun.roots)?;
-    let extension_block = write_extension_block(
-        alloc,
-        geometry,
-        crypttext_hash,
-        ciphertext_tree.root(),
-        share_tree.root(),
-    )?;
-    let shares = finish_shares(
-        alloc,
-        geometry.layout(),
-        begun.shares,
-        &share_tree,
-        &extension_block,
-    )?;
-    let cap = file_cap(geometry, key, tagged(Tag::ExtensionBlock, &extension_block));
-    Ok(Encoded {
-        cap: Cap::Chk(cap),
-        shares,
-    })
+    let begun = begin_ciphertext(alloc, geometry, ciphertext)?;
+    finish_ciphertext(alloc, geometry, key, begun)
 }
 
 /// Encodes a file: its cap and its shares, under a key that depends on the file, the secret, the

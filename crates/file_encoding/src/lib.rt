@@ -4,6 +4,7 @@
 
 mod blocks;
 mod decoding;
+mod draft;
 mod encoding;
 mod error;
 mod laws;

@@ -1,27 +1,34 @@
 // The shares of a file: each is begun with what needs no other share, and finished when the root
 // over all of them is known.
 
-ghost use Rattle.std.specs.Prelude.{◌≡◌, ◌≤◌, ◌<◌, ◌+◌, ◌-◌, ◌*◌, ◌/◌, ◌%◌, ◌^◌, ◌++◌, ℕ, List, [], length, slice_index_or, take, drop, map, IfOk, OnOk, replicate, All};
-ghost use Rattle.merkle.specs.Tree.{height, needed_numbers, tree_nodes, tree_root};
+ghost use Rattle.std.specs.Prelude.{◌≡◌, ◌≤◌, ◌<◌, ◌+◌, ◌-◌, ◌*◌, ◌/◌, ◌%◌, ◌^◌, ◌++◌, ℕ, List, [], length, map, IfOk, OnOk, replicate, All};
 ghost use Rattle.std.specs.List.{range_with_len};
-ghost use Rattle.share_layout.specs.Layout.{spelled};
-ghost use Rattle.share_verify.specs.Pieces.{block_hashes};
-ghost use Rattle.file_encoding.specs.Blocks.{numbered, padded_blocks, share_beginning, share_end};
+ghost use Rattle.merkle.specs.Tree.{height, needed_numbers, tree_nodes, tree_root};
+ghost use Rattle.tagged_hash.specs.TaggedHash.{tagged_hash};
+ghost use Rattle.tagged_hash.specs.declared.tag.Tag.TheVariants.{Block};
+ghost use Rattle.ueb.specs.Limits.{max_length};
+ghost use Rattle.share_layout.specs.Geometry.{block_size, segment_count, tree_size};
+ghost use Rattle.share_layout.specs.Layout.{header_size, layout_of, places_of};
+ghost use Rattle.share_verify.specs.Pieces.{block_hashes, joined};
+ghost use Rattle.file_encoding.specs.Blocks.{FitTogether, drafted, finished, numbered, padded_block, padded_blocks};
 
-use crate::blocks::{Segments, push_hashes};
+use crate::blocks::{Segments, write_block};
+use crate::draft::Draft;
 use crate::share::Share;
 use merkle::Tree;
-use share_layout::Layout;
+use share_layout::Geometry;
 use std::alloc::{AllocError, Global};
 use zfec_code::Code;
 
-/// What all shares of a file are made of, where the last segment is padded already.
+/// What all shares of a file are made of.
 #[derive(Clone, Copy)]
 pub(crate) struct Common<'a> {
-    pub header: &'a [u8],
-    pub needed: u16,
+    pub geometry: &'a Geometry,
     pub code: &'a Code,
-    pub segments: Segments<'a>,
+    /// The ciphertext, with its last segment padded.
+    pub padded: &'a [u8],
+    /// The bytes of the tree that is no longer used.
+    pub unused: &'a [u8],
     pub ciphertext_tree: &'a Tree,
 }
 
@@ -40,162 +47,209 @@ pub(crate) fn build_tree(alloc: Global, leaves: &[[u8; 32]]) -> Result<Tree, All
 /// A share up to its block tree, and that tree's root.
 #[derive(Drop)]
 pub(crate) struct Begun {
-    pub bytes: Vec<u8>,
+    pub draft: Draft,
     pub root: [u8; 32],
+    // The share hashes are written next.
+    ghost next: { length draft.bytes ≡ (places_of draft.geometry).share_hashes },
+    ghost in_range: { draft.number < draft.geometry.total },
 }
 
 impl<'a> Common<'a> {
-    /// Begins a share, with room for so many bytes.
+    /// Begins the share of this number. The block is a buffer for each block of it.
     pub(crate) fn begin_share(
         &self,
         alloc: Global,
-        share: u16,
-        room: usize,
+        number: u16,
+        block: &mut [u8],
     ) -> Result<Begun, AllocError>
-        requires some { 0 < self.now.segments.count }
-        requires few { self.now.segments.count ≤ 2 ^ 20 }
-        requires small { self.now.segments.size ≤ 2 ^ 21 }
-        requires some_needed { 0 < self.now.needed }
-        requires shares { self.now.needed ≤ 256 }
-        requires needed { self.now.needed ≡ self.now.code.now.k }
-        requires whole { length self.now.segments.text.now % self.now.needed ≡ 0 }
-        requires segments { self.now.segments.size % self.now.needed ≡ 0 }
-        requires in_range { share < self.now.code.now.n }
-        ensures bytes { IfOk result (λ begun. begun.bytes.items
-            ≡ share_beginning self.now.header.now
-            (padded_blocks self.now.needed share self.now.segments.count self.now.segments.size
-            self.now.segments.text.now)
-            (tree_nodes self.now.ciphertext_tree.now)) }
+        requires fit { FitTogether self.now.geometry.now self.now.code.now self.now.padded.now
+            self.now.unused.now self.now.ciphertext_tree.now }
+        requires in_range { number < self.now.geometry.now.total }
+        requires block { length block.old ≡ block_size self.now.geometry.now }
+        ensures draft { IfOk result (λ begun. begun.draft ≡ drafted self.now.geometry.now
+            self.now.padded.now (tree_nodes self.now.ciphertext_tree.now) number) }
         ensures root { IfOk result (λ begun. begun.root ≡ tree_root (block_hashes
-            (padded_blocks self.now.needed share self.now.segments.count self.now.segments.size
-            self.now.segments.text.now))) }
+            (padded_blocks self.now.geometry.now number self.now.padded.now))) }
     {
-        let mut bytes = Vec::with_capacity(alloc, room)?;
-        let header = self.header;
-        bytes.extend_from_slice(header)?;
-        let hashes = self
-            .segments
-            .push_blocks(alloc, self.code, self.needed, share, &mut bytes)?;
-        let tree = build_tree(alloc, &hashes)?;
-        let ciphertext_tree = self.ciphertext_tree;
-        let nodes = ciphertext_tree.nodes();
-        bytes.resize(bytes.len() + nodes.len() * 32, 0)?;
-        push_hashes(nodes, &mut bytes)?;
-        push_hashes(tree.nodes(), &mut bytes)?;
+        let mut draft = Draft::begin(alloc, self.geometry, number)?;
+        let tree = self.put_blocks(alloc, block, &mut draft)?;
+        self.put_trees(&tree, &mut draft)?;
         Ok(Begun {
-            bytes,
+            draft,
             root: tree.root(),
         })
     }
+
+    // Writes a share's blocks behind its header, and gives the tree over their hashes.
+    fn put_blocks(
+        &self,
+        alloc: Global,
+        block: &mut [u8],
+        draft: &mut Draft,
+    ) -> Result<Tree, AllocError>
+        requires fit { FitTogether self.now.geometry.now self.now.code.now self.now.padded.now
+            self.now.unused.now self.now.ciphertext_tree.now }
+        requires geometry { draft.old.geometry ≡ self.now.geometry.now }
+        requires in_range { draft.old.number < self.now.geometry.now.total }
+        requires block { length block.old ≡ block_size self.now.geometry.now }
+        requires next { length draft.old.bytes ≡ header_size (layout_of self.now.geometry.now) }
+        ensures blocks { OnOk result (draft.new ≡ record draft.old {
+          bytes = draft.old.bytes ++ joined (padded_blocks self.now.geometry.now
+              draft.old.number self.now.padded.now);
+        }) }
+        ensures size { OnOk result (length draft.new.bytes
+            ≡ (places_of self.now.geometry.now).unused) }
+        ensures tree { IfOk result (λ tree. tree ≡ block_hashes
+            (padded_blocks self.now.geometry.now draft.old.number self.now.padded.now)) }
+        ensures leaves { IfOk result (λ tree. length tree ≡ segment_count self.now.geometry.now) }
+    {
+        let segments = Segments::of(self.geometry, self.padded);
+        let mut hashes = Vec::with_capacity(alloc, segments.count)?;
+        for number in 0..segments.count {
+            let hash = self.put_block(segments.segment(number), block, draft)?;
+            hashes.push(hash)?;
+        }
+        build_tree(alloc, &hashes)
+    }
+
+    // Writes a share's block of a padded segment, and gives the block's hash.
+    fn put_block(
+        &self,
+        segment: &[u8],
+        buffer: &mut [u8],
+        draft: &mut Draft,
+    ) -> Result<[u8; 32], AllocError>
+        requires needed { self.now.geometry.now.needed ≡ self.now.code.now.k }
+        requires in_range { draft.old.number < self.now.code.now.n }
+        requires whole { length segment.now % self.now.geometry.now.needed ≡ 0 }
+        requires buffer { length segment.now / self.now.geometry.now.needed ≤ length buffer.old }
+        requires room { length draft.old.bytes + length segment.now / self.now.geometry.now.needed
+            ≤ (places_of draft.old.geometry).extension_block }
+        ensures block { OnOk result (draft.new ≡ record draft.old {
+          bytes = draft.old.bytes ++ padded_block self.now.geometry.now.needed draft.old.number
+              segment.now;
+        }) }
+        ensures hash { IfOk result (λ hash. hash ≡ tagged_hash Block
+            (padded_block self.now.geometry.now.needed draft.old.number segment.now)) }
+    {
+        let needed = self.geometry.needed();
+        let block = &mut buffer[..segment.len() / usize::from(needed)];
+        let hash = write_block(self.code, needed, draft.number(), segment, block);
+        draft.put(block)?;
+        Ok(hash)
+    }
+
+    // Writes a share's three trees behind its blocks.
+    fn put_trees(&self, block_tree: &Tree, draft: &mut Draft) -> Result<(), AllocError>
+        requires fit { FitTogether self.now.geometry.now self.now.code.now self.now.padded.now
+            self.now.unused.now self.now.ciphertext_tree.now }
+        requires geometry { draft.old.geometry ≡ self.now.geometry.now }
+        requires leaves { length block_tree.now ≡ segment_count self.now.geometry.now }
+        requires next { length draft.old.bytes ≡ (places_of self.now.geometry.now).unused }
+        ensures trees { OnOk result (draft.new ≡ record draft.old {
+          bytes = draft.old.bytes ++ replicate (tree_size self.now.geometry.now) 0
+              ++ joined (tree_nodes self.now.ciphertext_tree.now)
+              ++ joined (tree_nodes block_tree.now);
+        }) }
+        ensures size { OnOk result (length draft.new.bytes
+            ≡ (places_of self.now.geometry.now).share_hashes) }
+    {
+        draft.put(self.unused)?;
+        put_tree(self.ciphertext_tree, draft)?;
+        put_tree(block_tree, draft)
+    }
 }
 
-/// The shares of a file up to their block trees, by number, and these trees' roots.
-#[derive(Drop)]
-pub(crate) struct AllBegun {
-    pub shares: Vec<Share>,
-    pub roots: Vec<[u8; 32]>,
+// Writes the nodes of a tree with a leaf for each segment.
+fn put_tree(tree: &Tree, draft: &mut Draft) -> Result<(), AllocError>
+    requires leaves { length tree.now ≡ segment_count draft.old.geometry }
+    requires room { length draft.old.bytes + tree_size draft.old.geometry
+        ≤ (places_of draft.old.geometry).extension_block }
+    ensures nodes { OnOk result (draft.new ≡ record draft.old {
+      bytes = draft.old.bytes ++ joined (tree_nodes tree.now);
+    }) }
+    ensures size { OnOk result (length draft.new.bytes
+        ≡ length draft.old.bytes + tree_size draft.old.geometry) }
+{
+    draft.put(tree.nodes().as_flattened())
 }
 
-/// Begins so many shares, each with room for so many bytes.
+/// Begins all shares, by number. The block is a buffer for each block of a share.
 pub(crate) fn begin_shares(
     alloc: Global,
     common: &Common<'_>,
-    total: u16,
-    room: usize,
-) -> Result<AllBegun, AllocError>
-    requires some { 0 < common.now.segments.count }
-    requires few { common.now.segments.count ≤ 2 ^ 20 }
-    requires small { common.now.segments.size ≤ 2 ^ 21 }
-    requires some_needed { 0 < common.now.needed }
-    requires shares { common.now.needed ≤ 256 }
-    requires needed { common.now.needed ≡ common.now.code.now.k }
-    requires whole { length common.now.segments.text.now % common.now.needed ≡ 0 }
-    requires segments { common.now.segments.size % common.now.needed ≡ 0 }
-    requires total { total ≡ common.now.code.now.n }
-    ensures shares { IfOk result (λ begun. begun.shares.items ≡ map
-        (λ i. share_beginning common.now.header.now
-        (padded_blocks common.now.needed i common.now.segments.count common.now.segments.size
-        common.now.segments.text.now)
-        (tree_nodes common.now.ciphertext_tree.now)) (range_with_len 0 total)) }
-    ensures roots { IfOk result (λ begun. begun.roots.items ≡ map (λ i. tree_root (block_hashes
-        (padded_blocks common.now.needed i common.now.segments.count common.now.segments.size
-        common.now.segments.text.now)))
-        (range_with_len 0 total)) }
+    block: &mut [u8],
+) -> Result<Vec<Begun>, AllocError>
+    requires fit { FitTogether common.now.geometry.now common.now.code.now common.now.padded.now
+        common.now.unused.now common.now.ciphertext_tree.now }
+    requires block { length block.old ≡ block_size common.now.geometry.now }
+    ensures drafts { IfOk result (λ begun. map (λ b. b.draft) begun.items ≡ map
+        (drafted common.now.geometry.now common.now.padded.now
+        (tree_nodes common.now.ciphertext_tree.now))
+        (range_with_len 0 common.now.geometry.now.total)) }
+    ensures roots { IfOk result (λ begun. map (λ b. b.root) begun.items ≡ map
+        (λ i. tree_root (block_hashes
+        (padded_blocks common.now.geometry.now i common.now.padded.now)))
+        (range_with_len 0 common.now.geometry.now.total)) }
 {
-    let mut shares = Vec::with_capacity(alloc, usize::from(total))?;
-    let mut roots = Vec::with_capacity(alloc, usize::from(total))?;
-    for share in 0..total {
-        let begun = common.begin_share(alloc, share, room)?;
-        shares.push(Share::from_vec(begun.bytes))?;
-        roots.push(begun.root)?;
+    let total = common.geometry.total();
+    let mut begun = Vec::with_capacity(alloc, usize::from(total))?;
+    for number in 0..total {
+        begun.push(common.begin_share(alloc, number, block)?)?;
     }
-    Ok(AllBegun { shares, roots })
+    Ok(begun)
 }
 
-/// Finishes shares by number: the share hashes of each, and the extension block behind its length.
+/// The tree over the roots of all begun shares.
+pub(crate) fn build_share_tree(alloc: Global, begun: &[Begun]) -> Result<Tree, AllocError>
+    requires some { 0 < length begun.now }
+    requires few { length begun.now ≤ 256 }
+    ensures { IfOk result (λ tree. tree ≡ map (λ b. b.root) begun.now) }
+{
+    let mut roots = Vec::with_capacity(alloc, begun.len())?;
+    for share in begun {
+        roots.push(share.root)?;
+    }
+    build_tree(alloc, &roots)
+}
+
+/// Finishes begun shares: the share hashes of each, and the extension block behind its length.
 pub(crate) fn finish_shares(
     alloc: Global,
-    layout: Layout,
-    begun: Vec<Share>,
+    begun: Vec<Begun>,
     share_tree: &Tree,
     extension_block: &[u8],
 ) -> Result<Vec<Share>, AllocError>
-    requires all { length begun.items ≡ length share_tree.now }
+    requires total { All (λ b. b.draft.geometry.total ≡ length share_tree.now) begun.items }
     requires few { length share_tree.now ≤ 256 }
-    requires short { length extension_block.now < 2 ^ 32 }
-    ensures size { IfOk result (λ shares. length shares.items ≡ length begun.items) }
-    ensures shares { IfOk result (λ shares. (i : ℕ) → i < length begun.items
-        → slice_index_or shares.items i []
-        ≡ slice_index_or begun.items i []
-        ++ share_end layout share_tree.now i extension_block.now) }
+    requires short { length extension_block.now ≤ max_length }
+    ensures { IfOk result (λ shares. shares.items ≡ map
+        (λ b. finished share_tree.now extension_block.now b.draft) begun.items) }
 {
-    let mut shares = begun;
-    for number in 0..shares.len() {
-        finish_share(
-            alloc,
-            layout,
-            share_tree,
-            number as u16,
-            extension_block,
-            &mut shares[number],
-        )?;
+    let mut shares = Vec::with_capacity(alloc, begun.len())?;
+    for share in begun {
+        shares.push(finish_share(alloc, share, share_tree, extension_block)?)?;
     }
     Ok(shares)
 }
 
-// Finishes a share: its share hashes, and the extension block behind its length.
+// Finishes a begun share.
 fn finish_share(
     alloc: Global,
-    layout: Layout,
+    begun: Begun,
     share_tree: &Tree,
-    number: u16,
     extension_block: &[u8],
-    share: &mut Share,
-) -> Result<(), AllocError>
-    requires in_range { number < length share_tree.now }
+) -> Result<Share, AllocError>
+    requires total { begun.draft.geometry.total ≡ length share_tree.now }
     requires few { length share_tree.now ≤ 256 }
-    requires short { length extension_block.now < 2 ^ 32 }
-    ensures { OnOk result (share.new
-        ≡ share.old ++ share_end layout share_tree.now number extension_block.now) }
+    requires short { length extension_block.now ≤ max_length }
+    ensures { IfOk result (λ share.
+        share ≡ finished share_tree.now extension_block.now begun.draft) }
 {
-    let numbers = needed_nodes(alloc, share_tree, number)?;
-    let bytes = &mut share.bytes;
-    push_numbered(share_tree.nodes(), &numbers, bytes)?;
-    push_length(layout, extension_block.len(), bytes)?;
-    bytes.extend_from_slice(extension_block)?;
-    Ok(())
-}
-
-// Appends the length of an extension block.
-fn push_length(layout: Layout, length: usize, bytes: &mut Vec<u8>) -> Result<(), AllocError>
-    requires { length < 2 ^ 32 }
-    ensures { OnOk result (bytes.new.items ≡ bytes.old.items ++ spelled layout length) }
-{
-    match layout {
-        Layout::One => bytes.extend_from_slice(&(length as u32).to_be_bytes())?,
-        Layout::Two => bytes.extend_from_slice(&(length as u64).to_be_bytes())?,
-    }
-    Ok(())
+    let mut draft = begun.draft;
+    let numbers = needed_nodes(alloc, share_tree, draft.number())?;
+    put_numbered(share_tree.nodes(), &numbers, &mut draft)?;
+    draft.finish(extension_block)
 }
 
 // The numbers of the nodes that lead from a leaf to the root.
@@ -210,17 +264,21 @@ fn needed_nodes(alloc: Global, tree: &Tree, leaf: u16) -> Result<Vec<u32>, Alloc
     }
 }
 
-// Appends the nodes of these numbers, each behind its number in two bytes.
-fn push_numbered(nodes: &[[u8; 32]], numbers: &[u32], bytes: &mut Vec<u8>) -> Result<(), AllocError>
+// Writes the nodes of these numbers, each behind its number in two bytes.
+fn put_numbered(nodes: &[[u8; 32]], numbers: &[u32], draft: &mut Draft) -> Result<(), AllocError>
     requires inside { All (λ n. n < length nodes.now) numbers.now }
     requires few { length nodes.now ≤ 2 ^ 16 }
-    ensures bytes { OnOk result (bytes.new.items ≡ bytes.old.items
-        ++ numbered nodes.now numbers.now) }
-    ensures size { OnOk result (length (numbered nodes.now numbers.now) ≡ length numbers.now * 34) }
+    requires room { length draft.old.bytes + length numbers.now * 34
+        ≤ (places_of draft.old.geometry).extension_block }
+    ensures bytes { OnOk result (draft.new ≡ record draft.old {
+      bytes = draft.old.bytes ++ numbered nodes.now numbers.now;
+    }) }
+    ensures size { OnOk result (length draft.new.bytes
+        ≡ length draft.old.bytes + length numbers.now * 34) }
 {
     for number in numbers {
-        bytes.extend_from_slice(&(*number as u16).to_be_bytes())?;
-        bytes.extend_from_slice(&nodes[*number as usize])?;
+        draft.put(&(*number as u16).to_be_bytes())?;
+        draft.put(&nodes[*number as usize])?;
     }
     Ok(())
 }

@@ -1,0 +1,157 @@
+use Rattle.std.proofs.Common.{◌≡◌, ◌-◌, ◌+◌, ◌*◌, ◌/◌, ◌%◌, ◌<◌, ◌≤◌, List, ℕ, [], ◌∷◌, ◌++◌, drop, length, take, map, ap, sym, ◌∙◌, arith}
+use Rattle.std.proofs.Math.Nat.{div-le_of_le-mul}
+use Rattle.std.proofs.lemmas.List.{append_assoc, append-nil, length-append, length-take}
+use Rattle.std.proofs.lemmas.List.FromFn.{length-map-range_with_len}
+use Rattle.std.proofs.lemmas.Nat.{div-add-mod'}
+use Rattle.std.proofs.lemmas.Nat.Gcd.{mod-eq-zero_of_dvd}
+use Rattle.tagged_hash.specs.TaggedHash.{tagged_hash}
+use Rattle.tagged_hash.specs.declared.tag.Tag.TheVariants.{Block}
+use Rattle.ueb.specs.Shape.{rounded_up}
+use Rattle.share_layout.specs.Geometry.{Geometry, IsGeometry, segment_count, share_data_size}
+use Rattle.share_layout.specs.Layout.{header_size, layout_of, places_of}
+use Rattle.share_verify.specs.Pieces.{block_hashes, joined, pieces}
+use Rattle.file_encoding.specs.Blocks.{padded_block, padded_blocks}
+use Rattle.file_encoding.specs.Drafts.{Drafted}
+use Rattle.file_encoding.proofs.Drafting.{length-block_hashes, length-padded_blocks}
+use Rattle.file_encoding.proofs.Padding.{rounded_up-whole}
+use Rattle.file_encoding.proofs.Pieces.{pieces-from, piece-whole}
+use Rattle.file_encoding.proofs.Reread.{ok_map}
+use Rattle.file_encoding.proofs.shares.Common.put_blocks.Invariants.{Written, rest_of}
+use Rattle.file_encoding.proofs.shares.Common.put_blocks.Goals as goal
+
+-- the segment of this number
+abbrev this : Geometry → List ℕ → ℕ → List ℕ
+this g text number = take g.segment_size (drop (number * g.segment_size) text)
+
+-- the blocks from one on are this one, and those from the next one on
+rest_more : (g : Geometry) (i : ℕ) (text : List ℕ) (number : ℕ) → number < segment_count g
+    → rest_of g i text number ≡ padded_block g.needed i (this g text number) ∷ rest_of g i text (number + 1)
+rest_more g i text number below = ap (map (padded_block g.needed i)) (pieces-from (segment_count g) g.segment_size number text below)
+
+-- behind the last there are none
+rest_none : (g : Geometry) (i : ℕ) (text : List ℕ) (number : ℕ) → segment_count g ≤ number → rest_of g i text number ≡ []
+rest_none g i text number over =
+    let none : segment_count g - number ≡ 0 = omega (arith, over) in
+    ap (λ n. map (padded_block g.needed i) (pieces n g.segment_size (drop (number * g.segment_size) text))) none
+
+-- how long all blocks are, and how many hashes there are
+record Done (g : Geometry) (now : Drafted) (leaves : List (List ℕ)) : Type 0 where
+  size : length now.bytes ≡ (places_of g).unused
+  count : length leaves ≡ segment_count g
+
+done : (g : Geometry) (text : List ℕ) (before now : Drafted) (number : ℕ) (leaves : List (List ℕ)) → IsGeometry g
+    → length text ≡ rounded_up g.size g.needed → length before.bytes ≡ header_size (layout_of g)
+    → Written g text before now number leaves → segment_count g ≤ number → Done g now leaves
+done g text before now number leaves valid padded front have over =
+    let i : ℕ = before.number in
+    let blocks : List ℕ = joined (padded_blocks g i text) in
+    record {
+      size =
+          ap length (sym (have.blocks ∙ ap (λ bs. now.bytes ++ joined bs) (rest_none g i text number over) ∙ append-nil now.bytes))
+          ∙ length-append before.bytes blocks ∙ omega (arith, front, length-padded_blocks g i text valid padded);
+      count =
+          ap length (sym (have.hashes ∙ ap (λ bs. leaves ++ block_hashes bs) (rest_none g i text number over) ∙ append-nil leaves))
+          ∙ length-block_hashes g i text;
+    }
+
+-- one block more
+one_more : (g : Geometry) (text : List ℕ) (before now after : Drafted) (number : ℕ) (leaves hashed : List (List ℕ)) (segment hash : List ℕ)
+    → Written g text before now number leaves → number < segment_count g → segment ≡ this g text number
+    → after ≡ record now { bytes = now.bytes ++ padded_block g.needed now.number segment }
+    → hash ≡ tagged_hash Block (padded_block g.needed now.number segment) → hashed ≡ leaves ++ hash ∷ []
+    → Written g text before after (number + 1) hashed
+one_more g text before now after number leaves hashed segment hash have below is put same pushed =
+    let i : ℕ = before.number in
+    let block : List ℕ = padded_block g.needed i (this g text number) in
+    let rest : List (List ℕ) = rest_of g i text (number + 1) in
+    let written : padded_block g.needed now.number segment ≡ block = λ p. padded_block g.needed (have.same p) (is p) in
+    record {
+      geometry = ap (λ (d : Drafted). d.geometry) put ∙ have.geometry;
+      same = ap (λ (d : Drafted). d.number) put ∙ have.same;
+      blocks =
+          have.blocks ∙ ap (λ bs. now.bytes ++ joined bs) (rest_more g i text number below)
+          ∙ sym (append_assoc now.bytes block (joined rest))
+          ∙ ap (λ out. out ++ joined rest) (sym (ap (λ (d : Drafted). d.bytes) put ∙ ap (λ b. now.bytes ++ b) written));
+      hashes =
+          have.hashes ∙ ap (λ bs. leaves ++ block_hashes bs) (rest_more g i text number below)
+          ∙ sym (append_assoc leaves (tagged_hash Block block ∷ []) (block_hashes rest))
+          ∙ ap (λ done. done ++ block_hashes rest) (sym (pushed ∙ ap (λ h. leaves ++ h ∷ []) (same ∙ ap (tagged_hash Block) written)));
+    }
+
+-- there is room for one block more
+room_more : (g : Geometry) (text : List ℕ) (before now : Drafted) (number : ℕ) (leaves : List (List ℕ)) (segment : List ℕ)
+    → Written g text before now number leaves → number < segment_count g → segment ≡ this g text number
+    → length (joined (padded_blocks g before.number text)) ≡ share_data_size g → length before.bytes ≡ header_size (layout_of g) → before.geometry ≡ g
+    → length now.bytes + length segment / g.needed ≤ (places_of now.geometry).extension_block
+room_more g text before now number leaves segment have below is all front same =
+    let i : ℕ = before.number in
+    let block : List ℕ = padded_block g.needed i (this g text number) in
+    let rest : List (List ℕ) = rest_of g i text (number + 1) in
+    let long : length block ≡ length segment / g.needed =
+    length-map-range_with_len _ 0 (length (this g text number) / g.needed) ∙ ap (λ (s : List ℕ). length s / g.needed) (sym is) in
+    let sum : length before.bytes + length (joined (padded_blocks g i text)) ≡ length now.bytes + (length block + length (joined rest)) =
+    sym (length-append before.bytes (joined (padded_blocks g i text)))
+    ∙ ap length (have.blocks ∙ ap (λ bs. now.bytes ++ joined bs) (rest_more g i text number below))
+    ∙ length-append now.bytes (block ++ joined rest) ∙ ap (λ n. length now.bytes + n) (length-append block (joined rest)) in
+    let ends : (places_of now.geometry).extension_block ≡ (places_of g).extension_block = ap (λ (h : Geometry). (places_of h).extension_block) (have.geometry ∙ same) in
+    omega (arith, long, sum, all, front, ends)
+
+pub put_block-requires-clause-whole : goal.put_block-requires-clause-whole
+put_block-requires-clause-whole c =
+    let g : Geometry = c.args.self.now.geometry.now in
+    let valid = c.of-segments.ensures.valid in
+    ap (λ (s : List ℕ). length s % g.needed)
+    (c.segment.ensures ∙ λ p. take (c.of-segments.ensures.size p) (drop (c.loop-number.number * c.of-segments.ensures.size p) (c.of-segments.ensures.text p)))
+    ∙ piece-whole g.needed g.segment_size c.loop-number.number c.args.self.now.padded.now valid.multiple
+    (ap (λ (n : ℕ). n % g.needed) c.requires.fit.padded ∙ mod-eq-zero_of_dvd g.needed (rounded_up-whole g.size g.needed))
+
+pub put_block-requires-clause-buffer : goal.put_block-requires-clause-buffer
+put_block-requires-clause-buffer c =
+    let g : Geometry = c.args.self.now.geometry.now in
+    let short : length c.segment.result.now ≤ g.segment_size =
+    omega (arith, ap length c.segment.ensures, length-take c.of-segments.result.size (drop (c.loop-number.number * c.of-segments.result.size) c.of-segments.result.text.now), c.of-segments.ensures.size) in
+    let b : ℕ = g.segment_size / g.needed in
+    let cut : g.segment_size ≡ g.needed * b = omega (arith, div-add-mod' g.segment_size g.needed, c.of-segments.ensures.valid.multiple) in
+    omega (arith, div-le_of_le-mul g.needed {m = length c.segment.result.now} {n = b} (omega (arith, short, cut)), c.requires.block, c.loop-number.auto.block)
+
+pub put_block-requires-clause-room : goal.put_block-requires-clause-room
+put_block-requires-clause-room c =
+    let g : Geometry = c.args.self.now.geometry.now in
+    room_more g c.args.self.now.padded.now c.args.draft.now c.loop-number.draft c.loop-number.number c.loop-number.hashes.items c.segment.result.now c.loop-number.invariant
+    (omega (arith, c.loop-number-test.true, c.of-segments.ensures.count))
+    (c.segment.ensures ∙ λ p. take (c.of-segments.ensures.size p) (drop (c.loop-number.number * c.of-segments.ensures.size p) (c.of-segments.ensures.text p)))
+    (length-padded_blocks g c.args.draft.now.number c.args.self.now.padded.now c.of-segments.ensures.valid c.requires.fit.padded) c.requires.next c.requires.geometry
+
+pub loop-number-preserved : goal.loop-number-preserved
+loop-number-preserved c =
+    one_more c.args.self.now.geometry.now c.args.self.now.padded.now c.args.draft.now c.loop-number.draft c.put_block.new.draft c.loop-number.number c.loop-number.hashes.items
+    c.push.new.self.items c.segment.result.now c.in_ok-hash.hash c.loop-number.invariant (omega (arith, c.loop-number-test.true, c.of-segments.ensures.count))
+    (c.segment.ensures ∙ λ p. take (c.of-segments.ensures.size p) (drop (c.loop-number.number * c.of-segments.ensures.size p) (c.of-segments.ensures.text p)))
+    c.in_ok-hash.ensures.block c.in_ok-hash.ensures.hash c.in_ok-push.ensures.items
+
+count : (c : goal.After-deref) → length c.deref.result.now ≡ segment_count c.args.self.now.geometry.now
+count c =
+    ap length c.deref.ensures.value
+    ∙ (done c.args.self.now.geometry.now c.args.self.now.padded.now c.args.draft.now c.loop-number.draft c.loop-number.number c.loop-number.hashes.items
+    c.of-segments.ensures.valid c.requires.fit.padded c.requires.next c.loop-number.invariant (omega (arith, c.loop-number-test.false, c.of-segments.ensures.count))).count
+
+pub build_tree-requires-clause-some : goal.build_tree-requires-clause-some
+build_tree-requires-clause-some c = omega (arith, count c, c.of-segments.ensures.some, c.of-segments.ensures.count)
+
+pub build_tree-requires-clause-few : goal.build_tree-requires-clause-few
+build_tree-requires-clause-few c = omega (arith, count c, c.of-segments.ensures.few, c.of-segments.ensures.count)
+
+pub returns-clause-size : goal.returns-clause-size
+returns-clause-size c =
+    ok_map _ _ c.build_tree.result
+    (λ tree is.
+    (done c.args.self.now.geometry.now c.args.self.now.padded.now c.args.draft.now c.loop-number.draft c.loop-number.number c.loop-number.hashes.items
+    c.of-segments.ensures.valid c.requires.fit.padded c.requires.next c.loop-number.invariant (omega (arith, c.loop-number-test.false, c.of-segments.ensures.count))).size) c.build_tree.ensures
+
+pub returns-clause-leaves : goal.returns-clause-leaves
+returns-clause-leaves c =
+    ok_map _ _ c.build_tree.result
+    (λ tree is.
+    ap length (is ∙ c.deref.ensures.value)
+    ∙ (done c.args.self.now.geometry.now c.args.self.now.padded.now c.args.draft.now c.loop-number.draft c.loop-number.number c.loop-number.hashes.items
+    c.of-segments.ensures.valid c.requires.fit.padded c.requires.next c.loop-number.invariant (omega (arith, c.loop-number-test.false, c.of-segments.ensures.count))).count) c.build_tree.ensures

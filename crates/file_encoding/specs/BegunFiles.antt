@@ -1,0 +1,25 @@
+-- A file whose shares are begun.
+use Rattle.std.specs.Prelude.{◌≡◌, ℕ, List, length, map}
+use Rattle.std.specs.List.{range_with_len}
+use Rattle.merkle.specs.Tree.{tree_nodes, tree_root}
+use Rattle.tagged_hash.specs.TaggedHash.{tagged_hash}
+use Rattle.tagged_hash.specs.declared.tag.Tag.TheVariants.{Ciphertext}
+use Rattle.share_layout.specs.Geometry.{Geometry, IsGeometry}
+use Rattle.share_layout.specs.Pieces.{segments_of}
+use Rattle.proved_parts.specs.FileOf.{segment_hashes}
+use Rattle.file_encoding.specs.Blocks.{drafted}
+use Rattle.file_encoding.specs.Encoding.{padded_segment, share_leaves}
+use Rattle.file_encoding.specs.declared.encoding.BegunFile.{BegunFile}
+use Rattle.file_encoding.specs.declared.shares.Begun.{Begun}
+
+-- these are the hashes and the begun shares of a ciphertext
+pub record IsBegun (g : Geometry) (ciphertext : List ℕ) (begun : BegunFile) : Type 0 where
+  pub valid : IsGeometry g
+  pub size : length ciphertext ≡ g.size
+  pub whole : begun.crypttext_hash ≡ tagged_hash Ciphertext ciphertext
+  pub root : begun.ciphertext_root ≡ tree_root (segment_hashes (segments_of g ciphertext))
+  pub drafts : map (λ (b : Begun). b.draft) begun.shares.items
+      ≡ map (drafted g (padded_segment g.needed ciphertext)
+      (tree_nodes (segment_hashes (segments_of g ciphertext)))) (range_with_len 0 g.total)
+  pub roots : map (λ (b : Begun). b.root) begun.shares.items
+      ≡ share_leaves g (segments_of g ciphertext)

@@ -1,0 +1,96 @@
+// Shares while they are written.
+
+ghost use Rattle.std.specs.Prelude.{◌≡◌, ◌+◌, ◌≤◌, ◌++◌, length, IfOk, OnOk};
+ghost use Rattle.ueb.specs.Limits.{max_length};
+ghost use Rattle.share_layout.specs.Layout.{header, places_of};
+ghost use Rattle.share_layout.specs.Writing.{ending};
+
+use crate::share::Share;
+use share_layout::{Geometry, Places, ShareWriter};
+use std::alloc::{AllocError, Global};
+use std::marker::Model;
+use ueb::MAX_LENGTH;
+
+/// A share that is not whole yet, in memory that has room for all of it.
+#[derive(Drop)]
+pub(crate) struct Draft {
+    writer: ShareWriter<Vec<u8>>,
+}
+
+impl Model for Draft {
+    ghost use Rattle.std.specs.Prelude.{◌≡◌, false};
+    ghost use Rattle.file_encoding.specs.Drafts.{Drafted, HasHeader, bytes_in};
+
+    ghost Value = { Drafted };
+
+    ghost view = { λ d. record {
+      geometry = d.writer.geometry;
+      number = d.writer.number;
+      bytes = bytes_in d.writer;
+    } };
+
+    ghost invariant = { λ d. d.writer.failed ≡ false → HasHeader d.writer };
+}
+
+impl Draft {
+    /// Begins share `number` of a file with this geometry: its header.
+    pub(crate) fn begin(
+        alloc: Global,
+        geometry: &Geometry,
+        number: u16,
+    ) -> Result<Draft, AllocError>
+        ensures { IfOk result (λ draft. draft ≡ record {
+          geometry = geometry.now;
+          number = number;
+          bytes = header geometry.now;
+        }) }
+    {
+        let bytes = Vec::with_capacity(alloc, room(geometry))?;
+        let mut writer = ShareWriter::new(bytes, geometry, number);
+        match writer.put(&[]) {
+            Ok(()) => Ok(Draft { writer }),
+            Err(_) => Err(AllocError),
+        }
+    }
+
+    /// The share's number.
+    pub(crate) fn number(&self) -> u16
+        ensures { result ≡ self.now.number }
+    {
+        self.writer.number()
+    }
+
+    /// Writes the next bytes of the sections before the extension block, which have room for them.
+    pub(crate) fn put(&mut self, bytes: &[u8]) -> Result<(), AllocError>
+        requires { length self.old.bytes + length bytes.now
+            ≤ (places_of self.old.geometry).extension_block }
+        ensures { OnOk result (self.new ≡ record self.old {
+          bytes = self.old.bytes ++ bytes.now;
+        }) }
+    {
+        match self.writer.put(bytes) {
+            Ok(()) => Ok(()),
+            Err(_) => Err(AllocError),
+        }
+    }
+
+    /// The share whose other sections are written, with its extension block.
+    pub(crate) fn finish(self, extension_block: &[u8]) -> Result<Share, AllocError>
+        requires last { length self.bytes ≡ (places_of self.geometry).extension_block }
+        requires short { length extension_block.now ≤ max_length }
+        ensures { IfOk result (λ share.
+            share ≡ self.bytes ++ ending self.geometry extension_block.now) }
+    {
+        let mut writer = self.writer;
+        match writer.put_extension_block(extension_block) {
+            Ok(()) => Ok(Share::from_vec(writer.into_inner())),
+            Err(_) => Err(AllocError),
+        }
+    }
+}
+
+// The greatest length of a share, in bytes.
+fn room(geometry: &Geometry) -> usize {
+    let places = Places::of(geometry);
+    places.extension_block as usize + places.layout.width() + MAX_LENGTH
+}
