@@ -6,11 +6,20 @@ use Rattle.tagged_hash.specs.TaggedHash.{tagged_hash}
 use Rattle.tagged_hash.specs.declared.tag.Tag.TheVariants.{Ciphertext}
 use Rattle.share_layout.specs.Geometry.{Geometry, IsGeometry}
 use Rattle.share_layout.specs.Pieces.{segments_of}
+use Rattle.share_verify.specs.Pieces.{block_hashes}
 use Rattle.proved_parts.specs.FileOf.{segment_hashes}
-use Rattle.file_encoding.specs.Blocks.{drafted}
-use Rattle.file_encoding.specs.Encoding.{padded_segment, share_leaves}
+use Rattle.file_encoding.specs.Blocks.{drafted, padded_blocks}
+use Rattle.file_encoding.specs.Encoding.{padded_segment}
 use Rattle.file_encoding.specs.declared.encoding.BegunFile.{BegunFile}
-use Rattle.file_encoding.specs.declared.shares.Begun.{Begun}
+use Rattle.file_encoding.specs.declared.draft.Begun.{Begun}
+
+-- these are the first shares of a padded text, begun
+pub record AreBegun (g : Geometry) (text : List ℕ) (ciphertext_nodes : List (List ℕ)) (count : ℕ)
+    (begun : List Begun) : Type 0 where
+  pub drafts : map (λ (b : Begun). b.draft) begun
+      ≡ map (drafted g text ciphertext_nodes) (range_with_len 0 count)
+  pub roots : map (λ (b : Begun). b.root) begun
+      ≡ map (λ i. tree_root (block_hashes (padded_blocks g i text))) (range_with_len 0 count)
 
 -- these are the hashes and the begun shares of a ciphertext
 pub record IsBegun (g : Geometry) (ciphertext : List ℕ) (begun : BegunFile) : Type 0 where
@@ -18,8 +27,5 @@ pub record IsBegun (g : Geometry) (ciphertext : List ℕ) (begun : BegunFile) : 
   pub size : length ciphertext ≡ g.size
   pub whole : begun.crypttext_hash ≡ tagged_hash Ciphertext ciphertext
   pub root : begun.ciphertext_root ≡ tree_root (segment_hashes (segments_of g ciphertext))
-  pub drafts : map (λ (b : Begun). b.draft) begun.shares.items
-      ≡ map (drafted g (padded_segment g.needed ciphertext)
-      (tree_nodes (segment_hashes (segments_of g ciphertext)))) (range_with_len 0 g.total)
-  pub roots : map (λ (b : Begun). b.root) begun.shares.items
-      ≡ share_leaves g (segments_of g ciphertext)
+  pub shares : AreBegun g (padded_segment g.needed ciphertext)
+      (tree_nodes (segment_hashes (segments_of g ciphertext))) g.total begun.shares.items

@@ -20,7 +20,8 @@ padded_block k i segment = share_block k i (length segment / k) segment
 
 -- the blocks of share i of a file's text, where the last segment is padded already
 abbrev pub padded_blocks : Geometry → ℕ → List ℕ → List (List ℕ)
-padded_blocks g i text = map (padded_block g.needed i) (pieces (segment_count g) g.segment_size text)
+padded_blocks g i text =
+    map (padded_block g.needed i) (pieces (segment_count g) g.segment_size text)
 
 -- what shares are made of fits their file: the code, the padded text, the bytes of the unused tree,
 -- and the leaves of the ciphertext tree

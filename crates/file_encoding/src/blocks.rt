@@ -1,4 +1,4 @@
-// The blocks of one share, and the hashes of blocks and segments.
+// The segments of a text, and their hashes.
 
 ghost use Rattle.std.specs.Prelude.{◌≡◌, ◌≤◌, ◌<◌, ◌+◌, ◌-◌, ◌*◌, ◌/◌, ◌%◌, ◌^◌, ◌++◌, ℕ, List, length, take, drop, map, IfOk, OnOk, slice_index};
 ghost use Rattle.tagged_hash.specs.TaggedHash.{tagged_hash};
@@ -66,23 +66,4 @@ impl<'a> Segments<'a> {
         }
         Ok(hashes)
     }
-}
-
-/// Writes the block of a share of a padded segment, and gives the block's hash.
-pub(crate) fn write_block(
-    code: &Code,
-    needed: u16,
-    share: u16,
-    segment: &[u8],
-    block: &mut [u8],
-) -> [u8; 32]
-    requires few { needed ≤ 256 }
-    requires needed { needed ≡ code.now.k }
-    requires size { length segment.now ≡ needed * length block.old }
-    requires in_range { share < code.now.n }
-    ensures block { block.new ≡ share_block needed share (length block.old) segment.now }
-    ensures hash { result ≡ tagged_hash Block block.new }
-{
-    code.encode(segment, share, block);
-    tagged(Tag::Block, block)
 }

@@ -1,6 +1,6 @@
 // Shares while they are written.
 
-ghost use Rattle.std.specs.Prelude.{◌≡◌, ◌+◌, ◌≤◌, ◌++◌, length, IfOk, OnOk};
+ghost use Rattle.std.specs.Prelude.{◌≡◌, ◌+◌, ◌≤◌, ◌<◌, ◌++◌, length, IfOk, OnOk};
 ghost use Rattle.ueb.specs.Limits.{max_length};
 ghost use Rattle.share_layout.specs.Layout.{header, places_of};
 ghost use Rattle.share_layout.specs.Writing.{ending};
@@ -87,6 +87,16 @@ impl Draft {
             Err(_) => Err(AllocError),
         }
     }
+}
+
+/// A share up to its block tree, and that tree's root.
+#[derive(Drop)]
+pub(crate) struct Begun {
+    pub draft: Draft,
+    pub root: [u8; 32],
+    // The share hashes are written next.
+    ghost next: { length draft.bytes ≡ (places_of draft.geometry).share_hashes },
+    ghost in_range: { draft.number < draft.geometry.total },
 }
 
 // The greatest length of a share, in bytes.

@@ -14,15 +14,16 @@ ghost use Rattle.share_verify.specs.Pieces.{block_hashes};
 ghost use Rattle.file_encoding.specs.Encoding.{ciphertext_encoding, encoding_of, padded_segment, share_hashes};
 ghost use Rattle.proved_parts.specs.FileOf.{segment_hashes};
 ghost use Rattle.share_layout.specs.Pieces.{segments_of};
-ghost use Rattle.file_encoding.specs.BegunFiles.{IsBegun};
+ghost use Rattle.file_encoding.specs.BegunFiles.{AreBegun, IsBegun};
 ghost use Rattle.file_encoding.specs.Blocks.{drafted, padded_blocks};
 ghost use Rattle.file_encoding.specs.Params.{HasTooManySegments, IsEncodable, parameters_of};
 
 use crate::blocks::Segments;
+use crate::draft::Begun;
 use crate::error::EncodeError;
 use crate::params::Params;
 use crate::share::Share;
-use crate::shares::{Begun, Common, begin_shares, build_share_tree, build_tree, finish_shares};
+use crate::shares::{Common, begin_shares, build_share_tree, build_tree, finish_shares};
 use aes_ctr::Aes128;
 use cap_text::{Cap, LitCap, ReadCap};
 use merkle::Tree;
@@ -80,12 +81,8 @@ fn begin_file(
 ) -> Result<Vec<Begun>, AllocError>
     requires padded { length padded.now ≡ rounded_up geometry.now.size geometry.now.needed }
     requires leaves { length ciphertext_tree.now ≡ segment_count geometry.now }
-    ensures drafts { IfOk result (λ begun. map (λ b. b.draft) begun.items ≡ map
-        (drafted geometry.now padded.now (tree_nodes ciphertext_tree.now))
-        (range_with_len 0 geometry.now.total)) }
-    ensures roots { IfOk result (λ begun. map (λ b. b.root) begun.items ≡ map
-        (λ i. tree_root (block_hashes (padded_blocks geometry.now i padded.now)))
-        (range_with_len 0 geometry.now.total)) }
+    ensures { IfOk result (λ begun. AreBegun geometry.now padded.now
+        (tree_nodes ciphertext_tree.now) geometry.now.total begun.items) }
 {
     let code = match Code::new(alloc, geometry.needed(), geometry.total()) {
         Ok(code) => code,

@@ -10,14 +10,16 @@ ghost use Rattle.ueb.specs.Limits.{max_length};
 ghost use Rattle.share_layout.specs.Geometry.{block_size, segment_count, tree_size};
 ghost use Rattle.share_layout.specs.Layout.{header_size, layout_of, places_of};
 ghost use Rattle.share_verify.specs.Pieces.{block_hashes, joined};
+ghost use Rattle.file_encoding.specs.BegunFiles.{AreBegun};
 ghost use Rattle.file_encoding.specs.Blocks.{FitTogether, drafted, finished, numbered, padded_block, padded_blocks};
 
-use crate::blocks::{Segments, write_block};
-use crate::draft::Draft;
+use crate::blocks::Segments;
+use crate::draft::{Begun, Draft};
 use crate::share::Share;
 use merkle::Tree;
 use share_layout::Geometry;
 use std::alloc::{AllocError, Global};
+use tagged_hash::{Tag, tagged};
 use zfec_code::Code;
 
 /// What all shares of a file are made of.
@@ -30,6 +32,7 @@ pub(crate) struct Common<'a> {
     /// The bytes of the tree that is no longer used.
     pub unused: &'a [u8],
     pub ciphertext_tree: &'a Tree,
+    ghost fit: { FitTogether geometry.now code.now padded.now unused.now ciphertext_tree.now },
 }
 
 /// The tree over these leaves.
@@ -44,16 +47,6 @@ pub(crate) fn build_tree(alloc: Global, leaves: &[[u8; 32]]) -> Result<Tree, All
     }
 }
 
-/// A share up to its block tree, and that tree's root.
-#[derive(Drop)]
-pub(crate) struct Begun {
-    pub draft: Draft,
-    pub root: [u8; 32],
-    // The share hashes are written next.
-    ghost next: { length draft.bytes ≡ (places_of draft.geometry).share_hashes },
-    ghost in_range: { draft.number < draft.geometry.total },
-}
-
 impl<'a> Common<'a> {
     /// Begins the share of this number. The block is a buffer for each block of it.
     pub(crate) fn begin_share(
@@ -62,8 +55,6 @@ impl<'a> Common<'a> {
         number: u16,
         block: &mut [u8],
     ) -> Result<Begun, AllocError>
-        requires fit { FitTogether self.now.geometry.now self.now.code.now self.now.padded.now
-            self.now.unused.now self.now.ciphertext_tree.now }
         requires in_range { number < self.now.geometry.now.total }
         requires block { length block.old ≡ block_size self.now.geometry.now }
         ensures draft { IfOk result (λ begun. begun.draft ≡ drafted self.now.geometry.now
@@ -87,8 +78,6 @@ impl<'a> Common<'a> {
         block: &mut [u8],
         draft: &mut Draft,
     ) -> Result<Tree, AllocError>
-        requires fit { FitTogether self.now.geometry.now self.now.code.now self.now.padded.now
-            self.now.unused.now self.now.ciphertext_tree.now }
         requires geometry { draft.old.geometry ≡ self.now.geometry.now }
         requires in_range { draft.old.number < self.now.geometry.now.total }
         requires block { length block.old ≡ block_size self.now.geometry.now }
@@ -119,8 +108,7 @@ impl<'a> Common<'a> {
         buffer: &mut [u8],
         draft: &mut Draft,
     ) -> Result<[u8; 32], AllocError>
-        requires needed { self.now.geometry.now.needed ≡ self.now.code.now.k }
-        requires in_range { draft.old.number < self.now.code.now.n }
+        requires in_range { draft.old.number < self.now.geometry.now.total }
         requires whole { length segment.now % self.now.geometry.now.needed ≡ 0 }
         requires buffer { length segment.now / self.now.geometry.now.needed ≤ length buffer.old }
         requires room { length draft.old.bytes + length segment.now / self.now.geometry.now.needed
@@ -132,17 +120,15 @@ impl<'a> Common<'a> {
         ensures hash { IfOk result (λ hash. hash ≡ tagged_hash Block
             (padded_block self.now.geometry.now.needed draft.old.number segment.now)) }
     {
-        let needed = self.geometry.needed();
-        let block = &mut buffer[..segment.len() / usize::from(needed)];
-        let hash = write_block(self.code, needed, draft.number(), segment, block);
+        let size = segment.len() / usize::from(self.geometry.needed());
+        let block = &mut buffer[..size];
+        self.code.encode(segment, draft.number(), block);
         draft.put(block)?;
-        Ok(hash)
+        Ok(tagged(Tag::Block, block))
     }
 
     // Writes a share's three trees behind its blocks.
     fn put_trees(&self, block_tree: &Tree, draft: &mut Draft) -> Result<(), AllocError>
-        requires fit { FitTogether self.now.geometry.now self.now.code.now self.now.padded.now
-            self.now.unused.now self.now.ciphertext_tree.now }
         requires geometry { draft.old.geometry ≡ self.now.geometry.now }
         requires leaves { length block_tree.now ≡ segment_count self.now.geometry.now }
         requires next { length draft.old.bytes ≡ (places_of self.now.geometry.now).unused }
@@ -180,17 +166,9 @@ pub(crate) fn begin_shares(
     common: &Common<'_>,
     block: &mut [u8],
 ) -> Result<Vec<Begun>, AllocError>
-    requires fit { FitTogether common.now.geometry.now common.now.code.now common.now.padded.now
-        common.now.unused.now common.now.ciphertext_tree.now }
-    requires block { length block.old ≡ block_size common.now.geometry.now }
-    ensures drafts { IfOk result (λ begun. map (λ b. b.draft) begun.items ≡ map
-        (drafted common.now.geometry.now common.now.padded.now
-        (tree_nodes common.now.ciphertext_tree.now))
-        (range_with_len 0 common.now.geometry.now.total)) }
-    ensures roots { IfOk result (λ begun. map (λ b. b.root) begun.items ≡ map
-        (λ i. tree_root (block_hashes
-        (padded_blocks common.now.geometry.now i common.now.padded.now)))
-        (range_with_len 0 common.now.geometry.now.total)) }
+    requires { length block.old ≡ block_size common.now.geometry.now }
+    ensures { IfOk result (λ begun. AreBegun common.now.geometry.now common.now.padded.now
+        (tree_nodes common.now.ciphertext_tree.now) common.now.geometry.now.total begun.items) }
 {
     let total = common.geometry.total();
     let mut begun = Vec::with_capacity(alloc, usize::from(total))?;

@@ -1,5 +1,4 @@
-use Rattle.std.proofs.Common.{◌≡◌, ℕ, List, length, map, ap, ◌∙◌}
-use Rattle.std.specs.List.{range_with_len}
+use Rattle.std.proofs.Common.{◌≡◌, ℕ, List, length, ap, subst, ◌∙◌}
 use Rattle.std.proofs.lemmas.List.{length-map}
 use Rattle.tagged_hash.specs.TaggedHash.{tagged_hash}
 use Rattle.tagged_hash.specs.declared.tag.Tag.TheVariants.{Ciphertext, CiphertextSegment}
@@ -7,13 +6,11 @@ use Rattle.merkle.specs.Tree.{tree_nodes, tree_root}
 use Rattle.ueb.specs.Shape.{rounded_up}
 use Rattle.share_layout.specs.Geometry.{Geometry, segment_count}
 use Rattle.share_layout.specs.Pieces.{segments_of}
-use Rattle.share_verify.specs.Pieces.{block_hashes}
 use Rattle.proved_parts.specs.FileOf.{segment_hashes}
 use Rattle.proved_parts.proofs.Files.{length-pieces}
-use Rattle.file_encoding.specs.Blocks.{drafted, padded_blocks}
+use Rattle.file_encoding.specs.BegunFiles.{AreBegun}
 use Rattle.file_encoding.specs.Encoding.{padded_segment}
 use Rattle.file_encoding.proofs.Padding.{length-padded}
-use Rattle.file_encoding.proofs.Whole.{roots_are}
 use Rattle.file_encoding.proofs.encoding.begin_ciphertext.Goals as goal
 
 pub begin_file-requires : goal.begin_file-requires
@@ -42,9 +39,7 @@ returns c =
       size = c.requires;
       whole = c.tagged-crypttext_hash.ensures ∙ ap (tagged_hash Ciphertext) c.deref.ensures.value;
       root = c.root.ensures ∙ ap tree_root tree;
-      drafts = c.in_ok-shares.ensures.drafts ∙ λ p. map (drafted g (padded p) (tree_nodes (tree p))) (range_with_len 0 g.total);
-      roots =
-          c.in_ok-shares.ensures.roots
-          ∙ ap (λ (x : List ℕ). map (λ i. tree_root (block_hashes (padded_blocks g i x))) (range_with_len 0 g.total)) padded
-          ∙ roots_are g text c.needed.ensures.valid c.requires;
+      shares =
+          subst (λ (t : List ℕ). AreBegun g t (tree_nodes (segment_hashes (segments_of g text))) g.total c.in_ok-shares.shares.items) padded
+          (subst (λ (leaves : List (List ℕ)). AreBegun g c.deref-3.result.now (tree_nodes leaves) g.total c.in_ok-shares.shares.items) tree c.in_ok-shares.ensures);
     }

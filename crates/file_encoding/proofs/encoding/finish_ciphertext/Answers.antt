@@ -15,14 +15,14 @@ use Rattle.file_encoding.specs.Blocks.{drafted, finished}
 use Rattle.file_encoding.specs.Drafts.{Drafted}
 use Rattle.file_encoding.specs.Encoding.{extension_block_contents, padded_segment, share_leaves}
 use Rattle.file_encoding.specs.declared.encoding.BegunFile.{BegunFile}
-use Rattle.file_encoding.specs.declared.shares.Begun.{Begun}
-use Rattle.file_encoding.proofs.Whole.{cap_is, shares_are}
+use Rattle.file_encoding.specs.declared.draft.Begun.{Begun}
+use Rattle.file_encoding.proofs.Whole.{cap_is, roots_are, shares_are}
 use Rattle.file_encoding.proofs.encoding.finish_ciphertext.Goals as goal
 
 -- how many shares are begun
 count : (g : Geometry) (text : List ℕ) (begun : BegunFile) → IsBegun g text begun → length begun.shares.items ≡ g.total
 count g text begun is =
-    sym (length-map begun.shares.items (λ (b : Begun). b.draft)) ∙ ap length is.drafts
+    sym (length-map begun.shares.items (λ (b : Begun). b.draft)) ∙ ap length is.shares.drafts
     ∙ length-map-range_with_len (drafted g (padded_segment g.needed text) (tree_nodes (segment_hashes (segments_of g text)))) 0 g.total
 
 -- they are of one file
@@ -30,7 +30,7 @@ total_is : (g : Geometry) (text : List ℕ) (begun : BegunFile) (n : ℕ) → Is
 total_is g text begun n is same k d below =
     let draft : ℕ → Drafted = drafted g (padded_segment g.needed text) (tree_nodes (segment_hashes (segments_of g text))) in
     ap (λ (w : Drafted). w.geometry.total)
-    (sym (get_or-map (λ (b : Begun). b.draft) begun.shares.items k d (draft 0) below) ∙ ap (λ (ws : List Drafted). get_or ws k (draft 0)) is.drafts
+    (sym (get_or-map (λ (b : Begun). b.draft) begun.shares.items k d (draft 0) below) ∙ ap (λ (ws : List Drafted). get_or ws k (draft 0)) is.shares.drafts
     ∙ get_or-map-range_with_len draft 0 g.total k k (draft 0) (omega (arith, below, count g text begun is)) (omega arith))
     ∙ same
 
@@ -54,7 +54,7 @@ leaves : (g : Geometry) (text : List ℕ) (begun : BegunFile) (slice : List Begu
     → tree ≡ map (λ (b : Begun). b.root) slice → (tree ≡ share_leaves g (segments_of g text)) × (length tree ≡ g.total)
 leaves g text begun slice tree is shown roots =
     let all : tree ≡ map (λ (b : Begun). b.root) begun.shares.items = roots ∙ ap (λ (bs : List Begun). map (λ (b : Begun). b.root) bs) shown in
-    (all ∙ is.roots, ap length all ∙ length-map begun.shares.items (λ (b : Begun). b.root) ∙ count g text begun is)
+    (all ∙ is.shares.roots ∙ roots_are g text is.valid is.size, ap length all ∙ length-map begun.shares.items (λ (b : Begun). b.root) ∙ count g text begun is)
 
 pub finish_shares-requires-clause-total : goal.finish_shares-requires-clause-total
 finish_shares-requires-clause-total c =
@@ -108,7 +108,7 @@ returns-clause-shares c = λ text is.
     shares_are g c.args.key text c.in_ok-extension_block.extension_block.items c.in_ok-share_tree.share_tree (map (λ (b : Begun). b.draft) begun) c.in_ok-shares.shares.items
     is.valid is.size record {
       leaves = tree.0;
-      begun = is.drafts;
+      begun = is.shares.drafts;
       block = block;
       all =
           c.in_ok-shares.ensures ∙ ap (λ (e : List ℕ). map (λ (b : Begun). finished c.in_ok-share_tree.share_tree e b.draft) begun) c.deref-2.ensures.value

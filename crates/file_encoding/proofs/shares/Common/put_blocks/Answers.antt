@@ -103,7 +103,7 @@ put_block-requires-clause-whole c =
     ap (λ (s : List ℕ). length s % g.needed)
     (c.segment.ensures ∙ λ p. take (c.of-segments.ensures.size p) (drop (c.loop-number.number * c.of-segments.ensures.size p) (c.of-segments.ensures.text p)))
     ∙ piece-whole g.needed g.segment_size c.loop-number.number c.args.self.now.padded.now valid.multiple
-    (ap (λ (n : ℕ). n % g.needed) c.requires.fit.padded ∙ mod-eq-zero_of_dvd g.needed (rounded_up-whole g.size g.needed))
+    (ap (λ (n : ℕ). n % g.needed) c.args.self.now.fit.padded ∙ mod-eq-zero_of_dvd g.needed (rounded_up-whole g.size g.needed))
 
 pub put_block-requires-clause-buffer : goal.put_block-requires-clause-buffer
 put_block-requires-clause-buffer c =
@@ -120,7 +120,7 @@ put_block-requires-clause-room c =
     room_more g c.args.self.now.padded.now c.args.draft.now c.loop-number.draft c.loop-number.number c.loop-number.hashes.items c.segment.result.now c.loop-number.invariant
     (omega (arith, c.loop-number-test.true, c.of-segments.ensures.count))
     (c.segment.ensures ∙ λ p. take (c.of-segments.ensures.size p) (drop (c.loop-number.number * c.of-segments.ensures.size p) (c.of-segments.ensures.text p)))
-    (length-padded_blocks g c.args.draft.now.number c.args.self.now.padded.now c.of-segments.ensures.valid c.requires.fit.padded) c.requires.next c.requires.geometry
+    (length-padded_blocks g c.args.draft.now.number c.args.self.now.padded.now c.of-segments.ensures.valid c.args.self.now.fit.padded) c.requires.next c.requires.geometry
 
 pub loop-number-preserved : goal.loop-number-preserved
 loop-number-preserved c =
@@ -133,7 +133,7 @@ count : (c : goal.After-deref) → length c.deref.result.now ≡ segment_count c
 count c =
     ap length c.deref.ensures.value
     ∙ (done c.args.self.now.geometry.now c.args.self.now.padded.now c.args.draft.now c.loop-number.draft c.loop-number.number c.loop-number.hashes.items
-    c.of-segments.ensures.valid c.requires.fit.padded c.requires.next c.loop-number.invariant (omega (arith, c.loop-number-test.false, c.of-segments.ensures.count))).count
+    c.of-segments.ensures.valid c.args.self.now.fit.padded c.requires.next c.loop-number.invariant (omega (arith, c.loop-number-test.false, c.of-segments.ensures.count))).count
 
 pub build_tree-requires-clause-some : goal.build_tree-requires-clause-some
 build_tree-requires-clause-some c = omega (arith, count c, c.of-segments.ensures.some, c.of-segments.ensures.count)
@@ -146,7 +146,7 @@ returns-clause-size c =
     ok_map _ _ c.build_tree.result
     (λ tree is.
     (done c.args.self.now.geometry.now c.args.self.now.padded.now c.args.draft.now c.loop-number.draft c.loop-number.number c.loop-number.hashes.items
-    c.of-segments.ensures.valid c.requires.fit.padded c.requires.next c.loop-number.invariant (omega (arith, c.loop-number-test.false, c.of-segments.ensures.count))).size) c.build_tree.ensures
+    c.of-segments.ensures.valid c.args.self.now.fit.padded c.requires.next c.loop-number.invariant (omega (arith, c.loop-number-test.false, c.of-segments.ensures.count))).size) c.build_tree.ensures
 
 pub returns-clause-leaves : goal.returns-clause-leaves
 returns-clause-leaves c =
@@ -154,4 +154,4 @@ returns-clause-leaves c =
     (λ tree is.
     ap length (is ∙ c.deref.ensures.value)
     ∙ (done c.args.self.now.geometry.now c.args.self.now.padded.now c.args.draft.now c.loop-number.draft c.loop-number.number c.loop-number.hashes.items
-    c.of-segments.ensures.valid c.requires.fit.padded c.requires.next c.loop-number.invariant (omega (arith, c.loop-number-test.false, c.of-segments.ensures.count))).count) c.build_tree.ensures
+    c.of-segments.ensures.valid c.args.self.now.fit.padded c.requires.next c.loop-number.invariant (omega (arith, c.loop-number-test.false, c.of-segments.ensures.count))).count) c.build_tree.ensures
