@@ -21,7 +21,7 @@ use Rattle.upload_core.proofs.Records.{both, or_left, or_right}
 use Rattle.upload_core.proofs.Servers.{told_there}
 
 module _ (g : Goal) (s : ℕ) where
-  abbrev OfServer : Pair → Type 0
+  abbrev pub OfServer : Pair → Type 0
   OfServer p = (p.0 ≡ s) × (p.1 < length g.digests)
 
   share_acked : (share : ℕ) (d : List ℕ) → All OfServer (acked_share g s share d)
@@ -119,7 +119,7 @@ module _ (g : Goal) (s : ℕ) where
   answer_acked (Reading share offset len) b = All-nil OfServer
   answer_acked (Aborting share) b = All-nil OfServer
 
-  outcome_acked : (a : Asked) (o : Outcome) → All OfServer (acked_outcome g s a o)
+  pub outcome_acked : (a : Asked) (o : Outcome) → All OfServer (acked_outcome g s a o)
   outcome_acked a Unawaited = All-nil OfServer
   outcome_acked a Outstanding = All-nil OfServer
   outcome_acked a (Answered b) = answer_acked a b

@@ -91,6 +91,16 @@ lost_one now r e = by (is_lost_at now r) e
     by true h = refl
     by false h = absurd (true≢false (sym h))
 
+-- what a tick finds lost waited
+pub lost_waits : (now : ℕ) (r : RequestsState) (p : ℕ) (q : Request) → Contains (lost_by_tick now r) p → slice_get r.entries p ≡ Some q → is_outstanding q.outcome ≡ true
+lost_waits now r p q c e =
+    let time : ℕ = max r.clock now in
+    let w = place_from (is_lost_at time) 0 r.entries p c in
+    let at : p - 0 ≡ p = omega arith in
+    let one : Some w.request ≡ Some q = sym w.there ∙ ap (slice_get r.entries) at ∙ e in
+    let same : w.request ≡ q = cc in
+    ap (λ (x : Request). is_outstanding x.outcome) (sym same) ∙ (both (is_outstanding w.request.outcome) (nat_le 20 (time - w.request.first_sent)) w.passes).0
+
 pub lost_ends : (g : Goal) (now : ℕ) (r : RequestsState) → AreTrails g r.entries → All (IsAtEnd (after_tick now r).entries) (lost_by_tick now r)
 lost_ends g now r trails = all_of (IsAtEnd (after_tick now r).entries) (lost_by_tick now r) each
   where

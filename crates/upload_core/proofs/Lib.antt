@@ -1,13 +1,16 @@
 pub mod Lists
 pub mod Numbers
+pub mod Counts
 pub mod Follow
 pub mod Records
 pub mod Servers
 pub mod Acked
 pub mod Goes
-pub mod Stands
 pub mod Followed
 pub mod Ends
 pub mod Placed
+pub mod Placings
+pub mod Hopeless
+pub mod Stands
 pub mod Right
 pub mod Sends

@@ -17,7 +17,7 @@ use Rattle.upload_core.specs.Rounds.{IsSettled, answered_as, readonly_servers, w
 use Rattle.upload_core.specs.Course.{MayPlace}
 use Rattle.upload_core.specs.Trails.{AreFollowed, IsNew, by_answer, by_failure, by_waiting}
 use Rattle.upload_core.proofs.Lists.{all_of, contains_at, place_of, to_flat}
-use Rattle.upload_core.proofs.Stands.{quiet_of}
+use Rattle.upload_core.proofs.Counts.{quiet_of}
 use Rattle.upload_core.proofs.Servers.{not_both, writable_told}
 
 pub below_all : (n : ℕ) → All (λ (h : ℕ). h < n) (shares_below n)

@@ -1,5 +1,5 @@
 -- What holds of each upload, as it goes on.
-use Rattle.std.proofs.Common.{◌≡◌, ℕ, zero, suc, ◌<◌, inl, inr, Bool, true, false, cond, List, [], ◌∷◌, ◌++◌, Option, Some, None, Result, Ok, Err, map, filter, eqb, refl, sym, ap, subst, ◌∙◌, arith, true≢false}
+use Rattle.std.proofs.Common.{◌≡◌, ◌≢◌, ℕ, zero, suc, ◌<◌, ◌⊎◌, inl, inr, Bool, true, false, cond, List, [], ◌∷◌, ◌++◌, Option, Some, None, Result, Ok, Err, length, map, max, filter, eqb, refl, sym, ap, subst, ◌∙◌, arith, true≢false}
 use Rattle.std.specs.Prelude.{slice_get}
 use Rattle.std.specs.Result.{OnErr, OnOk}
 use Rattle.std.specs.List.{AllByRecursion, IsDistinct}
@@ -9,7 +9,7 @@ use Rattle.request_record.specs.declared.requests.Asked.{Asked}
 use Rattle.request_record.specs.declared.requests.Asked.TheVariants.{Holdings, Allocation, Writing, Closing, Reading, Aborting}
 use Rattle.request_record.specs.declared.requests.Request.{Request}
 use Rattle.request_record.specs.Record.{RequestsState, asked_all, counts_at}
-use Rattle.request_record.specs.Asking.{AreApart, AsksOnce, after_message, after_tick, lost_by_tick}
+use Rattle.request_record.specs.Asking.{AreApart, AsksOnce, after_message, after_tick, begun, lost_by_tick}
 use Rattle.upload_core.specs.declared.status.ServerInfo.{ServerInfo}
 use Rattle.upload_core.specs.declared.status.UploadStatus.{UploadStatus}
 use Rattle.upload_core.specs.declared.status.UploadStatus.TheVariants.{Running, Failed}
@@ -17,13 +17,17 @@ use Rattle.upload_core.specs.declared.pieces.PieceFault.{PieceFault}
 use Rattle.upload_core.specs.declared.pieces.PieceFault.TheVariants.{OutOfMemory}
 use Rattle.upload_core.specs.State.{Goal, UploadState, with_record}
 use Rattle.upload_core.specs.Right.{IsRight}
-use Rattle.upload_core.specs.Moves.{Advances, AdvancesAt, Begins, GoesOn, TicksOn, TicksWith, all_follow_ups, ends, places, waits}
+use Rattle.upload_core.specs.Moves.{Advances, AdvancesAt, Begins, GoesOn, TicksOn, TicksWith, all_follow_ups, ends, follow_ups_at, initial, places, waits}
 use Rattle.upload_core.specs.Sending.{one_sent}
-use Rattle.upload_core.specs.Course.{CanGoOn, IsCourse, IsInside, IsKept, asked_servers, is_holdings}
+use Rattle.upload_core.specs.Course.{CanGoOn, IsCourse, IsInside, IsKept, IsRound, asked_servers, is_holdings}
 use Rattle.upload_core.specs.Trails.{AreFollowed, rank_of, share_of}
 use Rattle.upload_core.proofs.Followed.{inside_at, followed_message, followed_placed, followed_tick}
 use Rattle.upload_core.proofs.Goes.{followed_begun, on_ok}
-use Rattle.upload_core.proofs.Stands.{Stands, advances_stands, begins_stands, counted_none, is_running, stands_failed, stands_sent, ticks_stands}
+use Rattle.upload_core.proofs.Stands.{Stands, ended_stands, goes_stand, is_running, same_entries, stands_failed, stands_sent, waits_stands}
+use Rattle.upload_core.proofs.Counts.{counted_none, message_settled, tick_settled}
+use Rattle.upload_core.proofs.Placings.{round_message, round_placed, round_tick}
+use Rattle.request_record.proofs.RecordLaws.{count_ticked}
+use Rattle.upload_core.specs.Rounds.{IsSettled}
 
 -- ---- nothing is asked twice
 
@@ -95,41 +99,90 @@ once_of u c i j a b lt first second servers = apart_of u.goal a.asked b.asked in
 
 -- ---- what an upload goes on from
 
-goes_on_from : (u : UploadState) (r : RequestsState) (new : UploadState) → GoesOn u r new → AreFollowed u.goal r.entries → CanGoOn new
-goes_on_from u r new g followed = elim g [
-  | waits unsettled e ↦ subst CanGoOn (sym e) (record { followed = followed })
-  | places p settled to placing some e ↦ subst CanGoOn (sym e) (record { followed = followed_placed u.goal u.goal.share_length (p.m3 ++ p.leftovers) r followed })
-  | ends status settled over so e ↦ subst CanGoOn (sym e) (record { followed = followed })
+-- it goes on from a record that it can go on from
+can_go : (u : UploadState) (r : RequestsState) (new : UploadState) → GoesOn u r new → IsCourse new → CanGoOn (with_record u r) → CanGoOn new
+can_go u r new g course can = elim g [
+  | waits unsettled e ↦ subst CanGoOn (sym e) can
+  | places p settled to placing some e ↦ (
+      let c = subst IsCourse e course in
+      subst CanGoOn (sym e) (record {
+        followed = followed_placed u.goal u.goal.share_length (p.m3 ++ p.leftovers) r can.followed;
+        rounds = inr (round_placed u r p settled placing c.distinct c.of_told);
+      }))
+  | ends status settled over so e ↦ subst CanGoOn (sym e) (record { followed = can.followed; rounds = can.rounds })
 ]
 
-same_goes : (u : UploadState) (r : RequestsState) → r.entries ≡ u.requests.entries → CanGoOn u → CanGoOn (with_record u r)
-same_goes u r e c = record { followed = subst (AreFollowed u.goal) (sym e) c.followed }
+-- how it stands, and that it can go on
+record Moves (new : UploadState) : Type 0 where
+  pub stands : Stands new
+  pub going : new.status ≡ Running → CanGoOn new
 
-pub begins_going : (goal : Goal) (happy : ℕ) (servers : List ServerInfo) (session now : ℕ) (u : UploadState) → Begins goal happy servers session now u → CanGoOn u
-begins_going goal happy servers session now u b = goes_on_from _ _ u b.goes (followed_begun goal session now u.servers)
+goes_moves : (u : UploadState) (r : RequestsState) (new : UploadState) → u.status ≡ Running → IsCourse new → CanGoOn (with_record u r) → GoesOn u r new → Moves new
+goes_moves u r new running course can g = record { stands = goes_stand u r new running course can g; going = λ is. can_go u r new g course can }
 
-advances_going : (from : ℕ) (m : Message) (now : ℕ) (old new : UploadState) → Advances from m now old new → IsKept old → new.status ≡ Running → CanGoOn new
-advances_going from m now old new a kept is = elim (is_running old.status) [
-  | inl running ↦ by running (counts_at from m old.requests) refl (a.running running)
-  | inr over ↦ absurd (over (sym (ap (λ (u : UploadState). u.status) (a.ended over)) ∙ is))
-]
-  where
-    by : old.status ≡ Running → (o : Option ℕ) → counts_at from m old.requests ≡ o → AdvancesAt o (after_message from m now old.requests) old new → CanGoOn new
-    by running None e same = subst CanGoOn (sym same) (same_goes old (after_message from m now old.requests) (counted_none from m now old.requests e) (kept.going running))
-    by running (Some place) e goes = goes_on_from old _ new goes (followed_message old.goal from m now old.requests place e kept.course.inside (kept.going running).followed)
+-- an upload that ended: only its record goes on
+over_moves : (old : UploadState) (r : RequestsState) (new : UploadState) → old.status ≢ Running → new ≡ with_record old r → (IsSettled old.requests.entries → r.entries ≡ old.requests.entries) → Stands old → Moves new
+over_moves old r new over e same stands = subst Moves (sym e) (record { stands = ended_stands old r over same stands; going = λ is. absurd (over is) })
 
-ticks_going : (now : ℕ) (old new : UploadState) → TicksOn now old new → IsKept old → new.status ≡ Running → CanGoOn new
-ticks_going now old new a kept is = elim (is_running old.status) [
-  | inl running ↦ by running (lost_by_tick now old.requests) (a.running running)
-  | inr over ↦ absurd (over (sym (ap (λ (u : UploadState). u.status) (a.ended over)) ∙ is))
-]
-  where
-    followed : old.status ≡ Running → (lost : List ℕ) → AreFollowed old.goal (asked_all (all_follow_ups old.goal (after_tick now old.requests).entries lost) (after_tick now old.requests)).entries
-    followed running lost = followed_tick old.goal now old.requests kept.course.inside (kept.going running).followed lost
+begins_moves : (goal : Goal) (happy : ℕ) (servers : List ServerInfo) (session now : ℕ) (u : UploadState) → Begins goal happy servers session now u → IsCourse u → Moves u
+begins_moves goal happy servers session now u b course = goes_moves (initial goal happy u.servers session now) (begun u.servers session now) u refl course (record { followed = followed_begun goal session now u.servers; rounds = inl refl }) b.goes
 
-    by : old.status ≡ Running → (lost : List ℕ) → TicksWith lost (after_tick now old.requests) old new → CanGoOn new
-    by running [] same = subst CanGoOn (sym same) (record { followed = followed running [] })
-    by running (p ∷ ps) goes = goes_on_from old _ new goes (followed running (p ∷ ps))
+module _ (from : ℕ) (m : Message) (now : ℕ) (old new : UploadState) (stands : Stands old) (kept : IsKept old) (course : IsCourse new) where
+  message_can : (place : ℕ) → counts_at from m old.requests ≡ Some place → CanGoOn old → CanGoOn (with_record old (asked_all (follow_ups_at old.goal (slice_get (after_message from m now old.requests).entries place)) (after_message from m now old.requests)))
+  message_can place e can = record {
+    followed = followed_message old.goal from m now old.requests place e kept.course.inside can.followed;
+    rounds = elim can.rounds [
+      | inl first ↦ inl first
+      | inr k ↦ inr (round_message old.goal old.round from m now old.requests place e kept.course.inside k)
+    ];
+  }
+
+  message_moves : Advances from m now old new → Moves new
+  message_moves a = elim (is_running old.status) [
+    | inl running ↦ by running (counts_at from m old.requests) refl (a.running running)
+    | inr over ↦ over_moves old (after_message from m now old.requests) new over (a.ended over) (message_settled from m now old.requests) stands
+  ]
+    where
+      by : old.status ≡ Running → (o : Option ℕ) → counts_at from m old.requests ≡ o → AdvancesAt o (after_message from m now old.requests) old new → Moves new
+      by running None e is =
+          let can = kept.going running in
+          let same : (after_message from m now old.requests).entries ≡ old.requests.entries = counted_none from m now old.requests e in
+          subst Moves (sym is) (record {
+            stands = same_entries old (after_message from m now old.requests) same stands;
+            going = λ runs. record {
+              followed = subst (AreFollowed old.goal) (sym same) can.followed;
+              rounds = subst (λ (es : List Request). (old.round ≡ 0) ⊎ IsRound old.goal old.round es) (sym same) can.rounds;
+            };
+          })
+      by running (Some place) e goes = goes_moves old _ new running course (message_can place e (kept.going running)) goes
+
+module _ (now : ℕ) (old new : UploadState) (stands : Stands old) (kept : IsKept old) (course : IsCourse new) where
+  abbrev after : RequestsState
+  after = after_tick now old.requests
+
+  tick_can : CanGoOn old → CanGoOn (with_record old (asked_all (all_follow_ups old.goal after.entries (lost_by_tick now old.requests)) after))
+  tick_can can = record {
+    followed = followed_tick old.goal now old.requests kept.course.inside can.followed (lost_by_tick now old.requests);
+    rounds = elim can.rounds [
+      | inl first ↦ inl first
+      | inr k ↦ inr (round_tick old.goal old.round now old.requests kept.course.inside k)
+    ];
+  }
+
+  tick_moves : TicksOn now old new → Moves new
+  tick_moves a = elim (is_running old.status) [
+    | inl running ↦ by running (lost_by_tick now old.requests) refl (a.running running) (tick_can (kept.going running))
+    | inr over ↦ over_moves old after new over (a.ended over) (tick_settled now old.requests) stands
+  ]
+    where
+      by : old.status ≡ Running → (lost : List ℕ) → lost_by_tick now old.requests ≡ lost → TicksWith lost after old new → CanGoOn (with_record old (asked_all (all_follow_ups old.goal after.entries lost) after)) → Moves new
+      by running [] e is can =
+          let none : length (lost_by_tick now old.requests) ≡ 0 = ap length e in
+          subst Moves (sym is) (record {
+            stands = waits_stands old after running (omega (arith, none, stands.works running, count_ticked (max old.requests.clock now) 0 old.requests.entries));
+            going = λ runs. can;
+          })
+      by running (p ∷ ps) e goes can = goes_moves old _ new running course can goes
 
 -- ---- the calls
 
@@ -139,11 +192,11 @@ pub record IsFine (u : UploadState) : Type 0 where
   pub kept : IsKept u
 
 stands_of : (u : UploadState) → IsRight u → Stands u
-stands_of u right = record { works = right.works; settled = right.settled; over = right.over }
+stands_of u right = record { works = right.works; settled = right.settled; over = right.over; hopeless = right.hopeless }
 
 fine_of : (u : UploadState) → Stands u → IsCourse u → (u.status ≡ Running → CanGoOn u) → IsFine u
 fine_of u stands course going = record {
-  right = record { works = stands.works; once = once_of u course; settled = stands.settled; over = stands.over };
+  right = record { works = stands.works; once = once_of u course; settled = stands.settled; over = stands.over; hopeless = stands.hopeless };
   kept = record { course = course; going = going };
 }
 
@@ -151,7 +204,7 @@ pub course_status : (u : UploadState) (status : UploadStatus) → IsCourse u →
 course_status u status c = record { few = c.few; distinct = c.distinct; inside = c.inside; of_told = c.of_told; trails = c.trails; begun = c.begun }
 
 pub begins_fine : (goal : Goal) (happy : ℕ) (servers : List ServerInfo) (session now : ℕ) (u : UploadState) → Begins goal happy servers session now u → IsCourse u → IsFine u
-begins_fine goal happy servers session now u b c = fine_of u (begins_stands goal happy servers session now u b) c (λ is. begins_going goal happy servers session now u b)
+begins_fine goal happy servers session now u b c = let moves = begins_moves goal happy servers session now u b c in fine_of u moves.stands c moves.going
 
 pub failed_fine : (u : UploadState) (fault : PieceFault) → IsCourse u → IsFine (record u { status = Failed fault })
 failed_fine u fault c = fine_of (record u { status = Failed fault }) (stands_failed u fault) (course_status u (Failed fault) c) (λ is. absurd cc)
@@ -159,12 +212,14 @@ failed_fine u fault c = fine_of (record u { status = Failed fault }) (stands_fai
 pub sent_fine : (u : UploadState) → IsRight u → IsKept u → IsFine (with_record u (one_sent u.requests))
 sent_fine u right kept =
     let c = kept.course in
-    fine_of (with_record u (one_sent u.requests)) (stands_sent u (stands_of u right)) (record { few = c.few; distinct = c.distinct; inside = c.inside; of_told = c.of_told; trails = c.trails; begun = c.begun }) (λ is. record { followed = (kept.going is).followed })
+    fine_of (with_record u (one_sent u.requests)) (stands_sent u (stands_of u right)) (record { few = c.few; distinct = c.distinct; inside = c.inside; of_told = c.of_told; trails = c.trails; begun = c.begun }) (λ is. let can = kept.going is in record { followed = can.followed; rounds = can.rounds })
 
 -- a step that went on, or found no memory
 module _ {X E : Type 0} (mid new : UploadState) (c : IsCourse new) where
-  step_fine : (r : Result X E) → OnOk r (Stands mid × (mid.status ≡ Running → CanGoOn mid)) → OnOk r (new ≡ mid) → OnErr r (new ≡ record mid { status = Failed OutOfMemory }) → IsFine new
-  step_fine (Ok x) f e n = fine_of new (subst Stands (sym e) f.0) c (λ is. subst CanGoOn (sym e) (f.1 (sym (ap (λ (u : UploadState). u.status) e) ∙ is)))
+  step_fine : (r : Result X E) → OnOk r (IsCourse mid → Moves mid) → OnOk r (new ≡ mid) → OnErr r (new ≡ record mid { status = Failed OutOfMemory }) → IsFine new
+  step_fine (Ok x) f e n =
+      let moves : Moves new = subst Moves (sym e) (f (subst IsCourse e c)) in
+      fine_of new moves.stands c moves.going
   step_fine (Err x) f e n = fine_of new (subst Stands (sym n) (stands_failed mid OutOfMemory)) c (λ is. absurd (failed_runs OutOfMemory (sym (ap (λ (u : UploadState). u.status) n) ∙ is)))
     where
       failed_runs : (fault : PieceFault) → Failed fault ≡ Running → ⊥
@@ -175,7 +230,7 @@ module _ {X E : Type 0} (mid new : UploadState) (c : IsCourse new) where
   step_goal (Err x) e n = ap (λ (u : UploadState). u.goal) n
 
   pub message_fine : (r : Result X E) (from : ℕ) (m : Message) (now : ℕ) (old : UploadState) → OnOk r (Advances from m now old mid) → OnOk r (new ≡ mid) → OnErr r (new ≡ record mid { status = Failed OutOfMemory }) → IsRight old → IsKept old → IsFine new
-  message_fine r from m now old a e n right kept = step_fine r (on_ok r (Advances from m now old mid) _ (λ moves. (advances_stands from m now old mid moves (stands_of old right), advances_going from m now old mid moves kept)) a) e n
+  message_fine r from m now old a e n right kept = step_fine r (on_ok r (Advances from m now old mid) (IsCourse mid → Moves mid) (λ moves course. message_moves from m now old mid (stands_of old right) kept course moves) a) e n
 
   pub tick_fine : (r : Result X E) (now : ℕ) (old : UploadState) → OnOk r (TicksOn now old mid) → OnOk r (new ≡ mid) → OnErr r (new ≡ record mid { status = Failed OutOfMemory }) → IsRight old → IsKept old → IsFine new
-  tick_fine r now old a e n right kept = step_fine r (on_ok r (TicksOn now old mid) _ (λ moves. (ticks_stands now old mid moves (stands_of old right), ticks_going now old mid moves kept)) a) e n
+  tick_fine r now old a e n right kept = step_fine r (on_ok r (TicksOn now old mid) (IsCourse mid → Moves mid) (λ moves course. tick_moves now old mid (stands_of old right) kept course moves) a) e n

@@ -62,7 +62,7 @@ ask_answered ro (Closing share) o h = absurd (true≢false (sym h))
 ask_answered ro (Reading share offset len) o h = absurd (true≢false (sym h))
 ask_answered ro (Aborting share) o h = absurd (true≢false (sym h))
 
-answered_ask : (ro : Bool) (r : Request) → has_answered_as ro r ≡ true → is_ask r ≡ true
+pub answered_ask : (ro : Bool) (r : Request) → has_answered_as ro r ≡ true → is_ask r ≡ true
 answered_ask ro r h = ask_answered ro r.asked r.outcome h
 
 answers_one_way : (b : Body) → answers_as true b ≡ true → answers_as false b ≡ true → ⊥

@@ -1,6 +1,7 @@
 -- What holds of each upload's record.
 use Rattle.std.specs.Prelude.{◌≡◌, ◌⊎◌, ℕ, ◌+◌, ◌<◌, ◌≤◌, ◌&&◌, ◌||◌, ◌++◌}
-use Rattle.std.specs.Prelude.{Bool, true, false, List, map, filter, length, nat_eq, All}
+use Rattle.std.specs.Prelude.{Bool, true, false, List, map, filter, length, nat_eq, All, Contains}
+use Rattle.std.specs.Prelude.{Some, slice_get}
 use Rattle.std.specs.List.{IsDistinct, list_any}
 use Rattle.request_record.specs.declared.requests.Asked.{Asked}
 use Rattle.request_record.specs.declared.requests.Asked.TheVariants.{Holdings, Allocation, Writing}
@@ -8,12 +9,15 @@ use Rattle.request_record.specs.declared.requests.Asked.TheVariants.{Closing}
 use Rattle.request_record.specs.declared.requests.Asked.TheVariants.{Reading, Aborting}
 use Rattle.request_record.specs.declared.requests.Request.{Request}
 use Rattle.wire.specs.Limits.{most_data}
-use Rattle.placement.specs.Matching.{Pair}
+use Rattle.placement.specs.Matching.{IsLargestMatching, Pair}
+use Rattle.placement.specs.Plan.{placeable}
 use Rattle.upload_core.specs.declared.status.UploadStatus.{UploadStatus}
 use Rattle.upload_core.specs.declared.status.UploadStatus.TheVariants.{Running}
 use Rattle.upload_core.specs.State.{Goal, UploadState}
-use Rattle.upload_core.specs.Trails.{AreFollowed, AreTrails, IsNew}
-use Rattle.upload_core.specs.Rounds.{EndsAs, IsPlacing, Placing, has_answered_as}
+use Rattle.upload_core.specs.Acknowledged.{acked_pairs}
+use Rattle.upload_core.specs.Trails.{AreFollowed, AreTrails, IsAbout, IsNew}
+use Rattle.upload_core.specs.Rounds.{EndsAs, IsPlacing, IsSettled, Placing, has_answered_as}
+use Rattle.upload_core.specs.Rounds.{writable_servers}
 
 abbrev pub is_holdings : Asked → Bool
 is_holdings Holdings = true
@@ -87,9 +91,36 @@ Ends old new =
     (status : UploadStatus) × EndsAs old.goal old.wanted old.requests.entries status
     × (new ≡ record old { status = status })
 
--- what a running upload goes on from: what became of each transfer is known
+-- a request of a transfer, to a server that was writable at the last placing
+abbrev pub IsOfRound : Goal → List Request → Request → Type 0
+IsOfRound g before r =
+    Contains (writable_servers g before) r.server × (is_holdings r.asked ≡ false)
+
+-- one of these requests is about the pair
+abbrev pub HasTrail : List Request → Pair → Type 0
+HasTrail entries pair =
+    (i : ℕ) × (r : Request) × (slice_get entries i ≡ Some r) × IsAbout pair r
+
+-- The last placing: what was asked before it was settled, and what was asked since is of its
+-- transfers.
+pub record IsRound (g : Goal) (round : ℕ) (entries : List Request) : Type 0 where
+  pub before : List Request
+  pub since : List Request
+  pub parts : entries ≡ before ++ since
+  pub at : length before ≡ round
+  pub settled : IsSettled before
+  pub placing : Placing
+  pub is : IsPlacing g before placing
+  pub best : IsLargestMatching
+      (placeable (acked_pairs g before) (writable_servers g before) (length g.digests))
+      (is.m1 ++ is.m2 ++ placing.m3)
+  pub begun : (pair : Pair) → Contains placing.m3 pair → HasTrail since pair
+  pub of_it : (i : ℕ) (r : Request) → slice_get since i ≡ Some r → IsOfRound g before r
+
+-- what a running upload goes on from: what became of each transfer is known, and the last placing
 pub record CanGoOn (u : UploadState) : Type 0 where
   pub followed : AreFollowed u.goal u.requests.entries
+  pub rounds : (u.round ≡ 0) ⊎ IsRound u.goal u.round u.requests.entries
 
 -- what is kept of each upload
 pub record IsKept (u : UploadState) : Type 0 where

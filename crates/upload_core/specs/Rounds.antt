@@ -12,7 +12,7 @@ use Rattle.request_record.specs.declared.requests.Outcome.TheVariants.{Answered}
 use Rattle.request_record.specs.declared.requests.Request.{Request}
 use Rattle.request_record.specs.Record.{RequestsState, outstanding_count}
 use Rattle.placement.specs.Matching.{Pair, IsMatching, IsLargestMatching, IsBlockedBy}
-use Rattle.placement.specs.Plan.{IsPlan}
+use Rattle.placement.specs.Plan.{IsPlan, placeable}
 use Rattle.upload_core.specs.declared.status.UploadStatus.{UploadStatus}
 use Rattle.upload_core.specs.declared.status.UploadStatus.TheVariants.{Running, Happy}
 use Rattle.upload_core.specs.declared.status.UploadStatus.TheVariants.{Unhappy, Failed}
@@ -110,6 +110,15 @@ pub record IsUnhappy (g : Goal) (wanted : ℕ) (entries : List Request) (reached
   pub largest : IsLargestMatching (acked_pairs g entries) pairs
   pub reaches : length pairs ≡ reached
   pub blocked : IsBlockedBy blocking (acked_pairs g entries) pairs
+
+-- No placing would be enough: the acknowledged pairs with all pairs of shares and of servers that
+-- take shares and did not fail have no matching of as many as wanted.
+abbrev pub IsHopeless : Goal → ℕ → List Request → Type 0
+IsHopeless g wanted entries =
+    (pairs : List Pair)
+    → IsMatching
+    (placeable (acked_pairs g entries) (writable_servers g entries) (length g.digests)) pairs
+    → length pairs < wanted
 
 abbrev pub EndsAs : Goal → ℕ → List Request → UploadStatus → Type 0
 EndsAs g wanted entries Running = ⊥
