@@ -10,7 +10,7 @@ use Rattle.share_layout.specs.declared.layout.Layout.{Layout}
 use Rattle.share_layout.specs.declared.layout.Layout.TheVariants.{One, Two}
 use Rattle.share_layout.specs.Layout.{header_size, layout_of, places_of}
 use Rattle.share_layout.specs.Pieces.{block_length}
-use Rattle.download_plan.specs.Level.{IsAbove, first_node, group_size, level_at, row_of, tree_height}
+use Rattle.download_plan.specs.Level.{IsAbove, first_node, group_size, level_at, level_count, row_of, tree_height}
 use Rattle.download_plan.specs.Plan.{IsAmong, IsNodePiece, IsPart, block_place, data_end, data_pieces, length_of, max_nodes, max_read, nodes_at, nodes_of, nodes_place, piece_at, pieces_of, place_of}
 use Rattle.download_plan.specs.Range.{IsRange}
 use Rattle.download_plan.specs.Laws.{AreApart, IsInBlock, IsInPiece, LevelsHoldGroups, LiesIn, PartsAreApart, PartsHoldTheBlocks, PartsLieInside, PiecesAreGroups, section_end, section_start}
@@ -19,7 +19,7 @@ use Rattle.download_plan.specs.declared.part.NodePiece.{NodePiece}
 use Rattle.download_plan.specs.declared.part.Nodes.{Nodes}
 use Rattle.download_plan.specs.declared.part.Part.{Part}
 use Rattle.download_plan.specs.declared.part.Part.TheVariants.{ShareHashes, BlockTree, CiphertextTree, Data}
-use Rattle.download_plan.proofs.NumberLemmas.{below_ceil, ceil_most, end_inside, end_multiple, first_multiple, group_begins, group_of, group_within, holds_group, piece_begins, row_high, rows_rise}
+use Rattle.download_plan.proofs.NumberLemmas.{below_ceil, ceil_most, end_inside, end_multiple, first_below_end, first_multiple, group_begins, group_of, group_within, holds_group, piece_begins, pieces_below, row_high, rows_rise}
 
 -- headers and shares are not long
 header_short : (l : Layout) → header_size l ≤ 68
@@ -340,3 +340,10 @@ same_pieces g a b number place start len size r from before some here begins lon
     let last : place - start + len - 1 ≡ block_place g number + block_length g number - 1 - block_place g a = omega (arith, here, begins, long, some, low) in
     let piece : (place - start + len - 1) / size ≡ piece_at g a (block_place g number + block_length g number - 1) = λ i. last i / most i in
     omega (arith, piece, within)
+
+-- each level has a piece
+pub some_piece : (g : Geometry) (a b level : ℕ) → IsRange g a b → level < level_count (tree_height g) → IsNodePiece g a b (record { level = level; index = 0 })
+some_piece g a b level r there =
+    let l = level_at g a b level in
+    let some = first_below_end (tree_height g) l.row a b (segment_count g) r.some r.within in
+    record { level = there; index = pieces_below (l.end - l.first) max_nodes 0 (omega arith) (omega (arith, some)) }

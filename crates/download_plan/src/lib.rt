@@ -16,4 +16,4 @@ pub use laws::{
 };
 pub use level::Level;
 pub use part::{DataPieces, NodePiece, Nodes, Part, Read};
-pub use plan::{MAX_NODES, MAX_READ, Plan};
+pub use plan::{MAX_NODES, MAX_READ, Plan, constants_are_the_limits};

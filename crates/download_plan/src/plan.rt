@@ -1,6 +1,6 @@
 //! The plan of a download from one share.
 
-ghost use Rattle.std.specs.Prelude.{◌≡◌, ℕ, ◌+◌, ◌-◌, ◌*◌, ◌^◌, ◌<◌, ◌≤◌};
+ghost use Rattle.std.specs.Prelude.{◌≡◌, ℕ, ◌+◌, ◌-◌, ◌*◌, ◌^◌, ◌<◌, ◌≤◌, IfSome};
 ghost use Rattle.merkle.specs.Tree.{node_number};
 ghost use Rattle.share_layout.specs.Geometry.{segment_count};
 ghost use Rattle.share_layout.specs.Layout.{places_of};
@@ -23,6 +23,13 @@ pub const MAX_READ: u32 = 32_768;
 
 /// The most nodes of a read.
 pub const MAX_NODES: u32 = 1_024;
+
+/// A law: these constants are the limits of the definitions. The law is the contract; the call does
+/// nothing.
+pub fn constants_are_the_limits()
+    ensures bytes { MAX_READ ≡ max_read }
+    ensures nodes { MAX_NODES ≡ max_nodes }
+{}
 
 // How many rows there are from a level to the next.
 const ROWS: u32 = 7;
@@ -103,7 +110,9 @@ impl Plan {
 
     /// The first piece of each tree, where there is one: a file of one segment has none.
     pub fn first_piece(&self) -> Option<NodePiece>
-        ensures { result ≡ first_piece self.now.geometry }
+        ensures value { result ≡ first_piece self.now.geometry }
+        ensures piece { IfSome result
+            (IsNodePiece self.now.geometry self.now.first self.now.end) }
     {
         if self.level_count() > 0 {
             Some(NodePiece { level: 0, index: 0 })
@@ -115,8 +124,10 @@ impl Plan {
     /// The piece that follows another, upper levels first, where there is one.
     pub fn next_piece(&self, piece: &NodePiece) -> Option<NodePiece>
         requires { IsNodePiece self.now.geometry self.now.first self.now.end piece.now }
-        ensures { result
+        ensures value { result
             ≡ next_piece self.now.geometry self.now.first self.now.end piece.now }
+        ensures piece { IfSome result
+            (IsNodePiece self.now.geometry self.now.first self.now.end) }
     {
         let pieces = self.piece_count(piece.level);
         let levels = self.level_count();
