@@ -1,15 +1,16 @@
 #!/bin/bash
 # Times the built program by processor time (user and system of its process), in turn with two bases:
 # SHA-256 of the kit over as many bytes as have to be hashed, built as the program is, and `sha256sum`
-# of the file. The best of six runs of each counts. Its words: the file's size in MiB (16 if none), and
-# the program (that of this repository if none, which is built first).
+# of the file. The best of six runs of each counts. Its words: the file's size in MiB (16 if none), the
+# program (that of this repository if none, which is built first), and the processor that the program
+# was built for (this machine's if none).
 set -e
 here=$(cd "$(dirname "$0")" && pwd)
 . "$here/../prepare.sh"
 mib=${1:-16}
 program=${2:-}
 prepare "sha2"
-processor=$("$root/processor")
+processor=${3:-$("$root/processor")}
 if [ -z "$program" ]; then
     "$root/grid" cap URI:LIT:na > /dev/null
     program=$root/crates/grid_main/out/grid_main

@@ -50,8 +50,12 @@ pub(crate) fn path(rt: &HostRuntime, rest: &str) -> Result<String, AllocError> {
 
 // The path of a file in the first server's folder.
 pub(crate) fn share_path(rt: &HostRuntime, name: &str) -> Result<String, AllocError> {
-    let folder = path(rt, "/grid/server-000/")?;
-    format!(in rt.alloc(); "{folder}{name}")
+    share_at(rt, 0, name)
+}
+
+fn share_at(rt: &HostRuntime, server: u16, name: &str) -> Result<String, AllocError> {
+    let folder = server_path(rt, server)?;
+    format!(in rt.alloc(); "{folder}/{name}")
 }
 
 // The folder of a server.
@@ -238,12 +242,9 @@ fn puts_and_gets_files(rt: HostRuntime) {
     assert!(rt; zeros_go_round(&rt) && removes_all(&rt));
 }
 
-fn has_size(rt: &HostRuntime, rest: &str, size: u64) -> bool {
-    let Ok(file) = path(rt, rest) else {
-        return false;
-    };
-    match fs::metadata(rt, file.as_str()) {
-        Ok(metadata) => metadata.len() == size,
+fn has_size(rt: &HostRuntime, server: u16, name: &str, size: u64) -> bool {
+    match share_at(rt, server, name) {
+        Ok(file) => fs::metadata(rt, file.as_str()).is_ok_and(|found| found.len() == size),
         Err(_) => false,
     }
 }
@@ -256,17 +257,13 @@ pub(crate) fn has_share(rt: &HostRuntime, name: &str, wanted: bool) -> bool {
     }
 }
 
-// The share in the folder of the server that is first in the order of the file, by a program in
-// Python.
-const FIRST_OF_THREE: &str = "/grid/server-002/w3hm5rcm33g237wuaijiuuup7q.0.jtekwrxuxx27zctnem7ska6zjwudmdyta5yamq5667dqfdotpzra";
-
-// One share of 531 bytes under its closed name and no open one; and a folder for each server, also
-// where it gets no share.
+// One share of 531 bytes under its closed name, at the server that is the first in the order of the
+// file by a program in Python; and a folder for each server, also where it gets no share.
 #[test]
 fn a_share_stands_under_its_name(rt: HostRuntime) {
     let options = "--k 1 --happy 1 --n 1 --servers 3";
     assert!(rt; makes_file(&rt, &[0; 56]) && put_gives(&rt, options, 0, ZEROS_PUT, ""));
-    assert!(rt; has_size(&rt, FIRST_OF_THREE, 531) && has_share(&rt, CLOSED, false));
+    assert!(rt; has_size(&rt, 2, CLOSED, 531) && has_share(&rt, CLOSED, false));
     assert!(rt;
         is_there(&rt, "/grid/server-001", true) && is_there(&rt, "/grid/server-003", false)
     );
@@ -315,10 +312,7 @@ fn a_secret_is_part_of_the_key(rt: HostRuntime) {
 
 // The text before the first line's end.
 fn first_line(bytes: &[u8]) -> &str {
-    match str::from_utf8(bytes) {
-        Ok(text) => text.split('\n').next().unwrap_or(""),
-        Err(_) => "",
-    }
+    str::from_utf8(bytes).map_or("", |text| text.split('\n').next().unwrap_or(""))
 }
 
 // What a line writes to standard output, where it ends well.
