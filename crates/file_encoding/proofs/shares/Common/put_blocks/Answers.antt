@@ -34,24 +34,26 @@ rest_none g i text number over =
     let none : segment_count g - number ≡ 0 = omega (arith, over) in
     ap (λ n. map (padded_block g.needed i) (pieces n g.segment_size (drop (number * g.segment_size) text))) none
 
--- how long all blocks are, and how many hashes there are
-record Done (g : Geometry) (now : Drafted) (leaves : List (List ℕ)) : Type 0 where
+-- what is written in the end
+record Done (g : Geometry) (text : List ℕ) (before now : Drafted) (leaves : List (List ℕ)) : Type 0 where
+  draft : now ≡ record before { bytes = before.bytes ++ joined (padded_blocks g before.number text) }
+  hashes : leaves ≡ block_hashes (padded_blocks g before.number text)
   size : length now.bytes ≡ (places_of g).unused
   count : length leaves ≡ segment_count g
 
 done : (g : Geometry) (text : List ℕ) (before now : Drafted) (number : ℕ) (leaves : List (List ℕ)) → IsGeometry g
     → length text ≡ rounded_up g.size g.needed → length before.bytes ≡ header_size (layout_of g)
-    → Written g text before now number leaves → segment_count g ≤ number → Done g now leaves
+    → Written g text before now number leaves → segment_count g ≤ number → Done g text before now leaves
 done g text before now number leaves valid padded front have over =
     let i : ℕ = before.number in
     let blocks : List ℕ = joined (padded_blocks g i text) in
+    let all : now.bytes ≡ before.bytes ++ blocks = sym (have.blocks ∙ ap (λ bs. now.bytes ++ joined bs) (rest_none g i text number over) ∙ append-nil now.bytes) in
+    let hashed : leaves ≡ block_hashes (padded_blocks g i text) = sym (have.hashes ∙ ap (λ bs. leaves ++ block_hashes bs) (rest_none g i text number over) ∙ append-nil leaves) in
     record {
-      size =
-          ap length (sym (have.blocks ∙ ap (λ bs. now.bytes ++ joined bs) (rest_none g i text number over) ∙ append-nil now.bytes))
-          ∙ length-append before.bytes blocks ∙ omega (arith, front, length-padded_blocks g i text valid padded);
-      count =
-          ap length (sym (have.hashes ∙ ap (λ bs. leaves ++ block_hashes bs) (rest_none g i text number over) ∙ append-nil leaves))
-          ∙ length-block_hashes g i text;
+      draft = λ p. record { geometry = have.geometry p; number = have.same p; bytes = all p };
+      hashes = hashed;
+      size = ap length all ∙ length-append before.bytes blocks ∙ omega (arith, front, length-padded_blocks g i text valid padded);
+      count = ap length hashed ∙ length-block_hashes g i text;
     }
 
 -- one block more
@@ -95,6 +97,9 @@ room_more g text before now number leaves segment have below is all front same =
     ∙ length-append now.bytes (block ++ joined rest) ∙ ap (λ n. length now.bytes + n) (length-append block (joined rest)) in
     let ends : (places_of now.geometry).extension_block ≡ (places_of g).extension_block = ap (λ (h : Geometry). (places_of h).extension_block) (have.geometry ∙ same) in
     omega (arith, long, sum, all, front, ends)
+
+pub put_block-requires-clause-in_range : goal.put_block-requires-clause-in_range
+put_block-requires-clause-in_range c = omega (arith, c.loop-number.invariant.same, c.requires.in_range)
 
 pub put_block-requires-clause-whole : goal.put_block-requires-clause-whole
 put_block-requires-clause-whole c =
@@ -141,12 +146,26 @@ build_tree-requires-clause-some c = omega (arith, count c, c.of-segments.ensures
 pub build_tree-requires-clause-few : goal.build_tree-requires-clause-few
 build_tree-requires-clause-few c = omega (arith, count c, c.of-segments.ensures.few, c.of-segments.ensures.count)
 
+pub returns-clause-blocks : goal.returns-clause-blocks
+returns-clause-blocks c =
+    ok_map _ _ c.build_tree.result
+    (λ tree is.
+    (done c.args.self.now.geometry.now c.args.self.now.padded.now c.args.draft.now c.loop-number.draft c.loop-number.number c.loop-number.hashes.items
+    c.of-segments.ensures.valid c.args.self.now.fit.padded c.requires.next c.loop-number.invariant (omega (arith, c.loop-number-test.false, c.of-segments.ensures.count))).draft) c.build_tree.ensures
+
 pub returns-clause-size : goal.returns-clause-size
 returns-clause-size c =
     ok_map _ _ c.build_tree.result
     (λ tree is.
     (done c.args.self.now.geometry.now c.args.self.now.padded.now c.args.draft.now c.loop-number.draft c.loop-number.number c.loop-number.hashes.items
     c.of-segments.ensures.valid c.args.self.now.fit.padded c.requires.next c.loop-number.invariant (omega (arith, c.loop-number-test.false, c.of-segments.ensures.count))).size) c.build_tree.ensures
+
+pub returns-clause-tree : goal.returns-clause-tree
+returns-clause-tree c =
+    ok_map _ _ c.build_tree.result
+    (λ tree is.
+    is ∙ c.deref.ensures.value ∙ (done c.args.self.now.geometry.now c.args.self.now.padded.now c.args.draft.now c.loop-number.draft c.loop-number.number c.loop-number.hashes.items
+    c.of-segments.ensures.valid c.args.self.now.fit.padded c.requires.next c.loop-number.invariant (omega (arith, c.loop-number-test.false, c.of-segments.ensures.count))).hashes) c.build_tree.ensures
 
 pub returns-clause-leaves : goal.returns-clause-leaves
 returns-clause-leaves c =
