@@ -1,3 +1,4 @@
 pub mod ListLemmas
 pub mod RefusalLemmas
 pub mod ReadLemmas
+pub mod BlameLemmas

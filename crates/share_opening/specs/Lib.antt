@@ -3,3 +3,4 @@ pub mod Header
 pub mod Opening
 pub mod Refusal
 pub mod Reads
+pub mod Blame

@@ -1,5 +1,6 @@
 //! Laws of the reads that an opening makes.
 
+ghost use Rattle.share_opening.specs.Blame.{RefusedSharesFail};
 ghost use Rattle.share_opening.specs.Reads.{LeadOn, Rise};
 
 /// A law of the definitions: with the bytes that its next read brought, the reads of an opening
@@ -12,4 +13,11 @@ pub fn reads_lead_on()
 /// behind that. The law is the contract; the call does nothing.
 pub fn reads_rise()
     ensures { Rise }
+{}
+
+/// A law of the definitions: where a share is given up at its beginning, no share that has the
+/// bytes that were read passes the check of the refusal. The law is the contract; the call does
+/// nothing.
+pub fn refused_shares_fail()
+    ensures { RefusedSharesFail }
 {}

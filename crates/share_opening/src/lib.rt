@@ -15,5 +15,5 @@ mod opening;
 pub use block::{Opened, PendingBlock};
 pub use error::OpeningError;
 pub use header::{HeaderStart, ShareHeader};
-pub use laws::{reads_lead_on, reads_rise};
+pub use laws::{reads_lead_on, reads_rise, refused_shares_fail};
 pub use opening::{Opening, Progress};
