@@ -248,7 +248,7 @@ module _ (u : UploadState) (chosen : List Pair) (largest : IsLargestMatching (ac
 
 -- ---- what was lost
 
-pub get_asked_all : (asks : List (ℕ × Asked)) (r : RequestsState) (p : ℕ) → p < length r.entries → slice_get (asked_all asks r).entries p ≡ slice_get r.entries p
+get_asked_all : (asks : List (ℕ × Asked)) (r : RequestsState) (p : ℕ) → p < length r.entries → slice_get (asked_all asks r).entries p ≡ slice_get r.entries p
 get_asked_all [] r p lt = refl
 get_asked_all (ask ∷ asks) r p lt =
     let new : RequestsState = asked_more ask.0 ask.1 r in

@@ -91,9 +91,6 @@ module _ (g : Goal) (round : ℕ) (es : List Request) (k : IsRound g round es) w
 -- ---- what follows
 
 module _ (g : Goal) (round : ℕ) where
-  pub round_same : (es ns : List Request) → Goes es ns → IsRound g round es → IsRound g round ns
-  round_same es ns goes k = subst (IsRound g round) (append-nil ns) (round_step g round es k ns goes [] (λ i r e. absurd cc))
-
   -- what follows a request that waited is of the round
   next_of_it : (before : List Request) (now : ℕ) (asked next : Request) (ask : ℕ × Asked) → IsOfRound g before asked → asked.server ≡ ask.0 → is_holdings ask.1 ≡ false → new_of now ask ≡ next → IsOfRound g before next
   next_of_it before now asked next ask of_it server share is =

@@ -103,7 +103,7 @@ pub not_both : (b : Bool) → b ≡ true → not b ≡ true → ⊥
 not_both true h k = true≢false (sym k)
 not_both false h k = true≢false (sym h)
 
-pub tested : (b : Bool) → (b ≡ true) ⊎ (b ≡ false)
+tested : (b : Bool) → (b ≡ true) ⊎ (b ≡ false)
 tested true = inl refl
 tested false = inr refl
 

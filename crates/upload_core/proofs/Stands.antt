@@ -110,12 +110,12 @@ ended_stands old r not-running same right = record {
 -- ---- the beginning
 
 -- what goes on is for the same goal, with the same servers
-pub record IsFor (u new : UploadState) : Type 0 where
+record IsFor (u new : UploadState) : Type 0 where
   pub goal : new.goal ≡ u.goal
   pub wanted : new.wanted ≡ u.wanted
   pub servers : new.servers ≡ u.servers
 
-pub goes_for : (u : UploadState) (r : RequestsState) (new : UploadState) → GoesOn u r new → IsFor u new
+goes_for : (u : UploadState) (r : RequestsState) (new : UploadState) → GoesOn u r new → IsFor u new
 goes_for u r new g = elim g [
   | waits unsettled e ↦ subst (IsFor u) (sym e) (record { goal = refl; wanted = refl; servers = refl })
   | places p settled to placing some e ↦ subst (IsFor u) (sym e) (record { goal = refl; wanted = refl; servers = refl })
