@@ -19,8 +19,8 @@ use Rattle.share_verify.specs.Pieces.{block_hashes}
 use Rattle.share_layout.specs.Pieces.{pieces, segments_of}
 use Rattle.file_encoding.specs.Encoding.{blocks_of, Parameters, ciphertext_encoding, encoding_of, extension_block_contents, padded_segment, share_hashes, share_leaves, share_of}
 use Rattle.proved_parts.specs.FileOf.{segment_hashes}
-use Rattle.file_encoding.specs.Blocks.{drafted, finished, padded_block, padded_blocks, share_beginning}
-use Rattle.file_encoding.specs.Drafts.{Drafted}
+use Rattle.file_encoding.specs.Blocks.{draft_of, finished, padded_block, padded_blocks, share_beginning}
+use Rattle.file_encoding.specs.Drafts.{DraftState}
 use Rattle.file_encoding.proofs.Padding.{pieces-padded}
 
 -- the encoder's blocks are those of the segments
@@ -49,7 +49,7 @@ roots_are g text valid size = λ p. map (λ i. tree_root (block_hashes (blocks_a
 -- a draft with the rest is the share
 pub share_is : (g : Geometry) (text extension_block : List ℕ) (i : ℕ) → IsGeometry g → length text ≡ g.size
     → finished (share_leaves g (segments_of g text)) extension_block
-    (drafted g (padded_segment g.needed text) (tree_nodes (segment_hashes (segments_of g text))) i)
+    (draft_of g (padded_segment g.needed text) (tree_nodes (segment_hashes (segments_of g text))) i)
     ≡ share_of g (segments_of g text) extension_block i
 share_is g text extension_block i valid size =
     let segments : List (List ℕ) = segments_of g text in
@@ -59,19 +59,19 @@ share_is g text extension_block i valid size =
     (spelled (layout_of g) (length extension_block)) extension_block)
 
 -- what the encoder has of a ciphertext when its shares are finished
-pub record Finished (g : Geometry) (text extension_block : List ℕ) (own_leaves : List (List ℕ)) (drafts : List Drafted) (shares : List (List ℕ)) : Type 0 where
+pub record Finished (g : Geometry) (text extension_block : List ℕ) (own_leaves : List (List ℕ)) (drafts : List DraftState) (shares : List (List ℕ)) : Type 0 where
   pub leaves : own_leaves ≡ share_leaves g (segments_of g text)
-  pub begun : drafts ≡ map (drafted g (padded_segment g.needed text) (tree_nodes (segment_hashes (segments_of g text)))) (range_with_len 0 g.total)
+  pub begun : drafts ≡ map (draft_of g (padded_segment g.needed text) (tree_nodes (segment_hashes (segments_of g text)))) (range_with_len 0 g.total)
   pub block : extension_block ≡ ueb_text (extension_block_contents g text (segments_of g text))
   pub all : shares ≡ map (finished own_leaves extension_block) drafts
 
 -- then they are the encoding's
-pub shares_are : (g : Geometry) (key text extension_block : List ℕ) (leaves : List (List ℕ)) (drafts : List Drafted) (shares : List (List ℕ))
+pub shares_are : (g : Geometry) (key text extension_block : List ℕ) (leaves : List (List ℕ)) (drafts : List DraftState) (shares : List (List ℕ))
     → IsGeometry g → length text ≡ g.size → Finished g text extension_block leaves drafts shares → shares ≡ (ciphertext_encoding g key text).shares
 unfolding ciphertext_encoding
 shares_are g key text extension_block leaves drafts shares valid size done =
     let segments : List (List ℕ) = segments_of g text in
-    let begin : ℕ → Drafted = drafted g (padded_segment g.needed text) (tree_nodes (segment_hashes segments)) in
+    let begin : ℕ → DraftState = draft_of g (padded_segment g.needed text) (tree_nodes (segment_hashes segments)) in
     done.all
     ∙ (λ p. map (finished (done.leaves p) extension_block) (done.begun p))
     ∙ map-map (finished (share_leaves g segments) extension_block) begin (range_with_len 0 g.total)

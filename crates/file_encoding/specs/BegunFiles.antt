@@ -8,7 +8,7 @@ use Rattle.share_layout.specs.Geometry.{Geometry, IsGeometry}
 use Rattle.share_layout.specs.Pieces.{segments_of}
 use Rattle.share_verify.specs.Pieces.{block_hashes}
 use Rattle.proved_parts.specs.FileOf.{segment_hashes}
-use Rattle.file_encoding.specs.Blocks.{drafted, padded_blocks}
+use Rattle.file_encoding.specs.Blocks.{draft_of, padded_blocks}
 use Rattle.file_encoding.specs.Encoding.{padded_segment}
 use Rattle.file_encoding.specs.declared.encoding.BegunFile.{BegunFile}
 use Rattle.file_encoding.specs.declared.draft.Begun.{Begun}
@@ -17,7 +17,7 @@ use Rattle.file_encoding.specs.declared.draft.Begun.{Begun}
 pub record AreBegun (g : Geometry) (text : List ℕ) (ciphertext_nodes : List (List ℕ)) (count : ℕ)
     (begun : List Begun) : Type 0 where
   pub drafts : map (λ (b : Begun). b.draft) begun
-      ≡ map (drafted g text ciphertext_nodes) (range_with_len 0 count)
+      ≡ map (draft_of g text ciphertext_nodes) (range_with_len 0 count)
   pub roots : map (λ (b : Begun). b.root) begun
       ≡ map (λ i. tree_root (block_hashes (padded_blocks g i text))) (range_with_len 0 count)
 

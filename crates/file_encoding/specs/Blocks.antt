@@ -11,7 +11,7 @@ use Rattle.share_layout.specs.Layout.{header}
 use Rattle.share_layout.specs.Pieces.{pieces}
 use Rattle.share_layout.specs.Writing.{ending}
 use Rattle.share_verify.specs.Pieces.{block_hashes, joined}
-use Rattle.file_encoding.specs.Drafts.{Drafted}
+use Rattle.file_encoding.specs.Drafts.{DraftState}
 use Rattle.file_encoding.specs.Encoding.{share_hashes}
 
 -- the block of share i of a segment that is padded already
@@ -40,8 +40,8 @@ share_beginning g blocks ciphertext_nodes =
     ++ joined ciphertext_nodes ++ joined (tree_nodes (block_hashes blocks))
 
 -- share i of a file's padded text up to its block tree
-abbrev pub drafted : Geometry → List ℕ → List (List ℕ) → ℕ → Drafted
-drafted g text ciphertext_nodes i = record {
+abbrev pub draft_of : Geometry → List ℕ → List (List ℕ) → ℕ → DraftState
+draft_of g text ciphertext_nodes i = record {
   geometry = g;
   number = i;
   bytes = share_beginning g (padded_blocks g i text) ciphertext_nodes;
@@ -52,6 +52,6 @@ abbrev pub numbered : List (List ℕ) → List ℕ → List ℕ
 numbered nodes numbers = flat_map (λ n. to_be_bytes w16 n ++ slice_index_or nodes n []) numbers
 
 -- a share that is written up to its block tree, with the rest
-abbrev pub finished : List (List ℕ) → List ℕ → Drafted → List ℕ
+abbrev pub finished : List (List ℕ) → List ℕ → DraftState → List ℕ
 finished leaves extension_block d =
     d.bytes ++ share_hashes leaves d.number ++ ending d.geometry extension_block

@@ -5,7 +5,7 @@ use Rattle.share_layout.specs.Layout.{header_size, layout_of}
 use Rattle.share_layout.specs.Writing.{Writing}
 
 -- a share that is not whole yet: its file's geometry, its number and its bytes so far
-pub record Drafted : Type 0 where
+pub record DraftState : Type 0 where
   pub geometry : Geometry
   pub number : ℕ
   pub bytes : List ℕ

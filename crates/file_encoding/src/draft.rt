@@ -19,9 +19,9 @@ pub(crate) struct Draft {
 
 impl Model for Draft {
     ghost use Rattle.std.specs.Prelude.{◌≡◌, false};
-    ghost use Rattle.file_encoding.specs.Drafts.{Drafted, HasHeader, bytes_in};
+    ghost use Rattle.file_encoding.specs.Drafts.{DraftState, HasHeader, bytes_in};
 
-    ghost Value = { Drafted };
+    ghost Value = { DraftState };
 
     ghost view = { λ d. record {
       geometry = d.writer.geometry;
@@ -47,6 +47,7 @@ impl Draft {
     {
         let bytes = Vec::with_capacity(alloc, room(geometry))?;
         let mut writer = ShareWriter::new(bytes, geometry, number);
+        // The header goes before the first bytes, though these be none.
         match writer.put(&[]) {
             Ok(()) => Ok(Draft { writer }),
             Err(_) => Err(AllocError),

@@ -15,7 +15,7 @@ ghost use Rattle.file_encoding.specs.Encoding.{ciphertext_encoding, encoding_of,
 ghost use Rattle.proved_parts.specs.FileOf.{segment_hashes};
 ghost use Rattle.share_layout.specs.Pieces.{segments_of};
 ghost use Rattle.file_encoding.specs.BegunFiles.{AreBegun, IsBegun};
-ghost use Rattle.file_encoding.specs.Blocks.{drafted, padded_blocks};
+ghost use Rattle.file_encoding.specs.Blocks.{draft_of, padded_blocks};
 ghost use Rattle.file_encoding.specs.Params.{HasTooManySegments, IsEncodable, parameters_of};
 
 use crate::blocks::Segments;

@@ -11,7 +11,7 @@ ghost use Rattle.share_layout.specs.Geometry.{block_size, segment_count, tree_si
 ghost use Rattle.share_layout.specs.Layout.{header_size, layout_of, places_of};
 ghost use Rattle.share_verify.specs.Pieces.{block_hashes, joined};
 ghost use Rattle.file_encoding.specs.BegunFiles.{AreBegun};
-ghost use Rattle.file_encoding.specs.Blocks.{FitTogether, drafted, finished, numbered, padded_block, padded_blocks};
+ghost use Rattle.file_encoding.specs.Blocks.{FitTogether, draft_of, finished, numbered, padded_block, padded_blocks};
 
 use crate::blocks::Segments;
 use crate::draft::{Begun, Draft};
@@ -57,7 +57,7 @@ impl<'a> Common<'a> {
     ) -> Result<Begun, AllocError>
         requires in_range { number < self.now.geometry.now.total }
         requires block { length block.old ≡ block_size self.now.geometry.now }
-        ensures draft { IfOk result (λ begun. begun.draft ≡ drafted self.now.geometry.now
+        ensures draft { IfOk result (λ begun. begun.draft ≡ draft_of self.now.geometry.now
             self.now.padded.now (tree_nodes self.now.ciphertext_tree.now) number) }
         ensures root { IfOk result (λ begun. begun.root ≡ tree_root (block_hashes
             (padded_blocks self.now.geometry.now number self.now.padded.now))) }

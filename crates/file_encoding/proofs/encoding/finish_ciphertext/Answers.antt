@@ -11,8 +11,8 @@ use Rattle.share_layout.specs.Geometry.{Geometry}
 use Rattle.share_layout.specs.Pieces.{segments_of}
 use Rattle.proved_parts.specs.FileOf.{segment_hashes}
 use Rattle.file_encoding.specs.BegunFiles.{IsBegun}
-use Rattle.file_encoding.specs.Blocks.{drafted, finished}
-use Rattle.file_encoding.specs.Drafts.{Drafted}
+use Rattle.file_encoding.specs.Blocks.{draft_of, finished}
+use Rattle.file_encoding.specs.Drafts.{DraftState}
 use Rattle.file_encoding.specs.Encoding.{extension_block_contents, padded_segment, share_leaves}
 use Rattle.file_encoding.specs.declared.encoding.BegunFile.{BegunFile}
 use Rattle.file_encoding.specs.declared.draft.Begun.{Begun}
@@ -23,14 +23,14 @@ use Rattle.file_encoding.proofs.encoding.finish_ciphertext.Goals as goal
 count : (g : Geometry) (text : List ℕ) (begun : BegunFile) → IsBegun g text begun → length begun.shares.items ≡ g.total
 count g text begun is =
     sym (length-map begun.shares.items (λ (b : Begun). b.draft)) ∙ ap length is.shares.drafts
-    ∙ length-map-range_with_len (drafted g (padded_segment g.needed text) (tree_nodes (segment_hashes (segments_of g text)))) 0 g.total
+    ∙ length-map-range_with_len (draft_of g (padded_segment g.needed text) (tree_nodes (segment_hashes (segments_of g text)))) 0 g.total
 
 -- they are of one file
 total_is : (g : Geometry) (text : List ℕ) (begun : BegunFile) (n : ℕ) → IsBegun g text begun → g.total ≡ n → All (λ (b : Begun). b.draft.geometry.total ≡ n) begun.shares.items
 total_is g text begun n is same k d below =
-    let draft : ℕ → Drafted = drafted g (padded_segment g.needed text) (tree_nodes (segment_hashes (segments_of g text))) in
-    ap (λ (w : Drafted). w.geometry.total)
-    (sym (get_or-map (λ (b : Begun). b.draft) begun.shares.items k d (draft 0) below) ∙ ap (λ (ws : List Drafted). get_or ws k (draft 0)) is.shares.drafts
+    let draft : ℕ → DraftState = draft_of g (padded_segment g.needed text) (tree_nodes (segment_hashes (segments_of g text))) in
+    ap (λ (w : DraftState). w.geometry.total)
+    (sym (get_or-map (λ (b : Begun). b.draft) begun.shares.items k d (draft 0) below) ∙ ap (λ (ws : List DraftState). get_or ws k (draft 0)) is.shares.drafts
     ∙ get_or-map-range_with_len draft 0 g.total k k (draft 0) (omega (arith, below, count g text begun is)) (omega arith))
     ∙ same
 
@@ -104,7 +104,7 @@ returns-clause-shares c = λ text is.
     let tree = leaves g text c.args.begun c.deref.result.now c.in_ok-share_tree.share_tree is c.deref.ensures.value c.in_ok-share_tree.ensures in
     let block = block_is g text c.args.begun is c.root.result c.in_ok-extension_block.extension_block.items (c.root.ensures ∙ ap tree_root tree.0) c.in_ok-extension_block.ensures.text in
     let begun : List Begun = c.args.begun.shares.items in
-    let finish : Drafted → List ℕ = finished c.in_ok-share_tree.share_tree c.in_ok-extension_block.extension_block.items in
+    let finish : DraftState → List ℕ = finished c.in_ok-share_tree.share_tree c.in_ok-extension_block.extension_block.items in
     shares_are g c.args.key text c.in_ok-extension_block.extension_block.items c.in_ok-share_tree.share_tree (map (λ (b : Begun). b.draft) begun) c.in_ok-shares.shares.items
     is.valid is.size record {
       leaves = tree.0;

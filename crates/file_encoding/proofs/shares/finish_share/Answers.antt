@@ -3,7 +3,7 @@ use Rattle.merkle.specs.Tree.{height, needed_numbers, tree_nodes}
 use Rattle.share_layout.specs.Layout.{places_of}
 use Rattle.share_layout.specs.Writing.{ending}
 use Rattle.file_encoding.specs.Blocks.{numbered}
-use Rattle.file_encoding.specs.Drafts.{Drafted}
+use Rattle.file_encoding.specs.Drafts.{DraftState}
 use Rattle.file_encoding.proofs.Drafting.{hashes_fill}
 use Rattle.file_encoding.proofs.Numbers.{needed-inside, nodes-few}
 use Rattle.file_encoding.proofs.Reread.{ok_map}
@@ -42,14 +42,14 @@ finish-requires-clause-last c =
       hashes_fill c.args.begun.draft.geometry c.args.share_tree.now c.deref.result.now c.args.begun.draft.number c.requires.total
           (c.deref.ensures.value ∙ c.in_ok-numbers.ensures.numbers ∙ ap (needed_numbers (height (length c.args.share_tree.now))) c.number.ensures),
     ) in
-    last ∙ ap (λ (d : Drafted). (places_of d.geometry).extension_block) (sym c.in_ok-put_numbered.ensures.bytes)
+    last ∙ ap (λ (d : DraftState). (places_of d.geometry).extension_block) (sym c.in_ok-put_numbered.ensures.bytes)
 
 pub returns : goal.returns
 returns c =
-    let d : Drafted = c.args.begun.draft in
+    let d : DraftState = c.args.begun.draft in
     let numbers : c.deref.result.now ≡ needed_numbers (height (length c.args.share_tree.now)) d.number =
     c.deref.ensures.value ∙ c.in_ok-numbers.ensures.numbers ∙ ap (needed_numbers (height (length c.args.share_tree.now))) c.number.ensures in
     ok_map _ _ c.finish.result
     (λ share is.
-    is ∙ ap (λ (w : Drafted). w.bytes ++ ending w.geometry c.args.extension_block.now) c.in_ok-put_numbered.ensures.bytes
+    is ∙ ap (λ (w : DraftState). w.bytes ++ ending w.geometry c.args.extension_block.now) c.in_ok-put_numbered.ensures.bytes
     ∙ λ i. d.bytes ++ numbered (c.nodes.ensures i) (numbers i) ++ ending d.geometry c.args.extension_block.now) c.finish.ensures

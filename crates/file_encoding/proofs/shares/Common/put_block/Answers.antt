@@ -5,7 +5,7 @@ use Rattle.tagged_hash.specs.declared.tag.Tag.TheVariants.{Block}
 use Rattle.zfec_code.specs.ShareValue.{share_block}
 use Rattle.zfec_code.specs.Shares.{IsShareOf}
 use Rattle.file_encoding.specs.Blocks.{padded_block}
-use Rattle.file_encoding.specs.Drafts.{Drafted}
+use Rattle.file_encoding.specs.Drafts.{DraftState}
 use Rattle.file_encoding.proofs.ShareBlock.{share_block-is}
 use Rattle.file_encoding.proofs.shares.Common.put_block.Goals as goal
 
@@ -22,9 +22,9 @@ block_is k n i number segment block some few bytes same numbered is =
 pub returns-clause-block : goal.returns-clause-block
 returns-clause-block c =
     let valid = c.needed.ensures.valid in
-    let d : Drafted = c.args.draft.now in
+    let d : DraftState = c.args.draft.now in
     c.in_ok-put.ensures
-    ∙ ap (λ (b : List ℕ). let after : Drafted = record d { bytes = d.bytes ++ b } in after)
+    ∙ ap (λ (b : List ℕ). let after : DraftState = record d { bytes = d.bytes ++ b } in after)
     (block_is _ c.args.self.now.geometry.now.needed d.number _ c.args.segment.now c.encode.new.out valid.some_needed (omega (arith, valid.enough, valid.shares))
     (λ t. (c.type_inv.segment t).fits) c.args.self.now.fit.needed c.number.ensures c.encode.ensures)
 

@@ -11,7 +11,7 @@ use Rattle.share_layout.specs.Geometry.{Geometry, IsGeometry, segment_count, sha
 use Rattle.share_layout.specs.Layout.{header_size, layout_of, places_of}
 use Rattle.share_verify.specs.Pieces.{block_hashes, joined, pieces}
 use Rattle.file_encoding.specs.Blocks.{padded_block, padded_blocks}
-use Rattle.file_encoding.specs.Drafts.{Drafted}
+use Rattle.file_encoding.specs.Drafts.{DraftState}
 use Rattle.file_encoding.proofs.Drafting.{length-block_hashes, length-padded_blocks}
 use Rattle.file_encoding.proofs.Padding.{rounded_up-whole}
 use Rattle.file_encoding.proofs.Pieces.{pieces-from, piece-whole}
@@ -35,13 +35,13 @@ rest_none g i text number over =
     ap (λ n. map (padded_block g.needed i) (pieces n g.segment_size (drop (number * g.segment_size) text))) none
 
 -- what is written in the end
-record Done (g : Geometry) (text : List ℕ) (before now : Drafted) (leaves : List (List ℕ)) : Type 0 where
+record Done (g : Geometry) (text : List ℕ) (before now : DraftState) (leaves : List (List ℕ)) : Type 0 where
   draft : now ≡ record before { bytes = before.bytes ++ joined (padded_blocks g before.number text) }
   hashes : leaves ≡ block_hashes (padded_blocks g before.number text)
   size : length now.bytes ≡ (places_of g).unused
   count : length leaves ≡ segment_count g
 
-done : (g : Geometry) (text : List ℕ) (before now : Drafted) (number : ℕ) (leaves : List (List ℕ)) → IsGeometry g
+done : (g : Geometry) (text : List ℕ) (before now : DraftState) (number : ℕ) (leaves : List (List ℕ)) → IsGeometry g
     → length text ≡ rounded_up g.size g.needed → length before.bytes ≡ header_size (layout_of g)
     → Written g text before now number leaves → segment_count g ≤ number → Done g text before now leaves
 done g text before now number leaves valid padded front have over =
@@ -57,7 +57,7 @@ done g text before now number leaves valid padded front have over =
     }
 
 -- one block more
-one_more : (g : Geometry) (text : List ℕ) (before now after : Drafted) (number : ℕ) (leaves hashed : List (List ℕ)) (segment hash : List ℕ)
+one_more : (g : Geometry) (text : List ℕ) (before now after : DraftState) (number : ℕ) (leaves hashed : List (List ℕ)) (segment hash : List ℕ)
     → Written g text before now number leaves → number < segment_count g → segment ≡ this g text number
     → after ≡ record now { bytes = now.bytes ++ padded_block g.needed now.number segment }
     → hash ≡ tagged_hash Block (padded_block g.needed now.number segment) → hashed ≡ leaves ++ hash ∷ []
@@ -68,12 +68,12 @@ one_more g text before now after number leaves hashed segment hash have below is
     let rest : List (List ℕ) = rest_of g i text (number + 1) in
     let written : padded_block g.needed now.number segment ≡ block = λ p. padded_block g.needed (have.same p) (is p) in
     record {
-      geometry = ap (λ (d : Drafted). d.geometry) put ∙ have.geometry;
-      same = ap (λ (d : Drafted). d.number) put ∙ have.same;
+      geometry = ap (λ (d : DraftState). d.geometry) put ∙ have.geometry;
+      same = ap (λ (d : DraftState). d.number) put ∙ have.same;
       blocks =
           have.blocks ∙ ap (λ bs. now.bytes ++ joined bs) (rest_more g i text number below)
           ∙ sym (append_assoc now.bytes block (joined rest))
-          ∙ ap (λ out. out ++ joined rest) (sym (ap (λ (d : Drafted). d.bytes) put ∙ ap (λ b. now.bytes ++ b) written));
+          ∙ ap (λ out. out ++ joined rest) (sym (ap (λ (d : DraftState). d.bytes) put ∙ ap (λ b. now.bytes ++ b) written));
       hashes =
           have.hashes ∙ ap (λ bs. leaves ++ block_hashes bs) (rest_more g i text number below)
           ∙ sym (append_assoc leaves (tagged_hash Block block ∷ []) (block_hashes rest))
@@ -81,7 +81,7 @@ one_more g text before now after number leaves hashed segment hash have below is
     }
 
 -- there is room for one block more
-room_more : (g : Geometry) (text : List ℕ) (before now : Drafted) (number : ℕ) (leaves : List (List ℕ)) (segment : List ℕ)
+room_more : (g : Geometry) (text : List ℕ) (before now : DraftState) (number : ℕ) (leaves : List (List ℕ)) (segment : List ℕ)
     → Written g text before now number leaves → number < segment_count g → segment ≡ this g text number
     → length (joined (padded_blocks g before.number text)) ≡ share_data_size g → length before.bytes ≡ header_size (layout_of g) → before.geometry ≡ g
     → length now.bytes + length segment / g.needed ≤ (places_of now.geometry).extension_block

@@ -3,7 +3,7 @@ use Rattle.share_layout.specs.Geometry.{Geometry, segment_count}
 use Rattle.share_layout.specs.Pieces.{pieces}
 use Rattle.share_verify.specs.Pieces.{block_hashes, joined}
 use Rattle.file_encoding.specs.Blocks.{padded_block, padded_blocks}
-use Rattle.file_encoding.specs.Drafts.{Drafted}
+use Rattle.file_encoding.specs.Drafts.{DraftState}
 use Rattle.file_encoding.proofs.shares.Common.put_blocks.Given as goal
 
 -- the blocks from one on
@@ -11,7 +11,7 @@ abbrev pub rest_of : Geometry → ℕ → List ℕ → ℕ → List (List ℕ)
 rest_of g i text number = map (padded_block g.needed i) (pieces (segment_count g - number) g.segment_size (drop (number * g.segment_size) text))
 
 -- what is written so far, and the blocks of the rest
-pub record Written (g : Geometry) (text : List ℕ) (before now : Drafted) (number : ℕ) (block_leaves : List (List ℕ)) : Type 0 where
+pub record Written (g : Geometry) (text : List ℕ) (before now : DraftState) (number : ℕ) (block_leaves : List (List ℕ)) : Type 0 where
   pub geometry : now.geometry ≡ before.geometry
   pub same : now.number ≡ before.number
   pub blocks : before.bytes ++ joined (padded_blocks g before.number text) ≡ now.bytes ++ joined (rest_of g before.number text number)
