@@ -7,8 +7,8 @@ ghost use Rattle.share_layout.specs.Layout.{places_of};
 ghost use Rattle.download_plan.specs.Level.{first_node, end_node, level_at, level_count, row_of};
 ghost use Rattle.share_layout.specs.Pieces.{block_length};
 ghost use Rattle.download_plan.specs.Level.{IsAbove, group_size, leaves_below, tree_height};
-ghost use Rattle.download_plan.specs.Plan.{IsAmong, IsNodePiece, IsPart, block_place, data_end};
-ghost use Rattle.download_plan.specs.Plan.{data_pieces, piece_at};
+ghost use Rattle.download_plan.specs.Plan.{IsAmong, IsNodePiece, IsPart, IsPlanned, block_place};
+ghost use Rattle.download_plan.specs.Plan.{data_end, data_pieces, piece_at};
 ghost use Rattle.download_plan.specs.Plan.{first_piece, length_of, max_nodes, max_read};
 ghost use Rattle.download_plan.specs.Plan.{next_piece, nodes_of, nodes_place, pieces_of, place_of};
 ghost use Rattle.download_plan.specs.Range.{IsRange};
@@ -240,6 +240,8 @@ impl Plan {
             ≡ place_of self.now.geometry self.now.first self.now.end part.now }
         ensures length { result.length
             ≡ length_of self.now.geometry self.now.first self.now.end part.now }
+        ensures planned { IsPlanned self.now.geometry self.now.first self.now.end result.place
+            result.length }
         ensures range { (0 < result.length) × (result.length ≤ max_read) }
     {
         let places = Places::of(&self.geometry);

@@ -1,11 +1,13 @@
 //! The beginning of a share, read piece by piece.
 
-ghost use Rattle.std.specs.Prelude.{◌≡◌, ◌≤◌, ◌<◌, ◌+◌, ◌++◌, ◌^◌, ◌↔◌, IsTrue, IfOk, Err, length};
+ghost use Rattle.std.specs.Prelude.{◌≡◌, ◌≤◌, ◌<◌, ◌+◌, ◌++◌, ◌^◌, ◌↔◌, IsTrue, IfOk, Err, List};
+ghost use Rattle.std.specs.Prelude.{length};
 ghost use Rattle.ueb.specs.Limits.{max_length};
 ghost use Rattle.share_layout.specs.Layout.{width};
 ghost use Rattle.share_layout.specs.Places.{layout_in, number_at};
 ghost use Rattle.share_opening.specs.Opening.{Advances, Agrees, Continues, next_length, next_place};
 ghost use Rattle.share_opening.specs.Opening.{text_of};
+ghost use Rattle.share_opening.specs.Reads.{Brought, IsLedToBy, IsOpening};
 ghost use Rattle.share_opening.specs.Refusal.{IsHeaderRefusal, IsLengthRefusal, IsRefused};
 ghost use Rattle.share_opening.specs.declared.error.OpeningError.{OpeningError};
 
@@ -63,6 +65,9 @@ impl Opening {
     pub fn next_length(&self) -> u32
         ensures value { result ≡ next_length self.now }
         ensures range { (0 < result) × (result ≤ max_length) }
+        // A read of so many bytes is one of an opening.
+        ensures opening { (reads : List Brought) → IsLedToBy reads self.now
+            → IsOpening reads (next_place self.now) result }
     {
         match self {
             Opening::Start => 36,
