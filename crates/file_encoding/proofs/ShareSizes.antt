@@ -40,9 +40,10 @@ not_long g s is are =
     let h = header_short (layout_of g) in
     let n = number_short (layout_of g) (length s.extension_block) in
     let all = eight_long (header g) s.blocks s.unused s.ciphertext_tree s.block_tree s.share_hashes (spelled (layout_of g) (length s.extension_block)) s.extension_block in
-    let first = length-header (layout_of g) g in
-    (omega (arith, all, first, h.0),
-    omega (arith, all, first, h.1, n, are.blocks, are.unused, are.ciphertext_tree, are.block_tree, are.share_hashes, are.extension_block, b.few_blocks, b.few_nodes, b.few_hashes))
+    let first = length-header (layout_of g) g in (
+      omega (arith, all, first, h.0),
+      omega (arith, all, first, h.1, n, are.blocks, are.unused, are.ciphertext_tree, are.block_tree, are.share_hashes, are.extension_block, b.few_blocks, b.few_nodes, b.few_hashes),
+    )
 
 -- no share of a file's encoding is long
 pub shares_are_not_long : SharesAreNotLong

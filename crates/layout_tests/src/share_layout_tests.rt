@@ -55,7 +55,9 @@ const GEOMETRIES: [((u64, u16, u16, u32), [u32; 5], [u32; 9]); 6] = [
 fn geometries_have_their_sizes(rt: HostRuntime) -> Result<(), Fail> {
     for &((size, needed, total, max), sizes, numbers) in &GEOMETRIES {
         let geometry = Geometry::of(size, needed, total, max)?;
-        assert!(rt; (geometry.size(), geometry.needed(), geometry.total()) == (size, needed, total));
+        assert!(rt;
+            (geometry.size(), geometry.needed(), geometry.total()) == (size, needed, total)
+        );
         let [segment, segments, tail, block, tail_block] = sizes;
         assert!(rt; geometry.segment_size() == segment, "at {size}");
         assert!(rt; geometry.segment_count() == segments, "at {size}");

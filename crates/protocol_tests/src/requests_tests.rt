@@ -1,8 +1,8 @@
 //! The record of requests, against the times at which silent servers are asked again.
 
+use request_record::requests::{Asked, Outcome, Request, Requests};
 use std::alloc::Global;
 use wire::message::{Body, HeldList, HeldShare, Message, ReadData, ReadLength, ShareLength};
-use request_record::requests::{Asked, Outcome, Request, Requests};
 
 // The seconds of the ticks, and those at which one request is sent. At the last tick it is lost.
 const SILENT: [(&[u64], &[u64]); 4] = [

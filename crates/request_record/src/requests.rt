@@ -12,11 +12,11 @@ ghost use Rattle.request_record.specs.Asking.{fresh, begun, after_message, after
 ghost use Rattle.request_record.specs.Asking.{Spells, IsWriting, message_at};
 ghost use Rattle.request_record.specs.declared.requests.Request.{Request};
 
-use wire::message::{Body, Message, NodeId, ReadLength, ShareId, ShareLength, StorageIndex};
 use crate::places::{Due, drop_lost, drop_place, find_due, first_waiting, settle, tick_from};
 use std::alloc::{AllocError, Global};
 use std::collections::VecDeque;
 use std::marker::Model;
+use wire::message::{Body, Message, NodeId, ReadLength, ShareId, ShareLength, StorageIndex};
 
 /// Seconds between the marks at which an unanswered request is sent again.
 const MARK: u64 = 5;

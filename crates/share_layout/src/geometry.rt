@@ -81,7 +81,13 @@ impl Geometry {
         ensures refused { (error : LayoutError)
             → (result ≡ Err error) ↔ IsGeometryFault size needed total max error }
     {
-        if size == 0 || needed == 0 || needed > total || total > MAX_SHARES || max == 0 || max > MAX_SEGMENT_SIZE {
+        if size == 0
+            || needed == 0
+            || needed > total
+            || total > MAX_SHARES
+            || max == 0
+            || max > MAX_SEGMENT_SIZE
+        {
             return Err(LayoutError::BadParameters);
         }
         if size > MAX_FILE_SIZE {

@@ -417,7 +417,10 @@ fn refuses(needed: u16, total: u16, size: u64) -> bool {
 fn keeps_ranges(rt: HostRuntime) {
     assert!(rt; keeps_key_and_hash());
     for &(needed, total, size) in &REFUSED {
-        assert!(rt; refuses(needed, total, size), "{needed} of {total}, {size} bytes");
+        assert!(rt;
+            refuses(needed, total, size),
+            "{needed} of {total}, {size} bytes"
+        );
     }
     assert!(rt; matches!(LitCap::new(&[1; 56]), Err(CapError::LitTooLong)));
 }

@@ -451,7 +451,10 @@ fn compares_with_the_file(rt: HostRuntime) {
         (3, 10, 115, Key::NumSegments),
         (1, 1, 56, Key::SegmentSize),
     ] {
-        assert!(rt; disagrees(needed, total, size, key), "{needed} of {total}, {size} bytes");
+        assert!(rt;
+            disagrees(needed, total, size, key),
+            "{needed} of {total}, {size} bytes"
+        );
     }
 }
 
