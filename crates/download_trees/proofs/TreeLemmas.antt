@@ -1,0 +1,54 @@
+-- Leaves that are known lead to the roots.
+use Rattle.std.proofs.Common.{◌≡◌, ℕ, zero, suc, ◌^◌, ◌<◌, List, [], ◌∷◌, length, Some, slice_get, get_or, ap, refl, subst, sym, ◌∙◌, arith}
+use Rattle.std.proofs.lemmas.Option.{slice_get-get_or}
+use Rattle.std.proofs.Math.Pow.{pow-lt}
+use Rattle.merkle.specs.Partial.{PartialState, Takes, known_at, known_siblings}
+use Rattle.merkle.specs.Path.{LeadsBy, path_root}
+use Rattle.merkle.specs.Tree.{height, needed_numbers, node_number}
+use Rattle.merkle.proofs.HeightLemmas.{height_is, height_room}
+use Rattle.merkle.proofs.StateLemmas.{known-lead}
+use Rattle.download_trees.specs.Laws.{BlockRootsLead, LeavesLead}
+use Rattle.download_trees.specs.Offers.{numbered, share_hashes_offered}
+use Rattle.download_trees.specs.Trees.{known_leaf, share_places}
+
+-- the share tree is as high with all its places
+pub height-share_places : (total : ℕ) → height (share_places total) ≡ height total
+height-share_places total = height_is (2 ^ height total) (height total) (omega arith) (λ k low. pow-lt low)
+
+pub leaves_lead : LeavesLead
+leaves_lead p root count leaf hash leads inside knows =
+    subst (λ n. LeadsBy n root leaf hash (known_siblings p leaf)) leads.leaves
+    (subst (λ (r : List ℕ). LeadsBy p.leaf_count r leaf hash (known_siblings p leaf)) leads.of_root
+    (known-lead p leaf hash leads.sound (subst (λ n. leaf < n) (sym leads.leaves) inside) knows))
+
+pub block_roots_lead : BlockRootsLead
+block_roots_lead share_root total share root is inside =
+    let low : share < share_places total = omega (arith, inside, height_room total) in
+    let l = leaves_lead is.tree share_root (share_places total) share root is.leads low is.known in
+    let up = height-share_places total in
+    let siblings = known_siblings is.tree share in
+    let long = subst (λ h. length siblings ≡ h) up l.1 in
+    let leads = subst (λ h. path_root h share root siblings ≡ share_root) up l.2 in
+    (siblings, (inside, long, leads))
+
+-- the number of one of the share hashes that are offered
+number_at : (ns : List ℕ) (entries : List (List ℕ)) (k : ℕ) → k < length (numbered ns entries) → (get_or (numbered ns entries) k (0, [])).0 ≡ get_or ns k 0
+number_at [] entries k there = absurd (omega (arith, there))
+number_at (n ∷ ns) [] k there = absurd (omega (arith, there))
+number_at (n ∷ ns) (e ∷ es) zero there = refl
+number_at (n ∷ ns) (e ∷ es) (suc k) there = number_at ns es k (omega (arith, there))
+
+-- the share's own hash is known once its share hashes are taken
+pub known-own : (old new : PartialState) (total share : ℕ) (bytes root : List ℕ) (place : ℕ) → old.leaf_count ≡ share_places total
+    → Takes old (share_hashes_offered total share bytes) new → place < length (share_hashes_offered total share bytes)
+    → get_or (needed_numbers (height total) share) place 0 ≡ node_number (height total) share
+    → (get_or (share_hashes_offered total share bytes) place (0, [])).1 ≡ root → known_leaf new share ≡ Some root
+known-own old new total share bytes root place count takes there own is =
+    let offers = share_hashes_offered total share bytes in
+    let number = node_number (height total) share in
+    let same : height total ≡ height new.leaf_count = sym (ap height (takes.leaf_count ∙ count) ∙ height-share_places total) in
+    let at : slice_get offers place ≡ Some (number, root) =
+    slice_get-get_or offers place (0, []) there
+    ∙ ap (λ n. Some (n, (get_or offers place (0, [])).1)) (number_at (needed_numbers (height total) share) _ place there ∙ own)
+    ∙ ap (λ (h : List ℕ). Some (number, h)) is in
+    ap (λ h. known_at new (node_number h share)) (sym same) ∙ takes.known.offered place number root at

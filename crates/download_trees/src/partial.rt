@@ -1,0 +1,79 @@
+//! One tree of which some nodes are known.
+
+ghost use Rattle.std.specs.Prelude.{◌≡◌, ◌+◌, ◌*◌, ◌^◌, ◌<◌, ◌≤◌, IfOk, OnErr, OnOk, Err, length};
+ghost use Rattle.merkle.specs.Partial.{IsNotConsistent, IsPartial, Takes, starting};
+ghost use Rattle.merkle.specs.Tree.{max_leaves};
+ghost use Rattle.download_trees.specs.Offers.{nodes_offered};
+ghost use Rattle.download_trees.specs.Trees.{known_leaf};
+
+use crate::error::TreeFault;
+use crate::offers::{Offer, placed};
+use download_plan::Nodes;
+use merkle::{OfferError, Partial, height, node_number};
+use share_verify::Check;
+use std::alloc::{AllocError, Global};
+
+/// The tree with this root over so many leaves, 1 to 2^20.
+pub(crate) fn tree_with(alloc: Global, root: &[u8; 32], leaves: u32) -> Result<Partial, AllocError>
+    requires some { 0 < leaves }
+    requires few { leaves ≤ max_leaves }
+    ensures tree { IfOk result (λ tree. tree ≡ starting root.now leaves) }
+    ensures right { IfOk result IsPartial }
+{
+    match Partial::new(alloc, root, leaves) {
+        Ok(tree) => {
+            let _ = tree.node(0);
+            Ok(tree)
+        }
+        Err(_) => Err(AllocError),
+    }
+}
+
+/// What is known of a leaf of a tree over so many.
+pub(crate) fn leaf_of(tree: &Partial, leaves: u32, leaf: u32) -> Option<[u8; 32]>
+    requires count { tree.now.leaf_count ≡ leaves }
+    requires few { leaves ≤ max_leaves }
+    requires inside { leaf < leaves }
+    ensures { result ≡ known_leaf tree.now leaf }
+{
+    tree.node(node_number(height(leaves), leaf))
+}
+
+/// Offers nodes to a tree. They are refused as failing this check.
+pub(crate) fn offer(tree: &mut Partial, offers: &[Offer], check: Check) -> Result<(), TreeFault>
+    ensures taken { OnOk result (Takes tree.old offers.now tree.new) }
+    ensures refused { (other : Check) → result ≡ Err (TreeFault.Check other)
+        → (other ≡ check) × IsNotConsistent tree.old offers.now }
+    ensures unchanged { OnErr result (tree.new ≡ tree.old) }
+    ensures right { IsPartial tree.new }
+{
+    let taken = match tree.offer(offers) {
+        Ok(()) => Ok(()),
+        Err(OfferError::NotConsistent) => Err(TreeFault::Check(check)),
+        Err(OfferError::OutOfMemory) => Err(TreeFault::OutOfMemory),
+    };
+    let _ = tree.node(0);
+    taken
+}
+
+/// Offers these nodes, whose hashes are the bytes.
+pub(crate) fn offer_nodes(
+    alloc: Global,
+    tree: &mut Partial,
+    nodes: &Nodes,
+    bytes: &[u8],
+    check: Check,
+) -> Result<(), TreeFault>
+    requires sound { IsPartial tree.old }
+    requires low { nodes.now.row ≤ 20 }
+    requires inside { nodes.now.from + nodes.now.count ≤ 2 ^ nodes.now.row }
+    requires long { length bytes.now ≡ 32 * nodes.now.count }
+    ensures taken { OnOk result (Takes tree.old (nodes_offered nodes.now bytes.now) tree.new) }
+    ensures refused { (other : Check) → result ≡ Err (TreeFault.Check other)
+        → (other ≡ check) × IsNotConsistent tree.old (nodes_offered nodes.now bytes.now) }
+    ensures unchanged { OnErr result (tree.new ≡ tree.old) }
+    ensures right { IsPartial tree.new }
+{
+    let offers = placed(alloc, nodes, bytes)?;
+    offer(tree, &offers, check)
+}
