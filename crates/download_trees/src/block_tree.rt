@@ -40,7 +40,8 @@ impl BlockTree {
     pub(crate) fn new(alloc: Global, root: &[u8; 32], leaves: u32) -> Result<BlockTree, AllocError>
         requires some { 0 < leaves }
         requires few { leaves ≤ max_leaves }
-        ensures { IfOk result (λ tree. tree ≡ starting root.now leaves) }
+        ensures tree { IfOk result (λ tree. tree ≡ starting root.now leaves) }
+        ensures right { IfOk result IsPartial }
     {
         Ok(BlockTree {
             tree: tree_with(alloc, root, leaves)?,

@@ -1,15 +1,15 @@
 //! The share tree and the ciphertext tree of a file.
 
-ghost use Rattle.std.specs.Prelude.{◌≡◌, ℕ, ◌+◌, ◌*◌, ◌^◌, ◌<◌, ◌≤◌, ◌↔◌, IfOk, IfSome, OnErr, OnOk};
-ghost use Rattle.std.specs.Prelude.{Err, List, Some, is_some, length};
+ghost use Rattle.std.specs.Prelude.{◌≡◌, ℕ, ◌+◌, ◌*◌, ◌^◌, ◌<◌, ◌≤◌, IfOk, IfSome, OnErr};
+ghost use Rattle.std.specs.Prelude.{OnOk, Err, List, Some, is_some, length};
 ghost use Rattle.merkle.specs.Partial.{IsNotConsistent, Takes, known_siblings, starting};
 ghost use Rattle.merkle.specs.Path.{LeadsBy};
 ghost use Rattle.merkle.specs.Tree.{height};
 ghost use Rattle.share_layout.specs.Geometry.{hashes_size, segment_count};
 ghost use Rattle.download_trees.specs.Offers.{nodes_offered, share_hashes_offered};
 ghost use Rattle.download_trees.specs.Refusal.{HasNumbers, IsHashesRefusal};
-ghost use Rattle.download_trees.specs.Trees.{AreTrees, HaveSameRoots, IsBlockRoot, known_leaf};
-ghost use Rattle.download_trees.specs.Trees.{share_places, starting_trees};
+ghost use Rattle.download_trees.specs.Trees.{AreTrees, HaveSameRoots, IsBlockRoot, LeadTo};
+ghost use Rattle.download_trees.specs.Trees.{known_leaf, share_places, starting_trees};
 
 use crate::block_tree::BlockTree;
 use crate::error::TreeFault;
@@ -68,8 +68,8 @@ impl FileTrees {
     /// then known. There is such a share, and the bytes have the length of share hashes.
     ///
     /// They are refused as failing the check of the layout where they carry other numbers than
-    /// those of the nodes that lead from the share to the root, and else as failing the check of the share
-    /// hashes where they do not go with what is known of the share tree.
+    /// those of the nodes that lead from the share to the root, and else as failing the check of
+    /// the share hashes where they do not go with what is known of the share tree.
     pub fn take_share_hashes(
         &mut self,
         alloc: Global,
@@ -82,6 +82,8 @@ impl FileTrees {
             (share_hashes_offered self.old.geometry.total share bytes.now) self.new.shares) }
         ensures tree { IfOk result (λ tree.
             tree ≡ starting tree.root (segment_count self.old.geometry)) }
+        ensures leads { IfOk result (λ tree.
+            LeadTo tree tree.root (segment_count self.old.geometry)) }
         ensures root { IfOk result (λ tree. known_leaf self.new.shares share ≡ Some tree.root) }
         ensures block_root { IfOk result (λ tree.
             IsBlockRoot self.old.shares.root self.old.geometry.total share tree.root) }
@@ -109,7 +111,8 @@ impl FileTrees {
     }
 
     /// Takes nodes of a row of the ciphertext tree, whose hashes are the bytes, 32 each. They are
-    /// refused, as failing the check of the ciphertext tree, where they do not go with what is known.
+    /// refused, as failing the check of the ciphertext tree, where they do not go with what is
+    /// known.
     pub fn take_nodes(
         &mut self,
         alloc: Global,

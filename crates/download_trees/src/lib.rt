@@ -1,7 +1,7 @@
-//! What a download knows of a file's hash trees: the share tree and the ciphertext tree, whose roots
-//! the extension block tells, and the block tree of each share, whose root is a leaf of the share
-//! tree. All nodes that are known lead to these roots. Bytes of a share are taken whole where they go
-//! with what is known, and else refused whole.
+//! What a download knows of a file's hash trees: the share tree and the ciphertext tree, whose
+//! roots the extension block tells, and the block tree of each share, whose root is a leaf of the
+//! share tree. All nodes that are known lead to these roots. Bytes of a share are taken whole where
+//! they go with what is known, and else refused whole.
 #![tactic(auto)]
 
 mod block_tree;
