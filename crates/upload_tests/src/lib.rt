@@ -3,3 +3,5 @@
 
 #[cfg(test)]
 mod upload_core_tests;
+#[cfg(test)]
+mod upload_rounds_tests;

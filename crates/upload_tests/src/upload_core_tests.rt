@@ -17,12 +17,12 @@ use upload_core::status::{ServerInfo, UploadGoal, UploadStatus};
 use wire::message::{Body, Message, NodeId, ShareId, ShareLength};
 
 // How many bytes each share has: two writes.
-const SHARE_LENGTH: usize = 40_000;
+pub(crate) const SHARE_LENGTH: usize = 40_000;
 
 // The order in which the servers are asked, by a program in Python.
 const ORDER: [NodeId; 4] = [0, 3, 2, 1];
 
-const SERVERS: [ServerInfo; 4] = [
+pub(crate) const SERVERS: [ServerInfo; 4] = [
     ServerInfo {
         node: 0,
         id: ServerId([0; 20]),
@@ -43,7 +43,7 @@ const SERVERS: [ServerInfo; 4] = [
 
 // What a server does.
 #[derive(Clone, Copy, PartialEq, Eq)]
-enum Conduct {
+pub(crate) enum Conduct {
     Honest,
     // It never answers.
     Silent,
@@ -88,13 +88,13 @@ const UPLOADS: [([Conduct; 4], u16, Ending); 12] = [
     ([Silent, Silent, Silent, Silent], 1, Ending::Unhappy(0)),
 ];
 
-fn verify_cap() -> Option<VerifyCap> {
+pub(crate) fn verify_cap() -> Option<VerifyCap> {
     let cap = ReadCap::new([1; 16], [2; 32], 2, 3, 80_000).ok()?;
     Some(cap.to_verify())
 }
 
 // A share of so many bytes of one value.
-fn share(alloc: Global, value: u8) -> Option<Vec<u8>>
+pub(crate) fn share(alloc: Global, value: u8) -> Option<Vec<u8>>
     ensures { IfSome result (λ share. length share.items ≡ 40000) }
 {
     vec![in alloc; value; SHARE_LENGTH].ok()
@@ -116,7 +116,7 @@ fn begun_at(alloc: Global, happy: u16, servers: &[ServerInfo]) -> Option<Upload<
 }
 
 // An upload of three shares to the four servers.
-fn begun(alloc: Global, happy: u16) -> Option<Upload<WholeShares>> {
+pub(crate) fn begun(alloc: Global, happy: u16) -> Option<Upload<WholeShares>> {
     begun_at(alloc, happy, &SERVERS)
 }
 
@@ -130,8 +130,8 @@ fn server(alloc: Global, conduct: Conduct) -> Server<MemoryStore> {
     )
 }
 
-fn servers(alloc: Global, conducts: &[Conduct; 4]) -> Option<Vec<Server<MemoryStore>>> {
-    let mut all = Vec::with_capacity(alloc, 4).ok()?;
+pub(crate) fn servers(alloc: Global, conducts: &[Conduct]) -> Option<Vec<Server<MemoryStore>>> {
+    let mut all = Vec::with_capacity(alloc, conducts.len()).ok()?;
     for conduct in conducts {
         all.push(server(alloc, *conduct)).ok()?;
     }
@@ -148,9 +148,9 @@ fn said(conduct: Conduct, answer: Body) -> Body {
 }
 
 // What comes back from a server, if anything does.
-fn answer(
+pub(crate) fn answer(
     grid: &mut [Server<MemoryStore>],
-    conducts: &[Conduct; 4],
+    conducts: &[Conduct],
     node: NodeId,
     request: &Message,
     now: u64,

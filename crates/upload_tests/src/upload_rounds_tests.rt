@@ -1,0 +1,479 @@
+//! Uploads message by message: when requests are sent again, what servers hold before, and the
+//! rounds of placing.
+
+ghost use Rattle.std.specs.Prelude.{◌≡◌, IfSome, length, map, nat_eq};
+ghost use Rattle.std.specs.List.{IsDistinct};
+ghost use Rattle.upload_core.specs.declared.status.ServerInfo.{ServerInfo};
+
+use crate::upload_core_tests::{
+    Conduct, SERVERS, SHARE_LENGTH, answer, begun, servers, share, verify_cap,
+};
+use Conduct::{Full, Honest, ReadOnly, Silent};
+use cap_text::{ReadCap, VerifyCap};
+use file_encoding::{Params, encode_all};
+use file_upload::prepared::{FileUpload, PreparedUpload, prepare};
+use placement::ServerId;
+use server_core::server::Server;
+use share_store::memory::MemoryStore;
+use share_store::store::Store;
+use std::alloc::Global;
+use tagged_hash::share_digest;
+use upload_core::Upload;
+use upload_core::pieces::WholeShares;
+use upload_core::status::{ServerInfo, UploadGoal, UploadStatus};
+use wire::message::{Body, NodeId, ShareId, ShareLength};
+
+const ONE: [ServerInfo; 1] = [ServerInfo {
+    node: 0,
+    id: ServerId([0; 20]),
+}];
+
+// The first is the first in the order of the file, by a program in Python.
+const TWO: [ServerInfo; 2] = [
+    ServerInfo {
+        node: 0,
+        id: ServerId([0; 20]),
+    },
+    ServerInfo {
+        node: 1,
+        id: ServerId([1; 20]),
+    },
+];
+
+const TEN: [ServerInfo; 10] = [
+    ServerInfo {
+        node: 0,
+        id: ServerId([0; 20]),
+    },
+    ServerInfo {
+        node: 1,
+        id: ServerId([1; 20]),
+    },
+    ServerInfo {
+        node: 2,
+        id: ServerId([2; 20]),
+    },
+    ServerInfo {
+        node: 3,
+        id: ServerId([3; 20]),
+    },
+    ServerInfo {
+        node: 4,
+        id: ServerId([4; 20]),
+    },
+    ServerInfo {
+        node: 5,
+        id: ServerId([5; 20]),
+    },
+    ServerInfo {
+        node: 6,
+        id: ServerId([6; 20]),
+    },
+    ServerInfo {
+        node: 7,
+        id: ServerId([7; 20]),
+    },
+    ServerInfo {
+        node: 8,
+        id: ServerId([8; 20]),
+    },
+    ServerInfo {
+        node: 9,
+        id: ServerId([9; 20]),
+    },
+];
+
+// What a request asks, and of which share; of a Write, from which place on.
+#[derive(Clone, Copy, PartialEq, Eq)]
+enum Asked {
+    Ask,
+    Allocate(u8),
+    Write(u8, u64),
+    Close(u8),
+    Abort(u8),
+    Other,
+}
+
+// A request that was sent: the second, and the server's node.
+type Sent = (u64, NodeId, Asked);
+
+fn asked_by(body: &Body) -> Asked {
+    match body {
+        Body::Ask(_) => Asked::Ask,
+        Body::Allocate(id, _) => Asked::Allocate(id.share),
+        Body::Write(id, offset, _) => Asked::Write(id.share, *offset),
+        Body::Close(id) => Asked::Close(id.share),
+        Body::Abort(id) => Asked::Abort(id.share),
+        _ => Asked::Other,
+    }
+}
+
+// An upload of one share, of one, to these servers.
+fn begun_one(alloc: Global, servers: &[ServerInfo]) -> Option<Upload<WholeShares>>
+    requires { IsDistinct nat_eq (map (λ (s : ServerInfo). s.node) servers.now) }
+{
+    let shares = WholeShares::new(vec![in alloc; share(alloc, 7)?].ok()?);
+    let digests = shares.digests(alloc).ok()?;
+    let cap = ReadCap::new([1; 16], [2; 32], 1, 1, 39_000).ok()?;
+    let length = ShareLength::new(SHARE_LENGTH as u64)?;
+    let goal = UploadGoal::new(cap.to_verify(), digests, length);
+    Upload::start(alloc, shares, goal, 1, servers, 5, 0).ok()
+}
+
+// What goes between an upload and its servers: the first answer to the request that is named is
+// lost on its way.
+#[derive(Drop)]
+struct Course<'a> {
+    grid: Vec<Server<MemoryStore>>,
+    conducts: &'a [Conduct],
+    lost: Option<Asked>,
+    sent: Vec<Sent>,
+}
+
+impl<'a> Course<'a> {
+    fn new(alloc: Global, conducts: &'a [Conduct]) -> Option<Course<'a>> {
+        Some(Course {
+            grid: servers(alloc, conducts)?,
+            conducts,
+            lost: None,
+            sent: Vec::new(alloc),
+        })
+    }
+
+    // Is this the request whose answer is lost? A second one is not.
+    fn loses(&mut self, asked: Asked) -> bool {
+        let is_lost = self.lost == Some(asked);
+        if is_lost {
+            self.lost = None;
+        }
+        is_lost
+    }
+
+    // Sends the next request and takes its answer, or lets five seconds pass where there is none.
+    // Gives the second.
+    fn step(&mut self, alloc: Global, upload: &mut Upload<WholeShares>, now: u64) -> Option<u64> {
+        let Some((node, request)) = upload.take_outgoing(alloc).ok()? else {
+            let later = now.saturating_add(5);
+            upload.tick(later).ok()?;
+            return Some(later);
+        };
+        let asked = asked_by(&request.body);
+        self.sent.push((now, node, asked)).ok()?;
+        if let Some(message) = answer(&mut self.grid, self.conducts, node, &request, now) {
+            if !self.loses(asked) {
+                upload.on_message(node, &message, now).ok()?;
+            }
+        }
+        Some(now)
+    }
+
+    // Carries an upload to its end.
+    fn carry(&mut self, alloc: Global, upload: &mut Upload<WholeShares>) -> Option<()> {
+        let mut now: u64 = 0;
+        for _ in 0..400 {
+            now = self.step(alloc, upload, now)?;
+        }
+        Some(())
+    }
+
+    // Does a server keep these bytes under the share's number?
+    fn keeps(&self, cap: &VerifyCap, node: NodeId, number: u8, bytes: &[u8]) -> bool {
+        let id = ShareId {
+            index: *cap.storage_index(),
+            share: number,
+        };
+        match self.grid.get(usize::from(node)) {
+            Some(server) => server.store().closed(&id) == Some(share_digest(bytes)),
+            None => false,
+        }
+    }
+
+    // The requests that were sent to a node, each with its second.
+    fn sent_to(&self, alloc: Global, node: NodeId) -> Option<Vec<(u64, Asked)>> {
+        let mut found = Vec::new(alloc);
+        for (second, to, asked) in &self.sent {
+            if *to == node {
+                found.push((*second, *asked)).ok()?;
+            }
+        }
+        Some(found)
+    }
+
+    // The Allocates, by node and share, in the order in which they were sent.
+    fn allocated(&self, alloc: Global) -> Option<Vec<(NodeId, u8)>> {
+        let mut found = Vec::new(alloc);
+        for (_, to, asked) in &self.sent {
+            if let Asked::Allocate(number) = asked {
+                found.push((*to, *number)).ok()?;
+            }
+        }
+        Some(found)
+    }
+}
+
+// A store that keeps one share of the file.
+fn store_with(alloc: Global, number: u8, bytes: &[u8]) -> Option<MemoryStore> {
+    let mut store = MemoryStore::new(alloc);
+    let id = ShareId {
+        index: *verify_cap()?.storage_index(),
+        share: number,
+    };
+    if store.closed(&id).is_some() {
+        return None;
+    }
+    store.write(&id, 0, bytes).ok()?;
+    if store.closed(&id).is_some() {
+        return None;
+    }
+    store.close(&id, &share_digest(bytes)).ok()?;
+    Some(store)
+}
+
+// The pairs of a happy upload.
+fn happy_pairs(upload: &Upload<WholeShares>) -> Option<&[(NodeId, u16)]> {
+    match upload.status() {
+        UploadStatus::Happy(pairs) => Some(pairs.as_slice()),
+        _ => None,
+    }
+}
+
+// Ticks of an upload whose one server is silent, and the seconds at which its Ask is sent. At the
+// last tick it is lost.
+const TICKS: [(&[u64], &[u64]); 4] = [
+    (&[4, 5, 10, 15, 20], &[0, 5, 10, 15]),
+    (&[12, 15, 25], &[0, 12, 15]),
+    (&[20], &[0]),
+    (
+        &[1, 6, 7, 9, 11, 16, 19, 18_446_744_073_709_551_615],
+        &[0, 6, 11, 16],
+    ),
+];
+
+// Notes the second where the Ask is sent. `None` where anything else is, or the upload has ended.
+fn note_ask(
+    alloc: Global,
+    upload: &mut Upload<WholeShares>,
+    now: u64,
+    seconds: &mut Vec<u64>,
+) -> Option<()> {
+    if !matches!(upload.status(), UploadStatus::Running) {
+        return None;
+    }
+    if let Some((_, request)) = upload.take_outgoing(alloc).ok()? {
+        if asked_by(&request.body) != Asked::Ask || upload.has_outgoing() {
+            return None;
+        }
+        seconds.push(now).ok()?;
+    }
+    Some(())
+}
+
+// The seconds at which the Ask is sent. `None` where the upload does not end Unhappy, with no
+// blocking set, at the last tick and not before.
+fn asked_at(alloc: Global, ticks: &[u64]) -> Option<Vec<u64>> {
+    let mut upload = begun_one(alloc, &ONE)?;
+    let mut seconds = Vec::new(alloc);
+    let mut now = 0;
+    for tick in ticks {
+        note_ask(alloc, &mut upload, now, &mut seconds)?;
+        now = *tick;
+        upload.tick(now).ok()?;
+    }
+    if ends_with_none(&upload) && !upload.has_outgoing() {
+        Some(seconds)
+    } else {
+        None
+    }
+}
+
+// Is an upload unhappy, with no pair and an empty blocking set?
+fn ends_with_none(upload: &Upload<WholeShares>) -> bool {
+    match upload.status() {
+        UploadStatus::Unhappy(reached, blocking) => {
+            *reached == 0 && blocking.as_slice().is_empty()
+        }
+        _ => false,
+    }
+}
+
+#[test]
+fn a_silent_server_is_asked_four_times(rt: HostRuntime) {
+    for (i, (ticks, expected)) in TICKS.iter().enumerate() {
+        let is_right = match asked_at(rt.alloc(), ticks) {
+            Some(seconds) => seconds.as_slice() == *expected,
+            None => false,
+        };
+        assert!(rt; is_right, "table {i}");
+    }
+}
+
+// What one server is asked where its first Closed is lost on the way.
+const CLOSED_AGAIN: [(u64, Asked); 6] = [
+    (0, Asked::Ask),
+    (0, Asked::Allocate(0)),
+    (0, Asked::Write(0, 0)),
+    (0, Asked::Write(0, 32_768)),
+    (0, Asked::Close(0)),
+    (5, Asked::Close(0)),
+];
+
+fn close_is_sent_again(alloc: Global) -> Option<bool> {
+    let mut course = Course::new(alloc, &[Honest])?;
+    course.lost = Some(Asked::Close(0));
+    let mut upload = begun_one(alloc, &ONE)?;
+    course.carry(alloc, &mut upload)?;
+    let sent = course.sent_to(alloc, 0)?;
+    let is_kept = course.keeps(&verify_cap()?, 0, 0, &share(alloc, 7)?);
+    Some(is_kept && sent.as_slice() == &CLOSED_AGAIN[..] && happy_pairs(&upload)? == &[(0, 0)][..])
+}
+
+#[test]
+fn a_lost_closed_counts_once(rt: HostRuntime) {
+    assert!(rt; close_is_sent_again(rt.alloc()) == Some(true));
+}
+
+// A server that keeps other bytes under the number of the one share.
+fn junk_server(alloc: Global) -> Option<Server<MemoryStore>> {
+    let store = store_with(alloc, 0, b"junk")?;
+    Some(Server::start(alloc, store, 1_000_000, false))
+}
+
+// The share goes to the second server, and the first one's stays as it is.
+fn goes_past_junk(alloc: Global) -> Option<bool> {
+    let mut course = Course::new(alloc, &[Honest, Honest])?;
+    *course.grid.get_mut(0)? = junk_server(alloc)?;
+    let mut upload = begun_one(alloc, &TWO)?;
+    course.carry(alloc, &mut upload)?;
+    let allocated = course.allocated(alloc)?;
+    let cap = verify_cap()?;
+    let are_kept = course.keeps(&cap, 0, 0, b"junk") && course.keeps(&cap, 1, 0, &share(alloc, 7)?);
+    Some(
+        are_kept
+            && allocated.as_slice() == &[(0, 0), (1, 0)][..]
+            && happy_pairs(&upload)? == &[(1, 0)][..],
+    )
+}
+
+// There is no other server.
+fn junk_alone_is_unhappy(alloc: Global) -> Option<bool> {
+    let mut course = Course::new(alloc, &[Honest])?;
+    *course.grid.get_mut(0)? = junk_server(alloc)?;
+    let mut upload = begun_one(alloc, &ONE)?;
+    course.carry(alloc, &mut upload)?;
+    Some(ends_with_none(&upload) && course.keeps(&verify_cap()?, 0, 0, b"junk"))
+}
+
+#[test]
+fn junk_under_a_right_number_does_not_count(rt: HostRuntime) {
+    assert!(rt; goes_past_junk(rt.alloc()) == Some(true));
+    assert!(rt; junk_alone_is_unhappy(rt.alloc()) == Some(true));
+}
+
+// The first server in the order of the file has no room: in the second round its share goes to the
+// one that has none yet.
+fn full_is_placed_past(alloc: Global) -> Option<bool> {
+    let mut course = Course::new(alloc, &[Full, Honest, Honest, Honest])?;
+    let mut upload = begun(alloc, 3)?;
+    course.carry(alloc, &mut upload)?;
+    let allocated = course.allocated(alloc)?;
+    let (last, first) = allocated.as_slice().split_last()?;
+    let is_first_round = first.len() == 3
+        && first.contains(&(0, 0))
+        && first.contains(&(3, 1))
+        && first.contains(&(2, 2));
+    let to_full = course.sent_to(alloc, 0)?;
+    Some(
+        is_first_round
+            && *last == (1, 0)
+            && to_full.as_slice() == &[(0, Asked::Ask), (0, Asked::Allocate(0))][..]
+            && happy_pairs(&upload)?.contains(&(1, 0)),
+    )
+}
+
+#[test]
+fn a_full_server_is_asked_in_one_round(rt: HostRuntime) {
+    assert!(rt; full_is_placed_past(rt.alloc()) == Some(true));
+}
+
+// A server that takes nothing holds share 0: that counts, and the others go to two further servers.
+fn read_only_counts(alloc: Global) -> Option<bool> {
+    let mut course = Course::new(alloc, &[ReadOnly, Honest, Honest, Honest])?;
+    let store = store_with(alloc, 0, &share(alloc, 7)?)?;
+    *course.grid.get_mut(0)? = Server::start(alloc, store, 1_000_000, true);
+    let mut upload = begun(alloc, 3)?;
+    course.carry(alloc, &mut upload)?;
+    let allocated = course.allocated(alloc)?;
+    let are_placed = allocated.as_slice().len() == 2
+        && allocated.as_slice().contains(&(3, 1))
+        && allocated.as_slice().contains(&(2, 2));
+    let pairs = happy_pairs(&upload)?;
+    Some(
+        are_placed
+            && pairs.len() == 3
+            && pairs.contains(&(0, 0))
+            && pairs.contains(&(3, 1))
+            && pairs.contains(&(2, 2)),
+    )
+}
+
+#[test]
+fn shares_of_a_read_only_server_count(rt: HostRuntime) {
+    assert!(rt; read_only_counts(rt.alloc()) == Some(true));
+}
+
+const FILE: [u8; 56] = [7; 56];
+
+fn params() -> Option<Params> {
+    Params::new(3, 7, 10, 131_072).ok()
+}
+
+// The file of 56 bytes made ready, at 3 of 10 and a happiness of 7.
+fn prepared(alloc: Global) -> Option<PreparedUpload> {
+    match prepare(alloc, &FILE, b"", &params()?).ok()? {
+        FileUpload::Shares(prepared) => Some(prepared),
+        FileUpload::Literal(_) => None,
+    }
+}
+
+// Do nine servers keep nine shares of the file as they say?
+fn nine_keep(
+    alloc: Global,
+    course: &Course,
+    cap: &VerifyCap,
+    pairs: &[(NodeId, u16)],
+) -> Option<bool> {
+    let encoded = encode_all(alloc, &FILE, b"", &params()?).ok()?;
+    for (node, number) in pairs {
+        let bytes = encoded.shares.get(usize::from(*number))?.as_slice();
+        if !course.keeps(cap, *node, u8::try_from(*number).ok()?, bytes) {
+            return Some(false);
+        }
+    }
+    Some(pairs.len() == 9)
+}
+
+// What a server is asked that never answers.
+const UNANSWERED: [(u64, Asked); 4] = [
+    (0, Asked::Ask),
+    (5, Asked::Ask),
+    (10, Asked::Ask),
+    (15, Asked::Ask),
+];
+
+fn nine_of_ten_are_happy(alloc: Global) -> Option<bool> {
+    let mut conducts = [Honest; 10];
+    conducts[4] = Silent;
+    let mut course = Course::new(alloc, &conducts)?;
+    let prepared = prepared(alloc)?;
+    let cap = prepared.cap().to_verify();
+    let mut upload = prepared.start(alloc, &TEN, 5, 0).ok()?;
+    course.carry(alloc, &mut upload)?;
+    let to_silent = course.sent_to(alloc, 4)?;
+    let are_kept = nine_keep(alloc, &course, &cap, happy_pairs(&upload)?)?;
+    Some(are_kept && to_silent.as_slice() == &UNANSWERED[..])
+}
+
+#[test]
+fn one_silent_server_of_ten(rt: HostRuntime) {
+    assert!(rt; nine_of_ten_are_happy(rt.alloc()) == Some(true));
+}
