@@ -31,7 +31,8 @@
 
 here=$(cd "$(dirname "$0")/.." && pwd) || exit 2
 program=${1:-$here/crates/grid_main/out/grid_main}
-test_crates='base_tests text_tests layout_tests file_tests protocol_tests store_tests loop_tests upload_tests command_tests'
+test_crates='base_tests text_tests reading_tests tree_tests layout_tests file_tests protocol_tests store_tests
+loop_tests upload_tests command_tests put_tests'
 
 # Whether a crate's built tests are missing, or older than a source.
 are_tests_old() {
