@@ -133,7 +133,7 @@ fn refuses_changed_hashes(alloc: Global, ueb: &Ueb, number: u16, share: &[u8]) -
 fn step_in(bytes: &[u8]) -> usize
     ensures { 0 < result }
 {
-    if bytes.len() < 512 { 1 } else { 9_973 }
+    if bytes.len() <= 320 { 1 } else { 9_973 }
 }
 
 // Whether a piece of a block tree with one of some bytes changed fails its check, and is taken as
@@ -229,7 +229,7 @@ fn changed_hashes_fail_their_check(rt: HostRuntime) -> Result<(), Fail> {
 
 #[test]
 fn changed_nodes_fail_their_check(rt: HostRuntime) -> Result<(), Fail> {
-    for &size in &[60, 1_000] {
+    for &size in &[60, 8_000] {
         let Some(Shares { ueb, shares }) = shares_of(rt.alloc(), size, 2) else {
             panic!(rt; "shares of {size} bytes");
         };
