@@ -16,21 +16,21 @@ use std::{fs, io};
 use wire::message::{Digest, HeldShare, ReadLength, ShareId, StorageIndex};
 
 // The bytes 0 to 15, and their text.
-const INDEX: StorageIndex = [0, 1, 2, 3, 4, 5, 6, 7, 8, 9, 10, 11, 12, 13, 14, 15];
+pub(crate) const INDEX: StorageIndex = [0, 1, 2, 3, 4, 5, 6, 7, 8, 9, 10, 11, 12, 13, 14, 15];
 
 const INDEX_TEXT: &str = "aaaqeayeaudaocajbifqydiob4";
 
 const OTHER_INDEX: StorageIndex = [0, 1, 2, 3, 4, 5, 6, 7, 8, 9, 10, 11, 12, 13, 14, 16];
 
 // 32 times the byte 7, and 32 times the byte 208: the text of the greater digest is the lower one.
-const SEVENS: &str = "a4dqobyha4dqobyha4dqobyha4dqobyha4dqobyha4dqobyha4dq";
+pub(crate) const SEVENS: &str = "a4dqobyha4dqobyha4dqobyha4dqobyha4dqobyha4dqobyha4dq";
 
 const GREATER: &str = "2dinbugq2dinbugq2dinbugq2dinbugq2dinbugq2dinbugq2dia";
 
 // A call of a store about a share, and what it is to give. Shares are closed under a digest of 32
 // times one byte.
 #[derive(Clone, Copy)]
-enum Call {
+pub(crate) enum Call {
     // Bytes are written at an offset.
     Write(StorageIndex, u8, u64, &'static [u8]),
     Close(StorageIndex, u8, u8),
@@ -150,7 +150,11 @@ fn lists<S: Store>(
 }
 
 // Whether a call gives what it is to give.
-fn gives<S: Store>(alloc: Global, store: &mut S, call: Call) -> Result<bool, StoreError> {
+pub(crate) fn gives<S: Store>(
+    alloc: Global,
+    store: &mut S,
+    call: Call,
+) -> Result<bool, StoreError> {
     match call {
         Call::Write(index, number, offset, bytes) => {
             writes(store, &share(index, number), offset, bytes)
@@ -271,13 +275,13 @@ fn path(rt: &HostRuntime, rest: &str) -> Result<String, AllocError> {
 }
 
 // The path of a file in that folder: an index, what comes after it, and an end.
-fn file(rt: &HostRuntime, rest: &str, end: &str) -> Result<String, AllocError> {
+pub(crate) fn file(rt: &HostRuntime, rest: &str, end: &str) -> Result<String, AllocError> {
     let folder = path(rt, "/")?;
     format!(in rt.alloc(); "{folder}{INDEX_TEXT}{rest}{end}")
 }
 
 // Sees that the folder is not there, and removes it.
-fn remove(rt: &HostRuntime) -> io::Result<()> {
+pub(crate) fn remove(rt: &HostRuntime) -> io::Result<()> {
     let root = path(rt, "")?;
     if fs::exists(rt, root.as_str())? {
         fs::remove_dir_all(rt, root.as_str())?;
@@ -286,12 +290,12 @@ fn remove(rt: &HostRuntime) -> io::Result<()> {
 }
 
 // The store of the folder, which is made where it is not there.
-fn open(rt: &HostRuntime) -> Result<FolderStore<HostRuntime>, StoreError> {
+pub(crate) fn open(rt: &HostRuntime) -> Result<FolderStore<HostRuntime>, StoreError> {
     FolderStore::open(rt, path(rt, "")?.as_str())
 }
 
 // How many calls in turn give what they are to give in the folder's store, once it is opened.
-fn right_in_folder(rt: &HostRuntime, calls: &[Call]) -> Result<usize, StoreError> {
+pub(crate) fn right_in_folder(rt: &HostRuntime, calls: &[Call]) -> Result<usize, StoreError> {
     let mut store = open(rt)?;
     Ok(right_calls(rt.alloc(), &mut store, calls))
 }

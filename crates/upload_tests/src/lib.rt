@@ -1,4 +1,5 @@
-//! The tests of uploads: what no contract says, values from outside, and calls on their happy paths.
+//! The tests of uploads: what no contract says, values from outside, and calls on their happy
+//! paths.
 #![tactic(auto)]
 
 #[cfg(test)]
