@@ -87,6 +87,12 @@ is_told() {
     [ $status = "$1" ] && [ ! -s out ] && [ "$(wc -l < err)" -eq 1 ] && grep -q -x -e "$2" err
 }
 
+# Whether a `put` ended well with fewer servers, at least $1: one whose folder failed is silent.
+is_less_happy() {
+    [ $status = 0 ] && [ ! -s err ] && [ "$(head -n 1 out)" = "$(head -n 1 plain.out)" ] \
+        && [ "$(sed -n '2s/^happiness \([0-9]*\)$/\1/p' out)" -ge "$1" ]
+}
+
 # Whether the run ended as it may, where a call of kind $1 failed; $2 is the number of shares needed, $3 that of shares in all.
 is_right() {
     is_as_without && return 0
@@ -96,18 +102,21 @@ is_right() {
             is_told 7 'grid: 90 FileFault ..*' && return 0
             case $(cat mark 2> /dev/null) in
                 *' -1-') [ $status = 7 ] && [ ! -s out ] && [ ! -s err ] ;;
+                *'grid/server-'*)
+                    is_told 4 'grid: 70 Unhappy reached [0-9]* wanted [0-9]*' || is_less_happy "$2" ;;
                 *'held/server-'*) [ "$2" = "$3" ] && is_told 5 'grid: 71 NotEnoughShares' ;;
                 *) false ;;
             esac ;;
     esac
 }
 
-# Whether each file under a closed name in the grid that a `put` made is the whole share.
+# Whether each file under a closed name in the grid that a `put` made is the whole share, which may
+# be at another server where one is silent.
 is_whole() {
     [ -d grid ] || return 0
     (cd grid && find . -type f ! -name '*.open') > names
     while read -r name; do
-        cmp -s "grid/$name" "held/$name" || return 1
+        cmp -s "grid/$name" held/server-*/"${name##*/}" || return 1
     done < names
 }
 
