@@ -4,7 +4,7 @@ use crate::grid_commands_tests::{
     CLOSED, ZEROS_CAP, ends, gives, lacks_shares, makes_counted_file, makes_folder, path,
     put_gives, put_line, removes_all, share_path, writes, zeros_go_round,
 };
-use grid_commands::refuse_words;
+use grid_commands::{grid, refuse_words};
 use std::alloc::AllocError;
 use std::rt::Files;
 use std::{fs, io};
@@ -102,4 +102,49 @@ fn words_that_are_no_words(rt: HostRuntime) {
     assert!(rt; is_refused(&rt, io::ErrorKind::InvalidData, 2, b"error: invalid UTF-8"));
     assert!(rt; is_refused(&rt, io::ErrorKind::OutOfMemory, 7, b"grid: 1 OutOfMemory\n"));
     assert!(rt; ends(&rt, &["grid", "--version"], 0, b"grid 0.1.0\n", &[]));
+}
+
+// Wrong words come before wrong numbers; help is no fault.
+#[test]
+fn wrong_words_are_usage(rt: HostRuntime) {
+    let rows: [&[&str]; 7] = [
+        &["grid"],
+        &["grid", "put", "file"],
+        &["grid", "cap"],
+        &["grid", "fetch", "cap"],
+        &["grid", "get", "cap", "--grid", "dir", "more"],
+        &["grid", "put", "file", "--grid", "dir", "--k", "-1"],
+        &[
+            "grid",
+            "put",
+            "file",
+            "--grid",
+            "dir",
+            "--k",
+            "0",
+            "--n",
+            "18446744073709551616",
+        ],
+    ];
+    for words in rows {
+        assert!(rt; shows(&rt, words, 2));
+    }
+    let helps: [&[&str]; 4] = [
+        &["grid", "--help"],
+        &["grid", "put", "--help"],
+        &["grid", "get", "--help"],
+        &["grid", "cap", "--help"],
+    ];
+    for words in helps {
+        assert!(rt; shows(&rt, words, 0));
+    }
+}
+
+// Whether the words give this status and text on one side alone: standard error, or standard output
+// for 0.
+fn shows(rt: &HostRuntime, words: &[&str], status: u8) -> bool {
+    let mut out = Vec::new(rt.alloc());
+    let mut err = Vec::new(rt.alloc());
+    let ended = grid(rt, words, &mut out, &mut err);
+    ended == status && out.is_empty() == (status != 0) && err.is_empty() == (status == 0)
 }

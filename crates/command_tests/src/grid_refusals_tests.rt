@@ -402,51 +402,6 @@ fn a_wrong_segment_is_inconsistent(rt: HostRuntime) {
     assert!(rt; is_told && removes_all(&rt));
 }
 
-// Wrong words come before wrong numbers; help is no fault.
-#[test]
-fn wrong_words_are_usage(rt: HostRuntime) {
-    let rows: [&[&str]; 7] = [
-        &["grid"],
-        &["grid", "put", "file"],
-        &["grid", "cap"],
-        &["grid", "fetch", "cap"],
-        &["grid", "get", "cap", "--grid", "dir", "more"],
-        &["grid", "put", "file", "--grid", "dir", "--k", "-1"],
-        &[
-            "grid",
-            "put",
-            "file",
-            "--grid",
-            "dir",
-            "--k",
-            "0",
-            "--n",
-            "18446744073709551616",
-        ],
-    ];
-    for words in rows {
-        assert!(rt; shows(&rt, words, 2));
-    }
-    let helps: [&[&str]; 4] = [
-        &["grid", "--help"],
-        &["grid", "put", "--help"],
-        &["grid", "get", "--help"],
-        &["grid", "cap", "--help"],
-    ];
-    for words in helps {
-        assert!(rt; shows(&rt, words, 0));
-    }
-}
-
-// Whether the words give this status and text on one side alone: standard error, or standard output
-// for 0.
-fn shows(rt: &HostRuntime, words: &[&str], status: u8) -> bool {
-    let mut out = Vec::new(rt.alloc());
-    let mut err = Vec::new(rt.alloc());
-    let ended = grid(rt, words, &mut out, &mut err);
-    ended == status && out.is_empty() == (status != 0) && err.is_empty() == (status == 0)
-}
-
 // A writer that takes so many bytes, and then fails. It fails too where it is flushed with no room
 // left.
 #[derive(Drop)]
