@@ -429,13 +429,9 @@ fn too_few_servers_are_unhappy(rt: HostRuntime) {
     assert!(rt; removes_all(&rt));
 }
 
-fn line_of(rt: &HostRuntime, text: &str) -> Result<String, AllocError> {
-    format!(in rt.alloc(); "{text}\n")
-}
-
 // Whether a small file becomes its cap and comes back, with no grid made.
 fn is_literal(rt: &HostRuntime, file: &[u8], cap: &str) -> bool {
-    match line_of(rt, cap) {
+    match format!(in rt.alloc(); "{cap}\n") {
         Ok(out) => {
             makes_file(rt, file)
                 && put_gives(rt, "--servers 1", 0, out.as_str(), "")
