@@ -1,0 +1,190 @@
+//! The nodes that a download knows of a file's hash trees.
+
+use download_plan::Nodes;
+use merkle::{OfferError, Partial, height, node_number};
+use share_layout::{Geometry, carries_numbers};
+use share_verify::Check;
+use std::alloc::{AllocError, Global};
+use tagged_hash::{Tag, tagged};
+use ueb::Ueb;
+
+/// Why bytes are not taken.
+#[derive(Clone, Copy, PartialEq, Eq)]
+pub(crate) enum TreeFault {
+    /// No memory.
+    OutOfMemory,
+    /// They fail this check.
+    Check(Check),
+}
+
+/// What is known of the share tree and the ciphertext tree of a file.
+#[derive(Drop)]
+pub(crate) struct FileTrees {
+    geometry: Geometry,
+    shares: Partial,
+    ciphertext: Partial,
+}
+
+/// What is known of the block tree of a share.
+#[derive(Drop)]
+pub(crate) struct BlockTree {
+    tree: Partial,
+    leaves: u32,
+}
+
+impl FileTrees {
+    /// The trees of which the roots alone are known, as the extension block tells them.
+    pub(crate) fn new(
+        alloc: Global,
+        ueb: &Ueb,
+        geometry: &Geometry,
+    ) -> Result<FileTrees, AllocError> {
+        let places = u32::from(geometry.total()).next_power_of_two();
+        Ok(FileTrees {
+            geometry: *geometry,
+            shares: tree(alloc, ueb.share_root_hash(), places)?,
+            ciphertext: tree(alloc, ueb.crypttext_root_hash(), geometry.segment_count())?,
+        })
+    }
+
+    /// Takes the share hashes of a share, and gives its block tree.
+    pub(crate) fn take_share_hashes(
+        &mut self,
+        alloc: Global,
+        share: u16,
+        bytes: &[u8],
+    ) -> Result<BlockTree, TreeFault> {
+        let long = bytes.len() == self.geometry.hashes_size() as usize;
+        if !long || !carries_numbers(&self.geometry, share, bytes) {
+            return Err(TreeFault::Check(Check::Layout));
+        }
+        let Ok(offers) = numbered(alloc, bytes) else {
+            return Err(TreeFault::OutOfMemory);
+        };
+        offer(&mut self.shares, &offers, Check::ShareHashes)?;
+        let height = height(u32::from(self.geometry.total()));
+        let Some(root) = self.shares.node(node_number(height, u32::from(share))) else {
+            return Err(TreeFault::Check(Check::ShareHashes));
+        };
+        BlockTree::new(alloc, &root, self.geometry.segment_count())
+    }
+
+    /// Takes nodes of the ciphertext tree.
+    pub(crate) fn take_nodes(
+        &mut self,
+        alloc: Global,
+        nodes: &Nodes,
+        bytes: &[u8],
+    ) -> Result<(), TreeFault> {
+        take_nodes(alloc, &mut self.ciphertext, nodes, bytes, Check::CiphertextTree)
+    }
+
+    /// The hash of a segment.
+    pub(crate) fn leaf(&self, segment: u32) -> Option<[u8; 32]> {
+        leaf_of(&self.ciphertext, self.geometry.segment_count(), segment)
+    }
+
+    /// The path of a segment's hash.
+    pub(crate) fn path(&self, segment: u32) -> Result<Option<Vec<[u8; 32]>>, AllocError> {
+        if self.geometry.segment_count() <= segment {
+            return Ok(None);
+        }
+        match self.ciphertext.path(segment) {
+            Ok(path) => Ok(path),
+            Err(_) => Err(AllocError),
+        }
+    }
+}
+
+impl BlockTree {
+    fn new(alloc: Global, root: &[u8; 32], leaves: u32) -> Result<BlockTree, TreeFault> {
+        match tree(alloc, root, leaves) {
+            Ok(tree) => Ok(BlockTree { tree, leaves }),
+            Err(_) => Err(TreeFault::OutOfMemory),
+        }
+    }
+
+    /// Takes nodes.
+    pub(crate) fn take_nodes(
+        &mut self,
+        alloc: Global,
+        nodes: &Nodes,
+        bytes: &[u8],
+    ) -> Result<(), TreeFault> {
+        take_nodes(alloc, &mut self.tree, nodes, bytes, Check::BlockTree)
+    }
+
+    /// The hash of the block of a segment.
+    pub(crate) fn leaf(&self, segment: u32) -> Option<[u8; 32]> {
+        leaf_of(&self.tree, self.leaves, segment)
+    }
+
+    /// Whether a block is the one of a segment. `None` where its hash is not known.
+    pub(crate) fn proves(&self, segment: u32, block: &[u8]) -> Option<bool> {
+        let leaf = self.leaf(segment)?;
+        Some(leaf == tagged(Tag::Block, block))
+    }
+}
+
+fn tree(alloc: Global, root: &[u8; 32], leaves: u32) -> Result<Partial, AllocError> {
+    match Partial::new(alloc, root, leaves) {
+        Ok(tree) => Ok(tree),
+        Err(_) => Err(AllocError),
+    }
+}
+
+fn leaf_of(tree: &Partial, leaves: u32, segment: u32) -> Option<[u8; 32]> {
+    if leaves <= segment {
+        return None;
+    }
+    tree.node(node_number(height(leaves), segment))
+}
+
+fn numbered(alloc: Global, bytes: &[u8]) -> Result<Vec<(u32, [u8; 32])>, AllocError> {
+    let (entries, _) = bytes.as_chunks::<34>();
+    let mut offers = Vec::with_capacity(alloc, entries.len())?;
+    for entry in entries {
+        let mut hash = [0; 32];
+        hash.copy_from_slice(&entry[2..]);
+        offers.push((u32::from(u16::from_be_bytes([entry[0], entry[1]])), hash))?;
+    }
+    Ok(offers)
+}
+
+fn offer(tree: &mut Partial, offers: &[(u32, [u8; 32])], check: Check) -> Result<(), TreeFault> {
+    match tree.offer(offers) {
+        Ok(()) => Ok(()),
+        Err(OfferError::NotConsistent) => Err(TreeFault::Check(check)),
+        Err(OfferError::OutOfMemory) => Err(TreeFault::OutOfMemory),
+    }
+}
+
+fn take_nodes(
+    alloc: Global,
+    tree: &mut Partial,
+    nodes: &Nodes,
+    bytes: &[u8],
+    check: Check,
+) -> Result<(), TreeFault> {
+    match placed(alloc, nodes, bytes) {
+        Ok(offers) => offer(tree, &offers, check),
+        Err(_) => Err(TreeFault::OutOfMemory),
+    }
+}
+
+fn placed(
+    alloc: Global,
+    nodes: &Nodes,
+    bytes: &[u8],
+) -> Result<Vec<(u32, [u8; 32])>, AllocError> {
+    let (hashes, _) = bytes.as_chunks::<32>();
+    let mut offers = Vec::with_capacity(alloc, hashes.len())?;
+    let mut place = nodes.from;
+    for hash in hashes {
+        if nodes.row < 32 && u64::from(place) < 1u64 << nodes.row {
+            offers.push((node_number(nodes.row, place), *hash))?;
+            place = place.saturating_add(1);
+        }
+    }
+    Ok(offers)
+}

@@ -1,0 +1,6 @@
+//! The tests of downloads: what no contract says, values from outside, and calls on their happy
+//! paths.
+#![tactic(auto)]
+
+#[cfg(test)]
+mod download_core_tests;
