@@ -1,5 +1,11 @@
 //! What a download asks of servers, of which shares, and which of these it blames.
 
+ghost use Rattle.std.specs.Prelude.{◌≡◌, [], IfOk, IfSome};
+ghost use Rattle.wire.specs.declared.message.Body.TheVariants.{Data};
+ghost use Rattle.request_record.specs.declared.requests.Outcome.TheVariants.{Answered};
+ghost use Rattle.request_record.specs.Asking.{begun};
+ghost use Rattle.download_core.specs.Steps.{AsksOn, HasBytes, IsReadingOf};
+
 use crate::holdings::Holdings;
 use crate::source::{Step, Waiting, Wanted};
 use crate::status::Blame;
@@ -17,7 +23,7 @@ pub(crate) struct Asking {
     // How many requests ask which shares a server holds. They are the first.
     servers: usize,
     // The share that each further request asks of, by its place among the holdings.
-    owners: Vec<u32>,
+    owners: Vec<usize>,
     pub(crate) holdings: Holdings,
     pub(crate) blamed: Vec<Blame>,
 }
@@ -29,7 +35,10 @@ impl Asking {
         servers: &[NodeId],
         session: u64,
         now: u64,
-    ) -> Result<Asking, AllocError> {
+    ) -> Result<Asking, AllocError>
+        ensures { IfOk result (λ a. (a.requests ≡ begun servers.now session now)
+            × (a.blamed.items ≡ [])) }
+    {
         Ok(Asking {
             requests: Requests::begin(alloc, servers, session, now)?,
             servers: servers.len(),
@@ -40,7 +49,7 @@ impl Asking {
     }
 
     /// Whose request is at a place, if not one for what a server holds.
-    pub(crate) fn owner(&self, place: usize) -> Option<u32> {
+    pub(crate) fn owner(&self, place: usize) -> Option<usize> {
         if place < self.servers {
             return None;
         }
@@ -48,13 +57,16 @@ impl Asking {
     }
 
     /// Asks for bytes of a share.
+    #[tactic(auto, using(crate::proofs::Steps::asks_refl, crate::proofs::Steps::asks_same, crate::proofs::Steps::asks_by, crate::proofs::Steps::blames_by, crate::proofs::Steps::asks_trans))]
     pub(crate) fn ask(
         &mut self,
-        holding: u32,
+        holding: usize,
         place: u64,
         length: u32,
         step: Step,
-    ) -> Result<(), AllocError> {
+    ) -> Result<(), AllocError>
+        ensures { AsksOn self.old self.new }
+    {
         let (Some(length), Some(found)) = (ReadLength::new(length), self.holdings.get_mut(holding))
         else {
             return Ok(());
@@ -65,11 +77,17 @@ impl Asking {
         };
         found.waiting.push_back(waiting)?;
         self.owners.push(holding)?;
-        self.requests.ask(found.server, Asked::Reading(found.share, place, length))
+        let (server, share) = (found.server, found.share);
+        self.requests
+            .ask(server, Asked::Reading(share, place, length))?;
+        Ok(())
     }
 
     /// Asks for these.
-    pub(crate) fn ask_all(&mut self, holding: u32, wanted: &[Wanted]) -> Result<(), AllocError> {
+    #[tactic(auto, using(crate::proofs::Steps::asks_refl, crate::proofs::Steps::asks_same, crate::proofs::Steps::asks_by, crate::proofs::Steps::blames_by, crate::proofs::Steps::asks_trans))]
+    pub(crate) fn ask_all(&mut self, holding: usize, wanted: &[Wanted]) -> Result<(), AllocError>
+        ensures { AsksOn self.old self.new }
+    {
         for part in wanted {
             self.ask(holding, part.place, part.length, part.step)?;
         }
@@ -77,20 +95,35 @@ impl Asking {
     }
 
     /// Asks for what an opening reads next.
-    pub(crate) fn ask_opening(&mut self, holding: u32, opening: &Opening) -> Result<(), AllocError> {
+    #[tactic(auto, using(crate::proofs::Steps::asks_refl, crate::proofs::Steps::asks_same, crate::proofs::Steps::asks_by, crate::proofs::Steps::blames_by, crate::proofs::Steps::asks_trans))]
+    pub(crate) fn ask_opening(
+        &mut self,
+        holding: usize,
+        opening: &Opening,
+    ) -> Result<(), AllocError>
+        ensures { AsksOn self.old self.new }
+    {
         if let Some(found) = self.holdings.get_mut(holding) {
             found.opening = Some(*opening);
         }
-        self.ask(holding, opening.next_place(), opening.next_length(), Step::Opening)
+        self.ask(
+            holding,
+            opening.next_place(),
+            opening.next_length(),
+            Step::Opening,
+        )
     }
 
     /// What was read of the beginning of a share.
-    pub(crate) fn opening_of(&self, holding: u32) -> Option<Opening> {
+    pub(crate) fn opening_of(&self, holding: usize) -> Option<Opening> {
         self.holdings.get(holding)?.opening
     }
 
     /// No more is asked of the beginning of a share.
-    pub(crate) fn end_opening(&mut self, holding: u32) {
+    #[tactic(auto, using(crate::proofs::Steps::asks_refl, crate::proofs::Steps::asks_same, crate::proofs::Steps::asks_by, crate::proofs::Steps::blames_by, crate::proofs::Steps::asks_trans))]
+    pub(crate) fn end_opening(&mut self, holding: usize)
+        ensures { AsksOn self.old self.new }
+    {
         if let Some(found) = self.holdings.get_mut(holding) {
             found.opening = None;
         }
@@ -98,12 +131,14 @@ impl Asking {
 
     /// An extension block is accepted: no share is read until it is chosen again, and one of which
     /// another header was read is blamed.
-    pub(crate) fn compare_openings(&mut self, geometry: &Geometry) -> Result<(), AllocError> {
+    #[tactic(auto, using(crate::proofs::Steps::asks_refl, crate::proofs::Steps::asks_same, crate::proofs::Steps::asks_by, crate::proofs::Steps::blames_by, crate::proofs::Steps::asks_trans))]
+    pub(crate) fn compare_openings(&mut self, geometry: &Geometry) -> Result<(), AllocError>
+        ensures { AsksOn self.old self.new }
+    {
         for place in 0..self.holdings.as_slice().len() {
-            let holding = place as u32;
-            if let Some(opening) = self.opening_of(holding) {
+            if let Some(opening) = self.opening_of(place) {
                 if !opening.agrees(geometry) {
-                    self.blame(holding, Check::Layout)?;
+                    self.blame(place, Check::Layout)?;
                 }
             }
         }
@@ -128,7 +163,10 @@ impl Asking {
     }
 
     /// Takes the first request of a share off those that wait, where bytes answered it.
-    pub(crate) fn next_answer(&mut self, holding: u32) -> Option<Waiting> {
+    #[tactic(auto, using(crate::proofs::Steps::asks_refl, crate::proofs::Steps::asks_same, crate::proofs::Steps::asks_by, crate::proofs::Steps::blames_by, crate::proofs::Steps::asks_trans))]
+    pub(crate) fn next_answer(&mut self, holding: usize) -> Option<Waiting>
+        ensures { AsksOn self.old self.new }
+    {
         let first = *self.holdings.get(holding)?.waiting.front()?;
         if !self.has_bytes(first.place) {
             return None;
@@ -137,7 +175,10 @@ impl Asking {
     }
 
     /// Takes note of the shares that a server holds, by the answer to the request at a place.
-    pub(crate) fn take_holdings(&mut self, place: usize) -> Result<(), AllocError> {
+    #[tactic(auto, using(crate::proofs::Steps::asks_refl, crate::proofs::Steps::asks_same, crate::proofs::Steps::asks_by, crate::proofs::Steps::blames_by, crate::proofs::Steps::asks_trans))]
+    pub(crate) fn take_holdings(&mut self, place: usize) -> Result<(), AllocError>
+        ensures { AsksOn self.old self.new }
+    {
         let Some(request) = self.requests.entries().get(place) else {
             return Ok(());
         };
@@ -150,7 +191,10 @@ impl Asking {
     }
 
     /// A share failed a check: it is not read any more.
-    pub(crate) fn blame(&mut self, holding: u32, check: Check) -> Result<(), AllocError> {
+    #[tactic(auto, using(crate::proofs::Steps::asks_refl, crate::proofs::Steps::asks_same, crate::proofs::Steps::asks_by, crate::proofs::Steps::blames_by, crate::proofs::Steps::asks_trans))]
+    pub(crate) fn blame(&mut self, holding: usize, check: Check) -> Result<(), AllocError>
+        ensures { AsksOn self.old self.new }
+    {
         let Some(found) = self.holdings.get(holding) else {
             return Ok(());
         };
@@ -165,13 +209,35 @@ impl Asking {
 }
 
 /// The bytes that answered the request at a place, where they are as many as it asked for.
-pub(crate) fn bytes_at(requests: &Requests, place: usize) -> Option<&[u8]> {
+pub(crate) fn bytes_at(requests: &Requests, place: usize) -> Option<&[u8]>
+    ensures { IfSome result (λ bytes. HasBytes requests.now.entries place bytes.now) }
+{
     let request = requests.entries().get(place)?;
-    match (request.asked, &request.outcome) {
-        (Asked::Reading(_, _, length), Outcome::Answered(Body::Data(bytes))) => {
-            let bytes = bytes.as_slice();
-            if bytes.len() == length.get() as usize { Some(bytes) } else { None }
-        }
+    let wanted = length_of(request.asked)?;
+    let bytes = data_of(&request.outcome)?;
+    if bytes.len() == wanted {
+        Some(bytes)
+    } else {
+        None
+    }
+}
+
+// How many bytes a request asks for.
+fn length_of(asked: Asked) -> Option<usize>
+    ensures { IfSome result (λ length. IsReadingOf length asked) }
+{
+    match asked {
+        Asked::Reading(_, _, length) => Some(length.get() as usize),
+        _ => None,
+    }
+}
+
+// The bytes that answered a request.
+fn data_of(outcome: &Outcome) -> Option<&[u8]>
+    ensures { IfSome result (λ bytes. outcome.now ≡ Answered (Data bytes.now)) }
+{
+    match outcome {
+        Outcome::Answered(Body::Data(bytes)) => Some(bytes.as_slice()),
         _ => None,
     }
 }

@@ -1,8 +1,14 @@
 //! What a download knows of its file once it accepted an extension block, and how it goes on.
 
+ghost use Rattle.std.specs.Prelude.{◌≡◌, ◌<◌, ◌≤◌, IfOk};
+ghost use Rattle.share_layout.specs.Geometry.{segment_count};
+ghost use Rattle.share_verify.specs.CapBlock.{geometry_by};
+ghost use Rattle.download_core.specs.Steps.{AsksOn, FileMore, IsHandout};
+
 use crate::asking::{Asking, bytes_at};
 use crate::decoding::{Decoding, join_blocks};
 use crate::handout::Handout;
+use crate::holdings::Holdings;
 use crate::source::{Source, Step, Waiting};
 use crate::trees::TreeFault;
 use download_plan::{NodePiece, Plan};
@@ -10,7 +16,6 @@ use share_layout::Geometry;
 use share_opening::Opened;
 use share_verify::Check;
 use std::alloc::{AllocError, Global};
-use std::slice::Chunks;
 
 /// How many bytes of segments are asked ahead.
 const WINDOW: u32 = 4_194_304;
@@ -21,7 +26,7 @@ pub(crate) struct Era {
     /// The first segment.
     pub(crate) first: u32,
     /// The holdings that its blocks are of.
-    pub(crate) holdings: Vec<u32>,
+    pub(crate) holdings: Vec<usize>,
     /// Their decoder.
     pub(crate) decoding: Decoding,
 }
@@ -48,7 +53,7 @@ pub(crate) struct File {
     pub(crate) handout: Handout,
     plan: Plan,
     // The holding that the ciphertext tree is read of, and how much of each level was taken.
-    giver: Option<u32>,
+    giver: Option<usize>,
     taken: [u32; 3],
     pub(crate) eras: Vec<Era>,
 }
@@ -62,7 +67,15 @@ impl File {
         from: u64,
         to: u64,
         place: usize,
-    ) -> Result<File, AllocError> {
+    ) -> Result<File, AllocError>
+        requires geometry { opened.now.geometry ≡ geometry_by opened.now.ueb }
+        ensures place { IfOk result (λ f. f.place ≡ place) }
+        ensures handout { from ≤ to → IfOk result (λ f. IsHandout f.handout) }
+        ensures key { IfOk result (λ f. f.handout.cipher ≡ key.now) }
+        ensures ueb { IfOk result (λ f. f.handout.ueb ≡ opened.now.ueb) }
+        ensures to_is { IfOk result (λ f. f.handout.to ≡ to) }
+        ensures handed { IfOk result (λ f. f.handout.handed ≡ from) }
+    {
         let geometry = opened.geometry;
         let handout = Handout::new(alloc, key, &opened.ueb, &geometry, from, to)?;
         Ok(File {
@@ -85,30 +98,43 @@ impl File {
     fn last_asked(&self) -> u32 {
         let next = self.handout.next().unwrap_or(self.plan.first);
         let ahead = (WINDOW / self.plan.geometry.segment_size().max(1)).max(2);
-        next.saturating_add(ahead).min(self.plan.end).saturating_sub(1)
+        next.saturating_add(ahead)
+            .min(self.plan.end)
+            .saturating_sub(1)
     }
 
     /// A holding is a source from now on.
+    #[tactic(auto, using(crate::proofs::Steps::asks_refl, crate::proofs::Steps::asks_trans, crate::proofs::Steps::file_refl, crate::proofs::Steps::file_trans, crate::proofs::Steps::hands_refl, crate::proofs::Steps::hands_trans, crate::proofs::Steps::file_by, crate::proofs::Steps::file_same, crate::proofs::Steps::asks_same))]
     pub(crate) fn begin_source(
         &mut self,
         asking: &mut Asking,
-        holding: u32,
-    ) -> Result<(), AllocError> {
-        let next = self.handout.next().unwrap_or(self.plan.first);
-        if next < self.plan.end {
-            let plan = Plan::of(&self.plan.geometry, next, self.plan.end);
-            if let Some(found) = asking.holdings.get_mut(holding) {
-                found.source = Some(Source::new(self.alloc, &plan));
-            }
-        }
-        asking.holdings.occupy(holding);
+        holding: usize,
+    ) -> Result<(), AllocError>
+        ensures asks { AsksOn asking.old asking.new }
+        ensures file { FileMore self.old self.new }
+    {
+        asking.holdings.begin_source(holding, self.next_source());
         self.ask_source(asking, holding)
     }
 
+    // A source of the blocks of the next segment and those behind it.
+    fn next_source(&self) -> Option<Source> {
+        let next = self.handout.next()?;
+        if self.plan.end <= next {
+            return None;
+        }
+        let plan = Plan::of(&self.plan.geometry, next, self.plan.end);
+        Some(Source::new(self.alloc, &plan))
+    }
+
     // Asks a source for what is wanted now.
-    fn ask_source(&mut self, asking: &mut Asking, holding: u32) -> Result<(), AllocError> {
+    #[tactic(auto, using(crate::proofs::Steps::asks_refl, crate::proofs::Steps::asks_trans, crate::proofs::Steps::file_refl, crate::proofs::Steps::file_trans, crate::proofs::Steps::hands_refl, crate::proofs::Steps::hands_trans, crate::proofs::Steps::file_by, crate::proofs::Steps::file_same, crate::proofs::Steps::asks_same))]
+    fn ask_source(&mut self, asking: &mut Asking, holding: usize) -> Result<(), AllocError>
+        ensures asks { AsksOn asking.old asking.new }
+        ensures file { FileMore self.old self.new }
+    {
         let last = self.last_asked();
-        let Some(source) = source_mut(asking, holding) else {
+        let Some(source) = source_mut(&mut asking.holdings, holding) else {
             return Ok(());
         };
         let wanted = source.wanted(self.alloc, last)?;
@@ -117,45 +143,75 @@ impl File {
 
     /// Asks the source of the ciphertext tree for what is wanted of it now, and another one where
     /// that is gone.
-    pub(crate) fn ask_ciphertext(&mut self, asking: &mut Asking) -> Result<(), AllocError> {
-        let last = self.last_asked();
-        let giver = match self.giver {
-            Some(giver) if asking.holdings.is_busy(giver) => giver,
-            _ => {
-                let Some(giver) = first_busy(asking) else {
-                    return Ok(());
-                };
-                self.giver = Some(giver);
-                if let Some(source) = source_mut(asking, giver) {
-                    source.give_ciphertext(&self.taken);
-                }
-                giver
-            }
+    #[tactic(auto, using(crate::proofs::Steps::asks_refl, crate::proofs::Steps::asks_trans, crate::proofs::Steps::file_refl, crate::proofs::Steps::file_trans, crate::proofs::Steps::hands_refl, crate::proofs::Steps::hands_trans, crate::proofs::Steps::file_by, crate::proofs::Steps::file_same, crate::proofs::Steps::asks_same))]
+    pub(crate) fn ask_ciphertext(&mut self, asking: &mut Asking) -> Result<(), AllocError>
+        ensures asks { AsksOn asking.old asking.new }
+        ensures file { FileMore self.old self.new }
+    {
+        let Some(giver) = self.choose_giver(asking) else {
+            return Ok(());
         };
-        let Some(source) = source_mut(asking, giver) else {
+        let last = self.last_asked();
+        let Some(source) = source_mut(&mut asking.holdings, giver) else {
             return Ok(());
         };
         let wanted = source.wanted_ciphertext(self.alloc, &self.plan, last)?;
         asking.ask_all(giver, &wanted)
     }
 
-    /// Asks all sources for what is wanted now.
-    pub(crate) fn ask_sources(&mut self, asking: &mut Asking) -> Result<(), AllocError> {
-        for share in 0..asking.holdings.busy().len() {
-            if let Some(Some(holding)) = asking.holdings.busy().get(share).copied() {
-                self.ask_source(asking, holding)?;
+    // The source that the ciphertext tree is read of: another one where that is gone.
+    fn choose_giver(&mut self, asking: &mut Asking) -> Option<usize>
+        ensures requests { asking.new.requests ≡ asking.old.requests }
+        ensures blamed { asking.new.blamed ≡ asking.old.blamed }
+        ensures place { self.new.place ≡ self.old.place }
+        ensures handout { self.new.handout ≡ self.old.handout }
+    {
+        if let Some(giver) = self.giver {
+            if asking.holdings.is_busy(giver) {
+                return Some(giver);
             }
+        }
+        let giver = first_busy(asking)?;
+        self.giver = Some(giver);
+        asking.holdings.give_ciphertext(giver, &self.taken);
+        Some(giver)
+    }
+
+    /// Asks all sources for what is wanted now.
+    #[tactic(auto, using(crate::proofs::Steps::asks_refl, crate::proofs::Steps::asks_trans, crate::proofs::Steps::file_refl, crate::proofs::Steps::file_trans, crate::proofs::Steps::hands_refl, crate::proofs::Steps::hands_trans, crate::proofs::Steps::file_by, crate::proofs::Steps::file_same, crate::proofs::Steps::asks_same))]
+    pub(crate) fn ask_sources(&mut self, asking: &mut Asking) -> Result<(), AllocError>
+        ensures asks { AsksOn asking.old asking.new }
+        ensures file { FileMore self.old self.new }
+    {
+        for share in 0..asking.holdings.busy().len() {
+            self.ask_share(asking, share)?;
         }
         self.ask_ciphertext(asking)
     }
 
+    // Asks the source of a share number for what is wanted now, where there is one.
+    #[tactic(auto, using(crate::proofs::Steps::asks_refl, crate::proofs::Steps::file_refl))]
+    fn ask_share(&mut self, asking: &mut Asking, share: usize) -> Result<(), AllocError>
+        ensures asks { AsksOn asking.old asking.new }
+        ensures file { FileMore self.old self.new }
+    {
+        match asking.holdings.busy().get(share).copied() {
+            Some(Some(holding)) => self.ask_source(asking, holding),
+            _ => Ok(()),
+        }
+    }
+
     /// Takes an answer of a source.
+    #[tactic(auto, using(crate::proofs::Steps::asks_refl, crate::proofs::Steps::asks_trans, crate::proofs::Steps::file_refl, crate::proofs::Steps::file_trans, crate::proofs::Steps::hands_refl, crate::proofs::Steps::hands_trans, crate::proofs::Steps::file_by, crate::proofs::Steps::file_same, crate::proofs::Steps::asks_same))]
     pub(crate) fn take_part(
         &mut self,
         asking: &mut Asking,
-        holding: u32,
+        holding: usize,
         waiting: &Waiting,
-    ) -> Result<(), AllocError> {
+    ) -> Result<(), AllocError>
+        ensures asks { AsksOn asking.old asking.new }
+        ensures file { FileMore self.old self.new }
+    {
         match self.take_bytes(asking, holding, waiting) {
             Ok(()) => Ok(()),
             Err(TreeFault::OutOfMemory) => Err(AllocError),
@@ -163,12 +219,16 @@ impl File {
         }
     }
 
+    #[tactic(auto, using(crate::proofs::Steps::asks_refl, crate::proofs::Steps::asks_trans, crate::proofs::Steps::file_refl, crate::proofs::Steps::file_trans, crate::proofs::Steps::hands_refl, crate::proofs::Steps::hands_trans, crate::proofs::Steps::file_by, crate::proofs::Steps::file_same, crate::proofs::Steps::asks_same))]
     fn take_bytes(
         &mut self,
         asking: &mut Asking,
-        holding: u32,
+        holding: usize,
         waiting: &Waiting,
-    ) -> Result<(), TreeFault> {
+    ) -> Result<(), TreeFault>
+        ensures asks { AsksOn asking.old asking.new }
+        ensures file { FileMore self.old self.new }
+    {
         let Some(bytes) = bytes_at(&asking.requests, waiting.place) else {
             return Err(TreeFault::Check(Check::Layout));
         };
@@ -199,14 +259,34 @@ impl File {
     }
 
     // A piece of the ciphertext tree was taken.
-    fn take_note(&mut self, piece: &NodePiece) {
+    fn take_note(&mut self, piece: &NodePiece)
+        ensures { FileMore self.old self.new }
+    {
         if let Some(taken) = self.taken.get_mut(piece.level as usize) {
             *taken = (*taken).max(piece.index.saturating_add(1));
         }
     }
 
-    /// Makes the next segment, where all that it is made of was taken.
-    pub(crate) fn make_next(&mut self, asking: &mut Asking) -> Result<Made, AllocError> {
+    /// Makes the next segment, where all that it is made of was taken, and asks for those behind.
+    #[tactic(auto, using(crate::proofs::Steps::asks_trans, crate::proofs::Steps::file_trans))]
+    pub(crate) fn advance(&mut self, asking: &mut Asking) -> Result<Made, AllocError>
+        ensures asks { AsksOn asking.old asking.new }
+        ensures file { FileMore self.old self.new }
+    {
+        let made = self.make_next(asking)?;
+        if made != Made::Ready {
+            return Ok(made);
+        }
+        self.ask_sources(asking)?;
+        Ok(made)
+    }
+
+    // Makes the next segment, where all that it is made of was taken.
+    #[tactic(auto, using(crate::proofs::Steps::asks_refl, crate::proofs::Steps::asks_trans, crate::proofs::Steps::file_refl, crate::proofs::Steps::file_trans, crate::proofs::Steps::hands_refl, crate::proofs::Steps::hands_trans, crate::proofs::Steps::file_by, crate::proofs::Steps::file_same, crate::proofs::Steps::asks_same))]
+    fn make_next(&mut self, asking: &mut Asking) -> Result<Made, AllocError>
+        ensures asks { AsksOn asking.old asking.new }
+        ensures file { FileMore self.old self.new }
+    {
         let Some(number) = self.handout.next() else {
             return Ok(Made::Waits);
         };
@@ -214,9 +294,9 @@ impl File {
             return Ok(Made::Waits);
         }
         let holdings = sources_of(self.alloc, asking)?;
-        let length = self.plan.geometry.block_length(number) as usize;
+        let length = self.handout.geometry().block_length(number) as usize;
         let joined = join_blocks(self.alloc, asking, &holdings, number, length)?;
-        if let Some(wrong) = first_wrong(asking, &holdings, number, joined.chunks(length)) {
+        if let Some(wrong) = first_wrong(asking, &holdings, number, &joined, length) {
             asking.blame(wrong, Check::Data)?;
             return Ok(Made::Blamed);
         }
@@ -244,12 +324,16 @@ impl File {
     }
 
     // The sources of the next segment have a decoder.
+    #[tactic(auto, using(crate::proofs::Steps::asks_refl, crate::proofs::Steps::asks_trans, crate::proofs::Steps::file_refl, crate::proofs::Steps::file_trans, crate::proofs::Steps::hands_refl, crate::proofs::Steps::hands_trans, crate::proofs::Steps::file_by, crate::proofs::Steps::file_same, crate::proofs::Steps::asks_same))]
     fn begin_era(
         &mut self,
         asking: &Asking,
         number: u32,
-        holdings: Vec<u32>,
-    ) -> Result<(), AllocError> {
+        holdings: Vec<usize>,
+    ) -> Result<(), AllocError>
+        ensures place { self.new.place ≡ self.old.place }
+        ensures handout { self.new.handout ≡ self.old.handout }
+    {
         if let Some(era) = self.eras.last() {
             if era.holdings.as_slice() == holdings.as_slice() {
                 return Ok(());
@@ -261,21 +345,26 @@ impl File {
                 numbers.push(u16::from(found.share))?;
             }
         }
-        let decoding = Decoding::new(self.alloc, &self.plan.geometry, numbers)?;
-        self.eras.push(Era {
-            first: number,
-            holdings,
-            decoding,
-        })?;
+        if let Some(decoding) = Decoding::new(self.alloc, &self.plan.geometry, numbers)? {
+            self.eras.push(Era {
+                first: number,
+                holdings,
+                decoding,
+            })?;
+        }
         Ok(())
     }
 
     // Decodes the next segment from these blocks, one after another.
-    fn decode_next(&mut self, number: u32, joined: &[u8]) -> Result<Made, AllocError> {
+    #[tactic(auto, using(crate::proofs::Steps::asks_refl, crate::proofs::Steps::asks_trans, crate::proofs::Steps::file_refl, crate::proofs::Steps::file_trans, crate::proofs::Steps::hands_refl, crate::proofs::Steps::hands_trans, crate::proofs::Steps::file_by, crate::proofs::Steps::file_same, crate::proofs::Steps::asks_same))]
+    fn decode_next(&mut self, number: u32, joined: &[u8]) -> Result<Made, AllocError>
+        requires there { number < segment_count self.old.handout.geometry }
+        ensures { FileMore self.old self.new }
+    {
         let Some(era) = self.eras.last() else {
             return Ok(Made::Waits);
         };
-        let geometry = &self.plan.geometry;
+        let geometry = self.handout.geometry();
         let Some(segment) = era.decoding.decode(self.alloc, geometry, number, joined)? else {
             return Ok(Made::Waits);
         };
@@ -296,12 +385,13 @@ fn plan_of(geometry: &Geometry, from: u64, to: u64) -> Plan {
     Plan::of(geometry, first as u32, end as u32)
 }
 
-fn source_mut(asking: &mut Asking, holding: u32) -> Option<&mut Source> {
-    asking.holdings.get_mut(holding)?.source.as_mut()
+// The source of a holding.
+fn source_mut(holdings: &mut Holdings, holding: usize) -> Option<&mut Source> {
+    holdings.get_mut(holding)?.source.as_mut()
 }
 
 // The source of the lowest share number.
-fn first_busy(asking: &Asking) -> Option<u32> {
+fn first_busy(asking: &Asking) -> Option<usize> {
     for busy in asking.holdings.busy() {
         if let Some(holding) = busy {
             return Some(*holding);
@@ -310,12 +400,12 @@ fn first_busy(asking: &Asking) -> Option<u32> {
     None
 }
 
-fn source_of(asking: &Asking, holding: u32) -> Option<&Source> {
+fn source_of(asking: &Asking, holding: usize) -> Option<&Source> {
     asking.holdings.get(holding)?.source.as_ref()
 }
 
 // The sources, lowest share number first.
-fn sources_of(alloc: Global, asking: &Asking) -> Result<Vec<u32>, AllocError> {
+fn sources_of(alloc: Global, asking: &Asking) -> Result<Vec<usize>, AllocError> {
     let mut holdings = Vec::new(alloc);
     for busy in asking.holdings.busy() {
         if let Some(holding) = busy {
@@ -328,15 +418,19 @@ fn sources_of(alloc: Global, asking: &Asking) -> Result<Vec<u32>, AllocError> {
 // The first of these whose block of a segment is not the one that its block tree tells.
 fn first_wrong(
     asking: &Asking,
-    holdings: &[u32],
+    holdings: &[usize],
     number: u32,
-    blocks: Chunks<u8>,
-) -> Option<u32> {
-    for (holding, block) in holdings.iter().zip(blocks) {
+    joined: &[u8],
+    length: usize,
+) -> Option<usize> {
+    let mut rest = joined;
+    for holding in holdings {
+        let (block, others) = rest.split_at(length.min(rest.len()));
         match source_of(asking, *holding) {
             Some(source) if source.proves(number, block) => {}
             _ => return Some(*holding),
         }
+        rest = others;
     }
     None
 }

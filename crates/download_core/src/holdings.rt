@@ -26,9 +26,9 @@ pub(crate) struct Holding {
 pub(crate) struct Holdings {
     items: Vec<Holding>,
     // The places of the sound ones of each share number, in the order in which they were told.
-    numbers: Vec<Vec<u32>>,
+    numbers: Vec<Vec<usize>>,
     // The place of the one of each share number that is read.
-    busy: Vec<Option<u32>>,
+    busy: Vec<Option<usize>>,
     busy_count: usize,
 }
 
@@ -64,7 +64,7 @@ impl Holdings {
     /// Adds a share at a server, where there is such a number.
     pub(crate) fn push(&mut self, server: NodeId, share: u8) -> Result<(), AllocError> {
         let alloc = *self.items.allocator();
-        let place = self.items.len() as u32;
+        let place = self.items.len();
         let Some(places) = self.numbers.get_mut(usize::from(share)) else {
             return Ok(());
         };
@@ -80,12 +80,12 @@ impl Holdings {
         Ok(())
     }
 
-    pub(crate) fn get(&self, place: u32) -> Option<&Holding> {
-        self.items.get(place as usize)
+    pub(crate) fn get(&self, place: usize) -> Option<&Holding> {
+        self.items.get(place)
     }
 
-    pub(crate) fn get_mut(&mut self, place: u32) -> Option<&mut Holding> {
-        self.items.get_mut(place as usize)
+    pub(crate) fn get_mut(&mut self, place: usize) -> Option<&mut Holding> {
+        self.items.get_mut(place)
     }
 
     pub(crate) fn as_slice(&self) -> &[Holding] {
@@ -93,7 +93,7 @@ impl Holdings {
     }
 
     /// The one of each share number that is read.
-    pub(crate) fn busy(&self) -> &[Option<u32>] {
+    pub(crate) fn busy(&self) -> &[Option<usize>] {
         self.busy.as_slice()
     }
 
@@ -103,7 +103,7 @@ impl Holdings {
     }
 
     /// Whether this one is read.
-    pub(crate) fn is_busy(&self, place: u32) -> bool {
+    pub(crate) fn is_busy(&self, place: usize) -> bool {
         match self.get(place) {
             Some(holding) => self.busy.get(usize::from(holding.share)) == Some(&Some(place)),
             None => false,
@@ -112,7 +112,7 @@ impl Holdings {
 
     /// The next one to read: of the lowest share number of which none is read, at the server of
     /// which the fewest are read.
-    pub(crate) fn choose(&self, accepted: bool) -> Option<u32> {
+    pub(crate) fn choose(&self, accepted: bool) -> Option<usize> {
         for (places, busy) in self.numbers.iter().zip(self.busy.iter()) {
             if busy.is_none() {
                 let chosen = self.choose_among(places, accepted);
@@ -125,7 +125,7 @@ impl Holdings {
     }
 
     // The next one to read among these.
-    fn choose_among(&self, places: &[u32], accepted: bool) -> Option<u32> {
+    fn choose_among(&self, places: &[usize], accepted: bool) -> Option<usize> {
         let mut chosen = None;
         let mut least = usize::MAX;
         for place in places {
@@ -157,9 +157,26 @@ impl Holdings {
         load
     }
 
+    /// This one is a source from now on.
+    pub(crate) fn begin_source(&mut self, place: usize, source: Option<Source>) {
+        if let Some(holding) = self.items.get_mut(place) {
+            holding.source = source;
+        }
+        self.occupy(place);
+    }
+
+    /// This one gives the ciphertext tree, of which these pieces were taken.
+    pub(crate) fn give_ciphertext(&mut self, place: usize, taken: &[u32; 3]) {
+        if let Some(holding) = self.items.get_mut(place) {
+            if let Some(source) = &mut holding.source {
+                source.give_ciphertext(taken);
+            }
+        }
+    }
+
     /// This one is read from now on.
-    pub(crate) fn occupy(&mut self, place: u32) {
-        let Some(holding) = self.items.get(place as usize) else {
+    pub(crate) fn occupy(&mut self, place: usize) {
+        let Some(holding) = self.items.get(place) else {
             return;
         };
         if let Some(busy) = self.busy.get_mut(usize::from(holding.share)) {
@@ -171,8 +188,8 @@ impl Holdings {
     }
 
     /// This one is read no more, and may be read again.
-    pub(crate) fn release(&mut self, place: u32) {
-        let Some(holding) = self.items.get(place as usize) else {
+    pub(crate) fn release(&mut self, place: usize) {
+        let Some(holding) = self.items.get(place) else {
             return;
         };
         if let Some(busy) = self.busy.get_mut(usize::from(holding.share)) {
@@ -192,9 +209,9 @@ impl Holdings {
     }
 
     /// This one is never read again.
-    pub(crate) fn retire(&mut self, place: u32) {
+    pub(crate) fn retire(&mut self, place: usize) {
         self.release(place);
-        let Some(holding) = self.items.get_mut(place as usize) else {
+        let Some(holding) = self.items.get_mut(place) else {
             return;
         };
         holding.sound = false;

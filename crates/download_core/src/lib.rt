@@ -13,6 +13,7 @@ mod evidence;
 mod file;
 mod handout;
 mod holdings;
+mod machine;
 mod source;
 pub mod status;
 mod trees;

@@ -1,7 +1,9 @@
 //! One share at a server as a source of blocks, once an extension block is accepted.
 
+ghost use Rattle.std.specs.Prelude.{◌<◌, IfSome};
+
 use crate::trees::{BlockTree, TreeFault};
-use download_plan::{DataPieces, MAX_READ, NodePiece, Nodes, Part, Plan};
+use download_plan::{DataPieces, MAX_READ, NodePiece, Nodes, Part, Plan, Read};
 use std::alloc::{AllocError, Global};
 
 /// The most levels of a tree that are read.
@@ -73,32 +75,33 @@ impl Source {
 
     /// What is to be asked of the share hashes, the block tree and the blocks for the segments up
     /// to this one.
-    pub(crate) fn wanted(
-        &mut self,
-        alloc: Global,
-        last: u32,
-    ) -> Result<Vec<Wanted>, AllocError> {
+    pub(crate) fn wanted(&mut self, alloc: Global, last: u32) -> Result<Vec<Wanted>, AllocError> {
         let mut wanted = Vec::new(alloc);
-        if last < self.plan.first || self.plan.end <= last {
+        let plan = self.plan;
+        if last < plan.first || plan.end <= last {
             return Ok(wanted);
         }
         if !self.hashes_asked {
-            push_part(&mut wanted, &self.plan, &Part::ShareHashes, Step::ShareHashes)?;
             self.hashes_asked = true;
+            push_read(
+                &mut wanted,
+                plan.read(&Part::ShareHashes),
+                Step::ShareHashes,
+            )?;
         }
-        for level in 0..self.plan.level_count() {
-            let top = self.plan.piece_above(level, last);
-            for index in self.block_tree[level as usize]..=top.index {
+        for level in 0..plan.level_count() {
+            let top = plan.piece_above(level, last);
+            for index in next_piece(&mut self.block_tree, &top)..=top.index {
                 let piece = NodePiece { level, index };
-                let step = Step::BlockTree(self.plan.nodes(&piece));
-                push_part(&mut wanted, &self.plan, &Part::BlockTree(piece), step)?;
-                self.block_tree[level as usize] = index + 1;
+                let step = Step::BlockTree(plan.nodes(&piece));
+                push_read(&mut wanted, plan.read(&Part::BlockTree(piece)), step)?;
             }
         }
-        for index in self.data..self.plan.block_pieces(last).end {
-            push_part(&mut wanted, &self.plan, &Part::Data(index), Step::Data)?;
-            self.data = index + 1;
+        let end = plan.block_pieces(last).end;
+        for index in self.data..end {
+            push_read(&mut wanted, plan.read(&Part::Data(index)), Step::Data)?;
         }
+        self.data = self.data.max(end);
         Ok(wanted)
     }
 
@@ -115,11 +118,10 @@ impl Source {
         }
         for level in 0..plan.level_count() {
             let top = plan.piece_above(level, last);
-            for index in self.ciphertext[level as usize]..=top.index {
+            for index in next_piece(&mut self.ciphertext, &top)..=top.index {
                 let piece = NodePiece { level, index };
                 let step = Step::Ciphertext(piece, plan.nodes(&piece));
-                push_part(&mut wanted, plan, &Part::CiphertextTree(piece), step)?;
-                self.ciphertext[level as usize] = index + 1;
+                push_read(&mut wanted, plan.read(&Part::CiphertextTree(piece)), step)?;
             }
         }
         Ok(wanted)
@@ -169,11 +171,17 @@ impl Source {
         if segment < self.plan.first || self.plan.end <= segment {
             return 0;
         }
-        let begin = self.plan.block_place(segment).saturating_sub(self.plan.block_place(self.plan.first));
+        let begin = self
+            .plan
+            .block_place(segment)
+            .saturating_sub(self.plan.block_place(self.plan.first));
         (begin % u64::from(MAX_READ)) as usize
     }
 
-    fn block_pieces(&self, segment: u32) -> Option<DataPieces> {
+    // The pieces of the blocks that hold the block of a segment.
+    fn block_pieces(&self, segment: u32) -> Option<DataPieces>
+        ensures { IfSome result (λ pieces. pieces.first < pieces.end) }
+    {
         if segment < self.plan.first || self.plan.end <= segment {
             return None;
         }
@@ -181,13 +189,18 @@ impl Source {
     }
 }
 
-fn push_part(
-    wanted: &mut Vec<Wanted>,
-    plan: &Plan,
-    part: &Part,
-    step: Step,
-) -> Result<(), AllocError> {
-    let read = plan.read(part);
+// The next piece of a level to ask, where the pieces up to this one are asked now.
+fn next_piece(asked: &mut [u32; 3], top: &NodePiece) -> u32 {
+    let Some(next) = asked.get_mut(top.level as usize) else {
+        return u32::MAX;
+    };
+    let first = *next;
+    *next = first.max(top.index.saturating_add(1));
+    first
+}
+
+// Adds a read.
+fn push_read(wanted: &mut Vec<Wanted>, read: Read, step: Step) -> Result<(), AllocError> {
     wanted.push(Wanted {
         place: read.place,
         length: read.length,

@@ -1,10 +1,20 @@
 //! The nodes that a download knows of a file's hash trees.
 
+ghost use Rattle.std.specs.Prelude.{◌≡◌, ◌<◌, ◌≤◌, ℕ, List, Some, IfOk, IfSome};
+ghost use Rattle.merkle.specs.Inputs.{AreHashes};
+ghost use Rattle.merkle.specs.Partial.{known_at, leaf_number};
+ghost use Rattle.merkle.specs.Path.{LeadsBy};
+ghost use Rattle.merkle.specs.Tree.{max_leaves};
+ghost use Rattle.share_layout.specs.Geometry.{segment_count};
+ghost use Rattle.share_verify.specs.CapBlock.{geometry_by};
+ghost use Rattle.download_core.specs.Trees.{IsSameTree};
+
 use download_plan::Nodes;
 use merkle::{OfferError, Partial, height, node_number};
 use share_layout::{Geometry, carries_numbers};
 use share_verify::Check;
 use std::alloc::{AllocError, Global};
+use std::marker::Model;
 use tagged_hash::{Tag, tagged};
 use ueb::Ueb;
 
@@ -32,13 +42,35 @@ pub(crate) struct BlockTree {
     leaves: u32,
 }
 
+impl Model for FileTrees {
+    ghost use Rattle.std.specs.Prelude.{◌≡◌};
+    ghost use Rattle.share_layout.specs.Geometry.{segment_count};
+    ghost use Rattle.download_core.specs.Trees.{TreesState};
+
+    ghost Value = { TreesState };
+
+    ghost view = { λ t. record {
+      geometry = t.geometry;
+      shares = t.shares;
+      ciphertext = t.ciphertext;
+    } };
+
+    ghost invariant = { λ t. t.ciphertext.leaf_count ≡ segment_count t.geometry };
+}
+
 impl FileTrees {
     /// The trees of which the roots alone are known, as the extension block tells them.
     pub(crate) fn new(
         alloc: Global,
         ueb: &Ueb,
         geometry: &Geometry,
-    ) -> Result<FileTrees, AllocError> {
+    ) -> Result<FileTrees, AllocError>
+        requires { geometry.now ≡ geometry_by ueb.now }
+        ensures geometry { IfOk result (λ t. t.geometry ≡ geometry.now) }
+        ensures root { IfOk result (λ t. t.ciphertext.root ≡ ueb.now.crypttext_root_hash) }
+        ensures count { IfOk result (λ t. t.ciphertext.leaf_count
+            ≡ segment_count geometry.now) }
+    {
         let places = u32::from(geometry.total()).next_power_of_two();
         Ok(FileTrees {
             geometry: *geometry,
@@ -53,7 +85,9 @@ impl FileTrees {
         alloc: Global,
         share: u16,
         bytes: &[u8],
-    ) -> Result<BlockTree, TreeFault> {
+    ) -> Result<BlockTree, TreeFault>
+        ensures { IsSameTree self.old self.new }
+    {
         let long = bytes.len() == self.geometry.hashes_size() as usize;
         if !long || !carries_numbers(&self.geometry, share, bytes) {
             return Err(TreeFault::Check(Check::Layout));
@@ -75,29 +109,57 @@ impl FileTrees {
         alloc: Global,
         nodes: &Nodes,
         bytes: &[u8],
-    ) -> Result<(), TreeFault> {
-        take_nodes(alloc, &mut self.ciphertext, nodes, bytes, Check::CiphertextTree)
+    ) -> Result<(), TreeFault>
+        ensures { IsSameTree self.old self.new }
+    {
+        take_nodes(
+            alloc,
+            &mut self.ciphertext,
+            nodes,
+            bytes,
+            Check::CiphertextTree,
+        )
     }
 
     /// The hash of a segment.
-    pub(crate) fn leaf(&self, segment: u32) -> Option<[u8; 32]> {
+    pub(crate) fn leaf(&self, segment: u32) -> Option<[u8; 32]>
+        ensures { IfSome result (λ hash. known_at self.now.ciphertext
+            (leaf_number (segment_count self.now.geometry) segment) ≡ Some hash) }
+    {
         leaf_of(&self.ciphertext, self.geometry.segment_count(), segment)
     }
 
     /// The path of a segment's hash.
-    pub(crate) fn path(&self, segment: u32) -> Result<Option<Vec<[u8; 32]>>, AllocError> {
+    pub(crate) fn path(&self, segment: u32) -> Result<Option<Vec<[u8; 32]>>, AllocError>
+        ensures there { IfOk result (λ path. IfSome path
+            (λ _. segment < segment_count self.now.geometry)) }
+        ensures hashes { IfOk result (λ path. IfSome path (λ siblings.
+            AreHashes siblings.items)) }
+        ensures leads { IfOk result (λ path. IfSome path (λ siblings. (hash : List ℕ)
+            → known_at self.now.ciphertext
+            (leaf_number (segment_count self.now.geometry) segment) ≡ Some hash
+            → LeadsBy (segment_count self.now.geometry) self.now.ciphertext.root segment hash
+            siblings.items)) }
+    {
         if self.geometry.segment_count() <= segment {
             return Ok(None);
         }
         match self.ciphertext.path(segment) {
-            Ok(path) => Ok(path),
+            Ok(Some(path)) => {
+                are_hashes(&path);
+                Ok(Some(path))
+            }
+            Ok(None) => Ok(None),
             Err(_) => Err(AllocError),
         }
     }
 }
 
 impl BlockTree {
-    fn new(alloc: Global, root: &[u8; 32], leaves: u32) -> Result<BlockTree, TreeFault> {
+    fn new(alloc: Global, root: &[u8; 32], leaves: u32) -> Result<BlockTree, TreeFault>
+        requires some { 0 < leaves }
+        requires few { leaves ≤ max_leaves }
+    {
         match tree(alloc, root, leaves) {
             Ok(tree) => Ok(BlockTree { tree, leaves }),
             Err(_) => Err(TreeFault::OutOfMemory),
@@ -126,18 +188,34 @@ impl BlockTree {
     }
 }
 
-fn tree(alloc: Global, root: &[u8; 32], leaves: u32) -> Result<Partial, AllocError> {
+// A law: hashes have 32 bytes each. The call does nothing.
+fn are_hashes(hashes: &[[u8; 32]])
+    ensures { AreHashes hashes.now }
+{
+    let _ = hashes;
+}
+
+// The tree with this root over so many leaves.
+fn tree(alloc: Global, root: &[u8; 32], leaves: u32) -> Result<Partial, AllocError>
+    requires some { 0 < leaves }
+    requires few { leaves ≤ max_leaves }
+    ensures { IfOk result (λ p. (p.root ≡ root.now) × (p.leaf_count ≡ leaves)) }
+{
     match Partial::new(alloc, root, leaves) {
         Ok(tree) => Ok(tree),
         Err(_) => Err(AllocError),
     }
 }
 
-fn leaf_of(tree: &Partial, leaves: u32, segment: u32) -> Option<[u8; 32]> {
-    if leaves <= segment {
+// What is known of a leaf, where there is one.
+fn leaf_of(tree: &Partial, leaves: u32, segment: u32) -> Option<[u8; 32]>
+    ensures { IfSome result (λ hash. known_at tree.now (leaf_number leaves segment) ≡ Some hash) }
+{
+    let height = height(leaves);
+    if leaves <= segment || 32 <= height {
         return None;
     }
-    tree.node(node_number(height(leaves), segment))
+    tree.node(node_number(height, segment))
 }
 
 fn numbered(alloc: Global, bytes: &[u8]) -> Result<Vec<(u32, [u8; 32])>, AllocError> {
@@ -151,7 +229,11 @@ fn numbered(alloc: Global, bytes: &[u8]) -> Result<Vec<(u32, [u8; 32])>, AllocEr
     Ok(offers)
 }
 
-fn offer(tree: &mut Partial, offers: &[(u32, [u8; 32])], check: Check) -> Result<(), TreeFault> {
+// Offers nodes to a tree.
+fn offer(tree: &mut Partial, offers: &[(u32, [u8; 32])], check: Check) -> Result<(), TreeFault>
+    ensures root { tree.new.root ≡ tree.old.root }
+    ensures count { tree.new.leaf_count ≡ tree.old.leaf_count }
+{
     match tree.offer(offers) {
         Ok(()) => Ok(()),
         Err(OfferError::NotConsistent) => Err(TreeFault::Check(check)),
@@ -165,18 +247,17 @@ fn take_nodes(
     nodes: &Nodes,
     bytes: &[u8],
     check: Check,
-) -> Result<(), TreeFault> {
+) -> Result<(), TreeFault>
+    ensures root { tree.new.root ≡ tree.old.root }
+    ensures count { tree.new.leaf_count ≡ tree.old.leaf_count }
+{
     match placed(alloc, nodes, bytes) {
         Ok(offers) => offer(tree, &offers, check),
         Err(_) => Err(TreeFault::OutOfMemory),
     }
 }
 
-fn placed(
-    alloc: Global,
-    nodes: &Nodes,
-    bytes: &[u8],
-) -> Result<Vec<(u32, [u8; 32])>, AllocError> {
+fn placed(alloc: Global, nodes: &Nodes, bytes: &[u8]) -> Result<Vec<(u32, [u8; 32])>, AllocError> {
     let (hashes, _) = bytes.as_chunks::<32>();
     let mut offers = Vec::with_capacity(alloc, hashes.len())?;
     let mut place = nodes.from;

@@ -1,0 +1,4 @@
+mod Records
+mod Steps
+mod Pieces
+mod Ends

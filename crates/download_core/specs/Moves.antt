@@ -1,0 +1,68 @@
+-- What the calls of a download do.
+use Rattle.std.specs.Prelude.{◌≡◌, ◌≢◌, ℕ, ◌+◌, ◌<◌, ◌≤◌, ◌==◌, List, [], ◌∷◌, ◌++◌, length}
+use Rattle.std.specs.Prelude.{Option, Some, None, if◌then◌else◌}
+use Rattle.cap_text.specs.Cap.{ReadCapValue}
+use Rattle.wire.specs.declared.message.Message.{Message}
+use Rattle.request_record.specs.declared.requests.Asked.{Asked}
+use Rattle.request_record.specs.Asking.{after_message, after_tick, begun, fresh}
+use Rattle.request_record.specs.Record.{RequestsState, asked_all}
+use Rattle.download_core.specs.declared.status.Blame.{Blame}
+use Rattle.download_core.specs.declared.status.Piece.{Piece}
+use Rattle.download_core.specs.declared.status.DownloadStatus.TheVariants.{Running, Done}
+use Rattle.download_core.specs.declared.status.DownloadStatus.TheVariants.{NotEnoughShares}
+use Rattle.download_core.specs.declared.status.DownloadStatus.{DownloadStatus}
+use Rattle.download_core.specs.State.{DownloadState, with_record}
+
+-- the servers that are asked which shares they hold: none, where nothing is wanted
+abbrev pub asked_servers : ℕ → ℕ → List ℕ → List ℕ
+asked_servers from to servers = if from == to then [] else servers
+
+-- A download of a range begins: all servers are asked. One of an empty range is done, and asks
+-- nobody; and one without servers has not enough shares.
+pub record Begins (cap : ReadCapValue) (from to : ℕ) (servers : List ℕ) (session now : ℕ)
+    (d : DownloadState) : Type 0 where
+  pub of_cap : d.cap ≡ cap
+  pub range : (d.from ≡ from) × (d.to ≡ to)
+  pub of_servers : d.servers ≡ servers
+  pub asks : d.requests ≡ begun (asked_servers from to servers) session now
+  pub nothing : (d.accepted ≡ None) × (d.ready ≡ []) × (d.handed ≡ from) × (d.blamed ≡ [])
+  pub done : from ≡ to → d.status ≡ Done
+  pub runs : from ≢ to → servers ≢ [] → d.status ≡ Running
+  pub alone : from ≢ to → servers ≡ [] → d.status ≡ NotEnoughShares
+
+-- what is accepted stays so
+abbrev pub StaysAccepted : Option ℕ → Option ℕ → Type 0
+StaysAccepted None new = Unit {0}
+StaysAccepted (Some place) new = new ≡ Some place
+
+-- what a download is for stays, and what it has stays in front
+pub record IsSame (old new : DownloadState) : Type 0 where
+  pub cap : new.cap ≡ old.cap
+  pub range : (new.from ≡ old.from) × (new.to ≡ old.to)
+  pub servers : new.servers ≡ old.servers
+  pub handed : new.handed ≡ old.handed
+  pub more : List Piece
+  pub ready : new.ready ≡ old.ready ++ more
+  pub others : List Blame
+  pub blamed : new.blamed ≡ old.blamed ++ others
+  pub accepted : StaysAccepted old.accepted new.accepted
+
+-- The record goes on from a message or a tick, and while the download runs more may be asked, made
+-- and blamed.
+pub record GoesOn (r : RequestsState) (old new : DownloadState) : Type 0 where
+  pub same : IsSame old new
+  pub asks : List (ℕ × Asked)
+  pub requests : new.requests ≡ asked_all asks r
+  pub ended : old.status ≢ Running → new ≡ with_record old r
+
+abbrev pub Advances : ℕ → Message → ℕ → DownloadState → DownloadState → Type 0
+Advances from m now old new = GoesOn (after_message from m now old.requests) old new
+
+abbrev pub TicksOn : ℕ → DownloadState → DownloadState → Type 0
+TicksOn now old new = GoesOn (after_tick now old.requests) old new
+
+-- the first piece that is ready is taken
+abbrev pub TakesPiece : DownloadState → Option Piece → DownloadState → Type 0
+TakesPiece old None new = (old.ready ≡ []) × (new ≡ old)
+TakesPiece old (Some p) new = (old.ready ≡ p ∷ new.ready)
+    × (new ≡ record old { ready = new.ready; handed = p.place + length p.bytes })
