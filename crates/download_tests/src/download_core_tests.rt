@@ -124,7 +124,14 @@ fn answer(
         }
         Body::Read(id, offset, length) => {
             let share = encoded.shares.get(usize::from(id.share))?.as_slice();
-            read(alloc, share, wrong, usize::from(id.share), *offset as usize, length.get() as usize)?
+            read(
+                alloc,
+                share,
+                wrong,
+                usize::from(id.share),
+                *offset as usize,
+                length.get() as usize,
+            )?
         }
         _ => return None,
     };
@@ -159,7 +166,9 @@ fn read(
     let mut bytes = Vec::from_slice(alloc, share.get(from..upto)?).ok()?;
     let damaged = match wrong {
         Wrong::Damaged(damaged, place) if damaged == number => Some(place),
-        Wrong::DamagedFromEnd(damaged, place) if damaged == number => share.len().checked_sub(place),
+        Wrong::DamagedFromEnd(damaged, place) if damaged == number => share
+            .len()
+            .checked_sub(place),
         _ => None,
     };
     if let Some(place) = damaged {
@@ -181,8 +190,7 @@ fn end_of(alloc: Global, shape: &Shape, wrong: Wrong, from: usize, to: usize) ->
     for node in 0..shape.servers {
         nodes.push(node as u16).ok()?;
     }
-    let mut download =
-        Download::start(alloc, cap, from as u64, to as u64, &nodes, 5, 0).ok()?;
+    let mut download = Download::start(alloc, cap, from as u64, to as u64, &nodes, 5, 0).ok()?;
     let mut now: u64 = 0;
     let mut answers: usize = 0;
     let mut bytes: usize = 0;
@@ -270,18 +278,48 @@ const DOWNLOADS: [(Shape, Wrong, usize, usize, Status, usize, usize, usize); 20]
     (SMALL, Wrong::Damaged(1, 30), 0, 30_000, DONE, 30_000, 1, 8),
     // The blocks, and the trees.
     (SMALL, Wrong::Damaged(1, 36), 0, 30_000, DONE, 30_000, 1, 8),
-    (SMALL, Wrong::Damaged(1, 9_999), 0, 30_000, DONE, 30_000, 1, 8),
+    (
+        SMALL,
+        Wrong::Damaged(1, 9_999),
+        0,
+        30_000,
+        DONE,
+        30_000,
+        1,
+        8,
+    ),
     (SMALL, Wrong::Missing(2), 0, 30_000, DONE, 30_000, 0, 8),
     (SMALL, Wrong::Cut(0, 20), 0, 30_000, DONE, 30_000, 1, 8),
     (SMALL, Wrong::Cut(0, 5_000), 0, 30_000, DONE, 30_000, 1, 8),
-    (SMALL, Wrong::DamagedFromEnd(0, 1), 0, 30_000, DONE, 30_000, 1, 8),
-    (SMALL, Wrong::DamagedFromEnd(0, 500), 0, 30_000, DONE, 30_000, 1, 8),
+    (
+        SMALL,
+        Wrong::DamagedFromEnd(0, 1),
+        0,
+        30_000,
+        DONE,
+        30_000,
+        1,
+        8,
+    ),
+    (
+        SMALL,
+        Wrong::DamagedFromEnd(0, 500),
+        0,
+        30_000,
+        DONE,
+        30_000,
+        1,
+        8,
+    ),
     (ALL, Wrong::Nothing, 0, 5_000, DONE, 5_000, 0, 5),
 ];
 
 #[test]
 fn downloads(rt: HostRuntime) {
-    for (i, (shape, wrong, from, to, status, bytes, blamed, parts)) in DOWNLOADS.iter().enumerate() {
+    for (i, (shape, wrong, from, to, status, bytes, blamed, parts)) in DOWNLOADS
+        .iter()
+        .enumerate()
+    {
         let expected = Ending {
             status: *status,
             bytes: *bytes,
