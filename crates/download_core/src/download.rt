@@ -1,6 +1,6 @@
 //! A download: bytes of a file by its cap, from servers, only with what proves them.
 
-ghost use Rattle.std.specs.Prelude.{◌≡◌, ◌≢◌, ◌↔◌, ◌<◌, ◌≤◌, [], Err, IfOk, OnErr, OnOk, is_some};
+ghost use Rattle.std.specs.Prelude.{◌≡◌, ◌≢◌, ◌↔◌, ◌<◌, ◌≤◌, [], Err, IfOk, IfSome, OnErr, OnOk, is_some};
 ghost use Rattle.cap_text.specs.Cap.{verify_cap_of};
 ghost use Rattle.proved_parts.specs.Evidence.{IsProved};
 ghost use Rattle.download_core.specs.Moves.{Advances, Begins, TakesPiece, TicksOn, asked_servers};
@@ -158,7 +158,10 @@ impl Download {
 
     /// What proves the bytes that were made so far, in the order of the segments. `None` where no
     /// extension block is accepted.
-    pub fn evidence(&self, alloc: Global) -> Result<Option<Evidence>, AllocError> {
+    pub fn evidence(&self, alloc: Global) -> Result<Option<Evidence>, AllocError>
+        ensures { IfOk result (λ evidence. IfSome evidence
+            (IsProved (verify_cap_of self.now.cap))) }
+    {
         self.machine.evidence(alloc)
     }
 }

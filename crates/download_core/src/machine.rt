@@ -2,6 +2,7 @@
 
 ghost use Rattle.std.specs.Prelude.{◌≡◌, ◌↔◌, List, [], ℕ, None, IfOk, IfSome, IsTrue};
 ghost use Rattle.cap_text.specs.Cap.{verify_cap_of};
+ghost use Rattle.proved_parts.specs.Evidence.{IsProved};
 ghost use Rattle.request_record.specs.Asking.{begun};
 ghost use Rattle.download_core.specs.declared.status.DownloadStatus.{DownloadStatus};
 ghost use Rattle.download_core.specs.declared.status.DownloadStatus.TheVariants.{Failed, Running};
@@ -154,10 +155,15 @@ impl Machine {
     }
 
     /// What proves the bytes that were made so far.
-    pub(crate) fn evidence(&self, alloc: Global) -> Result<Option<Evidence>, AllocError> {
-        match &self.file {
-            Some(file) => file.evidence(alloc, &self.asking),
-            None => Ok(None),
+    pub(crate) fn evidence(&self, alloc: Global) -> Result<Option<Evidence>, AllocError>
+        ensures { IfOk result (λ evidence. IfSome evidence (IsProved self.now.verify)) }
+    {
+        let Some(file) = &self.file else {
+            return Ok(None);
+        };
+        match file.evidence(alloc, &self.asking)? {
+            Some(evidence) if evidence.proves(&self.verify) => Ok(Some(evidence)),
+            _ => Ok(None),
         }
     }
 
