@@ -1,12 +1,14 @@
 //! A download: bytes of a file by its cap, from servers, only with what proves them.
 
-ghost use Rattle.std.specs.Prelude.{◌≡◌, ◌≢◌, ◌↔◌, ◌<◌, ◌≤◌, [], Err, IfOk, IfSome, OnErr, OnOk, is_some};
+ghost use Rattle.std.specs.Prelude.{◌≡◌, ◌≢◌, ◌↔◌, ◌<◌, ◌≤◌, [], Err, IfOk, IfSome, OnErr, OnOk};
+ghost use Rattle.std.specs.Prelude.{is_some};
 ghost use Rattle.cap_text.specs.Cap.{verify_cap_of};
 ghost use Rattle.proved_parts.specs.Evidence.{IsProved};
 ghost use Rattle.download_core.specs.Moves.{Advances, Begins, TakesPiece, TicksOn, asked_servers};
 ghost use Rattle.download_core.specs.Right.{IsRight};
 ghost use Rattle.download_core.specs.Sending.{Takes, first_to_send};
-ghost use Rattle.download_core.specs.declared.status.DownloadStatus.TheVariants.{Done, Failed, NotEnoughShares};
+ghost use Rattle.download_core.specs.declared.status.DownloadStatus.TheVariants.{Done, Failed};
+ghost use Rattle.download_core.specs.declared.status.DownloadStatus.TheVariants.{NotEnoughShares};
 ghost use Rattle.download_core.specs.declared.status.DownloadStatus.TheVariants.{Running};
 
 use crate::machine::Machine;
