@@ -112,9 +112,9 @@ fn answer(
         Body::Ask(_) => {
             let mut held = Vec::new(alloc);
             for number in 0..encoded.shares.len() {
-                if number % shape.servers == usize::from(node) {
+                if number % shape.servers.max(1) == usize::from(node) {
                     held.push(HeldShare {
-                        share: number as u8,
+                        share: u8::try_from(number).ok()?,
                         digest: [0; 32],
                     })
                     .ok()?;
