@@ -188,7 +188,7 @@ fn end_of(alloc: Global, shape: &Shape, wrong: Wrong, from: usize, to: usize) ->
     let cap = read_cap(&encoded)?;
     let mut nodes: Vec<NodeId> = Vec::new(alloc);
     for node in 0..shape.servers {
-        nodes.push(node as u16).ok()?;
+        nodes.push(NodeId::try_from(node).ok()?).ok()?;
     }
     let mut download = Download::start(alloc, cap, from as u64, to as u64, &nodes, 5, 0).ok()?;
     let mut now: u64 = 0;
