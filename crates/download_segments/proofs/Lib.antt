@@ -1,0 +1,5 @@
+pub mod PieceLemmas
+pub mod TreeLemmas
+pub mod HandoutLemmas
+pub mod DecodingLemmas
+pub mod LawLemmas

@@ -1,0 +1,7 @@
+-- what public contracts rest on
+pub mod Pieces
+pub mod State
+pub mod Handout
+pub mod Decoding
+pub mod NoCodeWord
+pub mod Laws

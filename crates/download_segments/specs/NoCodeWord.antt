@@ -1,0 +1,39 @@
+-- Files that nobody could have encoded: blocks that are proved decode to a segment that is not.
+use Rattle.std.specs.Prelude.{◌≡◌, ◌≢◌, ℕ, List, length, Some, slice_get}
+use Rattle.tagged_hash.specs.TaggedHash.{tagged_hash}
+use Rattle.tagged_hash.specs.declared.tag.Tag.TheVariants.{Block, CiphertextSegment}
+use Rattle.merkle.specs.Path.{LeadsBy}
+use Rattle.ueb.specs.Shape.{Contents}
+use Rattle.share_layout.specs.Geometry.{segment_count}
+use Rattle.share_layout.specs.Pieces.{block_length}
+use Rattle.share_verify.specs.CapBlock.{geometry_by}
+use Rattle.proved_parts.specs.Decoding.{DecodesBlocks}
+use Rattle.download_segments.specs.Decoding.{AreShareNumbers}
+
+-- This is the block that a share has of the segment with this number: its hash leads to the root of
+-- the share's block tree, and that to the root of the share tree.
+pub record IsBlockBy (u : Contents) (share number : ℕ) (block : List ℕ) : Type 0 where
+  pub size : length block ≡ block_length (geometry_by u) number
+  pub root : List ℕ
+  pub in_share : List (List ℕ)
+  pub leads_in_share : LeadsBy (segment_count (geometry_by u)) root number
+      (tagged_hash Block block) in_share
+  pub in_file : List (List ℕ)
+  pub leads_in_file : LeadsBy u.total_shares u.share_root_hash share root in_file
+
+-- Blocks of one segment, of as many different shares as are needed, are proved. They decode to a
+-- segment whose hash is not the one that is proved for it.
+pub record IsNoCodeWord (u : Contents) : Type 0 where
+  pub number : ℕ
+  pub numbers : List ℕ
+  pub blocks : List (List ℕ)
+  pub shares : AreShareNumbers (geometry_by u) numbers
+  pub one_each : length blocks ≡ length numbers
+  pub proved : (i share : ℕ) (block : List ℕ) → slice_get numbers i ≡ Some share
+      → slice_get blocks i ≡ Some block → IsBlockBy u share number block
+  pub segment : List ℕ
+  pub decoded : DecodesBlocks (geometry_by u) numbers blocks number segment
+  pub leaf : List ℕ
+  pub siblings : List (List ℕ)
+  pub leads : LeadsBy (segment_count (geometry_by u)) u.crypttext_root_hash number leaf siblings
+  pub differs : leaf ≢ tagged_hash CiphertextSegment segment
