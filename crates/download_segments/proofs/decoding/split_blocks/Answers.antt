@@ -1,4 +1,4 @@
-use Rattle.std.proofs.Common.{◌≡◌, ℕ, suc, ◌+◌, ◌*◌, List, [], ◌∷◌, ◌++◌, Bor, drop, map, take, get_or, add-one, add-mul, ap, sym, ◌∙◌, arith}
+use Rattle.std.proofs.Common.{◌≡◌, ℕ, ◌*◌, List, [], ◌∷◌, ◌++◌, Bor, drop, map, take, get_or, add-one, add-mul, ap, sym, ◌∙◌, arith}
 use Rattle.std.proofs.lemmas.List.{drop-drop, map-append, take_more}
 use Rattle.share_layout.specs.Pieces.{pieces}
 use Rattle.download_segments.proofs.DecodingLemmas.{pieces_more}

@@ -1,4 +1,4 @@
-use Rattle.std.proofs.Common.{◌≡◌, ◌<◌, ◌/◌, ℕ, subst, ◌∙◌, arith}
+use Rattle.std.proofs.Common.{◌<◌, ◌/◌, subst, ◌∙◌, arith}
 use Rattle.share_layout.specs.Geometry.{segment_count}
 use Rattle.download_segments.specs.State.{HandoutState}
 use Rattle.download_segments.proofs.HandoutLemmas.{next_there}
