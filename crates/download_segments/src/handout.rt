@@ -274,7 +274,8 @@ impl Handout {
     }
 
     /// Makes a piece of the wanted bytes of the next segment, where the hash of these bytes is the
-    /// one that is known for it: `true`. `false` where it is another. The bytes have the segment's
+    /// one that is known for it: `true`. `false` where it is another; then nothing changes. The
+    /// number is the one that `next` tells, the segment's hash is known, and the bytes have its
     /// length.
     pub fn hand_out(&mut self, number: u32, segment: Vec<u8>) -> Result<bool, AllocError>
         requires next { next_segment self.old ≡ Some number }
