@@ -1,0 +1,6 @@
+pub mod CursorLemmas
+pub mod PlanLemmas
+pub mod BatchLemmas
+pub mod LevelLemmas
+pub mod StepLemmas
+pub mod SourceLemmas

@@ -1,0 +1,95 @@
+-- A source: one share at one server.
+use Rattle.std.specs.Prelude.{◌≡◌, ℕ, ◌≤◌, List, [], length, Option, Some, None, is_some}
+use Rattle.std.specs.Prelude.{IfSome, true}
+use Rattle.merkle.specs.Partial.{PartialState, known_at}
+use Rattle.merkle.specs.Tree.{node_number}
+use Rattle.share_layout.specs.Geometry.{Geometry, segment_count}
+use Rattle.download_plan.specs.Plan.{IsAmong, IsPart, nodes_of}
+use Rattle.download_plan.specs.Range.{IsRange}
+use Rattle.download_plan.specs.declared.part.NodePiece.{NodePiece}
+use Rattle.download_plan.specs.declared.part.Nodes.{Nodes}
+use Rattle.download_plan.specs.declared.part.Part.{Part}
+use Rattle.download_plan.specs.declared.part.Part.TheVariants.{BlockTree, CiphertextTree}
+use Rattle.download_trees.specs.Trees.{LeadTo}
+use Rattle.download_source.specs.Cursors.{IsPassed, cursor_at, no_parts}
+use Rattle.download_source.specs.declared.cursors.Cursors.{Cursors}
+
+-- A source of the blocks of the segments `first` to before `end`, in a download whose first segment
+-- is `start`: what was asked of it, and what was taken. It gives the ciphertext tree from the pieces
+-- `given` on, of each level.
+pub record SourceState : Type 0 where
+  pub geometry : Geometry
+  pub start : ℕ
+  pub first : ℕ
+  pub end : ℕ
+  pub given : List ℕ
+  pub asked : Cursors
+  pub taken : Cursors
+  -- the block tree, once the share hashes are taken
+  pub tree : Option PartialState
+  -- the places of the answers that are the pieces of the data, in order
+  pub held : List ℕ
+
+-- The first segment of the plan that a part is of. The ciphertext tree is read by the plan of the
+-- whole download, all else by the source's own.
+abbrev pub first_of : SourceState → Part → ℕ
+first_of s (CiphertextTree p) = s.start
+first_of s part = s.first
+
+-- it is one of the parts that the source is read in
+abbrev pub IsPartOf : SourceState → Part → Type 0
+IsPartOf s part = IsPart s.geometry (first_of s part) s.end part
+
+-- a source of which nothing was asked
+abbrev pub new_source : Geometry → ℕ → ℕ → ℕ → SourceState
+new_source g start first end = record {
+  geometry = g;
+  start = start;
+  first = first;
+  end = end;
+  given = no_parts.ciphertext_tree;
+  asked = no_parts;
+  taken = no_parts;
+  tree = None;
+  held = [];
+}
+
+-- the source where it gives the ciphertext tree from these pieces on
+abbrev pub gives_from : SourceState → List ℕ → SourceState
+gives_from s levels = record s {
+  given = levels;
+  asked = record s.asked { ciphertext_tree = levels };
+  taken = record s.taken { ciphertext_tree = levels };
+}
+
+-- there is a cursor for each of three levels
+pub record HaveLevels (c : Cursors) : Type 0 where
+  pub block_tree : length c.block_tree ≡ 3
+  pub ciphertext_tree : length c.ciphertext_tree ≡ 3
+
+-- the tree knows each of these nodes
+pub record KnowsNodes (s : SourceState) (n : Nodes) : Type 0 where
+  pub tree : PartialState
+  pub is : s.tree ≡ Some tree
+  pub known : (place : ℕ) → IsAmong n place
+      → is_some (known_at tree (node_number n.row place)) ≡ true
+
+-- what holds of each source
+pub record IsSource (s : SourceState) : Type 0 where
+  pub range : IsRange s.geometry s.first s.end
+  pub begins : s.start ≤ s.first
+  -- what was asked is of its plans, and what was taken was asked
+  pub asked_levels : HaveLevels s.asked
+  pub taken_levels : HaveLevels s.taken
+  pub parts : (part : Part) → IsPassed s.asked part → IsPartOf s part
+  pub in_order : (part : Part) → IsPassed s.taken part → IsPassed s.asked part
+  pub given : (level : ℕ)
+      → cursor_at s.given level ≤ cursor_at s.taken.ciphertext_tree level
+  -- the block tree is there once the share hashes are taken, and leads to its root
+  pub tree : is_some s.tree ≡ s.taken.share_hashes
+  pub leads : IfSome s.tree (λ tree. LeadTo tree tree.root (segment_count s.geometry))
+  -- it knows the nodes that were taken
+  pub knows : (piece : NodePiece) → IsPassed s.taken (BlockTree piece)
+      → KnowsNodes s (nodes_of s.geometry s.first s.end piece)
+  -- an answer is held for each piece of the data that was taken
+  pub held : length s.held ≡ s.taken.data_piece

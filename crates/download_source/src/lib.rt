@@ -1,0 +1,16 @@
+//! One share at one server as a source of blocks, from the moment on at which an extension block is
+//! accepted: which parts of its plan are asked, which of them were taken, and what was taken. It
+//! knows nothing of messages: the place of an answer is a number that it hands back.
+//!
+//! The parts of each section are asked in one order, and taken in it. No part is asked twice.
+#![tactic(auto)]
+
+mod batch;
+mod cursors;
+mod source;
+mod tree;
+mod wanted;
+
+pub use cursors::Cursors;
+pub use source::Source;
+pub use wanted::Wanted;
