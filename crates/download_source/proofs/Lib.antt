@@ -4,3 +4,4 @@ pub mod BatchLemmas
 pub mod LevelLemmas
 pub mod StepLemmas
 pub mod SourceLemmas
+pub mod TakingLemmas

@@ -2,5 +2,7 @@
 pub mod Cursors
 pub mod Source
 pub mod Asking
+pub mod Taking
+pub mod Blocks
 -- words of private clauses
 pub mod Batch

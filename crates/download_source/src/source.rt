@@ -1,22 +1,26 @@
 //! One share at one server as a source of blocks.
 
-ghost use Rattle.std.specs.Prelude.{◌≡◌, ◌⊎◌, ◌↔◌, ◌+◌, ◌<◌, ◌≤◌, OnErr, OnOk, IfOk};
-ghost use Rattle.download_plan.specs.Plan.{IsNodePiece};
-ghost use Rattle.download_plan.specs.declared.part.NodePiece.{NodePiece};
-ghost use Rattle.download_plan.specs.declared.part.Part.{Part};
-ghost use Rattle.download_plan.specs.declared.part.Part.TheVariants.{CiphertextTree};
+ghost use Rattle.std.specs.Prelude.{◌≡◌, ◌⊎◌, ◌↔◌, ◌+◌, ◌<◌, ◌≤◌, Err, IfOk, IsTrue, OnErr, OnOk};
+ghost use Rattle.std.specs.Prelude.{Some, length};
+ghost use Rattle.share_layout.specs.Geometry.{segment_count};
+ghost use Rattle.download_plan.specs.Plan.{IsNodePiece, length_of, max_read};
+ghost use Rattle.download_trees.specs.Trees.{LeadTo};
 ghost use Rattle.download_source.specs.Asking.{AsksNow, IsAsked, IsWanted, IsWantedCiphertext};
-ghost use Rattle.download_source.specs.Asking.{OnlyAsks};
+ghost use Rattle.download_source.specs.Asking.{IsWithin, OnlyAsks};
 ghost use Rattle.download_source.specs.Batch.{IsCiphertextUpTo, IsStep};
 ghost use Rattle.download_source.specs.Cursors.{IsPassed, cursor_at};
+ghost use Rattle.download_source.specs.Blocks.{IsHeld, IsReady, block_offset, block_places};
 ghost use Rattle.download_source.specs.Source.{IsSource, gives_from, new_source};
+ghost use Rattle.download_source.specs.Taking.{IsDue, IsProved, RefutesPiece, TakesPiece};
+ghost use Rattle.download_source.specs.Taking.{holds_more, known_hash, with_taken};
 
 use crate::batch::Batch;
 use crate::cursors::Cursors;
 use crate::tree::Tree;
 use crate::wanted::Wanted;
-use download_plan::Plan;
-use download_trees::BlockTree;
+use download_plan::{MAX_READ, NodePiece, Part, Plan};
+use download_trees::{BlockTree, TreeFault};
+use share_verify::Check;
 use std::alloc::{AllocError, Global};
 use std::marker::Model;
 
@@ -85,7 +89,7 @@ impl Source {
     /// From now on it gives the ciphertext tree, from these pieces of each level on. It was asked
     /// for none of it.
     pub fn give_ciphertext(&mut self, taken: &[u32; 3])
-        requires none { (p : NodePiece) → ¬ IsAsked self.old (CiphertextTree p) }
+        requires none { (p : NodePiece) → ¬ IsAsked self.old (Part.CiphertextTree p) }
         requires pieces { (p : NodePiece) → p.index < cursor_at taken.now p.level
             → IsNodePiece self.old.geometry self.old.start self.old.end p }
         ensures gives { self.new ≡ gives_from self.old taken.now }
@@ -126,6 +130,121 @@ impl Source {
         let (asked, wanted) = self.ciphertext_parts(alloc, last)?;
         self.asked = asked;
         Ok(wanted)
+    }
+
+    /// Takes the block tree that the share hashes tell the root of.
+    pub fn take_tree(&mut self, tree: BlockTree)
+        requires due { IsDue self.old Part.ShareHashes }
+        requires leads { LeadTo tree tree.root (segment_count self.old.geometry) }
+        ensures taken { self.new
+            ≡ record (with_taken self.old Part.ShareHashes) { tree = Some tree } }
+        ensures right { IsSource self.new }
+    {
+        self.tree = Some(tree);
+        self.taken.pass(&Part::ShareHashes);
+    }
+
+    /// Takes a piece of the block tree, whose hashes are the bytes, 32 each. They are refused, as
+    /// failing the check of the block tree, where they do not go with what is known.
+    pub fn take_nodes(
+        &mut self,
+        alloc: Global,
+        piece: &NodePiece,
+        bytes: &[u8],
+    ) -> Result<(), TreeFault>
+        requires due { IsDue self.old (Part.BlockTree piece.now) }
+        requires long { length bytes.now
+            ≡ length_of self.old.geometry self.old.first self.old.end (Part.BlockTree piece.now) }
+        ensures taken { OnOk result (TakesPiece self.old piece.now bytes.now self.new) }
+        // When it is refused.
+        ensures refused { (check : Check) → result ≡ Err (TreeFault.Check check)
+            → (check ≡ Check.BlockTree) × RefutesPiece self.old piece.now bytes.now }
+        ensures unchanged { OnErr result (self.new ≡ self.old) }
+        ensures right { IsSource self.new }
+    {
+        let nodes = self.plan.nodes(piece);
+        // It is there: the share hashes are taken first.
+        let Some(tree) = &mut self.tree else {
+            return Ok(());
+        };
+        tree.take_nodes(alloc, &nodes, bytes)?;
+        self.taken.pass(&Part::BlockTree(*piece));
+        Ok(())
+    }
+
+    /// A piece of the ciphertext tree, which the share gave, is taken.
+    pub fn take_ciphertext(&mut self, piece: &NodePiece)
+        requires due { IsDue self.old (Part.CiphertextTree piece.now) }
+        ensures taken { self.new ≡ with_taken self.old (Part.CiphertextTree piece.now) }
+        ensures right { IsSource self.new }
+    {
+        self.taken.pass(&Part::CiphertextTree(*piece));
+    }
+
+    /// Takes the next piece of the data, which is the answer at this place.
+    pub fn take_data(&mut self, place: usize) -> Result<(), AllocError>
+        requires due { self.old.taken.data_piece < self.old.asked.data_piece }
+        ensures taken { OnOk result (self.new ≡ holds_more self.old place) }
+        ensures unchanged { OnErr result (self.new ≡ self.old) }
+        ensures right { IsSource self.new }
+    {
+        self.held.push(place)?;
+        self.taken.data_piece += 1;
+        Ok(())
+    }
+
+    /// Whether the block of a segment can be told right or wrong: all pieces of the data that hold
+    /// it are taken, and its hash is known.
+    pub fn is_ready(&self, segment: u32) -> bool
+        ensures { IsTrue result ↔ IsReady self.now segment }
+    {
+        if segment < self.plan.first || self.plan.end <= segment {
+            return false;
+        }
+        let pieces = self.plan.block_pieces(segment);
+        pieces.end as usize <= self.held.len() && self.hash(segment).is_some()
+    }
+
+    // The hash of a segment's block, where it is known.
+    fn hash(&self, segment: u32) -> Option<[u8; 32]>
+        requires { segment < self.now.end }
+        ensures { result ≡ known_hash self.now segment }
+    {
+        match &self.tree {
+            Some(tree) => tree.leaf(segment),
+            None => None,
+        }
+    }
+
+    /// Whether a block is the one of a segment, by the hash that is known.
+    pub fn proves(&self, segment: u32, block: &[u8]) -> bool
+        requires { segment < self.now.end }
+        ensures { IsTrue result ↔ IsProved self.now segment block.now }
+    {
+        match &self.tree {
+            Some(tree) => tree.proves(segment, block) == Some(true),
+            None => false,
+        }
+    }
+
+    /// The places of the answers that hold the block of a segment, which is ready.
+    pub fn block_places(&self, segment: u32) -> &[usize]
+        requires { IsHeld self.now segment }
+        ensures { result.now ≡ block_places self.now segment }
+    {
+        let pieces = self.plan.block_pieces(segment);
+        &self.held[pieces.first as usize..pieces.end as usize]
+    }
+
+    /// Where the block of a segment begins in the first of those answers: below
+    /// `download_plan::MAX_READ` bytes.
+    pub fn block_offset(&self, segment: u32) -> u32
+        requires { IsWithin self.now segment }
+        ensures value { result ≡ block_offset self.now.geometry self.now.first segment }
+        ensures low { result < max_read }
+    {
+        let begin = self.plan.block_place(segment) - self.plan.block_place(self.plan.first);
+        (begin % u64::from(MAX_READ)) as u32
     }
 
     // The parts of its own plan that are wanted, and the cursors behind them.
