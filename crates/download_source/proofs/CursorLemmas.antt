@@ -116,7 +116,7 @@ contains_at p q ps (suc k) low is = inr (k, omega (arith, low), is)
 contains_cases : {X : Type 0} (p q : X) (ps : List X) → Contains (p ∷ ps) q → (p ≡ q) ⊎ Contains ps q
 contains_cases p q ps has = contains_at p q ps has.0 has.1 has.2
 
-contains_first : {X : Type 0} (p : X) (ps : List X) → Contains (p ∷ ps) p
+pub contains_first : {X : Type 0} (p : X) (ps : List X) → Contains (p ∷ ps) p
 contains_first p ps = (0, omega arith, refl)
 
 contains_more : {X : Type 0} (p q : X) (ps : List X) → Contains ps q → Contains (p ∷ ps) q

@@ -5,3 +5,4 @@ pub mod LevelLemmas
 pub mod StepLemmas
 pub mod SourceLemmas
 pub mod TakingLemmas
+pub mod LawLemmas

@@ -1,8 +1,8 @@
 -- One part more is taken.
-use Rattle.std.proofs.Common.{◌≡◌, ◌≢◌, ◌⊎◌, ℕ, zero, suc, ◌+◌, ◌-◌, ◌*◌, ◌/◌, ◌<◌, ◌≤◌, List, [], ◌∷◌, ◌++◌, length, get_or, slice_get, Option, Some, None, is_some, true, false, inl, inr, ap, refl, subst, sym, ◌∙◌, arith}
+use Rattle.std.proofs.Common.{◌≡◌, ◌≢◌, ℕ, zero, suc, ◌+◌, ◌-◌, ◌*◌, ◌/◌, ◌<◌, List, [], ◌∷◌, length, get_or, slice_get, Option, Some, None, is_some, true, inl, inr, ap, refl, subst, sym, ◌∙◌, arith}
 use Rattle.std.proofs.lemmas.Bool.{cases_order, false≢true}
 use Rattle.std.proofs.lemmas.Grind.{get_or-set_at}
-use Rattle.std.proofs.lemmas.List.{get_or-set_other, length-append, length-set}
+use Rattle.std.proofs.lemmas.List.{get_or-set_other, length-set}
 use Rattle.merkle.specs.Partial.{PartialState, Takes, known_at}
 use Rattle.merkle.specs.Tree.{node_number}
 use Rattle.share_layout.specs.Geometry.{segment_count}
@@ -15,9 +15,9 @@ use Rattle.download_plan.specs.declared.part.Part.{Part}
 use Rattle.download_plan.specs.declared.part.Part.TheVariants.{ShareHashes, BlockTree, CiphertextTree, Data}
 use Rattle.download_trees.specs.Offers.{nodes_offered, offered_nodes}
 use Rattle.download_trees.specs.Trees.{LeadTo}
-use Rattle.download_source.specs.Cursors.{IsPassed, cursor_at, passed, piece_passed}
+use Rattle.download_source.specs.Cursors.{IsPassed, cursor_at, passed}
 use Rattle.download_source.specs.Source.{IsPartOf, IsSource, KnowsNodes, SourceState}
-use Rattle.download_source.specs.Taking.{IsDue, TakesPiece, holds_more, with_taken}
+use Rattle.download_source.specs.Taking.{IsDue, with_taken}
 use Rattle.download_source.proofs.CursorLemmas.{part_next}
 
 -- what is known has a hash
@@ -110,7 +110,7 @@ tree_taken s tree is due leads = record {
   tree = refl;
   leads = leads;
   knows = λ piece taken. absurd (let knows = is.knows piece taken in
-  false≢true (sym due.next ∙ sym is.tree ∙ ap (is_some {T = PartialState}) knows.is));
+      false≢true (sym due.next ∙ sym is.tree ∙ ap (is_some {T = PartialState}) knows.is));
   held = is.held;
 } where
   parts_still : (part : Part) → IsPassed s.asked part → IsPartOf (record (with_taken s ShareHashes) { tree = Some tree }) part
@@ -142,7 +142,7 @@ module _ (s : SourceState) (p : NodePiece) (bytes : List ℕ) (is : IsSource s) 
               tree = after;
               is = refl;
               known = λ place among. kept_known before after (nodes_offered (nodes_of s.geometry s.first s.end p) bytes) _ takes
-              (subst (λ (t : PartialState). is_some (known_at t (node_number (nodes_of s.geometry s.first s.end q).row place)) ≡ true) same (knows.known place among));
+                  (subst (λ (t : PartialState). is_some (known_at t (node_number (nodes_of s.geometry s.first s.end q).row place)) ≡ true) same (knows.known place among));
             }
         | inr one ↦ let same : p ≡ q = cc in
             subst (λ (r : NodePiece). KnowsNodes then (nodes_of s.geometry s.first s.end r)) same

@@ -1,6 +1,7 @@
 -- The block of a segment, in the pieces of the data that hold it.
 use Rattle.std.specs.Prelude.{◌≡◌, ℕ, ◌+◌, ◌-◌, ◌%◌, ◌≤◌, List, is_some, length, slice_range}
-use Rattle.std.specs.Prelude.{true}
+use Rattle.std.specs.Prelude.{drop, take, true}
+use Rattle.std.specs.List.{concat}
 use Rattle.share_layout.specs.Geometry.{Geometry}
 use Rattle.share_layout.specs.Pieces.{block_length}
 use Rattle.download_plan.specs.Plan.{block_place, max_read, piece_at}
@@ -20,6 +21,11 @@ block_end g a segment =
 -- where the block begins in the first of them
 abbrev pub block_offset : Geometry → ℕ → ℕ → ℕ
 block_offset g a segment = (block_place g segment - block_place g a) % max_read
+
+-- the block, of the bytes of these pieces
+abbrev pub joined_block : Geometry → ℕ → ℕ → List (List ℕ) → List ℕ
+joined_block g a segment pieces =
+    take (block_length g segment) (drop (block_offset g a segment) (concat pieces))
 
 -- all pieces of the segment's block are held
 pub record IsHeld (s : SourceState) (segment : ℕ) : Type 0 where

@@ -4,5 +4,6 @@ pub mod Source
 pub mod Asking
 pub mod Taking
 pub mod Blocks
+pub mod Laws
 -- words of private clauses
 pub mod Batch

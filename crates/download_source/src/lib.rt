@@ -7,10 +7,15 @@
 
 mod batch;
 mod cursors;
+mod laws;
 mod source;
 mod tree;
 mod wanted;
 
 pub use cursors::Cursors;
+pub use laws::{
+    first_is_due, joined_has_length, leaves_are_known, source_parts_are_apart, taken_is_ready,
+    taken_nodes_are_known,
+};
 pub use source::Source;
 pub use wanted::Wanted;

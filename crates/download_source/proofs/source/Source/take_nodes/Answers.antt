@@ -1,4 +1,4 @@
-use Rattle.std.proofs.Common.{◌≡◌, ◌∙◌, ℕ, List, Option, Some, IfSome, length, refl, subst, sym}
+use Rattle.std.proofs.Common.{◌≡◌, ◌∙◌, Option, IfSome, length, refl, subst, sym}
 use Rattle.merkle.specs.Partial.{PartialState, Takes}
 use Rattle.share_layout.specs.Geometry.{segment_count}
 use Rattle.download_plan.specs.Plan.{length_of}

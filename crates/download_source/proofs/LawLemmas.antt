@@ -1,0 +1,182 @@
+-- Laws of sources.
+use Rattle.std.proofs.Common.{◌≡◌, ℕ, suc, ◌+◌, ◌-◌, ◌*◌, ◌/◌, ◌^◌, ◌<◌, ◌≤◌, min, List, [], ◌∷◌, length, drop, get_or, Option, Some, None, IfSome, is_some, true, inl, inr, ap, refl, subst, sym, ◌∙◌, arith}
+use Rattle.std.specs.List.{concat}
+use Rattle.std.proofs.Math.Nat.{mul-le-mul_right}
+use Rattle.std.proofs.lemmas.Bool.{cases_lt, false≢true}
+use Rattle.std.proofs.lemmas.List.{length-append, length-drop, length-take-le}
+use Rattle.merkle.specs.Partial.{PartialState, known_at}
+use Rattle.merkle.specs.Tree.{height, node_number}
+use Rattle.merkle.proofs.HeightLemmas.{height_room}
+use Rattle.share_layout.specs.Geometry.{Geometry, block_size, segment_count}
+use Rattle.share_layout.specs.Layout.{places_of}
+use Rattle.share_layout.specs.Pieces.{block_length}
+use Rattle.download_plan.specs.Laws.{AreApart, LiesIn, section_end, section_start}
+use Rattle.download_plan.specs.Level.{IsAbove, first_node, level_at, level_count, row_of, tree_height}
+use Rattle.download_plan.specs.Plan.{IsAmong, IsNodePiece, IsPart, block_place, data_end, length_of, max_nodes, max_read, nodes_of, place_of}
+use Rattle.download_plan.specs.Range.{IsRange}
+use Rattle.download_plan.specs.declared.part.NodePiece.{NodePiece}
+use Rattle.download_plan.specs.declared.part.Part.{Part}
+use Rattle.download_plan.specs.declared.part.Part.TheVariants.{ShareHashes, BlockTree, CiphertextTree, Data}
+use Rattle.download_plan.proofs.PartLemmas.{above_holds, above_there, are_apart, block_within, data_begins, lie_inside}
+use Rattle.download_trees.specs.Trees.{LeadTo}
+use Rattle.download_source.specs.Blocks.{block_end, block_first, block_offset}
+use Rattle.download_source.specs.Laws.{FirstIsDue, JoinedHasLength, KnowsPiece, LeavesAreKnown, SourcePartsAreApart, TakenIsReady, TakenNodesAreKnown}
+use Rattle.download_source.specs.Source.{IsSource, SourceState}
+use Rattle.download_source.specs.Taking.{known_hash}
+use Rattle.download_source.proofs.CursorLemmas.{contains_first, lead_adds}
+use Rattle.download_source.proofs.TakingLemmas.{offered_known}
+
+pub first_due : FirstIsDue
+first_due s part parts leads = record {
+  next = leads.0;
+  asked = lead_adds s.taken (part ∷ parts) s.asked part leads (contains_first part parts);
+}
+
+pub taken_known : TakenNodesAreKnown
+taken_known = offered_known
+
+-- ---- parts of two plans
+
+-- what lies in an earlier section is before what lies in a later one
+earlier : (s e place len s' e' place' len' : ℕ) → LiesIn s e place len → LiesIn s' e' place' len' → e ≤ s' → place + len ≤ place'
+earlier s e place len s' e' place' len' one other order = let f = one.ends in let t = other.begins in omega arith
+
+whole_range : (s : SourceState) → IsSource s → IsRange s.geometry s.start s.end
+whole_range s is =
+    let begins = is.begins in
+    let some = is.range.some in
+    record { valid = is.range.valid; some = omega (arith, begins, some); within = is.range.within }
+
+module _ (g : Geometry) (a b c : ℕ) (r : IsRange g a b) (w : IsRange g c b) (p : NodePiece) (is : IsPart g c b (CiphertextTree p)) where
+  before : (q : Part) → IsPart g a b q → section_end (places_of g) (CiphertextTree p) ≤ section_start (places_of g) q
+      → AreApart (place_of g c b (CiphertextTree p)) (length_of g c b (CiphertextTree p)) (place_of g a b q) (length_of g a b q)
+  before q also order = inl (earlier _ _ _ _ _ _ _ _ (lie_inside g c b (CiphertextTree p) w is) (lie_inside g a b q r also) order)
+
+  behind : (q : Part) → IsPart g a b q → section_end (places_of g) q ≤ section_start (places_of g) (CiphertextTree p)
+      → AreApart (place_of g c b (CiphertextTree p)) (length_of g c b (CiphertextTree p)) (place_of g a b q) (length_of g a b q)
+  behind q also order = inr (earlier _ _ _ _ _ _ _ _ (lie_inside g a b q r also) (lie_inside g c b (CiphertextTree p) w is) order)
+
+turned : (p l q m : ℕ) → AreApart p l q m → AreApart q m p l
+turned p l q m (inl first) = inr first
+turned p l q m (inr second) = inl second
+
+pub parts_apart : SourcePartsAreApart
+parts_apart s (CiphertextTree p) (CiphertextTree q) is one two = are_apart s.geometry s.start s.end (CiphertextTree p) (CiphertextTree q) (whole_range s is) one two
+parts_apart s (CiphertextTree p) ShareHashes is one two = inr (before s.geometry s.first s.end s.start is.range (whole_range s is) p one ShareHashes two (omega arith))
+parts_apart s (CiphertextTree p) (BlockTree q) is one two = inr (before s.geometry s.first s.end s.start is.range (whole_range s is) p one (BlockTree q) two (omega arith))
+parts_apart s (CiphertextTree p) (Data j) is one two = inr (behind s.geometry s.first s.end s.start is.range (whole_range s is) p one (Data j) two (omega arith))
+parts_apart s ShareHashes (CiphertextTree q) is one two = inr (turned _ _ _ _ (before s.geometry s.first s.end s.start is.range (whole_range s is) q two ShareHashes one (omega arith)))
+parts_apart s (BlockTree p) (CiphertextTree q) is one two = inr (turned _ _ _ _ (before s.geometry s.first s.end s.start is.range (whole_range s is) q two (BlockTree p) one (omega arith)))
+parts_apart s (Data i) (CiphertextTree q) is one two = inr (turned _ _ _ _ (behind s.geometry s.first s.end s.start is.range (whole_range s is) q two (Data i) one (omega arith)))
+parts_apart s ShareHashes ShareHashes is one two = inl refl
+parts_apart s ShareHashes (BlockTree q) is one two = are_apart s.geometry s.first s.end ShareHashes (BlockTree q) is.range one two
+parts_apart s ShareHashes (Data j) is one two = are_apart s.geometry s.first s.end ShareHashes (Data j) is.range one two
+parts_apart s (BlockTree p) ShareHashes is one two = are_apart s.geometry s.first s.end (BlockTree p) ShareHashes is.range one two
+parts_apart s (BlockTree p) (BlockTree q) is one two = are_apart s.geometry s.first s.end (BlockTree p) (BlockTree q) is.range one two
+parts_apart s (BlockTree p) (Data j) is one two = are_apart s.geometry s.first s.end (BlockTree p) (Data j) is.range one two
+parts_apart s (Data i) ShareHashes is one two = are_apart s.geometry s.first s.end (Data i) ShareHashes is.range one two
+parts_apart s (Data i) (BlockTree q) is one two = are_apart s.geometry s.first s.end (Data i) (BlockTree q) is.range one two
+parts_apart s (Data i) (Data j) is one two = are_apart s.geometry s.first s.end (Data i) (Data j) is.range one two
+
+-- ---- leaves
+
+-- a leaf is above itself
+above_itself : (g : Geometry) (row segment : ℕ) → row ≡ tree_height g → segment < segment_count g → IsAbove g row segment segment
+above_itself g row segment is inside =
+    let one : 2 ^ (tree_height g - row) ≡ 1 = let none : tree_height g - row ≡ 0 = omega arith in ap (λ n. 2 ^ n) none in
+    record {
+      group = let same : segment ≡ segment / 2 ^ (tree_height g - row) = let e : segment ≡ segment / 1 = omega arith in e ∙ ap (λ n. segment / n) (sym one) in
+          ap (λ n. n / 2 ^ min row 7) same;
+      some = let same : segment * 2 ^ (tree_height g - row) ≡ segment = ap (λ n. segment * n) one ∙ omega arith in omega (arith, same, inside);
+    }
+
+pub leaf_known : LeavesAreKnown
+leaf_known g a b segment tree r from before leads pieces =
+    let m = tree_height g in
+    let within = r.within in
+    let inside : segment < segment_count g = omega (arith, before, within) in
+    let high : height tree.leaf_count ≡ m = ap height leads.leaves in
+    elim (cases_lt 0 (level_count m)) [
+      | inl some ↦
+          let level = level_count m - 1 in
+          let there : level < level_count m = omega (arith, some) in
+          let row : row_of m level ≡ m = omega (arith, some) in
+          let index = (first_node m (row_of m level) segment - (level_at g a b level).first) / max_nodes in
+          let p : NodePiece = record { level = level; index = index } in
+          let short : IsRange g a (segment + 1) = record { valid = r.valid; some = omega (arith, from); within = omega (arith, inside) } in
+          let is : IsNodePiece g a (segment + 1) p = record { level = there; index = above_there g a (segment + 1) level segment short from (omega arith) index refl } in
+          let among : IsAmong (nodes_of g a b p) segment = above_holds g a b level segment r from before index refl segment (above_itself g (row_of m level) segment row inside) in
+          ap (λ h. is_some (known_at tree (node_number h segment))) (high ∙ sym row) ∙ pieces p is segment among
+      | inr none ↦
+          let flat : m ≡ 0 = omega (arith, none) in
+          let room : segment_count g ≤ 2 ^ m = height_room (segment_count g) in
+          let one : 2 ^ m ≡ 1 = ap (λ n. 2 ^ n) flat in
+          let first : segment ≡ 0 = omega (arith, inside, room, one) in
+          (λ i. is_some (known_at tree (node_number ((high ∙ flat) i) (first i)))) ∙ ap (is_some {T = List ℕ}) leads.sound.root
+    ]
+
+-- ---- what is taken is ready
+
+tree_of : (o : Option PartialState) → is_some o ≡ true → (tree : PartialState) × (o ≡ Some tree)
+tree_of (Some tree) is = (tree, refl)
+tree_of None is = absurd (false≢true is)
+
+-- the block of a segment is no empty one
+block_some : (g : Geometry) (a b segment : ℕ) → IsRange g a b → segment < b → 0 < block_length g segment
+block_some g a b segment r before =
+    let within = r.within in
+    let begins = data_begins g segment (segment + 1) (record { valid = r.valid; some = omega arith; within = omega (arith, before, within) }) in
+    omega (arith, begins)
+
+pub all_ready : TakenIsReady
+all_ready s segment is within taken =
+    let g = s.geometry in
+    let from = within.from in
+    let before = within.before in
+    let whole = is.range.within in
+    let short : IsRange g s.first (segment + 1) = record { valid = is.range.valid; some = omega (arith, from); within = omega (arith, before, whole) } in
+    let last = block_within g s.first (segment + 1) segment short from (omega arith) (block_some g s.first s.end segment is.range before) in
+    let passes = taken (Data (block_end g s.first segment - 1)) (within, omega (arith, last)) in
+    let held = is.held in
+    let tree = tree_of s.tree (is.tree ∙ taken ShareHashes (within, tt)) in
+    let leads = subst (λ (o : Option PartialState). IfSome o (λ t. LeadTo t t.root (segment_count g))) tree.1 is.leads in
+    let knows : (p : NodePiece) → IsNodePiece g s.first (segment + 1) p → KnowsPiece g s.first s.end tree.0 p =
+    λ p piece.
+    let known = is.knows p (taken (BlockTree p) (within, piece)) in
+    let same : known.tree ≡ tree.0 = let e : Some known.tree ≡ Some tree.0 = sym known.is ∙ tree.1 in cc in
+    subst (λ (t : PartialState). KnowsPiece g s.first s.end t p) same known.known in
+    record {
+      held = record { within = within; pieces = omega (arith, passes, held) };
+      known = subst (λ (o : Option PartialState). is_some (known_hash (record s { tree = o }) segment) ≡ true) (sym tree.1)
+          (leaf_known g s.first s.end segment tree.0 is.range from before leads knows);
+    }
+
+-- ---- blocks
+
+-- the length of pieces of so many bytes, one after another
+pieces_long : (whole first : ℕ) (pieces : List (List ℕ))
+    → ((k : ℕ) → k < length pieces → length (get_or pieces k []) ≡ min max_read (whole - max_read * (first + k)))
+    → length (concat pieces) ≡ min (max_read * (first + length pieces)) whole - max_read * first
+pieces_long whole first [] each = omega arith
+pieces_long whole first (piece ∷ pieces) each =
+    let own = each 0 (omega arith) in
+    let rest = pieces_long whole (first + 1) pieces (λ k low.
+    each (suc k) (omega (arith, low)) ∙ (let same : first + suc k ≡ first + 1 + k = omega arith in ap (λ n. min max_read (whole - max_read * n)) same)) in
+    omega (arith, own, rest, length-append piece (concat pieces))
+
+pub joined_long : JoinedHasLength
+joined_long g a b segment pieces r from before count each =
+    let size = block_size g in
+    let len = block_length g segment in
+    let some = block_some g a b segment r before in
+    let low = mul-le-mul_right {m = a} {n = segment} size from in
+    let high : segment * size + size ≤ b * size = omega (arith, mul-le-mul_right {m = segment + 1} {n = b} size (omega (arith, before))) in
+    let whole = data_end g b - block_place g a in
+    let first = block_first g a segment in
+    let begin = block_place g segment - block_place g a in
+    let long = pieces_long whole first pieces (λ k there. each k there ∙ (let e : data_end g b - (block_place g a + max_read * (first + k)) ≡ whole - max_read * (first + k) = omega arith in ap (min max_read) e)) in
+    let ends : begin + len ≤ whole = omega (arith, low, high, some) in
+    let more : begin + len ≤ max_read * block_end g a segment = omega (arith, low, some) in
+    let order : first ≤ block_end g a segment = omega (arith, some) in
+    length-take-le len (drop (block_offset g a segment) (concat pieces))
+    (omega (arith, length-drop (block_offset g a segment) (concat pieces), long, count, ends, more, order, some))

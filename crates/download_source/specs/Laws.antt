@@ -1,0 +1,65 @@
+-- Laws of sources.
+use Rattle.std.specs.Prelude.{◌≡◌, ◌⊎◌, ℕ, ◌+◌, ◌-◌, ◌*◌, ◌<◌, ◌≤◌, List, ◌∷◌, length, is_some}
+use Rattle.std.specs.Prelude.{slice_index_or, [], true}
+use Rattle.merkle.specs.Partial.{PartialState, Takes, known_at}
+use Rattle.merkle.specs.Tree.{node_number}
+use Rattle.share_layout.specs.Geometry.{Geometry, segment_count}
+use Rattle.share_layout.specs.Pieces.{block_length}
+use Rattle.download_plan.specs.Laws.{AreApart}
+use Rattle.download_plan.specs.Plan.{IsAmong, IsNodePiece, length_of, nodes_of, place_of}
+use Rattle.download_plan.specs.Range.{IsRange}
+use Rattle.download_plan.specs.declared.part.NodePiece.{NodePiece}
+use Rattle.download_plan.specs.declared.part.Nodes.{Nodes}
+use Rattle.download_plan.specs.declared.part.Part.{Part}
+use Rattle.download_plan.specs.declared.part.Part.TheVariants.{Data}
+use Rattle.download_trees.specs.Offers.{nodes_offered}
+use Rattle.download_trees.specs.Trees.{LeadTo, known_leaf}
+use Rattle.download_source.specs.Asking.{IsWanted, IsWithin}
+use Rattle.download_source.specs.Blocks.{IsReady, block_end, block_first, joined_block}
+use Rattle.download_source.specs.Cursors.{IsPassed, LeadOn}
+use Rattle.download_source.specs.Source.{IsPartOf, IsSource, SourceState, first_of}
+use Rattle.download_source.specs.Taking.{IsDue}
+
+-- a law: two parts that a source is read in are one, or they have no byte in common
+abbrev pub SourcePartsAreApart : Type 0
+SourcePartsAreApart = (s : SourceState) (p q : Part) → IsSource s → IsPartOf s p → IsPartOf s q
+    → (p ≡ q) ⊎ AreApart
+    (place_of s.geometry (first_of s p) s.end p) (length_of s.geometry (first_of s p) s.end p)
+    (place_of s.geometry (first_of s q) s.end q) (length_of s.geometry (first_of s q) s.end q)
+
+-- a law: where parts lead from what was taken to what was asked, the first of them is due
+abbrev pub FirstIsDue : Type 0
+FirstIsDue = (s : SourceState) (part : Part) (parts : List Part)
+    → LeadOn s.taken (part ∷ parts) s.asked → IsDue s part
+
+-- a law: once all that is wanted up to a segment is taken, the segment is ready
+abbrev pub TakenIsReady : Type 0
+TakenIsReady = (s : SourceState) (segment : ℕ) → IsSource s → IsWithin s segment
+    → ((part : Part) → IsWanted s segment part → IsPassed s.taken part) → IsReady s segment
+
+-- a law: nodes of a row are known once they are taken
+abbrev pub TakenNodesAreKnown : Type 0
+TakenNodesAreKnown = (n : Nodes) (bytes : List ℕ) (old new : PartialState)
+    → length bytes ≡ 32 * n.count → Takes old (nodes_offered n bytes) new
+    → (place : ℕ) → IsAmong n place → is_some (known_at new (node_number n.row place)) ≡ true
+
+-- the tree knows the nodes of a piece of the plan for the segments `a` to before `b`
+abbrev pub KnowsPiece : Geometry → ℕ → ℕ → PartialState → NodePiece → Type 0
+KnowsPiece g a b tree p = (place : ℕ) → IsAmong (nodes_of g a b p) place
+    → is_some (known_at tree (node_number (nodes_of g a b p).row place)) ≡ true
+
+-- a law: a tree that knows the pieces that are wanted up to a segment knows the segment's leaf
+abbrev pub LeavesAreKnown : Type 0
+LeavesAreKnown = (g : Geometry) (a b segment : ℕ) (tree : PartialState) → IsRange g a b
+    → a ≤ segment → segment < b → LeadTo tree tree.root (segment_count g)
+    → ((p : NodePiece) → IsNodePiece g a (segment + 1) p → KnowsPiece g a b tree p)
+    → is_some (known_leaf tree segment) ≡ true
+
+-- a law: the block that is joined of pieces, each of its length, has the block's length
+abbrev pub JoinedHasLength : Type 0
+JoinedHasLength = (g : Geometry) (a b segment : ℕ) (pieces : List (List ℕ)) → IsRange g a b
+    → a ≤ segment → segment < b
+    → length pieces ≡ block_end g a segment - block_first g a segment
+    → ((k : ℕ) → k < length pieces → length (slice_index_or pieces k [])
+    ≡ length_of g a b (Data (block_first g a segment + k)))
+    → length (joined_block g a segment pieces) ≡ block_length g segment

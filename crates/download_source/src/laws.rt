@@ -1,0 +1,41 @@
+//! Laws of sources.
+
+ghost use Rattle.download_source.specs.Laws.{FirstIsDue, JoinedHasLength, LeavesAreKnown};
+ghost use Rattle.download_source.specs.Laws.{SourcePartsAreApart, TakenIsReady};
+ghost use Rattle.download_source.specs.Laws.{TakenNodesAreKnown};
+
+/// A law of the definitions: two parts that a source is read in are one, or they have no byte in
+/// common. The law is the contract; the call does nothing.
+pub fn source_parts_are_apart()
+    ensures { SourcePartsAreApart }
+{}
+
+/// A law of the definitions: where parts lead from what was taken to what was asked, the first of
+/// them is due. The law is the contract; the call does nothing.
+pub fn first_is_due()
+    ensures { FirstIsDue }
+{}
+
+/// A law of the definitions: once all that is wanted up to a segment is taken, the segment is
+/// ready. The law is the contract; the call does nothing.
+pub fn taken_is_ready()
+    ensures { TakenIsReady }
+{}
+
+/// A law of the definitions: nodes of a row are known once they are taken. The law is the contract;
+/// the call does nothing.
+pub fn taken_nodes_are_known()
+    ensures { TakenNodesAreKnown }
+{}
+
+/// A law of the definitions: a tree that knows the pieces that are wanted up to a segment knows the
+/// segment's leaf. The law is the contract; the call does nothing.
+pub fn leaves_are_known()
+    ensures { LeavesAreKnown }
+{}
+
+/// A law of the definitions: the block that is joined of pieces, each of its length, has the
+/// block's length. The law is the contract; the call does nothing.
+pub fn joined_has_length()
+    ensures { JoinedHasLength }
+{}
