@@ -119,7 +119,7 @@ contains_cases p q ps has = contains_at p q ps has.0 has.1 has.2
 pub contains_first : {X : Type 0} (p : X) (ps : List X) → Contains (p ∷ ps) p
 contains_first p ps = (0, omega arith, refl)
 
-contains_more : {X : Type 0} (p q : X) (ps : List X) → Contains ps q → Contains (p ∷ ps) q
+pub contains_more : {X : Type 0} (p q : X) (ps : List X) → Contains ps q → Contains (p ∷ ps) q
 contains_more p q ps has = let low = has.1 in (suc has.0, omega (arith, low), has.2)
 
 -- what parts that lead on leave passed

@@ -1,6 +1,7 @@
 -- Laws of sources.
 use Rattle.std.proofs.Common.{◌≡◌, ℕ, suc, ◌+◌, ◌-◌, ◌*◌, ◌/◌, ◌^◌, ◌<◌, ◌≤◌, min, List, [], ◌∷◌, length, drop, get_or, Option, Some, None, IfSome, is_some, true, inl, inr, ap, refl, subst, sym, ◌∙◌, arith}
 use Rattle.std.specs.List.{concat}
+use Rattle.std.specs.Prelude.{Contains}
 use Rattle.std.proofs.Math.Nat.{mul-le-mul_right}
 use Rattle.std.proofs.lemmas.Bool.{cases_lt, false≢true}
 use Rattle.std.proofs.lemmas.List.{length-append, length-drop, length-take-le}
@@ -20,10 +21,13 @@ use Rattle.download_plan.specs.declared.part.Part.TheVariants.{ShareHashes, Bloc
 use Rattle.download_plan.proofs.PartLemmas.{above_holds, above_there, are_apart, block_within, data_begins, lie_inside}
 use Rattle.download_trees.specs.Trees.{LeadTo}
 use Rattle.download_source.specs.Blocks.{block_end, block_first, block_offset}
-use Rattle.download_source.specs.Laws.{FirstIsDue, JoinedHasLength, KnowsPiece, LeavesAreKnown, SourcePartsAreApart, TakenIsReady, TakenNodesAreKnown}
+use Rattle.download_source.specs.Laws.{FirstIsDue, JoinedHasLength, KnowsPiece, LeadOnGiving, LeadOnTogether, LeavesAreKnown, LongerPlansHoldMore, SourcePartsAreApart, TakenIsReady, TakenNodesAreKnown}
 use Rattle.download_source.specs.Source.{IsSource, SourceState}
 use Rattle.download_source.specs.Taking.{known_hash}
-use Rattle.download_source.proofs.CursorLemmas.{contains_first, lead_adds}
+use Rattle.download_source.proofs.CursorLemmas.{contains_first, contains_more, lead_adds, lead_fresh}
+use Rattle.download_source.proofs.PlanLemmas.{end_grows, part_grows}
+use Rattle.download_source.specs.Cursors.{LeadOn, cursor_at, passed}
+use Rattle.download_source.specs.declared.cursors.Cursors.{Cursors}
 use Rattle.download_source.proofs.TakingLemmas.{offered_known}
 
 pub first_due : FirstIsDue
@@ -180,3 +184,50 @@ joined_long g a b segment pieces r from before count each =
     let order : first ≤ block_end g a segment = omega (arith, some) in
     length-take-le len (drop (block_offset g a segment) (concat pieces))
     (omega (arith, length-drop (block_offset g a segment) (concat pieces), long, count, ends, more, order, some))
+
+-- ---- parts that wait
+
+pub lead_append : LeadOnTogether
+lead_append from between to [] parts one two = subst (λ (c : Cursors). LeadOn c parts to) (sym one) two
+lead_append from between to (p ∷ ps) parts one two = (one.0, lead_append (passed from p) between to ps parts one.1 two)
+
+lead_put : (from to : Cursors) (levels : List ℕ) (parts : List Part) → ((p : NodePiece) → ¬ Contains parts (CiphertextTree p))
+    → LeadOn from parts to → LeadOn (record from { ciphertext_tree = levels }) parts (record to { ciphertext_tree = levels })
+lead_put from to levels [] none leads = ap (λ (c : Cursors). record c { ciphertext_tree = levels }) leads
+lead_put from to levels (ShareHashes ∷ ps) none leads =
+    (leads.0, lead_put (passed from ShareHashes) to levels ps (λ p has. none p (contains_more ShareHashes (CiphertextTree p) ps has)) leads.1)
+lead_put from to levels (BlockTree q ∷ ps) none leads =
+    (leads.0, lead_put (passed from (BlockTree q)) to levels ps (λ p has. none p (contains_more (BlockTree q) (CiphertextTree p) ps has)) leads.1)
+lead_put from to levels (CiphertextTree q ∷ ps) none leads = absurd (none q (contains_first (CiphertextTree q) ps))
+lead_put from to levels (Data i ∷ ps) none leads =
+    (leads.0, lead_put (passed from (Data i)) to levels ps (λ p has. none p (contains_more (Data i) (CiphertextTree p) ps has)) leads.1)
+
+pub lead_giving : LeadOnGiving
+lead_giving s levels waiting is none leads =
+    lead_put s.taken s.asked levels waiting
+    (λ p has.
+    let not = lead_fresh s.taken waiting s.asked (CiphertextTree p) leads has in
+    let given = is.given p.level in
+    none p (
+      elim (cases_lt p.index (cursor_at s.given p.level)) [
+        | inl low ↦ absurd (not (omega (arith, low, given)))
+        | inr high ↦ high
+      ],
+      lead_adds s.taken waiting s.asked (CiphertextTree p) leads has,
+    ))
+    leads
+
+-- ---- longer plans
+
+nodes_more : (g : Geometry) (a b c : ℕ) (p : NodePiece) → b ≤ c → (nodes_of g a b p).count ≤ (nodes_of g a c p).count
+nodes_more g a b c p le =
+    let end : (level_at g a b p.level).end ≤ (level_at g a c p.level).end = end_grows (tree_height g) (row_of (tree_height g) p.level) b c (segment_count g) le in
+    omega (arith, end)
+
+pub plans_grow : LongerPlansHoldMore
+plans_grow g a b c ShareHashes le is = (tt, refl, omega arith)
+plans_grow g a b c (BlockTree p) le is = (part_grows g a b c (BlockTree p) le is, refl, omega (arith, nodes_more g a b c p le))
+plans_grow g a b c (CiphertextTree p) le is = (part_grows g a b c (CiphertextTree p) le is, refl, omega (arith, nodes_more g a b c p le))
+plans_grow g a b c (Data i) le is =
+    let more = mul-le-mul_right {m = b} {n = c} (block_size g) le in
+    (part_grows g a b c (Data i) le is, refl, omega (arith, more))

@@ -16,7 +16,7 @@ use Rattle.download_plan.proofs.NumberLemmas.{ceil_most}
 pub ceil_le : (n m k : ℕ) → 0 < k → n ≤ m → div_ceil n k ≤ div_ceil m k
 ceil_le n m k some le = ceil_most n k (div_ceil m k) some (omega (arith, le, (div_ceil_times m k some).0))
 
-end_grows : (m row b c count : ℕ) → b ≤ c → end_node m row b count ≤ end_node m row c count
+pub end_grows : (m row b c count : ℕ) → b ≤ c → end_node m row b count ≤ end_node m row c count
 unfolding end_node
 end_grows m row b c count le =
     let w = leaves_below m row in

@@ -1,24 +1,27 @@
 -- Laws of sources.
-use Rattle.std.specs.Prelude.{◌≡◌, ◌⊎◌, ℕ, ◌+◌, ◌-◌, ◌*◌, ◌<◌, ◌≤◌, List, ◌∷◌, length, is_some}
-use Rattle.std.specs.Prelude.{slice_index_or, [], true}
+use Rattle.std.specs.Prelude.{◌≡◌, ◌⊎◌, ℕ, ◌+◌, ◌-◌, ◌*◌, ◌<◌, ◌≤◌, List, ◌∷◌, ◌++◌, length}
+use Rattle.std.specs.Prelude.{[], is_some, slice_index_or, true}
 use Rattle.merkle.specs.Partial.{PartialState, Takes, known_at}
 use Rattle.merkle.specs.Tree.{node_number}
 use Rattle.share_layout.specs.Geometry.{Geometry, segment_count}
 use Rattle.share_layout.specs.Pieces.{block_length}
 use Rattle.download_plan.specs.Laws.{AreApart}
-use Rattle.download_plan.specs.Plan.{IsAmong, IsNodePiece, length_of, nodes_of, place_of}
+use Rattle.download_plan.specs.Plan.{IsAmong, IsNodePiece, IsPart, length_of, nodes_of}
+use Rattle.download_plan.specs.Plan.{place_of}
 use Rattle.download_plan.specs.Range.{IsRange}
 use Rattle.download_plan.specs.declared.part.NodePiece.{NodePiece}
 use Rattle.download_plan.specs.declared.part.Nodes.{Nodes}
 use Rattle.download_plan.specs.declared.part.Part.{Part}
-use Rattle.download_plan.specs.declared.part.Part.TheVariants.{Data}
+use Rattle.download_plan.specs.declared.part.Part.TheVariants.{CiphertextTree, Data}
 use Rattle.download_trees.specs.Offers.{nodes_offered}
 use Rattle.download_trees.specs.Trees.{LeadTo, known_leaf}
-use Rattle.download_source.specs.Asking.{IsWanted, IsWithin}
+use Rattle.download_source.specs.Asking.{IsAsked, IsWanted, IsWithin}
 use Rattle.download_source.specs.Blocks.{IsReady, block_end, block_first, joined_block}
 use Rattle.download_source.specs.Cursors.{IsPassed, LeadOn}
 use Rattle.download_source.specs.Source.{IsPartOf, IsSource, SourceState, first_of}
+use Rattle.download_source.specs.Source.{gives_from}
 use Rattle.download_source.specs.Taking.{IsDue}
+use Rattle.download_source.specs.declared.cursors.Cursors.{Cursors}
 
 -- a law: two parts that a source is read in are one, or they have no byte in common
 abbrev pub SourcePartsAreApart : Type 0
@@ -63,3 +66,22 @@ JoinedHasLength = (g : Geometry) (a b segment : ℕ) (pieces : List (List ℕ)) 
     → ((k : ℕ) → k < length pieces → length (slice_index_or pieces k [])
     ≡ length_of g a b (Data (block_first g a segment + k)))
     → length (joined_block g a segment pieces) ≡ block_length g segment
+
+-- a law: parts that wait to be taken, and those that are asked then, lead on together
+abbrev pub LeadOnTogether : Type 0
+LeadOnTogether = (from between to : Cursors) (waiting parts : List Part)
+    → LeadOn from waiting between → LeadOn between parts to → LeadOn from (waiting ++ parts) to
+
+-- a law: parts that wait to be taken lead on where the source begins to give the ciphertext tree,
+-- of which nothing was asked
+abbrev pub LeadOnGiving : Type 0
+LeadOnGiving = (s : SourceState) (levels : List ℕ) (waiting : List Part) → IsSource s
+    → ((p : NodePiece) → ¬ IsAsked s (CiphertextTree p))
+    → LeadOn s.taken waiting s.asked
+    → LeadOn (gives_from s levels).taken waiting (gives_from s levels).asked
+
+-- a law: each part of a plan is one of each longer plan, at its place, and has its bytes there
+abbrev pub LongerPlansHoldMore : Type 0
+LongerPlansHoldMore = (g : Geometry) (a b c : ℕ) (part : Part) → b ≤ c → IsPart g a b part
+    → IsPart g a c part × (place_of g a c part ≡ place_of g a b part)
+    × (length_of g a b part ≤ length_of g a c part)

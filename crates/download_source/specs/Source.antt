@@ -14,9 +14,9 @@ use Rattle.download_trees.specs.Trees.{LeadTo}
 use Rattle.download_source.specs.Cursors.{IsPassed, cursor_at, no_parts}
 use Rattle.download_source.specs.declared.cursors.Cursors.{Cursors}
 
--- A source of the blocks of the segments `first` to before `end`, in a download whose first segment
--- is `start`: what was asked of it, and what was taken. It gives the ciphertext tree from the pieces
--- `given` on, of each level.
+-- A source of the blocks of the segments `first` to before `end`, in a download whose first
+-- segment is `start`: what was asked of it, and what was taken. It gives the ciphertext tree from
+-- the pieces `given` on, of each level.
 pub record SourceState : Type 0 where
   pub geometry : Geometry
   pub start : ℕ

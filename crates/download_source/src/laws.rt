@@ -1,8 +1,9 @@
 //! Laws of sources.
 
-ghost use Rattle.download_source.specs.Laws.{FirstIsDue, JoinedHasLength, LeavesAreKnown};
-ghost use Rattle.download_source.specs.Laws.{SourcePartsAreApart, TakenIsReady};
-ghost use Rattle.download_source.specs.Laws.{TakenNodesAreKnown};
+ghost use Rattle.download_source.specs.Laws.{FirstIsDue, JoinedHasLength, LeadOnGiving};
+ghost use Rattle.download_source.specs.Laws.{LeadOnTogether, LeavesAreKnown};
+ghost use Rattle.download_source.specs.Laws.{LongerPlansHoldMore, SourcePartsAreApart};
+ghost use Rattle.download_source.specs.Laws.{TakenIsReady, TakenNodesAreKnown};
 
 /// A law of the definitions: two parts that a source is read in are one, or they have no byte in
 /// common. The law is the contract; the call does nothing.
@@ -38,4 +39,22 @@ pub fn leaves_are_known()
 /// block's length. The law is the contract; the call does nothing.
 pub fn joined_has_length()
     ensures { JoinedHasLength }
+{}
+
+/// A law of the definitions: parts that wait to be taken, and those that are asked then, lead on
+/// together. The law is the contract; the call does nothing.
+pub fn waiting_goes_on()
+    ensures { LeadOnTogether }
+{}
+
+/// A law of the definitions: parts that wait to be taken lead on where the source begins to give
+/// the ciphertext tree. The law is the contract; the call does nothing.
+pub fn waiting_goes_on_giving()
+    ensures { LeadOnGiving }
+{}
+
+/// A law of the definitions: each part of a plan is one of each longer plan, at its place, and has
+/// its bytes there. The law is the contract; the call does nothing.
+pub fn longer_plans_hold_more()
+    ensures { LongerPlansHoldMore }
 {}

@@ -7,4 +7,6 @@ mod outside_tests;
 #[cfg(test)]
 mod share_tests;
 #[cfg(test)]
+mod source_tests;
+#[cfg(test)]
 mod taking;
