@@ -1,8 +1,10 @@
-//! The tests of how shares are begun to be read, and of plans: what no contract says, and values
-//! from outside.
+//! The tests of how shares are begun to be read, of plans, and of what sources are asked for: what
+//! no contract says, and values from outside.
 #![tactic(auto)]
 
 #[cfg(test)]
 mod opening_tests;
 #[cfg(test)]
 mod plan_tests;
+#[cfg(test)]
+mod source_tests;

@@ -7,6 +7,4 @@ mod outside_tests;
 #[cfg(test)]
 mod share_tests;
 #[cfg(test)]
-mod source_tests;
-#[cfg(test)]
 mod taking;

@@ -1,14 +1,12 @@
 // What a source is asked for.
 
+use crate::plan_tests::{COUNTS, Count};
 use download_plan::{Part, Plan};
 use download_source::{Source, Wanted};
 use share_layout::Geometry;
 use std::test::Fail;
 
-// How many parts there are, and of how many bytes.
-type Count = (u32, u64);
-
-// How many parts of each section are asked.
+// How many parts of each section are asked, and of how many bytes.
 #[derive(Clone, Copy)]
 struct Asked {
     hashes: Count,
@@ -23,28 +21,6 @@ const NOTHING: Asked = Asked {
     ciphertext_tree: (0, 0),
     data: (0, 0),
 };
-
-// The size of a file in bytes, at 3 of 10, and its greatest segment; the first segment that is
-// wanted and the one behind the last; the parts of a tree, and those of the blocks. The numbers are
-// from a program of its own, in Python.
-const COUNTS: [((u64, u32), (u32, u32), Count, Count); 6] = [
-    ((1 << 30, 131_072), (4_095, 4_096), (2, 6_144), (2, 43_691)),
-    (
-        (1 << 30, 131_072),
-        (4_095, 4_104),
-        (2, 10_240),
-        (13, 393_219),
-    ),
-    ((1 << 20, 131_072), (3, 4), (1, 256), (2, 43_691)),
-    ((1 << 20, 131_072), (0, 8), (1, 256), (11, 349_526)),
-    (
-        (1 << 40, 1 << 20),
-        (524_287, 524_288),
-        (3, 10_240),
-        (11, 349_526),
-    ),
-    ((56, 131_072), (0, 1), (0, 0), (1, 19)),
-];
 
 fn more((parts, bytes): Count, wanted: &Wanted) -> Count {
     (
