@@ -196,7 +196,8 @@ impl Source {
     /// Whether the block of a segment can be told right or wrong: all pieces of the data that hold
     /// it are taken, and its hash is known.
     pub fn is_ready(&self, segment: u32) -> bool
-        ensures { IsTrue result ↔ IsReady self.now segment }
+        ensures ready { IsTrue result ↔ IsReady self.now segment }
+        ensures right { IsSource self.now }
     {
         if segment < self.plan.first || self.plan.end <= segment {
             return false;
