@@ -52,8 +52,8 @@ impl<P: Pieces + Drop> Client for UploadClient<P> {
         self.upload.take_outgoing(alloc)
     }
 
-    fn on_message(&mut self, from: NodeId, message: &Message, now: u64) -> Result<(), AllocError> {
-        self.upload.on_message(from, message, now)
+    fn on_message(&mut self, from: NodeId, message: Message, now: u64) -> Result<(), AllocError> {
+        self.upload.on_message(from, &message, now)
     }
 
     fn tick(&mut self, now: u64) -> Result<(), AllocError> {

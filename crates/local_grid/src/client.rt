@@ -21,9 +21,9 @@ pub trait Client {
         ensures ok { IfOk result (λ taken. calls.takes self.old taken self.new) }
         ensures err { OnErr result (calls.gives_up self.old self.new) };
 
-    /// Takes a message from a node, at a second.
-    fn on_message(&mut self, from: NodeId, message: &Message, now: u64) -> Result<(), AllocError>
-        ensures ok { OnOk result (calls.hears self.old from message.now now self.new) }
+    /// Takes a message from a node over, at a second.
+    fn on_message(&mut self, from: NodeId, message: Message, now: u64) -> Result<(), AllocError>
+        ensures ok { OnOk result (calls.hears self.old from message now self.new) }
         ensures err { OnErr result (calls.gives_up self.old self.new) };
 
     /// Takes note of a second.

@@ -166,7 +166,7 @@ impl<S: Store, L: Link> LocalGrid<S, L> {
         ensures clock { self.new.clock ≡ self.old.clock }
     {
         match self.ask(node, message)? {
-            Some(answer) => client.on_message(node, &answer, self.clock),
+            Some(answer) => client.on_message(node, answer, self.clock),
             None => Ok(()),
         }
     }

@@ -127,7 +127,7 @@ impl<'a> Client for Asker<'a> {
         Ok(Some((*node, message)))
     }
 
-    fn on_message(&mut self, from: NodeId, message: &Message, now: u64) -> Result<(), AllocError> {
+    fn on_message(&mut self, from: NodeId, message: Message, now: u64) -> Result<(), AllocError> {
         self.heard
             .push((from, now, message.number, heard_of(&message.body)))?;
         Ok(())
