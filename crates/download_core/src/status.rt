@@ -1,5 +1,8 @@
 //! Where a download stands, whom it blames, and what it hands out.
 
+ghost use Rattle.std.specs.Prelude.{◌≡◌};
+ghost use Rattle.download_core.specs.Refusals.{refusal_number};
+
 use proved_parts::Bytes;
 use share_verify::Check;
 use wire::message::NodeId;
@@ -45,4 +48,16 @@ pub enum DownloadError {
     OutOfMemory,
     /// The range ends before it begins, or behind the file's end.
     BadRange,
+}
+
+impl DownloadError {
+    /// The number that the program prints with this refusal: 1 or 73.
+    pub fn number(self) -> u8
+        ensures { result ≡ refusal_number self }
+    {
+        match self {
+            DownloadError::OutOfMemory => 1,
+            DownloadError::BadRange => 73,
+        }
+    }
 }
