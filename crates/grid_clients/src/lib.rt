@@ -1,4 +1,5 @@
 //! The machines of operations as clients of the loop that carries their messages.
 #![tactic(auto)]
 
+pub mod download;
 pub mod upload;

@@ -1,0 +1,10 @@
+use Rattle.std.proofs.Common.{length}
+use Rattle.grid_clients.proofs.Written.{Written}
+use Rattle.grid_clients.proofs.download.write_pieces.Given as goal
+
+abbrev pub invariant-pieces : goal.invariant-pieces
+invariant-pieces g l = Written l.fn.download (g.W.Write.contents l.fn.out) l.download (g.W.Write.contents l.out)
+
+-- a piece fewer is ready each time
+abbrev pub decreases-pieces : goal.decreases-pieces
+decreases-pieces g l = length l.download.ready

@@ -1,0 +1,83 @@
+-- A download as a client of the loop, which writes what the download hands out.
+use Rattle.std.specs.Prelude.{◌≡◌, ℕ, ◌+◌, List, [], ◌∷◌, ◌++◌, length, Bool, true, false, ◌&&◌}
+use Rattle.std.specs.Prelude.{not, Option}
+use Rattle.std.specs.Io.KnownBytes.{Appends}
+use Rattle.std.specs.List.{flat_map}
+use Rattle.wire.specs.declared.message.Message.{Message}
+use Rattle.download_core.specs.declared.status.DownloadStatus.{DownloadStatus}
+use Rattle.download_core.specs.declared.status.DownloadStatus.TheVariants.{Running, Done, Failed}
+use Rattle.download_core.specs.declared.status.DownloadStatus.TheVariants.{NotEnoughShares}
+use Rattle.download_core.specs.declared.status.DownloadStatus.TheVariants.{Inconsistent}
+use Rattle.download_core.specs.declared.status.Piece.{Piece}
+use Rattle.download_core.specs.Moves.{Advances, TicksOn}
+use Rattle.download_core.specs.Right.{IsRight}
+use Rattle.download_core.specs.Sending.{Takes}
+use Rattle.download_core.specs.State.{DownloadState}
+use Rattle.local_grid.specs.Clients.{ClientCalls}
+
+-- the download, the bytes that its writer holds, where they are known, and whether a write failed
+pub record Downloading : Type 0 where
+  pub download : DownloadState
+  pub written : Option (List ℕ)
+  pub failed : Bool
+
+abbrev pub is_running : DownloadStatus → Bool
+is_running Running = true
+is_running Done = false
+is_running NotEnoughShares = false
+is_running Inconsistent = false
+is_running Failed = false
+
+-- A download is carried on while it runs and its writer takes what it hands out.
+abbrev pub is_to_carry : Downloading → Bool
+is_to_carry c = is_running c.download.status && not c.failed
+
+-- the bytes of pieces, one after another
+abbrev pub bytes_of : List Piece → List ℕ
+bytes_of = flat_map (λ (p : Piece). p.bytes)
+
+-- the place behind the last of these pieces, or this place where there is none
+abbrev pub end_of : ℕ → List Piece → ℕ
+end_of place [] = place
+end_of place (p ∷ ps) = end_of (p.place + length p.bytes) ps
+
+-- These pieces were taken: the first ones of those that were ready.
+pub record Hands (pieces : List Piece) (old new : DownloadState) : Type 0 where
+  pub ready : old.ready ≡ pieces ++ new.ready
+  pub others : new ≡ record old { ready = new.ready; handed = end_of old.handed pieces }
+
+-- What is ready is right, and all of it is taken and written, piece after piece. Where the writer
+-- fails at a piece, no further one is taken.
+pub record Writes (old : DownloadState) (before : Option (List ℕ)) (new : DownloadState)
+    (after : Option (List ℕ)) (failed : Bool) : Type 0 where
+  pub right : IsRight old
+  pub pieces : List Piece
+  pub hands : Hands pieces old new
+  pub all : failed ≡ false → (new.ready ≡ []) × Appends before after (bytes_of pieces)
+
+-- A call moves the download, and what is ready then is written. Once a write has failed, nothing
+-- more is.
+pub record MovesAndWrites (moves : DownloadState → DownloadState → Type 0)
+    (old new : Downloading) : Type 0 where
+  pub moved : DownloadState
+  pub moves_on : moves old.download moved
+  pub goes_on : old.failed ≡ false
+      → Writes moved old.written new.download new.written new.failed
+  pub ended : old.failed ≡ true → new ≡ record old { download = moved }
+
+-- a call that changes the download alone
+pub record MovesDownload (moves : DownloadState → DownloadState → Type 0)
+    (old new : Downloading) : Type 0 where
+  pub moved : moves old.download new.download
+  pub written : new.written ≡ old.written
+  pub failed : new.failed ≡ old.failed
+
+-- what the calls of a download do
+abbrev pub download_calls : ClientCalls Downloading
+download_calls = record {
+  runs = is_to_carry;
+  takes = λ old taken new. MovesDownload (λ was is. Takes was taken is) old new;
+  hears = λ old from m now new. MovesAndWrites (Advances from m now) old new;
+  ticks = λ old now new. MovesAndWrites (TicksOn now) old new;
+  gives_up = MovesDownload (λ was is. is.status ≡ Failed);
+}

@@ -1,0 +1,112 @@
+//! A download as a client.
+
+ghost use Rattle.std.specs.Prelude.{◌≡◌, false, is_ok, not, true};
+ghost use Rattle.grid_clients.specs.DownloadCalls.{Writes, download_calls, is_to_carry};
+
+use download_core::Download;
+use download_core::status::DownloadStatus;
+use local_grid::client::Client;
+use std::alloc::{AllocError, Global};
+use std::io::{self, Write};
+use std::marker::Model;
+use wire::message::{Message, NodeId};
+
+/// A download that the loop carries on. What it hands out is written at once, so that memory never
+/// holds the file twice, as answers and as bytes.
+#[derive(Drop)]
+pub struct DownloadClient<W: Write> {
+    download: Download,
+    out: W,
+    failed: bool,
+}
+
+impl<W: Write> Model for DownloadClient<W> {
+    ghost use Rattle.grid_clients.specs.DownloadCalls.{Downloading};
+
+    ghost Value = { Downloading };
+
+    ghost view = { λ c. record {
+      download = c.download;
+      written = W.contents c.out;
+      failed = c.failed;
+    } };
+}
+
+impl<W: Write> DownloadClient<W> {
+    /// Takes over a download, and the writer of its bytes.
+    pub fn new(download: Download, out: W) -> DownloadClient<W>
+        ensures { result ≡ record {
+          download = download;
+          written = W.contents out;
+          failed = false;
+        } }
+    {
+        DownloadClient {
+            download,
+            out,
+            failed: false,
+        }
+    }
+
+    /// Where the download stands.
+    pub fn status(&self) -> DownloadStatus
+        ensures { result ≡ self.now.download.status }
+    {
+        self.download.status()
+    }
+
+    /// Has the writer failed?
+    pub fn has_failed(&self) -> bool
+        ensures { result ≡ self.now.failed }
+    {
+        self.failed
+    }
+
+    // Writes what is ready.
+    fn write_ready(&mut self)
+        ensures goes_on { self.old.failed ≡ false → Writes self.old.download self.old.written
+            self.new.download self.new.written self.new.failed }
+        ensures ended { self.old.failed ≡ true → self.new ≡ self.old }
+    {
+        if !self.failed {
+            self.failed = write_pieces(&mut self.download, &mut self.out).is_err();
+        }
+    }
+}
+
+impl<W: Write> Client for DownloadClient<W> {
+    ghost calls = { download_calls };
+
+    fn is_running(&self) -> bool {
+        matches!(self.download.status(), DownloadStatus::Running) && !self.failed
+    }
+
+    fn take_outgoing(&mut self, _alloc: Global) -> Result<Option<(NodeId, Message)>, AllocError> {
+        Ok(self.download.take_outgoing())
+    }
+
+    fn on_message(&mut self, from: NodeId, message: Message, now: u64) -> Result<(), AllocError> {
+        self.download.on_message(from, message, now)?;
+        self.write_ready();
+        Ok(())
+    }
+
+    fn tick(&mut self, now: u64) -> Result<(), AllocError> {
+        self.download.tick(now)?;
+        self.write_ready();
+        Ok(())
+    }
+}
+
+// Writes all pieces that are ready, in their order, up to one at which the writer fails.
+fn write_pieces<W: Write>(download: &mut Download, out: &mut W) -> io::Result<()>
+    ensures { Writes download.old (W.contents out.old) download.new (W.contents out.new)
+        (not (is_ok result)) }
+{
+    // No effect at run time. The proof reads from it that what is ready is right.
+    let _ = download.status();
+    'pieces: while let Some(piece) = download.take_bytes() {
+        out.write_all(piece.bytes.as_slice())?;
+    }
+    Ok(())
+}
