@@ -1,5 +1,7 @@
--- What the end of an upload is for its user.
+-- What the end of an upload or a download is for its user.
 use Rattle.std.specs.Prelude.{ℕ, Result, Ok, Err, length}
+use Rattle.download_core.specs.declared.status.DownloadStatus.{DownloadStatus}
+use Rattle.download_core.specs.declared.status.DownloadStatus.TheVariants as downloads
 use Rattle.upload_core.specs.declared.status.UploadStatus.{UploadStatus}
 use Rattle.upload_core.specs.declared.status.UploadStatus.TheVariants.{Running, Happy}
 use Rattle.upload_core.specs.declared.status.UploadStatus.TheVariants.{Unhappy, Failed}
@@ -14,3 +16,12 @@ ending_of wanted (Happy pairs) = Ok (length pairs)
 ending_of wanted (Unhappy reached blocking) =
     Err (faults.Unhappy reached wanted)
 ending_of wanted (Failed fault) = Err faults.OutOfMemory
+
+-- Nothing, where all bytes of the range were handed out, or the fault. A download fails for want of
+-- memory alone.
+abbrev pub end_of_download : DownloadStatus → Result (Unit {0}) Fault
+end_of_download downloads.Running = Err faults.TurnLimit
+end_of_download downloads.Done = Ok tt
+end_of_download downloads.NotEnoughShares = Err faults.NotEnoughShares
+end_of_download downloads.Inconsistent = Err faults.Inconsistent
+end_of_download downloads.Failed = Err faults.OutOfMemory

@@ -6,15 +6,15 @@ use Rattle.cap_text.specs.declared.error.CapError.{CapError}
 use Rattle.cap_text.specs.declared.error.CapError.TheVariants as caps
 use Rattle.file_encoding.specs.declared.error.EncodeError.{EncodeError}
 use Rattle.file_encoding.specs.declared.error.EncodeError.TheVariants as encodings
-use Rattle.file_encoding.specs.declared.reading.ReadError.{ReadError}
-use Rattle.file_encoding.specs.declared.reading.ReadError.TheVariants as readings
+use Rattle.download_core.specs.declared.status.DownloadError.{DownloadError}
+use Rattle.download_core.specs.declared.status.DownloadError.TheVariants as downloads
 use Rattle.local_grid.specs.declared.error.LoopError.{LoopError}
 use Rattle.local_grid.specs.declared.error.LoopError.TheVariants as loops
 use Rattle.grid_rules.specs.declared.fault.Fault.{Fault}
 use Rattle.grid_rules.specs.declared.fault.Fault.TheVariants.{OutOfMemory, BadParameters, Cap}
 use Rattle.grid_rules.specs.declared.fault.Fault.TheVariants.{TooLarge, TooManySegments, Unhappy}
 use Rattle.grid_rules.specs.declared.fault.Fault.TheVariants.{NotEnoughShares, Inconsistent, File}
-use Rattle.grid_rules.specs.declared.fault.Fault.TheVariants.{NeedsReadCap, TurnLimit}
+use Rattle.grid_rules.specs.declared.fault.Fault.TheVariants.{BadRange, NeedsReadCap, TurnLimit}
 
 -- the number of a fault
 abbrev pub fault_number : Fault → ℕ
@@ -26,6 +26,7 @@ fault_number TooManySegments = 31
 fault_number (Unhappy _ _) = 70
 fault_number NotEnoughShares = 71
 fault_number Inconsistent = 72
+fault_number BadRange = 73
 fault_number (File _) = 90
 fault_number TurnLimit = 92
 fault_number NeedsReadCap = 94
@@ -40,6 +41,7 @@ fault_status TooManySegments = 3
 fault_status (Unhappy _ _) = 4
 fault_status NotEnoughShares = 5
 fault_status Inconsistent = 6
+fault_status BadRange = 3
 fault_status (File _) = 7
 fault_status TurnLimit = 7
 fault_status NeedsReadCap = 3
@@ -61,11 +63,10 @@ fault_of_encoding encodings.BadParameters = BadParameters
 fault_of_encoding encodings.TooLarge = TooLarge
 fault_of_encoding encodings.TooManySegments = TooManySegments
 
--- the fault that an error of reading becomes
-abbrev pub fault_of_reading : ReadError → Fault
-fault_of_reading readings.OutOfMemory = OutOfMemory
-fault_of_reading readings.NotEnoughShares = NotEnoughShares
-fault_of_reading readings.Inconsistent = Inconsistent
+-- the fault that the refusal of a download's start becomes
+abbrev pub fault_of_download : DownloadError → Fault
+fault_of_download downloads.OutOfMemory = OutOfMemory
+fault_of_download downloads.BadRange = BadRange
 
 -- the fault that the loop's refusal becomes
 abbrev pub fault_of_loop : LoopError → Fault

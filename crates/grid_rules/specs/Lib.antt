@@ -2,3 +2,4 @@
 pub mod Fault
 pub mod CapLines
 pub mod Ending
+pub mod Range

@@ -1,9 +1,10 @@
-//! What the end of an upload is for its user.
+//! What the end of an upload or a download is for its user.
 
 ghost use Rattle.std.specs.Prelude.{◌≡◌};
-ghost use Rattle.grid_rules.specs.Ending.{ending_of};
+ghost use Rattle.grid_rules.specs.Ending.{end_of_download, ending_of};
 
 use crate::fault::Fault;
+use download_core::status::DownloadStatus;
 use upload_core::status::UploadStatus;
 
 /// The happiness that an upload reached, of which so much was wanted, or the fault that it ended
@@ -19,5 +20,19 @@ pub fn reached_happiness(status: &UploadStatus, wanted: u16) -> Result<usize, Fa
             wanted,
         }),
         UploadStatus::Failed(_) => Err(Fault::OutOfMemory),
+    }
+}
+
+/// Refuses a download that did not hand out all bytes of its range, with the fault that it ended
+/// with.
+pub fn reached_range_end(status: DownloadStatus) -> Result<(), Fault>
+    ensures { result ≡ end_of_download status }
+{
+    match status {
+        DownloadStatus::Running => Err(Fault::TurnLimit),
+        DownloadStatus::Done => Ok(()),
+        DownloadStatus::NotEnoughShares => Err(Fault::NotEnoughShares),
+        DownloadStatus::Inconsistent => Err(Fault::Inconsistent),
+        DownloadStatus::Failed => Err(Fault::OutOfMemory),
     }
 }

@@ -3,11 +3,12 @@
 ghost use Rattle.std.specs.Prelude.{◌≡◌, ◌↔◌, IsTrue};
 ghost use Rattle.std.specs.IoError.{error_kind};
 ghost use Rattle.grid_rules.specs.Fault.{fault_number, fault_of_cap, fault_of_encoding};
-ghost use Rattle.grid_rules.specs.Fault.{fault_of_loop};
-ghost use Rattle.grid_rules.specs.Fault.{TellsPath, fault_of_reading, fault_status};
+ghost use Rattle.grid_rules.specs.Fault.{TellsPath, fault_of_download, fault_of_loop};
+ghost use Rattle.grid_rules.specs.Fault.{fault_status};
 
 use cap_text::CapError;
-use file_encoding::{EncodeError, ReadError};
+use download_core::status::DownloadError;
+use file_encoding::EncodeError;
 use local_grid::error::LoopError;
 use std::alloc::{AllocError, AllocFailed, Global};
 use std::io::{self, ErrorKind};
@@ -40,6 +41,9 @@ pub enum Fault {
     /// The shares pass their checks, and yet are not those of one file.
     #[error("Inconsistent")]
     Inconsistent,
+    /// The range ends before it begins, or behind the file's end.
+    #[error("BadRange")]
+    BadRange,
     /// The file or the folder of this path could not be read or written.
     #[error("FileFault {0}")]
     File(String),
@@ -65,6 +69,7 @@ impl Fault {
             Fault::Unhappy { .. } => 70,
             Fault::NotEnoughShares => 71,
             Fault::Inconsistent => 72,
+            Fault::BadRange => 73,
             Fault::File(_) => 90,
             Fault::TurnLimit => 92,
             Fault::NeedsReadCap => 94,
@@ -81,6 +86,7 @@ impl Fault {
             | Fault::Cap(_)
             | Fault::TooLarge
             | Fault::TooManySegments
+            | Fault::BadRange
             | Fault::NeedsReadCap => 3,
             Fault::Unhappy { .. } => 4,
             Fault::NotEnoughShares => 5,
@@ -136,14 +142,13 @@ impl From<EncodeError> for Fault {
     }
 }
 
-impl From<ReadError> for Fault {
-    ghost from_gives = { λ error fault. fault ≡ fault_of_reading error };
+impl From<DownloadError> for Fault {
+    ghost from_gives = { λ error fault. fault ≡ fault_of_download error };
 
-    fn from(error: ReadError) -> Fault {
+    fn from(error: DownloadError) -> Fault {
         match error {
-            ReadError::OutOfMemory => Fault::OutOfMemory,
-            ReadError::NotEnoughShares => Fault::NotEnoughShares,
-            ReadError::Inconsistent => Fault::Inconsistent,
+            DownloadError::OutOfMemory => Fault::OutOfMemory,
+            DownloadError::BadRange => Fault::BadRange,
         }
     }
 }
