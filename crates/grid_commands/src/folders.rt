@@ -2,18 +2,12 @@
 
 use crate::files::at_path;
 use grid_rules::Fault;
-use std::alloc::Global;
 use std::io::ErrorKind;
 use std::rt::Files;
 use std::{fs, io};
 
 /// The greatest number of server folders.
 pub(crate) const MAX_SERVERS: u16 = 256;
-
-/// The folder of a server.
-pub(crate) fn server_folder(alloc: Global, grid: &str, server: u16) -> Result<String, Fault> {
-    Ok(format!(in alloc; "{grid}/server-{server:03}")?)
-}
 
 /// Refuses a grid's folder that is not there.
 pub(crate) fn is_grid<R: Files + AllocGlobal + Clone + Drop>(

@@ -1,115 +1,97 @@
-//! `grid get`: the file of a cap, from the shares that the servers hold.
+//! `grid get`: bytes of a cap's file, from the servers of a grid.
 
-ghost use Rattle.std.specs.Prelude.{◌≡◌, ◌<◌, ◌≤◌, ◌^◌};
+ghost use Rattle.std.specs.Prelude.{◌≡◌, ◌≤◌, length};
+ghost use Rattle.grid_rules.specs.Range.{IsWithin};
 
 use crate::folders::is_grid;
-use crate::share_files::{ShareFile, share_files};
+use crate::servers::{FolderGrid, SESSION, open_servers, standing_names};
 use crate::words::GetWords;
+use crate::{Failure, print};
 use cap_text::{Cap, ReadCap};
-use file_encoding::{ReadError, read_from, verify_share};
-use grid_rules::Fault;
-use merkle::height;
-use std::alloc::{AllocError, Global};
+use download_core::Download;
+use grid_clients::download::DownloadClient;
+use grid_rules::{ByteRange, Fault, range_of, reached_range_end};
+use std::alloc::Global;
+use std::io::Write;
 use std::rt::Files;
-use tagged_hash::storage_index;
+use wire::message::NodeId;
 
-/// Reads the file of a cap: from the cap itself where it holds the file, else from shares of the
-/// servers.
-pub(crate) fn get<R>(rt: &R, words: &GetWords) -> Result<Vec<u8>, Fault>
+/// Writes bytes of the file of a cap: from the cap itself where it holds the file, else from what
+/// the servers answer, each segment once it is proved.
+pub(crate) fn get<R, O>(rt: &R, words: &GetWords, out: &mut O) -> Result<(), Failure>
 where
     R: Files + AllocGlobal + Clone + Drop,
+    O: Write,
 {
-    match Cap::parse(words.cap.as_bytes())? {
+    match read_cap(words.cap)? {
         Cap::Chk(cap) => {
-            is_grid(rt, words.grid)?;
-            read_grid(rt, words.grid, &cap)
+            let range = range_of(words.from, words.to, cap.size())?;
+            download(rt, words.grid, cap, &range, out)
         }
-        Cap::Verify(_) => Err(Fault::NeedsReadCap),
-        Cap::Lit(cap) => Ok(Vec::from_slice(rt.alloc(), cap.data())?),
+        Cap::Verify(_) => Err(Failure::Fault(Fault::NeedsReadCap)),
+        Cap::Lit(cap) => {
+            let range = range_of(words.from, words.to, cap.data().len() as u64)?;
+            print(out, bytes_in(cap.data(), &range))
+        }
     }
 }
 
-// The file of a cap. First the shares of the lowest numbers are read, as many as are needed, and
-// tested while they are decoded. Where one of them fails, the files are read anew, one after another,
-// and only those that pass are kept. At no time are more shares held than are needed.
-fn read_grid<R>(rt: &R, grid: &str, cap: &ReadCap) -> Result<Vec<u8>, Fault>
+/// The cap that a text spells.
+pub(crate) fn read_cap(text: &str) -> Result<Cap, Fault> {
+    Ok(Cap::parse(text.as_bytes())?)
+}
+
+// The bytes of a range.
+fn bytes_in<'a>(bytes: &'a [u8], range: &ByteRange) -> &'a [u8]
+    requires { IsWithin (length bytes.now) range.now }
+{
+    &bytes[range.from as usize..range.to as usize]
+}
+
+// Writes a range of a file, from the servers whose folders stand in a grid.
+fn download<R, O>(
+    rt: &R,
+    grid: &str,
+    cap: ReadCap,
+    range: &ByteRange,
+    out: &mut O,
+) -> Result<(), Failure>
 where
     R: Files + AllocGlobal + Clone + Drop,
+    O: Write,
 {
-    let files = share_files(rt, grid, &storage_index(cap.key()))?;
-    let first = lowest_shares(rt, cap, &files, |_, _| true)?;
-    match read_held(rt.alloc(), cap, &first) {
-        Err(ReadError::NotEnoughShares) => {}
-        outcome => return Ok(outcome?),
-    }
-    drop(first);
-    let verify_cap = cap.to_verify();
-    let sound = lowest_shares(rt, cap, &files, |number, bytes| {
-        verify_share(&verify_cap, number, bytes).is_ok()
-    })?;
-    Ok(read_held(rt.alloc(), cap, &sound)?)
+    is_grid(rt, grid)?;
+    let names = standing_names(rt, grid)?;
+    let mut servers = open_servers(rt, grid, &names)?;
+    let download = begin_download(rt.alloc(), cap, range, names.len() as u16)?;
+    carry(&mut servers, download, &mut *out)?;
+    print(out, &[])
 }
 
-// A share as a server holds it: its number by its name, and its bytes.
-#[derive(Drop)]
-struct HeldShare {
-    number: u16,
-    bytes: Vec<u8>,
+// The download of a range of a file, from so many servers.
+fn begin_download(
+    alloc: Global,
+    cap: ReadCap,
+    range: &ByteRange,
+    servers: u16,
+) -> Result<Download, Fault> {
+    let nodes: Vec<NodeId> = (0..servers).collect(alloc)?;
+    let (from, to) = (range.from, range.to);
+    Ok(Download::start(alloc, cap, from, to, &nodes, SESSION, 0)?)
 }
 
-// The shares of the lowest numbers that can be read and pass a test, as many as are needed, and of
-// each number the first.
-fn lowest_shares<R, F>(
-    rt: &R,
-    cap: &ReadCap,
-    files: &[ShareFile],
-    passes: F,
-) -> Result<Vec<HeldShare>, Fault>
+// Carries a download to its end, and writes what it hands out.
+fn carry<R, W>(servers: &mut FolderGrid<R>, download: Download, out: W) -> Result<(), Failure>
 where
-    R: Files + AllocGlobal,
-    F: Fn(u16, &[u8]) -> bool,
-    requires { F.IsAlwaysCallable passes }
+    R: Files + AllocGlobal + Drop,
+    W: Write + Drop,
 {
-    let limit = greatest_share(cap);
-    let mut held: Vec<HeldShare> = Vec::with_capacity(rt.alloc(), usize::from(cap.needed()))?;
-    for file in files {
-        let number = u16::from(file.number);
-        if held.len() >= usize::from(cap.needed()) {
-            break;
-        }
-        if held.last().is_some_and(|last| last.number == number) {
-            continue;
-        }
-        if let Some(bytes) = file.read(rt, limit)? {
-            if passes(number, &bytes) {
-                held.push(HeldShare { number, bytes })?;
-            }
-        }
+    let mut client = DownloadClient::new(download, out);
+    if let Err(refusal) = servers.run(&mut client) {
+        return Err(Failure::Fault(Fault::from(refusal)));
     }
-    Ok(held)
-}
-
-// The file of a cap, from these shares.
-fn read_held(alloc: Global, cap: &ReadCap, held: &[HeldShare]) -> Result<Vec<u8>, ReadError> {
-    let strings = strings_of(alloc, held)?;
-    read_from(alloc, cap, &strings)
-}
-
-// Shares by their numbers.
-fn strings_of(alloc: Global, held: &[HeldShare]) -> Result<Vec<(u16, &[u8])>, AllocError> {
-    let mut strings = Vec::with_capacity(alloc, held.len())?;
-    for share in held {
-        strings.push((share.number, share.bytes.as_slice()))?;
+    if client.has_failed() {
+        return Err(Failure::Writer);
     }
-    Ok(strings)
-}
-
-// The length of the greatest share that a cap allows: the longest header, blocks, three trees over as
-// many segments as there can be, share hashes, and the longest extension block behind its length.
-fn greatest_share(cap: &ReadCap) -> u64 {
-    let data = cap.size().div_ceil(u64::from(cap.needed().max(1)));
-    let segments = data.min(u64::from(ueb::MAX_SEGMENTS)) as u32;
-    let nodes = (2u64 << height(segments)) - 1;
-    let hashes = 34 * u64::from(height(u32::from(cap.total())) + 1);
-    68 + data + 3 * 32 * nodes + hashes + 8 + ueb::MAX_LENGTH as u64
+    Ok(reached_range_end(client.status())?)
 }

@@ -10,12 +10,10 @@ mod folders;
 mod get;
 mod put;
 mod servers;
-mod share_files;
 mod words;
 
 ghost use Rattle.std.specs.Prelude.{◌≡◌};
 
-use cap_text::Cap;
 use clap::error::ErrorKind;
 use grid_rules::{Fault, cap_lines};
 use std::alloc::Global;
@@ -35,6 +33,8 @@ enum Failure {
     /// The words are wrong, or ask for help.
     Words(clap::Error),
     Fault(Fault),
+    /// The result could not be written.
+    Writer,
 }
 
 impl From<Fault> for Failure {
@@ -48,7 +48,8 @@ impl From<Fault> for Failure {
 }
 
 /// Runs the command that `words` asks for, of which the first is the program's name. Its result
-/// goes to `out`, and a fault, as one line with its number and name, to `err`.
+/// goes to `out`, and a fault, as one line with its number and name, to `err`. A `get` writes as it
+/// reads, so that a beginning of its range may stand on `out` where it ends with a fault.
 ///
 /// The exit status is 0 where it is done, 2 for wrong words, 3 for refused input, 4 for an unhappy
 /// upload, 5 for too few shares, 6 for inconsistent ones, and 7 for a file or folder, memory, or a
@@ -60,8 +61,9 @@ where
     O: io::Write,
     E: io::Write,
 {
-    match run(rt, words) {
-        Ok(result) => write(out, &result, 0),
+    match run(rt, words, out) {
+        Ok(()) => 0,
+        Err(Failure::Writer) => FAILED,
         Err(Failure::Fault(fault)) => report(rt.alloc(), err, &fault),
         Err(Failure::Words(error)) => match error.kind() {
             ErrorKind::OutOfMemory => report(rt.alloc(), err, &Fault::OutOfMemory),
@@ -83,23 +85,32 @@ pub fn refuse_words<E: io::Write>(alloc: Global, error: &io::Error, err: &mut E)
 const NOT_UTF8: &[u8] = b"error: invalid UTF-8 was detected in one or more arguments\n\n\
 For more information, try '--help'.\n";
 
-// Runs a command, and gives what goes to standard output.
-fn run<R, S>(rt: &R, words: &[S]) -> Result<Vec<u8>, Failure>
+// Runs a command, and writes its result.
+fn run<R, S, O>(rt: &R, words: &[S], out: &mut O) -> Result<(), Failure>
 where
     R: Files + AllocGlobal + Clone + Drop,
     S: AsStr,
+    O: io::Write,
 {
     match read_words(rt.alloc(), words) {
         Err(error) => Err(Failure::Words(error)),
-        Ok(Request::Put(words)) => Ok(put::put(rt, &words)?),
-        Ok(Request::Get(words)) => Ok(get::get(rt, &words)?),
-        Ok(Request::Describe(text)) => Ok(describe(rt.alloc(), text)?),
+        Ok(Request::Put(words)) => print(out, &put::put(rt, &words)?),
+        Ok(Request::Get(words)) => get::get(rt, &words, out),
+        Ok(Request::Describe(text)) => print(out, &describe(rt.alloc(), text)?),
     }
+}
+
+// Writes bytes of a result, and all that was written before them.
+fn print<O: io::Write>(out: &mut O, bytes: &[u8]) -> Result<(), Failure> {
+    if out.write_all(bytes).is_err() || out.flush().is_err() {
+        return Err(Failure::Writer);
+    }
+    Ok(())
 }
 
 // The lines that tell what the cap says that this text spells.
 fn describe(alloc: Global, text: &str) -> Result<Vec<u8>, Fault> {
-    let cap = Cap::parse(text.as_bytes())?;
+    let cap = get::read_cap(text)?;
     Ok(cap_lines(alloc, &cap)?.into_bytes())
 }
 
@@ -121,9 +132,8 @@ fn show<W: io::Write>(alloc: Global, to: &mut W, error: &clap::Error, status: u8
 
 // Writes bytes, and gives this exit status, or that of a failed writer.
 fn write<W: io::Write>(to: &mut W, bytes: &[u8], status: u8) -> u8 {
-    if to.write_all(bytes).is_err() || to.flush().is_err() {
-        FAILED
-    } else {
-        status
+    match print(to, bytes) {
+        Ok(()) => status,
+        Err(_) => FAILED,
     }
 }

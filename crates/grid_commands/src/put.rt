@@ -4,7 +4,7 @@ ghost use Rattle.std.specs.Prelude.{◌≤◌, ◌<◌, length, IfOk};
 
 use crate::files::{at_path, read_at_most};
 use crate::folders::{MAX_SERVERS, can_be_grid, make_grid};
-use crate::servers::{open_servers, server_names};
+use crate::servers::{SESSION, open_servers, server_names};
 use crate::words::PutWords;
 use cap_text::Cap;
 use file_encoding::Params;
@@ -23,9 +23,6 @@ const MAX_FILE_SIZE: u64 = 1 << 40;
 
 /// The greatest file that its cap holds, in bytes.
 const MAX_LITERAL_SIZE: usize = 55;
-
-/// The session of the one upload.
-const SESSION: u64 = 1;
 
 /// Stores a file, and gives the lines with its cap and its happiness. The cap of a small file holds
 /// it, and no server is needed.

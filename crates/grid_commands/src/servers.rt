@@ -18,6 +18,9 @@ use std::rt::Files;
 /// The greatest sum of the lengths of a server's closed shares, in bytes.
 const CAPACITY: u64 = 1 << 42;
 
+/// The session of a command's one operation.
+pub(crate) const SESSION: u64 = 1;
+
 /// The servers of a grid in this process.
 pub(crate) type FolderGrid<R> = LocalGrid<FolderStore<R>, MemoryLink>;
 
@@ -31,6 +34,30 @@ pub(crate) fn server_names(alloc: Global, servers: u16) -> Result<Vec<String>, F
         names.push(format!(in alloc; "server-{server:03}")?)?;
     }
     Ok(names)
+}
+
+/// The names of the server folders that stand in a grid.
+pub(crate) fn standing_names<R>(rt: &R, grid: &str) -> Result<Vec<String>, Fault>
+where
+    R: Files + AllocGlobal,
+    ensures { IfOk result (λ names. length names.items ≤ MAX_SERVERS) }
+{
+    let alloc = rt.alloc();
+    let mut names = Vec::new(alloc);
+    for server in 0..MAX_SERVERS {
+        let name = format!(in alloc; "server-{server:03}")?;
+        if is_standing(rt, grid, name.as_str())? {
+            names.push(name)?;
+        }
+    }
+    Ok(names)
+}
+
+// Whether there is such a folder in a grid.
+fn is_standing<R: Files + AllocGlobal>(rt: &R, grid: &str, name: &str) -> Result<bool, Fault> {
+    let path = format!(in rt.alloc(); "{grid}/{name}")?;
+    let found = if_there(fs::metadata(rt, path.as_str()))?;
+    Ok(found.is_some_and(|file| file.is_dir()))
 }
 
 /// The servers over these folders of a grid, which are made where they are not there.

@@ -26,11 +26,14 @@ pub(crate) struct PutWords<'a> {
     pub servers: u64,
 }
 
-/// `grid get CAP --grid DIR`.
+/// `grid get CAP --grid DIR ..`: places as the user wrote them. Without `to` the range ends with
+/// the file.
 #[derive(Drop)]
 pub(crate) struct GetWords<'a> {
     pub cap: &'a str,
     pub grid: &'a str,
+    pub from: u64,
+    pub to: Option<u64>,
 }
 
 /// Reads the words after the program's name. An `Err` holds `clap`'s text, of help too.
@@ -109,10 +112,16 @@ const NUMBERS: [(&str, &str, &str); 5] = [
 
 fn get_command<'a>(alloc: Global) -> Result<Command<'a>, AllocError> {
     Command::new(alloc, "get")
-        .about("Writes the file of a cap to standard output.")
+        .about("Writes the file of a cap, or a range of its bytes, to standard output.")
         .after_help(STATUSES)
         .arg(required(alloc, "CAP", "The cap that `put` printed"))?
-        .arg(grid_folder(alloc))
+        .arg(grid_folder(alloc))?
+        .arg(place(alloc, "from", "The place of the first byte").default_value("0"))?
+        .arg(place(
+            alloc,
+            "to",
+            "The place behind the last byte [default: the file's size]",
+        ))
 }
 
 fn cap_command<'a>(alloc: Global) -> Result<Command<'a>, AllocError> {
@@ -154,6 +163,14 @@ fn number<'a>(alloc: Global, name: &'a str, default: &'a str, help: &'a str) -> 
         .help(help)
 }
 
+fn place<'a>(alloc: Global, name: &'a str, help: &'a str) -> Arg<'a> {
+    Arg::new(alloc, name)
+        .long(name)
+        .value_name("PLACE")
+        .value_parser(value_parser!(u64))
+        .help(help)
+}
+
 fn put_words<'a>(matches: &ArgMatches<'a>) -> PutWords<'a> {
     PutWords {
         file: text_of(matches, "FILE"),
@@ -171,6 +188,8 @@ fn get_words<'a>(matches: &ArgMatches<'a>) -> GetWords<'a> {
     GetWords {
         cap: text_of(matches, "CAP"),
         grid: text_of(matches, "grid"),
+        from: number_of(matches, "from"),
+        to: matches.get_one::<u64>("to"),
     }
 }
 
