@@ -6,8 +6,8 @@
 // that calls fail in mid-stream too.
 
 use crate::grid_commands_tests::{
-    CLOSED, ONES, ZEROS_CAP, ZEROS_PUT, get_gives, get_line, has_share, makes_file, put_gives,
-    put_line, removes_all, words_of, zeros_go_round,
+    CAP_56, CLOSED, ONES, ZEROS_CAP, ZEROS_PUT, counted, counted_goes_round, get_gives, get_line,
+    has_share, makes_file, put_gives, put_line, removes_all, words_of, zeros_go_round,
 };
 use grid_commands::grid;
 use std::alloc::{Allocator, Global};
@@ -279,10 +279,10 @@ fn put_ending(rt: &HostRuntime, calls: &Calls, left: u64) -> Ending {
     }
 }
 
-// How `get` of them ends so.
-fn get_ending(rt: &HostRuntime, calls: &Calls, left: u64) -> Ending {
-    match get_line(rt, ZEROS_CAP) {
-        Ok(line) => ending_of(rt, calls, left, line.as_str(), &[0; 56]),
+// How `get` of a cap, whose file has these bytes, ends so.
+fn get_ending(rt: &HostRuntime, calls: &Calls, left: u64, cap: &str, file: &[u8]) -> Ending {
+    match get_line(rt, cap) {
+        Ok(line) => ending_of(rt, calls, left, line.as_str(), file),
         Err(_) => Ending::Other,
     }
 }
@@ -321,7 +321,7 @@ fn put_tells_each_failed_call(rt: HostRuntime) {
 }
 
 // More calls than `get` makes here on the grid's folder, those of 256 servers and the share's file.
-const GET_CALLS: u64 = 300;
+const GET_CALLS: u64 = 340;
 
 // Whether `get` goes well where no call fails.
 fn gets_again(rt: &HostRuntime) -> bool {
@@ -334,12 +334,35 @@ fn get_gives_the_whole_file_or_none(rt: HostRuntime) {
     let calls = Calls::new();
     let (mut has_fault, mut has_missed, mut is_whole) = (false, false, false);
     for left in 0..GET_CALLS {
-        let ending = get_ending(&rt, &calls, left);
+        let ending = get_ending(&rt, &calls, left, ZEROS_CAP, &[0; 56]);
         assert!(rt; ending != Ending::Other && gets_again(&rt), "{left}");
         has_fault |= ending == Ending::FileFault;
         has_missed |= ending == Ending::NotEnoughShares;
         is_whole = ending == Ending::Whole;
     }
     assert!(rt; has_fault && has_missed && is_whole && calls.has_cut_read.get());
+    assert!(rt; removes_all(&rt));
+}
+
+// More calls than `get` makes of a file at 3 of 10, over 7.
+const SEVENTHS_OF_TEN: u64 = 100;
+
+// Where others hold enough shares, a failed call costs one server at most: the file comes, or the
+// fault is one of the grid's folder. Each seventh call fails in turn.
+#[test]
+fn get_goes_on_without_a_failed_server(rt: HostRuntime) {
+    assert!(rt; counted_goes_round(&rt, 56, "", CAP_56, 10));
+    let file = counted(&rt, 56).unwrap_or(Vec::new(rt.alloc()));
+    let calls = Calls::new();
+    let mut is_whole = false;
+    for turn in 0..SEVENTHS_OF_TEN {
+        let ending = get_ending(&rt, &calls, 7 * turn, CAP_56, &file);
+        is_whole = ending == Ending::Whole;
+        assert!(rt;
+            is_whole || ending == Ending::FileFault && turn == 0,
+            "{turn}"
+        );
+    }
+    assert!(rt; is_whole && calls.left.get() < 7 * SEVENTHS_OF_TEN && calls.has_cut_read.get());
     assert!(rt; removes_all(&rt));
 }

@@ -65,7 +65,7 @@ pub(crate) fn server_path(rt: &HostRuntime, server: u16) -> Result<String, Alloc
 }
 
 // The bytes i modulo 251.
-fn counted(rt: &HostRuntime, size: usize) -> Result<Vec<u8>, AllocError> {
+pub(crate) fn counted(rt: &HostRuntime, size: usize) -> Result<Vec<u8>, AllocError> {
     let mut bytes = Vec::with_capacity(rt.alloc(), size)?;
     for i in 0..size {
         bytes.push((i % 251) as u8)?;

@@ -4,6 +4,7 @@ use crate::grid_commands_tests::{
     CLOSED, ZEROS_CAP, ends, gives, lacks_shares, makes_counted_file, makes_folder, path,
     put_gives, put_line, removes_all, share_path, writes, zeros_go_round,
 };
+use crate::grid_refusals_tests::zeros_come;
 use grid_commands::{grid, refuse_words};
 use std::alloc::AllocError;
 use std::rt::Files;
@@ -87,6 +88,24 @@ fn only_regular_files_are_shares(rt: HostRuntime) {
     assert!(rt; lacks_shares(&rt, ZEROS_CAP));
     assert!(rt; zeros_go_round(&rt) && puts_a_link_there(&rt));
     assert!(rt; lacks_shares(&rt, ZEROS_CAP));
+    assert!(rt; removes_all(&rt));
+}
+
+// Names that share 0 may have, the one with a digest text below its own, the other with one above.
+const LOWER: &str =
+    "/grid/server-000/w3hm5rcm33g237wuaijiuuup7q.0.aaaaaaaaaaaaaaaaaaaaaaaaaaaaaaaaaaaaaaaaaaaaaaaaaaaa";
+
+const HIGHER: &str =
+    "/grid/server-000/w3hm5rcm33g237wuaijiuuup7q.0.zzzzzzzzzzzzzzzzzzzzzzzzzzzzzzzzzzzzzzzzzzzzzzzzzzza";
+
+// Of two files of one share the one with the lower digest text counts, and the other does not; what
+// is no regular file is passed over.
+#[test]
+fn the_lower_of_two_files_of_a_share_counts(rt: HostRuntime) {
+    assert!(rt; zeros_go_round(&rt) && writes(&rt, LOWER, b"junk"));
+    assert!(rt; lacks_shares(&rt, ZEROS_CAP));
+    assert!(rt; zeros_go_round(&rt) && writes(&rt, HIGHER, b"junk") && zeros_come(&rt));
+    assert!(rt; zeros_go_round(&rt) && makes_folder(&rt, LOWER) && zeros_come(&rt));
     assert!(rt; removes_all(&rt));
 }
 
