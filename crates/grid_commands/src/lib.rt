@@ -1,8 +1,8 @@
 //! The commands of `grid`, which keeps files on a grid of servers that need not be trusted.
 //!
-//! `grid` takes the words of the command line and two writers, and gives the exit status. Files are
-//! encoded and read back by `file_encoding`, and what is told stands in `grid_rules`; what stands
-//! here is which words there are, and where shares lie in folders.
+//! `grid` takes the words of the command line and two writers, and gives the exit status. A `put` is
+//! an upload and a `get` a download, which `local_grid` carries on, and what is told stands in
+//! `grid_rules`; what stands here is which words there are, and where the servers' folders lie.
 #![tactic(auto)]
 
 mod files;
