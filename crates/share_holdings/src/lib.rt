@@ -1,0 +1,7 @@
+//! Which servers told that they hold which shares of a file, what an operation asked of each of
+//! these, and which of them are left to read.
+#![tactic(auto)]
+
+pub mod holding;
+mod numbers;
+mod table;

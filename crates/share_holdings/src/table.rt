@@ -1,0 +1,188 @@
+//! The shares at servers that were told, and which of these are left and read.
+
+ghost use Rattle.std.specs.Prelude.{◌≡◌, ◌<◌, ◌++◌, ◌∷◌, [], ℕ, IfNone, IfOk, IfSome, OnErr, OnOk, length};
+ghost use Rattle.std.specs.Prelude.{All, Contains, Some, slice_get, true, false, is_some};
+ghost use Rattle.share_holdings.specs.Choice.{Chooses};
+ghost use Rattle.share_holdings.specs.Numbers.{is_at, read_count, with_place};
+ghost use Rattle.share_holdings.specs.State.{NumberState};
+ghost use Rattle.share_holdings.specs.Table.{ChangesNumber, IsFree, IsHolding, IsTable, Releases};
+ghost use Rattle.share_holdings.specs.Table.{Retires, Suspends, TakesUp, told_one};
+ghost use Rattle.share_holdings.specs.declared.holding.Holding.{Holding};
+
+use crate::holding::Holding;
+use crate::numbers::Number;
+use std::alloc::{AllocError, Global};
+use std::marker::Model;
+use wire::message::NodeId;
+
+/// The holdings in the order in which they were told, and for each share number those of it that
+/// are left.
+#[derive(Drop)]
+pub(crate) struct Table {
+    holdings: Vec<Holding>,
+    numbers: Vec<Number>,
+    // Of how many numbers a holding is read.
+    reading: usize,
+}
+
+impl Model for Table {
+    ghost use Rattle.std.specs.Prelude.{◌≡◌};
+    ghost use Rattle.share_holdings.specs.Numbers.{read_count};
+    ghost use Rattle.share_holdings.specs.State.{TableState};
+    ghost use Rattle.share_holdings.specs.Table.{IsTable};
+
+    ghost Value = { TableState };
+
+    ghost view = { λ t. record { holdings = t.holdings.items; numbers = t.numbers.items } };
+
+    ghost invariant = { λ t.
+        IsTable (record { holdings = t.holdings.items; numbers = t.numbers.items })
+        × (t.reading ≡ read_count t.numbers.items) };
+}
+
+impl Table {
+    /// The holdings, in the order in which they were told.
+    pub(crate) fn holdings(&self) -> &[Holding]
+        ensures value { result.now ≡ self.now.holdings }
+        ensures right { IsTable self.now }
+    {
+        self.holdings.as_slice()
+    }
+
+    /// Of how many numbers a holding is read.
+    pub(crate) fn reading(&self) -> usize
+        ensures { result ≡ read_count self.now.numbers }
+    {
+        self.reading
+    }
+
+    /// A server tells that it holds a share.
+    pub(crate) fn tell(&mut self, server: NodeId, share: u8) -> Result<(), AllocError>
+        requires { share < length self.old.numbers }
+        ensures holdings { OnOk result (self.new.holdings
+            ≡ self.old.holdings ++ told_one server share ∷ []) }
+        ensures number { OnOk result (ChangesNumber share (with_place (length self.old.holdings))
+            self.old self.new) }
+        ensures err { OnErr result (self.new ≡ self.old) }
+        ensures right { IsTable self.new }
+    {
+        let place = self.holdings.len();
+        self.holdings.reserve(1)?;
+        self.numbers[usize::from(share)].add(place)?;
+        self.holdings.push_reserved(Holding {
+            server,
+            share,
+            left: true,
+            suspended: false,
+        });
+        Ok(())
+    }
+
+    /// A holding is not left any more, and not read.
+    pub(crate) fn retire(&mut self, place: usize)
+        requires { place < length self.old.holdings }
+        ensures retires { Retires place self.old self.new }
+        ensures right { IsTable self.new }
+    {
+        let holding = &mut self.holdings[place];
+        holding.left = false;
+        let number = &mut self.numbers[usize::from(holding.share)];
+        self.reading -= usize::from(number.reads(place));
+        number.remove(place);
+    }
+
+    /// A holding is read from now on.
+    pub(crate) fn take_up(&mut self, place: usize)
+        requires { (h : Holding) × IsHolding self.old place h × IsFree self.old h }
+        ensures takes { TakesUp place self.old self.new }
+        ensures right { IsTable self.new }
+    {
+        let share = self.holdings[place].share;
+        self.numbers[usize::from(share)].take_up(place);
+        self.reading += 1;
+    }
+
+    /// A holding is not read any more, and may be read again.
+    pub(crate) fn release(&mut self, place: usize)
+        requires { place < length self.old.holdings }
+        ensures releases { Releases place self.old self.new }
+        ensures right { IsTable self.new }
+    {
+        let share = self.holdings[place].share;
+        let number = &mut self.numbers[usize::from(share)];
+        self.reading -= usize::from(number.reads(place));
+        number.release(place);
+    }
+
+    /// Whether a holding may be chosen is changed.
+    pub(crate) fn suspend(&mut self, place: usize, suspended: bool)
+        requires { place < length self.old.holdings }
+        ensures suspends { Suspends suspended place self.old self.new }
+        ensures right { IsTable self.new }
+    {
+        self.holdings[place].suspended = suspended;
+    }
+
+    /// Whether a holding is read.
+    pub(crate) fn is_read(&self, place: usize) -> bool
+        requires { place < length self.now.holdings }
+        ensures { (h : Holding) → (n : NumberState) → IsHolding self.now place h
+            → slice_get self.now.numbers h.share ≡ Some n → result ≡ is_at place n.reading }
+    {
+        let share = self.holdings[place].share;
+        self.numbers[usize::from(share)].reads(place)
+    }
+
+    /// The next one to read: of the lowest share number of which none is read and one may be
+    /// chosen, at the server of which the fewest are read, and of these the first that was told.
+    pub(crate) fn choose(&self) -> Option<usize>
+        ensures free { IfSome result (λ place.
+            (h : Holding) × IsHolding self.now place h × IsFree self.now h) }
+        ensures none { IfNone result ((place : ℕ) (h : Holding) → IsHolding self.now place h
+            → IsFree self.now h → ⊥) }
+    {
+        for number in &self.numbers {
+            if !number.is_read() {
+                let chosen = self.choose_among(number.left());
+                if chosen.is_some() {
+                    return chosen;
+                }
+            }
+        }
+        None
+    }
+
+    // The next one to read among these.
+    #[tactic(auto, using(crate::proofs::Tables::chooses_this, crate::proofs::Tables::chooses_on))]
+    fn choose_among(&self, places: &[usize]) -> Option<usize>
+        requires { All (λ place. place < length self.now.holdings) places.now }
+        ensures { Chooses self.now places.now result }
+    {
+        let mut chosen = None;
+        let mut least = usize::MAX;
+        for place in places {
+            let holding = &self.holdings[*place];
+            if !holding.suspended {
+                let load = self.load(holding.server);
+                if chosen.is_none() || load < least {
+                    least = load;
+                    chosen = Some(*place);
+                }
+            }
+        }
+        chosen
+    }
+
+    // How many are read at a server.
+    fn load(&self, server: NodeId) -> usize {
+        let mut load: usize = 0;
+        for number in &self.numbers {
+            if let Some(place) = number.reading() {
+                if self.holdings[place].server == server {
+                    load = load.saturating_add(1);
+                }
+            }
+        }
+        load
+    }
+}
