@@ -1,2 +1,4 @@
 pub mod Lists
 pub mod Tables
+pub mod Records
+pub mod Begun

@@ -4,12 +4,12 @@ use mir.Val.{bool_byte}
 use Rattle.std.specs.Prelude.{◌==◌, slice_get, slice_index_or, slice_set, is_some}
 use Rattle.std.proofs.lemmas.Bool.{cases_eq, cases_lt, eq-eqb}
 use Rattle.std.proofs.lemmas.List.{length-append, length-set, take_more}
-use Rattle.std.proofs.lemmas.List.Elements.{Contains-append_left, Contains-push, Contains-push_cases}
-use Rattle.std.proofs.lemmas.List.Sums.{sum_by-set}
+use Rattle.std.proofs.lemmas.List.Elements.{All-head, All-tail, Contains-append_left, Contains-push, Contains-push_cases}
+use Rattle.std.proofs.lemmas.List.Sums.{sum_by-cons, sum_by-set}
 use Rattle.std.proofs.lemmas.Option.{get_or_from_slice_get, slice_get-get_or, slice_get_within}
 use Rattle.request_record.proofs.RecordLaws.{get_push, get_last}
 use Rattle.share_holdings.specs.Choice.{Chooses, NoneIsFree}
-use Rattle.share_holdings.specs.Numbers.{is_at, read_count, released, taken_up, with_place, without_place}
+use Rattle.share_holdings.specs.Numbers.{is_at, no_holding, read_count, released, taken_up, with_place, without_place}
 use Rattle.share_holdings.specs.State.{NumberState, TableState}
 use Rattle.share_holdings.specs.Table.{IsFree, IsHolding, IsNumber, ChangesNumber, IsTable, Releases, Retires, Suspends, TakesUp, told_one}
 use Rattle.share_holdings.specs.declared.holding.Holding.{Holding}
@@ -366,3 +366,34 @@ pub none_at_all : (t : TableState) (end : ℕ) → IsTable t → length t.number
 none_at_all t end right le all place h is free =
     let lt = right.below place h is in
     all place h is free (omega (arith, le, lt))
+
+-- ---- a table without holdings
+
+empty_count : (ns : List NumberState) → All (λ (n : NumberState). n ≡ no_holding) ns → read_count ns ≡ 0
+empty_count [] all = refl
+empty_count (n ∷ ns) all =
+    let one : reads_one n ≡ 0 = ap reads_one (All-head (λ (m : NumberState). m ≡ no_holding) n ns all) in
+    let rest = empty_count ns (All-tail (λ (m : NumberState). m ≡ no_holding) n ns all) in
+    let both : read_count (n ∷ ns) ≡ reads_one n + read_count ns = sum_by-cons reads_one n ns in
+    omega (arith, one, rest, both)
+
+pub record IsEmpty (ns : List NumberState) : Type 0 where
+  pub right : IsTable (record { holdings = []; numbers = ns })
+  pub count : 0 ≡ read_count ns
+
+pub empty_right : (ns : List NumberState) → All (λ (n : NumberState). n ≡ no_holding) ns → IsEmpty ns
+empty_right ns all = record {
+  right = record {
+    below = λ place h e. absurd cc;
+    listed = λ place h n e left at. absurd cc;
+    places = λ share place n at c. absurd (none share place n at c);
+    reading = λ share place n at e. let is = is_none share n at in let two : None ≡ Some place = sym (ap (λ (x : NumberState). x.reading) is) ∙ e in absurd cc;
+  };
+  count = sym (empty_count ns all);
+}
+  where
+    is_none : (share : ℕ) (n : NumberState) → slice_get ns share ≡ Some n → n ≡ no_holding
+    is_none share n at = subst (λ (x : NumberState). x ≡ no_holding) (get_or_from_slice_get ns share n n at) (all share n (slice_get_within ns share n at))
+
+    none : (share place : ℕ) (n : NumberState) → slice_get ns share ≡ Some n → Contains n.left place → ⊥
+    none share place n at c = let d : Contains [] place = subst (λ (x : NumberState). Contains x.left place) (is_none share n at) c in omega (arith, d.1)

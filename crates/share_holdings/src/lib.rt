@@ -3,5 +3,8 @@
 #![tactic(auto)]
 
 pub mod holding;
+pub mod holdings;
 mod numbers;
 mod table;
+
+pub use holdings::Holdings;

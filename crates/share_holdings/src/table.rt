@@ -3,7 +3,7 @@
 ghost use Rattle.std.specs.Prelude.{◌≡◌, ◌<◌, ◌++◌, ◌∷◌, [], ℕ, IfNone, IfOk, IfSome, OnErr, OnOk, length};
 ghost use Rattle.std.specs.Prelude.{All, Contains, Some, slice_get, true, false, is_some};
 ghost use Rattle.share_holdings.specs.Choice.{Chooses};
-ghost use Rattle.share_holdings.specs.Numbers.{is_at, read_count, with_place};
+ghost use Rattle.share_holdings.specs.Numbers.{is_at, no_holding, read_count, with_place};
 ghost use Rattle.share_holdings.specs.State.{NumberState};
 ghost use Rattle.share_holdings.specs.Table.{ChangesNumber, IsFree, IsHolding, IsTable, Releases};
 ghost use Rattle.share_holdings.specs.Table.{Retires, Suspends, TakesUp, told_one};
@@ -41,6 +41,24 @@ impl Model for Table {
 }
 
 impl Table {
+    /// No holding of a file with so many shares.
+    pub(crate) fn new(alloc: Global, total: u16) -> Result<Table, AllocError>
+        ensures holdings { IfOk result (λ t. t.holdings ≡ []) }
+        ensures numbers { IfOk result (λ t. length t.numbers ≡ total) }
+        ensures unread { IfOk result (λ t. All (λ n. n ≡ no_holding) t.numbers) }
+        ensures right { IfOk result IsTable }
+    {
+        let mut numbers = Vec::with_capacity(alloc, usize::from(total))?;
+        for _ in 0..total {
+            numbers.push(Number::new(alloc))?;
+        }
+        Ok(Table {
+            holdings: Vec::new(alloc),
+            numbers,
+            reading: 0,
+        })
+    }
+
     /// The holdings, in the order in which they were told.
     pub(crate) fn holdings(&self) -> &[Holding]
         ensures value { result.now ≡ self.now.holdings }

@@ -1,0 +1,131 @@
+-- What was answered stays in the record of requests.
+use Rattle.std.proofs.Common.{◌≡◌, ℕ, zero, suc, ◌<◌, Bool, true, false, cond, ◌&&◌, List, [], ◌∷◌, ◌++◌, Option, Some, None, length, map, refl, sym, ap, subst, ◌∙◌, arith, true≢false}
+use Rattle.std.specs.Prelude.{slice_get, slice_set, max, nat_le, nat_lt}
+use Rattle.std.proofs.lemmas.Option.{slice_get_within}
+use Rattle.wire.specs.declared.message.Body.{Body}
+use Rattle.wire.specs.declared.message.Message.{Message}
+use Rattle.request_record.specs.declared.requests.Asked.{Asked}
+use Rattle.request_record.specs.declared.requests.Outcome.TheVariants.{Answered, Lost}
+use Rattle.request_record.specs.declared.requests.Request.{Request}
+use Rattle.request_record.specs.Record.{RequestsState, age_of, answered_in, asked_all, asked_more, at, counted_at, counts_at, first_request, is_lost_at, is_outstanding, is_resent_at, passed, resent_one, ticked_one, with_outcome}
+use Rattle.request_record.specs.Asking.{after_message, after_tick}
+use Rattle.request_record.proofs.RecordLaws.{counts_is, get_push}
+
+-- the request at a place asked this
+pub record WasAsked (es : List Request) (i : ℕ) (asked : Asked) : Type 0 where
+  pub request : Request
+  pub there : slice_get es i ≡ Some request
+  pub same : request.asked ≡ asked
+
+-- what waits no more stays at its place
+abbrev pub StaysTo : List Request → List Request → Type 0
+StaysTo es ns = (i : ℕ) (r : Request) → slice_get es i ≡ Some r → is_outstanding r.outcome ≡ false → slice_get ns i ≡ Some r
+
+-- ---- asking
+
+stays_push : (es : List Request) (n : Request) → StaysTo es (es ++ n ∷ [])
+stays_push es n i r e quiet = get_push es n i (slice_get_within es i r e) ∙ e
+
+pub stays_asked : (asks : List (ℕ × Asked)) (s : RequestsState) → StaysTo s.entries (asked_all asks s).entries
+stays_asked [] s i r e quiet = e
+stays_asked (ask ∷ asks) s i r e quiet =
+    stays_asked asks (asked_more ask.0 ask.1 s) i r (stays_push s.entries (first_request ask.0 ask.1 s.clock) i r e quiet) quiet
+
+-- ---- answers
+
+stays_set : (es : List Request) (place : ℕ) (q : Request) (body : Body) → slice_get es place ≡ Some q → is_outstanding q.outcome ≡ true → StaysTo es (slice_set es place (with_outcome q (Answered body)))
+stays_set [] place q body there waits i r e quiet = absurd cc
+stays_set (x ∷ xs) zero q body there waits zero r e quiet =
+    let one : x ≡ q = cc in
+    let two : x ≡ r = cc in
+    absurd (true≢false (sym waits ∙ ap (λ (y : Request). is_outstanding y.outcome) (sym one ∙ two) ∙ quiet))
+stays_set (x ∷ xs) zero q body there waits (suc i) r e quiet = e
+stays_set (x ∷ xs) (suc place) q body there waits zero r e quiet = e
+stays_set (x ∷ xs) (suc place) q body there waits (suc i) r e quiet = stays_set xs place q body there waits i r e quiet
+
+stays_in : (es : List Request) (place : ℕ) (q : Request) (body : Body) (o : Option Request) → slice_get es place ≡ Some q → is_outstanding q.outcome ≡ true → slice_get es place ≡ o → StaysTo es (answered_in es place o body)
+stays_in es place q body None there waits e = λ i r f quiet. f
+stays_in es place q body (Some p) there waits e =
+    let same : q ≡ p = let k : Some q ≡ Some p = sym there ∙ e in cc in
+    stays_set es place p body e (subst (λ (x : Request). is_outstanding x.outcome ≡ true) same waits)
+
+stays_counted : (from : ℕ) (m : Message) (s : RequestsState) (o : Option ℕ) → counts_at from m s ≡ o → StaysTo s.entries (counted_at m s o).entries
+stays_counted from m s None e = λ i r f quiet. f
+stays_counted from m s (Some place) e =
+    let a = counts_is from m s place e in
+    stays_in s.entries place a.request m.body (slice_get s.entries place) a.there a.waits refl
+
+pub stays_message : (from : ℕ) (m : Message) (now : ℕ) (s : RequestsState) → StaysTo s.entries (after_message from m now s).entries
+stays_message from m now s = stays_counted from m (at now s) (counts_at from m (at now s)) refl
+
+-- a message that does not count changes no request
+pub uncounted : (from : ℕ) (m : Message) (now : ℕ) (s : RequestsState) → counts_at from m s ≡ None → (after_message from m now s).entries ≡ s.entries
+uncounted from m now s e = ap (λ (o : Option ℕ). (counted_at m (at now s) o).entries) e
+
+-- ---- ticks
+
+quiet_ticked : (now : ℕ) (r : Request) → is_outstanding r.outcome ≡ false → ticked_one now r ≡ r
+quiet_ticked now r quiet = rw quiet refl
+
+pub stays_ticked : (now : ℕ) (es : List Request) → StaysTo es (map (ticked_one now) es)
+stays_ticked now [] i r e quiet = absurd cc
+stays_ticked now (x ∷ xs) zero r e quiet =
+    let same : x ≡ r = cc in
+    ap Some (quiet_ticked now x (subst (λ (y : Request). is_outstanding y.outcome ≡ false) (sym same) quiet) ∙ same)
+stays_ticked now (x ∷ xs) (suc i) r e quiet = stays_ticked now xs i r e quiet
+
+pub stays_tick : (now : ℕ) (s : RequestsState) → StaysTo s.entries (after_tick now s).entries
+stays_tick now s = stays_ticked (max s.clock now) s.entries
+
+-- ---- what is asked
+
+-- each request was there, and asked the same
+abbrev pub AskedAlike : List Request → List Request → Type 0
+AskedAlike es ns = (i : ℕ) (n : Request) → slice_get ns i ≡ Some n → WasAsked es i n.asked
+
+alike_set : (es : List Request) (place : ℕ) (q : Request) (body : Body) → slice_get es place ≡ Some q → (i : ℕ) (n : Request) → slice_get (slice_set es place (with_outcome q (Answered body))) i ≡ Some n → WasAsked es i n.asked
+alike_set [] place q body there i n e = absurd cc
+alike_set (x ∷ xs) zero q body there zero n e =
+    let one : x ≡ q = cc in
+    let two : with_outcome q (Answered body) ≡ n = cc in
+    record { request = x; there = refl; same = ap (λ (y : Request). y.asked) one ∙ ap (λ (y : Request). y.asked) two }
+alike_set (x ∷ xs) zero q body there (suc i) n e = record { request = n; there = e; same = refl }
+alike_set (x ∷ xs) (suc place) q body there zero n e = let two : x ≡ n = cc in record { request = x; there = refl; same = ap (λ (y : Request). y.asked) two }
+alike_set (x ∷ xs) (suc place) q body there (suc i) n e = let w = alike_set xs place q body there i n e in record { request = w.request; there = w.there; same = w.same }
+
+alike_in : (es : List Request) (place : ℕ) (body : Body) (o : Option Request) → slice_get es place ≡ o → AskedAlike es (answered_in es place o body)
+alike_in es place body None e = λ i n f. record { request = n; there = f; same = refl }
+alike_in es place body (Some p) e = alike_set es place p body e
+
+alike_counted : (m : Message) (s : RequestsState) (o : Option ℕ) → AskedAlike s.entries (counted_at m s o).entries
+alike_counted m s None = λ i n f. record { request = n; there = f; same = refl }
+alike_counted m s (Some place) = alike_in s.entries place m.body (slice_get s.entries place) refl
+
+pub alike_message : (from : ℕ) (m : Message) (now : ℕ) (s : RequestsState) → AskedAlike s.entries (after_message from m now s).entries
+alike_message from m now s = alike_counted m (at now s) (counts_at from m (at now s))
+
+ticked_asked : (now : ℕ) (r : Request) → (ticked_one now r).asked ≡ r.asked
+ticked_asked now r = by (is_lost_at now r) (is_resent_at now r)
+  where
+    by : (lost again : Bool) → (cond lost (with_outcome r Lost) (cond again (resent_one now r) r)).asked ≡ r.asked
+    by true again = refl
+    by false true = refl
+    by false false = refl
+
+alike_ticked : (now : ℕ) (es : List Request) (i : ℕ) (n : Request) → slice_get (map (ticked_one now) es) i ≡ Some n → WasAsked es i n.asked
+alike_ticked now [] i n e = absurd cc
+alike_ticked now (x ∷ xs) zero n e = let two : ticked_one now x ≡ n = cc in record { request = x; there = refl; same = sym (ticked_asked now x) ∙ ap (λ (y : Request). y.asked) two }
+alike_ticked now (x ∷ xs) (suc i) n e = let w = alike_ticked now xs i n e in record { request = w.request; there = w.there; same = w.same }
+
+pub alike_tick : (now : ℕ) (s : RequestsState) → AskedAlike s.entries (after_tick now s).entries
+alike_tick now s = alike_ticked (max s.clock now) s.entries
+
+pub holds_alike : (P : Asked → Type 0) (es ns : List Request) → AskedAlike es ns → ((i : ℕ) (r : Request) → slice_get es i ≡ Some r → P r.asked) → (i : ℕ) (n : Request) → slice_get ns i ≡ Some n → P n.asked
+holds_alike P es ns alike all i n e = let w = alike i n e in subst P w.same (all i w.request w.there)
+
+-- one more request
+pub holds_push : (P : Asked → Type 0) (es : List Request) (n : Request) → ((i : ℕ) (r : Request) → slice_get es i ≡ Some r → P r.asked) → P n.asked → (i : ℕ) (r : Request) → slice_get (es ++ n ∷ []) i ≡ Some r → P r.asked
+holds_push P [] n all p zero r e = let one : n ≡ r = cc in subst (λ (y : Request). P y.asked) one p
+holds_push P [] n all p (suc i) r e = absurd cc
+holds_push P (x ∷ xs) n all p zero r e = all zero r e
+holds_push P (x ∷ xs) n all p (suc i) r e = holds_push P xs n (λ j. all (suc j)) p i r e
