@@ -2,3 +2,4 @@ pub mod Lists
 pub mod Tables
 pub mod Records
 pub mod Begun
+pub mod Goes

@@ -11,11 +11,12 @@ use Rattle.request_record.specs.Record.{RequestsState, age_of, answered_in, aske
 use Rattle.request_record.specs.Asking.{after_message, after_tick}
 use Rattle.request_record.proofs.RecordLaws.{counts_is, get_push}
 
--- the request at a place asked this
-pub record WasAsked (es : List Request) (i : ℕ) (asked : Asked) : Type 0 where
+-- the request at a place asked the same of the same server
+pub record WasAsked (es : List Request) (i : ℕ) (n : Request) : Type 0 where
   pub request : Request
   pub there : slice_get es i ≡ Some request
-  pub same : request.asked ≡ asked
+  pub same : request.asked ≡ n.asked
+  pub of_server : request.server ≡ n.server
 
 -- what waits no more stays at its place
 abbrev pub StaysTo : List Request → List Request → Type 0
@@ -81,24 +82,24 @@ stays_tick now s = stays_ticked (max s.clock now) s.entries
 
 -- each request was there, and asked the same
 abbrev pub AskedAlike : List Request → List Request → Type 0
-AskedAlike es ns = (i : ℕ) (n : Request) → slice_get ns i ≡ Some n → WasAsked es i n.asked
+AskedAlike es ns = (i : ℕ) (n : Request) → slice_get ns i ≡ Some n → WasAsked es i n
 
-alike_set : (es : List Request) (place : ℕ) (q : Request) (body : Body) → slice_get es place ≡ Some q → (i : ℕ) (n : Request) → slice_get (slice_set es place (with_outcome q (Answered body))) i ≡ Some n → WasAsked es i n.asked
+alike_set : (es : List Request) (place : ℕ) (q : Request) (body : Body) → slice_get es place ≡ Some q → (i : ℕ) (n : Request) → slice_get (slice_set es place (with_outcome q (Answered body))) i ≡ Some n → WasAsked es i n
 alike_set [] place q body there i n e = absurd cc
 alike_set (x ∷ xs) zero q body there zero n e =
     let one : x ≡ q = cc in
     let two : with_outcome q (Answered body) ≡ n = cc in
-    record { request = x; there = refl; same = ap (λ (y : Request). y.asked) one ∙ ap (λ (y : Request). y.asked) two }
-alike_set (x ∷ xs) zero q body there (suc i) n e = record { request = n; there = e; same = refl }
-alike_set (x ∷ xs) (suc place) q body there zero n e = let two : x ≡ n = cc in record { request = x; there = refl; same = ap (λ (y : Request). y.asked) two }
-alike_set (x ∷ xs) (suc place) q body there (suc i) n e = let w = alike_set xs place q body there i n e in record { request = w.request; there = w.there; same = w.same }
+    record { request = x; there = refl; same = ap (λ (y : Request). y.asked) one ∙ ap (λ (y : Request). y.asked) two; of_server = ap (λ (y : Request). y.server) one ∙ ap (λ (y : Request). y.server) two }
+alike_set (x ∷ xs) zero q body there (suc i) n e = record { request = n; there = e; same = refl; of_server = refl }
+alike_set (x ∷ xs) (suc place) q body there zero n e = let two : x ≡ n = cc in record { request = x; there = refl; same = ap (λ (y : Request). y.asked) two; of_server = ap (λ (y : Request). y.server) two }
+alike_set (x ∷ xs) (suc place) q body there (suc i) n e = let w = alike_set xs place q body there i n e in record { request = w.request; there = w.there; same = w.same; of_server = w.of_server }
 
 alike_in : (es : List Request) (place : ℕ) (body : Body) (o : Option Request) → slice_get es place ≡ o → AskedAlike es (answered_in es place o body)
-alike_in es place body None e = λ i n f. record { request = n; there = f; same = refl }
+alike_in es place body None e = λ i n f. record { request = n; there = f; same = refl; of_server = refl }
 alike_in es place body (Some p) e = alike_set es place p body e
 
 alike_counted : (m : Message) (s : RequestsState) (o : Option ℕ) → AskedAlike s.entries (counted_at m s o).entries
-alike_counted m s None = λ i n f. record { request = n; there = f; same = refl }
+alike_counted m s None = λ i n f. record { request = n; there = f; same = refl; of_server = refl }
 alike_counted m s (Some place) = alike_in s.entries place m.body (slice_get s.entries place) refl
 
 pub alike_message : (from : ℕ) (m : Message) (now : ℕ) (s : RequestsState) → AskedAlike s.entries (after_message from m now s).entries
@@ -112,20 +113,18 @@ ticked_asked now r = by (is_lost_at now r) (is_resent_at now r)
     by false true = refl
     by false false = refl
 
-alike_ticked : (now : ℕ) (es : List Request) (i : ℕ) (n : Request) → slice_get (map (ticked_one now) es) i ≡ Some n → WasAsked es i n.asked
+ticked_server : (now : ℕ) (r : Request) → (ticked_one now r).server ≡ r.server
+ticked_server now r = by (is_lost_at now r) (is_resent_at now r)
+  where
+    by : (lost again : Bool) → (cond lost (with_outcome r Lost) (cond again (resent_one now r) r)).server ≡ r.server
+    by true again = refl
+    by false true = refl
+    by false false = refl
+
+alike_ticked : (now : ℕ) (es : List Request) (i : ℕ) (n : Request) → slice_get (map (ticked_one now) es) i ≡ Some n → WasAsked es i n
 alike_ticked now [] i n e = absurd cc
-alike_ticked now (x ∷ xs) zero n e = let two : ticked_one now x ≡ n = cc in record { request = x; there = refl; same = sym (ticked_asked now x) ∙ ap (λ (y : Request). y.asked) two }
-alike_ticked now (x ∷ xs) (suc i) n e = let w = alike_ticked now xs i n e in record { request = w.request; there = w.there; same = w.same }
+alike_ticked now (x ∷ xs) zero n e = let two : ticked_one now x ≡ n = cc in record { request = x; there = refl; same = sym (ticked_asked now x) ∙ ap (λ (y : Request). y.asked) two; of_server = sym (ticked_server now x) ∙ ap (λ (y : Request). y.server) two }
+alike_ticked now (x ∷ xs) (suc i) n e = let w = alike_ticked now xs i n e in record { request = w.request; there = w.there; same = w.same; of_server = w.of_server }
 
 pub alike_tick : (now : ℕ) (s : RequestsState) → AskedAlike s.entries (after_tick now s).entries
 alike_tick now s = alike_ticked (max s.clock now) s.entries
-
-pub holds_alike : (P : Asked → Type 0) (es ns : List Request) → AskedAlike es ns → ((i : ℕ) (r : Request) → slice_get es i ≡ Some r → P r.asked) → (i : ℕ) (n : Request) → slice_get ns i ≡ Some n → P n.asked
-holds_alike P es ns alike all i n e = let w = alike i n e in subst P w.same (all i w.request w.there)
-
--- one more request
-pub holds_push : (P : Asked → Type 0) (es : List Request) (n : Request) → ((i : ℕ) (r : Request) → slice_get es i ≡ Some r → P r.asked) → P n.asked → (i : ℕ) (r : Request) → slice_get (es ++ n ∷ []) i ≡ Some r → P r.asked
-holds_push P [] n all p zero r e = let one : n ≡ r = cc in subst (λ (y : Request). P y.asked) one p
-holds_push P [] n all p (suc i) r e = absurd cc
-holds_push P (x ∷ xs) n all p zero r e = all zero r e
-holds_push P (x ∷ xs) n all p (suc i) r e = holds_push P xs n (λ j. all (suc j)) p i r e
