@@ -9,6 +9,7 @@ use Rattle.share_holdings.specs.Moves.{Begins}
 use Rattle.share_holdings.specs.Right.{IsRight}
 use Rattle.share_holdings.specs.State.{HoldingsState}
 use Rattle.share_holdings.specs.Table.{IsHolding}
+use Rattle.share_holdings.specs.declared.holding.Blame.{Blame}
 use Rattle.share_holdings.specs.declared.holding.Holding.{Holding}
 use Rattle.request_record.specs.declared.requests.Asked.{Asked}
 use Rattle.request_record.specs.declared.requests.Asked.TheVariants.{Holdings}
@@ -77,6 +78,7 @@ begun_right total servers session now s d b = record {
   distinct = λ i j x y lt e f servers-same shares-same. none i x e;
   left = λ place h e left. absurd (none place h e);
   others = λ place h e left. absurd (none place h e);
+  blamed = λ i x e. (let f : slice_get [] i ≡ Some x = sym (ap (λ (l : List Blame). slice_get l i) b.blamed) ∙ e in absurd cc);
 }
   where
     none : (place : ℕ) (h : Holding) → IsHolding s.table place h → ⊥

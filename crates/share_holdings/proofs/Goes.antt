@@ -19,7 +19,7 @@ use Rattle.request_record.proofs.AskingLaws.{once_answered, once_asked, once_tic
 use Rattle.request_record.proofs.RecordLaws.{counts_is, get_last, get_push}
 use Rattle.share_holdings.specs.Left.{IsBlamed, IsGone, IsLeft, IsOffered}
 use Rattle.share_holdings.specs.State.{HoldingsState, TableState}
-use Rattle.share_holdings.specs.Table.{IsHolding, Retires}
+use Rattle.share_holdings.specs.Table.{IsHolding, Retires, Suspends}
 use Rattle.share_holdings.specs.Right.{IsOwned, IsReadOf, IsRight}
 use Rattle.share_holdings.specs.declared.holding.Blame.{Blame}
 use Rattle.share_holdings.specs.declared.holding.Holding.{Holding}
@@ -123,6 +123,10 @@ module _ (s : HoldingsState) (right : IsRight s) (r : RequestsState) (u : TableS
         right.distinct i j x.0 y.0 lt x.1 y.1 (sym x.2 ∙ servers ∙ y.2) (sym x.3 ∙ shares ∙ y.3);
     left = left;
     others = others;
+    blamed = λ i b e.
+        let k = right.blamed i b e in
+        let g = pairs.forth k.0 k.1.0 k.1.1 in
+        (k.0, (g.0, g.1, k.1.2 ∙ sym g.2, k.1.3 ∙ sym g.3));
   }
 
 -- ---- answers
@@ -305,6 +309,7 @@ module _ (s : HoldingsState) (right : IsRight s) where
     distinct = right.distinct;
     left = λ place g e left. (let l = right.left place g e left in ((λ gone. l.0 (gone_before g.server g.share gone)), l.1));
     others = λ place g e left. elim (right.others place g e left) [ | inl gone ↦ inl (gone_stays s.requests.entries (s.requests.entries ++ new ∷ []) g.server g.share stays gone) | inr blamed ↦ inr blamed ];
+    blamed = right.blamed;
   }
     where
       new : Request
@@ -359,6 +364,20 @@ module _ (s : HoldingsState) (right : IsRight s) where
           | inr blamed ↦ inr (record { place = blamed.place; blame = blamed.blame; there = get_push s.blamed b blamed.place (slice_get_within s.blamed blamed.place blamed.blame blamed.there) ∙ blamed.there; of_server = blamed.of_server; of_share = blamed.of_share })
         ]
     ];
+    blamed = λ i x e. elim (cases_lt i (length s.blamed)) [
+      | inl lt ↦
+          let k = right.blamed i x (sym (get_push s.blamed b i lt) ∙ e) in
+          let g = (retired_pairs holding u r).forth k.0 k.1.0 k.1.1 in
+          (k.0, (g.0, g.1, k.1.2 ∙ sym g.2, k.1.3 ∙ sym g.3))
+      | inr le ↦
+          let within = slice_get_within (s.blamed ++ b ∷ []) i x e in
+          let long = length-append s.blamed (b ∷ []) in
+          let last : i ≡ length s.blamed = omega (arith, le, within, long) in
+          let two : Some b ≡ Some x = sym (get_last s.blamed b) ∙ ap (slice_get (s.blamed ++ b ∷ [])) (sym last) ∙ e in
+          let one : b ≡ x = cc in
+          let g = (retired_pairs holding u r).forth holding r.0 r.1.is in
+          (holding, (g.0, g.1, ap (λ (y : Blame). y.server) (sym one) ∙ servers ∙ sym g.2, ap (λ (y : Blame). y.share) (sym one) ∙ shares ∙ sym g.3))
+    ];
   }
     where
       not_blamed : (q : ℕ) (g : Holding) → (q ≡ holding → ⊥) → IsHolding s.table q g → (IsBlamed s.blamed g.server g.share → ⊥) → IsBlamed (s.blamed ++ b ∷ []) g.server g.share → ⊥
@@ -380,3 +399,41 @@ module _ (s : HoldingsState) (right : IsRight s) where
                 ]
             ]
       ]
+
+  -- ---- which are read, and which may be chosen
+
+  -- the holdings are the same, but for what may be chosen
+  pub record SameHoldings (u : TableState) : Type 0 where
+    pub forth : (place : ℕ) (h : Holding) → IsHolding s.table place h → (g : Holding) × IsHolding u place g × (g.server ≡ h.server) × (g.share ≡ h.share) × (g.left ≡ h.left)
+    pub back : (place : ℕ) (g : Holding) → IsHolding u place g → (h : Holding) × IsHolding s.table place h × (g.server ≡ h.server) × (g.share ≡ h.share) × (g.left ≡ h.left)
+
+  pub right_same : (u : TableState) → SameHoldings u → IsRight (record s { table = u })
+  right_same u k = right_goes s right s.requests u (record { stays = λ i r e quiet. e; alike = λ i n e. record { request = n; there = e; same = refl; of_server = refl }; long = refl })
+      (record { forth = λ place h e. (let g = k.forth place h e in (g.0, g.1, g.2, g.3)); back = λ place g e. (let h = k.back place g e in (h.0, h.1, h.2, h.3)) })
+      right.once
+      (λ place g is left. let h = k.back place g is in
+        let l = right.left place h.0 h.1 (sym h.4 ∙ left) in
+        subst (λ (server : ℕ). IsLeft s.requests.entries s.blamed server g.share) (sym h.2) (subst (λ (share : ℕ). IsLeft s.requests.entries s.blamed h.0.server share) (sym h.3) l))
+      (λ place g is left. let h = k.back place g is in
+        let l = right.others place h.0 h.1 (sym h.4 ∙ left) in
+        subst (λ (server : ℕ). IsGone s.requests.entries server g.share ⊎ IsBlamed s.blamed server g.share) (sym h.2) (subst (λ (share : ℕ). IsGone s.requests.entries h.0.server share ⊎ IsBlamed s.blamed h.0.server share) (sym h.3) l))
+
+  pub right_unmoved : (u : TableState) → u.holdings ≡ s.table.holdings → IsRight (record s { table = u })
+  right_unmoved u e = right_same u (record {
+    forth = λ place h is. (h, ap (λ (l : List Holding). slice_get l place) e ∙ is, refl, refl, refl);
+    back = λ place g is. (g, sym (ap (λ (l : List Holding). slice_get l place) e) ∙ is, refl, refl, refl);
+  })
+
+  pub right_suspended : (place : ℕ) (suspended : Bool) (u : TableState) → Suspends suspended place s.table u → IsRight (record s { table = u })
+  right_suspended place suspended u k = right_same u (record {
+    forth = λ q h is. elim (cases_eq q place) [
+      | inl e ↦
+          let same : h ≡ k.1.0 = let two : Some h ≡ Some k.1.0 = sym is ∙ ap (slice_get s.table.holdings) e ∙ k.1.1.is in cc in
+          (record k.1.0 { suspended = suspended }, ap (λ (l : List Holding). slice_get l q) k.1.1.holdings ∙ ap (slice_get (slice_set s.table.holdings place (record k.1.0 { suspended = suspended }))) e ∙ get_set s.table.holdings place (record k.1.0 { suspended = suspended }) k.1.0 k.1.1.is, ap (λ (x : Holding). x.server) (sym same), ap (λ (x : Holding). x.share) (sym same), ap (λ (x : Holding). x.left) (sym same))
+      | inr ne ↦ (h, ap (λ (l : List Holding). slice_get l q) k.1.1.holdings ∙ get_other s.table.holdings place q (record k.1.0 { suspended = suspended }) ne ∙ is, refl, refl, refl)
+    ];
+    back = λ q g is. elim (set_cases s.table.holdings place q (record k.1.0 { suspended = suspended }) g (sym (ap (λ (l : List Holding). slice_get l q) k.1.1.holdings) ∙ is)) [
+      | inl e ↦ (k.1.0, ap (slice_get s.table.holdings) e.0 ∙ k.1.1.is, ap (λ (x : Holding). x.server) (sym e.1), ap (λ (x : Holding). x.share) (sym e.1), ap (λ (x : Holding). x.left) (sym e.1))
+      | inr e ↦ (g, e.1, refl, refl, refl)
+    ];
+  })

@@ -6,6 +6,7 @@ use Rattle.request_record.specs.declared.requests.Request.{Request}
 use Rattle.share_holdings.specs.Left.{IsBlamed, IsGone, IsLeft, IsOffered}
 use Rattle.share_holdings.specs.State.{HoldingsState}
 use Rattle.share_holdings.specs.Table.{IsHolding}
+use Rattle.share_holdings.specs.declared.holding.Blame.{Blame}
 use Rattle.share_holdings.specs.declared.holding.Holding.{Holding}
 
 -- the request asks for bytes of the share
@@ -40,6 +41,8 @@ pub record IsRight (s : HoldingsState) : Type 0 where
       → IsLeft s.requests.entries s.blamed h.server h.share
   pub others : (place : ℕ) (h : Holding) → IsHolding s.table place h → h.left ≡ false
       → IsGone s.requests.entries h.server h.share ⊎ IsBlamed s.blamed h.server h.share
+  pub blamed : (i : ℕ) (b : Blame) → slice_get s.blamed i ≡ Some b → (place : ℕ) × ((h : Holding)
+      × IsHolding s.table place h × (b.server ≡ h.server) × (b.share ≡ h.share))
 
 -- each share that a server offered, and whose number counts, is among the holdings
 abbrev pub AreAllHeld : HoldingsState → Type 0
