@@ -1,6 +1,6 @@
 -- The holdings stay right as the record goes on.
 use Rattle.std.proofs.Common.{◌≡◌, ℕ, zero, suc, ◌+◌, ◌-◌, ◌<◌, ◌≤◌, ◌⊎◌, inl, inr, Bool, true, false, cond, List, [], ◌∷◌, ◌++◌, Contains, length, map, max, Option, Some, None, refl, sym, ap, subst, ◌∙◌, arith, true≢false}
-use Rattle.std.specs.Prelude.{slice_get, slice_set}
+use Rattle.std.specs.Prelude.{slice_get, slice_index_or, slice_set}
 use Rattle.std.proofs.lemmas.Bool.{cases_eq, cases_lt}
 use Rattle.std.proofs.lemmas.List.{length-append, length-map, length-set}
 use Rattle.std.proofs.lemmas.Option.{slice_get-get_or, slice_get_within}
@@ -17,9 +17,11 @@ use Rattle.request_record.specs.Record.{RequestsState, answered_in, asked_more, 
 use Rattle.request_record.specs.Asking.{AreApart, AsksOnce, after_message, after_tick, lost_by_tick}
 use Rattle.request_record.proofs.AskingLaws.{once_answered, once_asked, once_ticked}
 use Rattle.request_record.proofs.RecordLaws.{counts_is, get_last, get_push}
+use Rattle.share_verify.specs.declared.check.Check.{Check}
+use Rattle.share_holdings.specs.Moves.{Asks, Blames, IsUnasked}
 use Rattle.share_holdings.specs.Left.{IsBlamed, IsGone, IsLeft, IsOffered}
 use Rattle.share_holdings.specs.State.{HoldingsState, TableState}
-use Rattle.share_holdings.specs.Table.{IsHolding, Retires, Suspends}
+use Rattle.share_holdings.specs.Table.{IsHolding, Releases, Retires, Suspends, TakesUp}
 use Rattle.share_holdings.specs.Right.{IsOwned, IsReadOf, IsRight}
 use Rattle.share_holdings.specs.declared.holding.Blame.{Blame}
 use Rattle.share_holdings.specs.declared.holding.Holding.{Holding}
@@ -437,3 +439,47 @@ module _ (s : HoldingsState) (right : IsRight s) where
       | inr e ↦ (g, e.1, refl, refl, refl)
     ];
   })
+
+  pub right_taken : (place : ℕ) (u : TableState) → TakesUp place s.table u → IsRight (record s { table = u })
+  right_taken place u k = right_unmoved u k.2
+
+  pub right_released : (place : ℕ) (u : TableState) → Releases place s.table u → IsRight (record s { table = u })
+  right_released place u k = right_unmoved u k.2
+
+-- ---- as the code does it
+
+-- bytes are asked for
+pub record AsksNow (s : HoldingsState) (holding offset len : ℕ) (new : HoldingsState) : Type 0 where
+  pub right : IsRight new
+  pub asks : Asks holding offset len s new
+
+pub asked_by : (s : HoldingsState) → IsRight s → (holding offset len : ℕ) (hs : List Holding) (d : Holding) (r : RequestsState) (owners : List ℕ) → hs ≡ s.table.holdings → holding < length s.table.holdings
+    → r ≡ asked_more (slice_index_or hs holding d).server (Reading (slice_index_or hs holding d).share offset len) s.requests → owners ≡ s.owners ++ holding ∷ []
+    → IsUnasked s holding offset len → AsksNow s holding offset len (record s { requests = r; owners = owners })
+asked_by s right holding offset len hs d r owners he lt re oe unasked =
+    let h : Holding = slice_index_or hs holding d in
+    let is : IsHolding s.table holding h = slice_get-get_or s.table.holdings holding d lt ∙ ap (λ (l : List Holding). Some (slice_index_or l holding d)) (sym he) in
+    let same : record s { requests = r; owners = owners } ≡ record s { requests = asked_more h.server (Reading h.share offset len) s.requests; owners = s.owners ++ holding ∷ [] } =
+        ap (λ (q : RequestsState). record s { requests = q; owners = owners }) re ∙ ap (λ (l : List ℕ). record s { requests = asked_more h.server (Reading h.share offset len) s.requests; owners = l }) oe in
+    record {
+      right = subst IsRight (sym same) (right_asked s right holding h offset len is (λ i q e servers. unasked h i q is e servers));
+      asks = (h, is, same);
+    }
+
+-- a check is failed
+pub record BlamesNow (s : HoldingsState) (holding : ℕ) (check : Check) (new : HoldingsState) : Type 0 where
+  pub right : IsRight new
+  pub blames : Blames holding check s new
+
+pub blamed_by : (s : HoldingsState) → IsRight s → (holding : ℕ) (check : Check) (hs : List Holding) (d : Holding) (u : TableState) (blamed : List Blame) → hs ≡ s.table.holdings → holding < length s.table.holdings
+    → blamed ≡ s.blamed ++ record { server = (slice_index_or hs holding d).server; share = (slice_index_or hs holding d).share; check = check } ∷ []
+    → Retires holding s.table u → BlamesNow s holding check (record s { table = u; blamed = blamed })
+blamed_by s right holding check hs d u blamed he lt be r =
+    let h : Holding = slice_index_or hs holding d in
+    let is : IsHolding s.table holding h = slice_get-get_or s.table.holdings holding d lt ∙ ap (λ (l : List Holding). Some (slice_index_or l holding d)) (sym he) in
+    let one : h ≡ r.0 = let two : Some h ≡ Some r.0 = sym is ∙ r.1.is in cc in
+    let b : Blame = record { server = h.server; share = h.share; check = check } in
+    record {
+      right = subst (λ (l : List Blame). IsRight (record s { table = u; blamed = l })) (sym be) (right_blamed s right holding b u r (ap (λ (x : Holding). x.server) one) (ap (λ (x : Holding). x.share) one));
+      blames = record { held = h; is = is; blamed = be; retired = r; others = refl };
+    }

@@ -8,7 +8,7 @@ use Rattle.std.proofs.lemmas.List.Elements.{All-head, All-tail, Contains-append_
 use Rattle.std.proofs.lemmas.List.Sums.{sum_by-cons, sum_by-set}
 use Rattle.std.proofs.lemmas.Option.{get_or_from_slice_get, slice_get-get_or, slice_get_within}
 use Rattle.request_record.proofs.RecordLaws.{get_push, get_last}
-use Rattle.share_holdings.specs.Choice.{Chooses, NoneIsFree}
+use Rattle.share_holdings.specs.Choice.{Chooses, NoneIsFreeBefore}
 use Rattle.share_holdings.specs.Numbers.{is_at, no_holding, read_count, released, taken_up, with_place, without_place}
 use Rattle.share_holdings.specs.State.{NumberState, TableState}
 use Rattle.share_holdings.specs.Table.{IsFree, IsHolding, IsNumber, ChangesNumber, IsTable, Releases, Retires, Suspends, TakesUp, told_one}
@@ -346,23 +346,23 @@ free_here t i p n right there unread k =
     (r.0, r.1, record { left = r.3; choosable = sym (ap (λ (x : Holding). x.suspended) same) ∙ k.1.2; number = n; there = ap (slice_get t.numbers) r.2 ∙ there; unread = unread })
 
 -- none of a number may be read
-none_more : (t : TableState) (i : ℕ) → NoneIsFree t i → ((place : ℕ) (h : Holding) → IsHolding t place h → IsFree t h → h.share ≡ i → ⊥) → NoneIsFree t (i + 1)
+none_more : (t : TableState) (i : ℕ) → NoneIsFreeBefore t i → ((place : ℕ) (h : Holding) → IsHolding t place h → IsFree t h → h.share ≡ i → ⊥) → NoneIsFreeBefore t (i + 1)
 none_more t i before here place h is free lt = elim (cases_lt h.share i) [
     | inl less ↦ before place h is free less
     | inr le ↦ here place h is free (omega (arith, le, lt))
   ]
 
-pub none_chosen : (t : TableState) (i : ℕ) (n : NumberState) → IsTable t → IsNumber t i n → Chooses t n.left None → NoneIsFree t i → NoneIsFree t (i + 1)
+pub none_chosen : (t : TableState) (i : ℕ) (n : NumberState) → IsTable t → IsNumber t i n → Chooses t n.left None → NoneIsFreeBefore t i → NoneIsFreeBefore t (i + 1)
 none_chosen t i n right there k before = none_more t i before (λ place h is free e.
     let c : Contains n.left place = right.listed place h n is free.left (ap (slice_get t.numbers) e ∙ there) in
     true≢false (sym (k place h c is) ∙ free.choosable))
 
-pub one_read : (t : TableState) (i : ℕ) (n : NumberState) → IsNumber t i n → is_some n.reading ≡ true → NoneIsFree t i → NoneIsFree t (i + 1)
+pub one_read : (t : TableState) (i : ℕ) (n : NumberState) → IsNumber t i n → is_some n.reading ≡ true → NoneIsFreeBefore t i → NoneIsFreeBefore t (i + 1)
 one_read t i n there some before = none_more t i before (λ place h is free e.
     let same : free.number ≡ n = let two : Some free.number ≡ Some n = sym free.there ∙ ap (slice_get t.numbers) e ∙ there in cc in
     true≢false (sym some ∙ sym (ap (λ (x : NumberState). is_some x.reading) same) ∙ ap is_some free.unread))
 
-pub none_at_all : (t : TableState) (end : ℕ) → IsTable t → length t.numbers ≤ end → NoneIsFree t end → (place : ℕ) (h : Holding) → IsHolding t place h → IsFree t h → ⊥
+pub none_at_all : (t : TableState) (end : ℕ) → IsTable t → length t.numbers ≤ end → NoneIsFreeBefore t end → (place : ℕ) (h : Holding) → IsHolding t place h → IsFree t h → ⊥
 none_at_all t end right le all place h is free =
     let lt = right.below place h is in
     all place h is free (omega (arith, le, lt))

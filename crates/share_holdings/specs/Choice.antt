@@ -12,5 +12,5 @@ Chooses t places (Some place) = Contains places place
     × ((h : Holding) × IsHolding t place h × (h.suspended ≡ false))
 
 -- no holding of a number before this one may be read now
-abbrev pub NoneIsFree : TableState → ℕ → Type 0
-NoneIsFree t end = (place : ℕ) (h : Holding) → IsHolding t place h → IsFree t h → h.share < end → ⊥
+abbrev pub NoneIsFreeBefore : TableState → ℕ → Type 0
+NoneIsFreeBefore t end = (place : ℕ) (h : Holding) → IsHolding t place h → IsFree t h → h.share < end → ⊥

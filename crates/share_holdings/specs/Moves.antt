@@ -1,16 +1,19 @@
 -- What the calls on the shares that servers hold do.
-use Rattle.std.specs.Prelude.{◌≡◌, ℕ, ◌-◌, ◌<◌, ◌≤◌, Bool, List, [], ◌∷◌, ◌++◌, Option, Some, None}
-use Rattle.std.specs.Prelude.{length, slice_get, All}
+use Rattle.std.specs.Prelude.{◌≡◌, ◌⊎◌, ◌↔◌, true, false, ℕ, ◌-◌, ◌<◌, ◌≤◌, Bool, List, []}
+use Rattle.std.specs.Prelude.{◌∷◌, ◌++◌, Option, Some, None}
+use Rattle.std.specs.Prelude.{length, slice_get, All, Contains}
+use Rattle.share_verify.specs.declared.check.Check.{Check}
 use Rattle.wire.specs.declared.message.Body.TheVariants.{Have, NoShare}
 use Rattle.wire.specs.declared.message.HeldShare.{HeldShare}
 use Rattle.wire.specs.declared.message.Message.{Message}
 use Rattle.request_record.specs.declared.requests.Asked.TheVariants.{Reading}
 use Rattle.request_record.specs.declared.requests.Request.{Request}
-use Rattle.request_record.specs.Asking.{after_message, after_tick, begun, lost_by_tick}
+use Rattle.request_record.specs.Asking.{AreApart, after_message, after_tick, begun}
+use Rattle.request_record.specs.Asking.{lost_by_tick}
 use Rattle.request_record.specs.Record.{RequestsState, asked_more, counts_at}
 use Rattle.share_holdings.specs.Numbers.{no_holding}
-use Rattle.share_holdings.specs.State.{HoldingsState, NumberState}
-use Rattle.share_holdings.specs.Table.{IsHolding, Retires, told}
+use Rattle.share_holdings.specs.State.{HoldingsState, NumberState, TableState}
+use Rattle.share_holdings.specs.Table.{IsHolding, IsNumber, Retires, told}
 use Rattle.share_holdings.specs.declared.holding.Blame.{Blame}
 use Rattle.share_holdings.specs.declared.holding.Holding.{Holding}
 use Rattle.share_holdings.specs.declared.holdings.Heard.{Heard}
@@ -59,3 +62,55 @@ pub record Hears (from : ℕ) (m : Message) (now : ℕ) (old new : HoldingsState
   pub same : IsSame old new
   pub requests : new.requests ≡ after_message from m now old.requests
   pub heard : HearsAt (counts_at from m old.requests) m old new what
+
+-- none of these bytes of a holding's share was asked for
+abbrev pub IsUnasked : HoldingsState → ℕ → ℕ → ℕ → Type 0
+IsUnasked s holding offset len = (h : Holding) (i : ℕ) (r : Request) → IsHolding s.table holding h
+    → slice_get s.requests.entries i ≡ Some r → r.server ≡ h.server
+    → AreApart r.asked (Reading h.share offset len)
+
+-- so many bytes of a holding's share are asked for, from an offset on
+abbrev pub Asks : ℕ → ℕ → ℕ → HoldingsState → HoldingsState → Type 0
+Asks holding offset len old new = (h : Holding) × IsHolding old.table holding h
+    × (new ≡ record old {
+      requests = asked_more h.server (Reading h.share offset len) old.requests;
+      owners = old.owners ++ holding ∷ [];
+    })
+
+-- a holding's share failed a check
+pub record Blames (holding : ℕ) (check : Check) (old new : HoldingsState) : Type 0 where
+  pub held : Holding
+  pub is : IsHolding old.table holding held
+  pub blamed : new.blamed
+      ≡ old.blamed ++ record { server = held.server; share = held.share; check = check } ∷ []
+  pub retired : Retires holding old.table new.table
+  pub others : new ≡ record old { table = new.table; blamed = new.blamed }
+
+-- Holdings are retired, those at places that pass this: they are not left any more. The others are
+-- as they were.
+abbrev pub IsAfter : (ℕ → Type 0) → ℕ → Holding → Holding → Type 0
+IsAfter retired place h g = (g.server ≡ h.server) × (g.share ≡ h.share)
+    × (g.suspended ≡ h.suspended) × (g.left ≡ true → (h.left ≡ true) × ¬ retired place)
+    × (g.left ≡ false → (h.left ≡ false) ⊎ retired place)
+
+-- of a number the one that is read stays so, where it is not retired
+abbrev pub StaysRead : (ℕ → Type 0) → NumberState → NumberState → Type 0
+StaysRead retired n m = (m.reading ≡ n.reading) ⊎ ((place : ℕ) × (n.reading ≡ Some place)
+    × retired place × (m.reading ≡ None))
+
+pub record RetiresAll (retired : ℕ → Type 0) (old new : TableState) : Type 0 where
+  pub long : length new.holdings ≡ length old.holdings
+  pub holdings : (place : ℕ) (h g : Holding) → IsHolding old place h → IsHolding new place g
+      → IsAfter retired place h g
+  pub count : length new.numbers ≡ length old.numbers
+  pub numbers : (share : ℕ) (n m : NumberState) → IsNumber old share n → IsNumber new share m
+      → StaysRead retired n m
+
+-- A tick: these holdings are retired, whose requests it finds lost.
+pub record Ticks (now : ℕ) (old new : HoldingsState) (gone : List ℕ) : Type 0 where
+  pub same : IsSame old new
+  pub requests : new.requests ≡ after_tick now old.requests
+  pub gone_are : (holding : ℕ) → Contains gone holding ↔ ((place : ℕ) × (old.servers ≤ place)
+      × Contains (lost_by_tick now old.requests) place
+      × (slice_get old.owners (place - old.servers) ≡ Some holding))
+  pub table : RetiresAll (Contains gone) old.table new.table

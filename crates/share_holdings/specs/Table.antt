@@ -43,6 +43,10 @@ pub record IsFree (t : TableState) (h : Holding) : Type 0 where
   pub there : IsNumber t h.share number
   pub unread : number.reading ≡ None
 
+-- no holding may be read now
+abbrev pub NoneIsFree : TableState → Type 0
+NoneIsFree t = (place : ℕ) (h : Holding) → IsHolding t place h → IsFree t h → ⊥
+
 -- one holding is changed so
 pub record ChangesHolding (place : ℕ) (change : Holding → Holding) (old new : TableState) (h : Holding)
     : Type 0 where

@@ -1,15 +1,18 @@
 //! The shares that servers hold, with the record of what was asked of each.
 
-ghost use Rattle.std.specs.Prelude.{◌≡◌, ◌<◌, ◌++◌, ◌∷◌, [], ℕ, IfOk, OnErr, OnOk, length, nat_eq};
+ghost use Rattle.std.specs.Prelude.{◌≡◌, ◌<◌, ◌++◌, ◌∷◌, [], ℕ, IfNone, IfOk, IfSome, OnErr, OnOk, length, nat_eq};
 ghost use Rattle.std.specs.Prelude.{slice_get, Some};
 ghost use Rattle.std.specs.List.{IsDistinct};
 ghost use Rattle.request_record.specs.Asking.{AreApart, after_tick, lost_by_tick};
 ghost use Rattle.request_record.specs.Record.{asked_more};
 ghost use Rattle.request_record.specs.declared.requests.Asked.TheVariants.{Reading};
 ghost use Rattle.request_record.specs.declared.requests.Request.{Request};
-ghost use Rattle.share_holdings.specs.Moves.{Begins, Hears, IsSame};
+ghost use Rattle.share_holdings.specs.Moves.{Asks, Begins, Blames, Hears, IsUnasked};
 ghost use Rattle.share_holdings.specs.Right.{AreAllHeld, IsReadOf, IsRight};
-ghost use Rattle.share_holdings.specs.Table.{IsHolding, Retires};
+ghost use Rattle.share_holdings.specs.Numbers.{is_at, read_count};
+ghost use Rattle.share_holdings.specs.State.{NumberState};
+ghost use Rattle.share_holdings.specs.Table.{IsFree, IsHolding, IsNumber, NoneIsFree, Releases};
+ghost use Rattle.share_holdings.specs.Table.{Retires, Suspends, TakesUp};
 ghost use Rattle.share_holdings.specs.declared.holding.Holding.{Holding};
 
 use crate::holding::{Blame, Holding};
@@ -112,5 +115,102 @@ impl Holdings {
         ensures { result.now ≡ self.now.blamed }
     {
         self.blamed.as_slice()
+    }
+
+    /// Of how many share numbers a holding is read.
+    pub fn reading(&self) -> usize
+        ensures { result ≡ read_count self.now.table.numbers }
+    {
+        self.table.reading()
+    }
+
+    /// Whether a holding is read.
+    pub fn is_read(&self, holding: usize) -> bool
+        requires { holding < length self.now.table.holdings }
+        ensures { (h : Holding) → (n : NumberState) → IsHolding self.now.table holding h
+            → IsNumber self.now.table h.share n → result ≡ is_at holding n.reading }
+    {
+        self.table.is_read(holding)
+    }
+
+    /// The next one to read: of the lowest share number of which none is read and one may be
+    /// chosen, at the server of which the fewest are read, and of these the first that was told.
+    pub fn choose(&self) -> Option<usize>
+        ensures free { IfSome result (λ holding.
+            (h : Holding) × IsHolding self.now.table holding h × IsFree self.now.table h) }
+        ensures none { IfNone result (NoneIsFree self.now.table) }
+    {
+        self.table.choose()
+    }
+
+    /// A holding is read from now on. It is free.
+    pub fn take_up(&mut self, holding: usize)
+        requires { (h : Holding) × IsHolding self.old.table holding h × IsFree self.old.table h }
+        ensures takes { TakesUp holding self.old.table self.new.table }
+        ensures others { self.new ≡ record self.old { table = self.new.table } }
+        ensures right { IsRight self.new }
+    {
+        self.table.take_up(holding);
+    }
+
+    /// A holding is not read any more, and may be read again.
+    pub fn release(&mut self, holding: usize)
+        requires { holding < length self.old.table.holdings }
+        ensures releases { Releases holding self.old.table self.new.table }
+        ensures others { self.new ≡ record self.old { table = self.new.table } }
+        ensures right { IsRight self.new }
+    {
+        self.table.release(holding);
+    }
+
+    /// Whether a holding may be chosen is changed.
+    pub fn suspend(&mut self, holding: usize, suspended: bool)
+        requires { holding < length self.old.table.holdings }
+        ensures suspends { Suspends suspended holding self.old.table self.new.table }
+        ensures others { self.new ≡ record self.old { table = self.new.table } }
+        ensures right { IsRight self.new }
+    {
+        self.table.suspend(holding, suspended);
+    }
+
+    /// Asks for bytes of the share of a holding, from an offset on, that were not asked for. Gives
+    /// the place of the request.
+    pub fn ask(
+        &mut self,
+        holding: usize,
+        offset: u64,
+        len: ReadLength,
+    ) -> Result<usize, AllocError>
+        requires there { holding < length self.old.table.holdings }
+        requires unasked { IsUnasked self.old holding offset len }
+        ensures place { IfOk result (λ place. place ≡ length self.old.requests.entries) }
+        ensures ok { OnOk result (Asks holding offset len self.old self.new) }
+        ensures err { OnErr result (self.new ≡ self.old) }
+        ensures right { IsRight self.new }
+    {
+        let place = self.requests.entries().len();
+        let held = self.table.holdings()[holding];
+        self.owners.reserve(1)?;
+        self.requests
+            .ask(held.server, Asked::Reading(held.share, offset, len))?;
+        self.owners.push_reserved(holding);
+        Ok(place)
+    }
+
+    /// A holding's share failed a check: it is not left any more.
+    pub fn blame(&mut self, holding: usize, check: Check) -> Result<(), AllocError>
+        requires { holding < length self.old.table.holdings }
+        ensures ok { OnOk result (Blames holding check self.old self.new) }
+        ensures err { OnErr result (self.new ≡ self.old) }
+        ensures right { IsRight self.new }
+    {
+        let held = self.table.holdings()[holding];
+        self.blamed.push(Blame {
+            server: held.server,
+            share: held.share,
+            check,
+        })?;
+        self.table.retire(holding);
+        Ok(())
     }
 }

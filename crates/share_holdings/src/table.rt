@@ -5,8 +5,8 @@ ghost use Rattle.std.specs.Prelude.{All, Contains, Some, slice_get, true, false,
 ghost use Rattle.share_holdings.specs.Choice.{Chooses};
 ghost use Rattle.share_holdings.specs.Numbers.{is_at, no_holding, read_count, with_place};
 ghost use Rattle.share_holdings.specs.State.{NumberState};
-ghost use Rattle.share_holdings.specs.Table.{ChangesNumber, IsFree, IsHolding, IsTable, Releases};
-ghost use Rattle.share_holdings.specs.Table.{Retires, Suspends, TakesUp, told_one};
+ghost use Rattle.share_holdings.specs.Table.{ChangesNumber, IsFree, IsHolding, IsTable, NoneIsFree};
+ghost use Rattle.share_holdings.specs.Table.{Releases, Retires, Suspends, TakesUp, told_one};
 ghost use Rattle.share_holdings.specs.declared.holding.Holding.{Holding};
 
 use crate::holding::Holding;
@@ -156,8 +156,7 @@ impl Table {
     pub(crate) fn choose(&self) -> Option<usize>
         ensures free { IfSome result (λ place.
             (h : Holding) × IsHolding self.now place h × IsFree self.now h) }
-        ensures none { IfNone result ((place : ℕ) (h : Holding) → IsHolding self.now place h
-            → IsFree self.now h → ⊥) }
+        ensures none { IfNone result (NoneIsFree self.now) }
     {
         for number in &self.numbers {
             if !number.is_read() {

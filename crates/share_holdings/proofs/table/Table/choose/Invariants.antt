@@ -1,5 +1,5 @@
-use Rattle.share_holdings.specs.Choice.{NoneIsFree}
+use Rattle.share_holdings.specs.Choice.{NoneIsFreeBefore}
 use Rattle.share_holdings.proofs.table.Table.choose.Given as goal
 
 abbrev pub invariant-loop-number : goal.invariant-loop-number
-invariant-loop-number l = NoneIsFree l.self l.number-index
+invariant-loop-number l = NoneIsFreeBefore l.self l.number-index
