@@ -3,3 +3,4 @@ pub mod Tables
 pub mod Records
 pub mod Begun
 pub mod Goes
+pub mod Ticking

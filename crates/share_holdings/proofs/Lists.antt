@@ -5,6 +5,7 @@ use Rattle.std.proofs.lemmas.Bool.{eq-eqb, eqb-true}
 use Rattle.std.proofs.lemmas.Option.{slice_get-get_or, slice_get_within}
 use Rattle.placement.proofs.Members.{Contains-filter, from_filter}
 use Rattle.request_record.specs.Record.{without}
+use Rattle.share_holdings.specs.Numbers.{released}
 
 -- what an index reads stands there
 pub got : {X : Type 0} (xs : List X) (i : ℕ) (x : X) → i < length xs → x ≡ slice_index_or xs i x → slice_get xs i ≡ Some x
@@ -52,3 +53,19 @@ from_without place q xs h =
     by : (b : Bool) → (q == place) ≡ b → not b ≡ true → q ≡ place → ⊥
     by true e f g = absurd (true≢false (sym f))
     by false e f g = true≢false (sym (eq-eqb q place g) ∙ e)
+
+-- ---- the one that is read
+
+pub released_at : (holding q : ℕ) → q ≡ holding → released holding (Some q) ≡ None
+released_at holding q e = by (q == holding) refl
+  where
+    by : (b : Bool) → (q == holding) ≡ b → cond b None (Some q) ≡ None
+    by true f = refl
+    by false f = absurd (true≢false (sym (eq-eqb q holding e) ∙ f))
+
+pub released_else : (holding q : ℕ) → (q ≡ holding → ⊥) → released holding (Some q) ≡ Some q
+released_else holding q other = by (q == holding) refl
+  where
+    by : (b : Bool) → (q == holding) ≡ b → cond b None (Some q) ≡ Some q
+    by true f = absurd (other (eqb-true q holding f))
+    by false f = refl

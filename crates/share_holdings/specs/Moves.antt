@@ -1,5 +1,5 @@
 -- What the calls on the shares that servers hold do.
-use Rattle.std.specs.Prelude.{◌≡◌, ◌⊎◌, ◌↔◌, true, false, ℕ, ◌-◌, ◌<◌, ◌≤◌, Bool, List, []}
+use Rattle.std.specs.Prelude.{◌≡◌, ◌⊎◌, true, false, ℕ, ◌-◌, ◌<◌, ◌≤◌, Bool, List, []}
 use Rattle.std.specs.Prelude.{◌∷◌, ◌++◌, Option, Some, None}
 use Rattle.std.specs.Prelude.{length, slice_get, All, Contains}
 use Rattle.share_verify.specs.declared.check.Check.{Check}
@@ -106,11 +106,14 @@ pub record RetiresAll (retired : ℕ → Type 0) (old new : TableState) : Type 0
   pub numbers : (share : ℕ) (n m : NumberState) → IsNumber old share n → IsNumber new share m
       → StaysRead retired n m
 
--- A tick: these holdings are retired, whose requests it finds lost.
-pub record Ticks (now : ℕ) (old new : HoldingsState) (gone : List ℕ) : Type 0 where
+-- one of the requests at these places asks for bytes of the holding's share
+abbrev pub IsAmong : ℕ → List ℕ → List ℕ → ℕ → Type 0
+IsAmong servers owners places holding = (place : ℕ) × Contains places place × (servers ≤ place)
+    × (slice_get owners (place - servers) ≡ Some holding)
+
+-- A tick: the holdings of which it finds a request lost are retired.
+pub record Ticks (now : ℕ) (old new : HoldingsState) : Type 0 where
   pub same : IsSame old new
   pub requests : new.requests ≡ after_tick now old.requests
-  pub gone_are : (holding : ℕ) → Contains gone holding ↔ ((place : ℕ) × (old.servers ≤ place)
-      × Contains (lost_by_tick now old.requests) place
-      × (slice_get old.owners (place - old.servers) ≡ Some holding))
-  pub table : RetiresAll (Contains gone) old.table new.table
+  pub table : RetiresAll (IsAmong old.servers old.owners (lost_by_tick now old.requests))
+      old.table new.table

@@ -1,13 +1,14 @@
 //! The shares that servers hold, with the record of what was asked of each.
 
 ghost use Rattle.std.specs.Prelude.{◌≡◌, ◌<◌, ◌++◌, ◌∷◌, [], ℕ, IfNone, IfOk, IfSome, OnErr, OnOk, length, nat_eq};
-ghost use Rattle.std.specs.Prelude.{slice_get, Some};
+ghost use Rattle.std.specs.Prelude.{All, ◌+◌};
 ghost use Rattle.std.specs.List.{IsDistinct};
 ghost use Rattle.request_record.specs.Asking.{AreApart, after_tick, lost_by_tick};
 ghost use Rattle.request_record.specs.Record.{asked_more};
 ghost use Rattle.request_record.specs.declared.requests.Asked.TheVariants.{Reading};
 ghost use Rattle.request_record.specs.declared.requests.Request.{Request};
 ghost use Rattle.share_holdings.specs.Moves.{Asks, Begins, Blames, Hears, IsUnasked};
+ghost use Rattle.share_holdings.specs.Moves.{IsAmong, RetiresAll, Ticks};
 ghost use Rattle.share_holdings.specs.Right.{AreAllHeld, IsReadOf, IsRight};
 ghost use Rattle.share_holdings.specs.Numbers.{is_at, read_count};
 ghost use Rattle.share_holdings.specs.State.{NumberState};
@@ -212,5 +213,29 @@ impl Holdings {
         })?;
         self.table.retire(holding);
         Ok(())
+    }
+
+    /// Takes note of a second: a holding of which a request is lost then is not left any more.
+    pub fn tick(&mut self, now: u64) -> Result<(), AllocError>
+        ensures ok { OnOk result (Ticks now self.old self.new) }
+        ensures err { OnErr result (self.new ≡ self.old) }
+        ensures right { IsRight self.new }
+    {
+        let lost = self.requests.tick(now)?;
+        retire_owners(&mut self.table, self.servers, &self.owners, &lost);
+        Ok(())
+    }
+}
+
+// The holdings of which the requests at these places ask for bytes are not left any more.
+fn retire_owners(table: &mut Table, servers: usize, owners: &[usize], places: &[usize])
+    requires asked { All (λ place. place < servers + length owners.now) places.now }
+    requires held { All (λ holding. holding < length table.old.holdings) owners.now }
+    ensures { RetiresAll (IsAmong servers owners.now places.now) table.old table.new }
+{
+    for place in places {
+        if servers <= *place {
+            table.retire(owners[*place - servers]);
+        }
     }
 }
