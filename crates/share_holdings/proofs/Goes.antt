@@ -78,7 +78,7 @@ pub record GoesAlike (es ns : List Request) : Type 0 where
   pub alike : AskedAlike es ns
   pub long : length ns ≡ length es
 
-alike_forth : (es ns : List Request) → GoesAlike es ns → (i : ℕ) (r : Request) → slice_get es i ≡ Some r → (n : Request) × (slice_get ns i ≡ Some n) × (n.asked ≡ r.asked) × (n.server ≡ r.server)
+pub alike_forth : (es ns : List Request) → GoesAlike es ns → (i : ℕ) (r : Request) → slice_get es i ≡ Some r → (n : Request) × (slice_get ns i ≡ Some n) × (n.asked ≡ r.asked) × (n.server ≡ r.server)
 alike_forth es ns k i r e =
     let lt : i < length ns = let w = slice_get_within es i r e in let l = k.long in omega (arith, w, l) in
     let there = slice_get-get_or ns i r lt in
@@ -144,9 +144,9 @@ message_cases from m now r k n e = by (counts_at from m (at now r)) refl e
         at_place : (q : Option Request) → slice_get r.entries place ≡ q → slice_get (answered_in r.entries place q m.body) k ≡ Some n → (slice_get r.entries k ≡ Some n) ⊎ ((counts_at from m r ≡ Some k) × (n.outcome ≡ Answered m.body))
         at_place None there g = inl g
         at_place (Some q) there g = elim (set_cases r.entries place k (with_outcome q (Answered m.body)) n g) [
-            | inl new ↦ inr (c ∙ ap Some (sym new.0), ap (λ (x : Request). x.outcome) (sym new.1))
-            | inr old ↦ inl old.1
-          ]
+          | inl new ↦ inr (c ∙ ap Some (sym new.0), ap (λ (x : Request). x.outcome) (sym new.1))
+          | inr old ↦ inl old.1
+        ]
 
 length_message : (from : ℕ) (m : Message) (now : ℕ) (r : RequestsState) → length (after_message from m now r).entries ≡ length r.entries
 length_message from m now r = by (counts_at from m (at now r))
@@ -172,11 +172,11 @@ answered_at from m now r place q counts there =
 -- what is gone after a message was gone before, or is gone by it
 pub gone_message : (from : ℕ) (m : Message) (now : ℕ) (r : RequestsState) (server share : ℕ) → IsGone (after_message from m now r).entries server share → IsGone r.entries server share ⊎ ((place : ℕ) × (counts_at from m r ≡ Some place) × (m.body ≡ NoShare) × ((q : Request) × (slice_get r.entries place ≡ Some q) × (q.server ≡ server) × ((offset : ℕ) × ((len : ℕ) × (q.asked ≡ Reading share offset len)))))
 gone_message from m now r server share g = elim (message_cases from m now r g.place g.request g.there) [
-    | inl old ↦ inl (record { place = g.place; request = g.request; there = old; of_server = g.of_server; offset = g.offset; len = g.len; asked = g.asked; gone = g.gone })
-    | inr new ↦
-        let was = alike_message from m now r g.place g.request g.there in
-        inr (g.place, new.0, no_share g.gone new.1, (was.request, was.there, was.of_server ∙ g.of_server, (g.offset, (g.len, was.same ∙ g.asked))))
-  ]
+  | inl old ↦ inl (record { place = g.place; request = g.request; there = old; of_server = g.of_server; offset = g.offset; len = g.len; asked = g.asked; gone = g.gone })
+  | inr new ↦
+      let was = alike_message from m now r g.place g.request g.there in
+      inr (g.place, new.0, no_share g.gone new.1, (was.request, was.there, was.of_server ∙ g.of_server, (g.offset, (g.len, was.same ∙ g.asked))))
+]
   where
     no_share : {o : Outcome} → (o ≡ Lost) ⊎ (o ≡ Answered NoShare) → o ≡ Answered m.body → m.body ≡ NoShare
     no_share (inl lost) e = let two : Lost ≡ Answered m.body = sym lost ∙ e in absurd cc
@@ -207,9 +207,9 @@ only_owner s right place holding le own =
           elim (cases_lt other holding) [
             | inl lt ↦ absurd (right.distinct other holding h o.held lt is o.is servers shares)
             | inr ge ↦ elim (cases_lt holding other) [
-                | inl lt ↦ absurd (right.distinct holding other o.held h lt o.is is (sym servers) (sym shares))
-                | inr le' ↦ omega (arith, ge, le')
-              ]
+              | inl lt ↦ absurd (right.distinct holding other o.held h lt o.is is (sym servers) (sym shares))
+              | inr le' ↦ omega (arith, ge, le')
+            ]
           ];
     }
   where
@@ -222,8 +222,8 @@ module _ (s : HoldingsState) (right : IsRight s) where
   -- by a message that tells of no share that is gone
   pub right_message : (from : ℕ) (m : Message) (now : ℕ) → ((place : ℕ) → counts_at from m s.requests ≡ Some place → m.body ≡ NoShare → ⊥) → IsRight (record s { requests = after_message from m now s.requests })
   right_message from m now harmless = right_goes s right (after_message from m now s.requests) s.table (message_goes from m now s.requests) (same_pairs s.table) (once_answered from now m s.requests right.once)
-      (λ place g is left. let l = right.left place g is left in ((λ gone. elim (gone_message from m now s.requests g.server g.share gone) [ | inl old ↦ l.0 old | inr new ↦ harmless new.0 new.1 new.2 ]), l.1))
-      (λ place g is left. elim (right.others place g is left) [ | inl gone ↦ inl (gone_stays s.requests.entries (after_message from m now s.requests).entries g.server g.share (stays_message from m now s.requests) gone) | inr blamed ↦ inr blamed ])
+      (λ place g is left. let l = right.left place g is left in ((λ gone. elim (gone_message from m now s.requests g.server g.share gone) [ inl old ↦ l.0 old | inr new ↦ harmless new.0 new.1 new.2 ]), l.1))
+      (λ place g is left. elim (right.others place g is left) [ inl gone ↦ inl (gone_stays s.requests.entries (after_message from m now s.requests).entries g.server g.share (stays_message from m now s.requests) gone) | inr blamed ↦ inr blamed ])
 
   -- a holding is not left any more: the others are the same
   retired_pairs : (holding : ℕ) (u : TableState) → Retires holding s.table u → HaveSamePairs s.table u
@@ -250,20 +250,22 @@ module _ (s : HoldingsState) (right : IsRight s) where
       (λ q g is left. elim (retired_cases holding u r q g is) [
         | inl k ↦ absurd (true≢false (sym left ∙ sym (ap (λ (x : Holding). x.left) k.1)))
         | inr k ↦
-            let l = right.left q g k.1 left in
-            ((λ gone. elim (gone_message from m now s.requests g.server g.share gone) [
-              | inl old ↦ l.0 old
-              | inr new ↦
-                  let is-place : new.0 ≡ place = let two : Some new.0 ≡ Some place = sym new.1 ∙ counts in cc in
-                  k.0 ((only_owner s right place holding le own).others q g new.3.0 k.1 (ap (slice_get s.requests.entries) (sym is-place) ∙ new.3.1) new.3.2 new.3.3.0 new.3.3.1.0 new.3.3.1.1)
-            ]), l.1)
+            let l = right.left q g k.1 left in (
+              (λ gone. elim (gone_message from m now s.requests g.server g.share gone) [
+                | inl old ↦ l.0 old
+                | inr new ↦
+                    let is-place : new.0 ≡ place = let two : Some new.0 ≡ Some place = sym new.1 ∙ counts in cc in
+                    k.0 ((only_owner s right place holding le own).others q g new.3.0 k.1 (ap (slice_get s.requests.entries) (sym is-place) ∙ new.3.1) new.3.2 new.3.3.0 new.3.3.1.0 new.3.3.1.1)
+              ]),
+              l.1,
+            )
       ])
       (λ q g is left. elim (retired_cases holding u r q g is) [
         | inl k ↦ inl (gone_now (ap (λ (x : Holding). x.server) k.1) (ap (λ (x : Holding). x.share) k.1))
         | inr k ↦ elim (right.others q g k.1 left) [
-            | inl gone ↦ inl (gone_stays s.requests.entries (after_message from m now s.requests).entries g.server g.share (stays_message from m now s.requests) gone)
-            | inr blamed ↦ inr blamed
-          ]
+          | inl gone ↦ inl (gone_stays s.requests.entries (after_message from m now s.requests).entries g.server g.share (stays_message from m now s.requests) gone)
+          | inr blamed ↦ inr blamed
+        ]
       ])
     where
       gone_now : {server share : ℕ} → r.0.server ≡ server → r.0.share ≡ share → IsGone (after_message from m now s.requests).entries server share
@@ -310,7 +312,7 @@ module _ (s : HoldingsState) (right : IsRight s) where
     offered = λ place g e. offered_stays s.requests.entries (s.requests.entries ++ new ∷ []) g.server g.share stays (right.offered place g e);
     distinct = right.distinct;
     left = λ place g e left. (let l = right.left place g e left in ((λ gone. l.0 (gone_before g.server g.share gone)), l.1));
-    others = λ place g e left. elim (right.others place g e left) [ | inl gone ↦ inl (gone_stays s.requests.entries (s.requests.entries ++ new ∷ []) g.server g.share stays gone) | inr blamed ↦ inr blamed ];
+    others = λ place g e left. elim (right.others place g e left) [ inl gone ↦ inl (gone_stays s.requests.entries (s.requests.entries ++ new ∷ []) g.server g.share stays gone) | inr blamed ↦ inr blamed ];
     blamed = right.blamed;
   }
     where
@@ -362,9 +364,9 @@ module _ (s : HoldingsState) (right : IsRight s) where
     others = λ q g is left. elim (retired_cases holding u r q g is) [
       | inl k ↦ inr (record { place = length s.blamed; blame = b; there = get_last s.blamed b; of_server = servers ∙ ap (λ (x : Holding). x.server) k.1; of_share = shares ∙ ap (λ (x : Holding). x.share) k.1 })
       | inr k ↦ elim (right.others q g k.1 left) [
-          | inl gone ↦ inl gone
-          | inr blamed ↦ inr (record { place = blamed.place; blame = blamed.blame; there = get_push s.blamed b blamed.place (slice_get_within s.blamed blamed.place blamed.blame blamed.there) ∙ blamed.there; of_server = blamed.of_server; of_share = blamed.of_share })
-        ]
+        | inl gone ↦ inl gone
+        | inr blamed ↦ inr (record { place = blamed.place; blame = blamed.blame; there = get_push s.blamed b blamed.place (slice_get_within s.blamed blamed.place blamed.blame blamed.there) ∙ blamed.there; of_server = blamed.of_server; of_share = blamed.of_share })
+      ]
     ];
     blamed = λ i x e. elim (cases_lt i (length s.blamed)) [
       | inl lt ↦
@@ -396,9 +398,9 @@ module _ (s : HoldingsState) (right : IsRight s) where
             elim (cases_lt q holding) [
               | inl lt ↦ right.distinct q holding g r.0 lt is r.1.is (sym same-server) (sym same-share)
               | inr ge ↦ elim (cases_lt holding q) [
-                  | inl lt ↦ right.distinct holding q r.0 g lt r.1.is is same-server same-share
-                  | inr le' ↦ other (omega (arith, ge, le'))
-                ]
+                | inl lt ↦ right.distinct holding q r.0 g lt r.1.is is same-server same-share
+                | inr le' ↦ other (omega (arith, ge, le'))
+              ]
             ]
       ]
 
@@ -414,11 +416,11 @@ module _ (s : HoldingsState) (right : IsRight s) where
       (record { forth = λ place h e. (let g = k.forth place h e in (g.0, g.1, g.2, g.3)); back = λ place g e. (let h = k.back place g e in (h.0, h.1, h.2, h.3)) })
       right.once
       (λ place g is left. let h = k.back place g is in
-        let l = right.left place h.0 h.1 (sym h.4 ∙ left) in
-        subst (λ (server : ℕ). IsLeft s.requests.entries s.blamed server g.share) (sym h.2) (subst (λ (share : ℕ). IsLeft s.requests.entries s.blamed h.0.server share) (sym h.3) l))
+      let l = right.left place h.0 h.1 (sym h.4 ∙ left) in
+      subst (λ (server : ℕ). IsLeft s.requests.entries s.blamed server g.share) (sym h.2) (subst (λ (share : ℕ). IsLeft s.requests.entries s.blamed h.0.server share) (sym h.3) l))
       (λ place g is left. let h = k.back place g is in
-        let l = right.others place h.0 h.1 (sym h.4 ∙ left) in
-        subst (λ (server : ℕ). IsGone s.requests.entries server g.share ⊎ IsBlamed s.blamed server g.share) (sym h.2) (subst (λ (share : ℕ). IsGone s.requests.entries h.0.server share ⊎ IsBlamed s.blamed h.0.server share) (sym h.3) l))
+      let l = right.others place h.0 h.1 (sym h.4 ∙ left) in
+      subst (λ (server : ℕ). IsGone s.requests.entries server g.share ⊎ IsBlamed s.blamed server g.share) (sym h.2) (subst (λ (share : ℕ). IsGone s.requests.entries h.0.server share ⊎ IsBlamed s.blamed h.0.server share) (sym h.3) l))
 
   pub right_unmoved : (u : TableState) → u.holdings ≡ s.table.holdings → IsRight (record s { table = u })
   right_unmoved u e = right_same u (record {
@@ -460,7 +462,7 @@ asked_by s right holding offset len hs d r owners he lt re oe unasked =
     let h : Holding = slice_index_or hs holding d in
     let is : IsHolding s.table holding h = slice_get-get_or s.table.holdings holding d lt ∙ ap (λ (l : List Holding). Some (slice_index_or l holding d)) (sym he) in
     let same : record s { requests = r; owners = owners } ≡ record s { requests = asked_more h.server (Reading h.share offset len) s.requests; owners = s.owners ++ holding ∷ [] } =
-        ap (λ (q : RequestsState). record s { requests = q; owners = owners }) re ∙ ap (λ (l : List ℕ). record s { requests = asked_more h.server (Reading h.share offset len) s.requests; owners = l }) oe in
+    ap (λ (q : RequestsState). record s { requests = q; owners = owners }) re ∙ ap (λ (l : List ℕ). record s { requests = asked_more h.server (Reading h.share offset len) s.requests; owners = l }) oe in
     record {
       right = subst IsRight (sym same) (right_asked s right holding h offset len is (λ i q e servers. unasked h i q is e servers));
       asks = (h, is, same);

@@ -4,3 +4,4 @@ pub mod Records
 pub mod Begun
 pub mod Goes
 pub mod Ticking
+pub mod Telling

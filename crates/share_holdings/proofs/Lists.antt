@@ -32,9 +32,9 @@ set_cases (q ∷ qs) zero zero x y e = let is : x ≡ y = cc in inl (refl, is)
 set_cases (q ∷ qs) zero (suc j) x y e = inr ((λ f. omega (arith, f)), e)
 set_cases (q ∷ qs) (suc i) zero x y e = inr ((λ f. omega (arith, f)), e)
 set_cases (q ∷ qs) (suc i) (suc j) x y e = elim (set_cases qs i j x y e) [
-    | inl k ↦ inl (ap suc k.0, k.1)
-    | inr k ↦ inr ((λ f. k.0 (omega (arith, f))), k.1)
-  ]
+  | inl k ↦ inl (ap suc k.0, k.1)
+  | inr k ↦ inr ((λ f. k.0 (omega (arith, f))), k.1)
+]
 
 -- ---- a place is not listed any more
 

@@ -55,19 +55,19 @@ module _ (t : TableState) (right : IsTable t) where
       ]);
       listed = λ place h m e left at. elim (set_cases t.numbers share h.share (with_place (length t.holdings) n) m at) [
         | inl k ↦ subst (λ (x : NumberState). Contains x.left place) k.1 (elim (told_cases place h e) [
-            | inl old ↦ Contains-append_left n.left (length t.holdings ∷ []) place (right.listed place h n old.0 left (ap (slice_get t.numbers) k.0 ∙ there))
-            | inr new ↦ subst (Contains (n.left ++ length t.holdings ∷ [])) (sym new.0) (Contains-push n.left (length t.holdings))
-          ])
+          | inl old ↦ Contains-append_left n.left (length t.holdings ∷ []) place (right.listed place h n old.0 left (ap (slice_get t.numbers) k.0 ∙ there))
+          | inr new ↦ subst (Contains (n.left ++ length t.holdings ∷ [])) (sym new.0) (Contains-push n.left (length t.holdings))
+        ])
         | inr k ↦ elim (told_cases place h e) [
-            | inl old ↦ right.listed place h m old.0 left k.1
-            | inr new ↦ absurd (k.0 (sym (ap (λ (x : Holding). x.share) new.1)))
-          ]
+          | inl old ↦ right.listed place h m old.0 left k.1
+          | inr new ↦ absurd (k.0 (sym (ap (λ (x : Holding). x.share) new.1)))
+        ]
       ];
       places = λ number place m at c. elim (set_cases t.numbers share number (with_place (length t.holdings) n) m at) [
         | inl k ↦ elim (Contains-push_cases n.left (length t.holdings) place (subst (λ (x : NumberState). Contains x.left place) (sym k.1) c)) [
-            | inl old ↦ (let r = right.places share place n there old in (r.0, front place r.0 r.1, r.2 ∙ sym k.0, r.3))
-            | inr is ↦ (told_one server share, subst (λ (p : ℕ). slice_get (t.holdings ++ told_one server share ∷ []) p ≡ Some (told_one server share)) is (get_last t.holdings (told_one server share)), sym k.0, refl)
-          ]
+          | inl old ↦ (let r = right.places share place n there old in (r.0, front place r.0 r.1, r.2 ∙ sym k.0, r.3))
+          | inr is ↦ (told_one server share, subst (λ (p : ℕ). slice_get (t.holdings ++ told_one server share ∷ []) p ≡ Some (told_one server share)) is (get_last t.holdings (told_one server share)), sym k.0, refl)
+        ]
         | inr k ↦ (let r = right.places number place m k.1 c in (r.0, front place r.0 r.1, r.2, r.3))
       ];
       reading = λ number place m at e. elim (set_cases t.numbers share number (with_place (length t.holdings) n) m at) [
@@ -97,9 +97,9 @@ module _ (t : TableState) (right : IsTable t) where
       listed = λ q g m e left at. elim (set_cases t.holdings place q (record h { left = false }) g e) [
         | inl k ↦ absurd (true≢false (sym left ∙ sym (ap (λ (x : Holding). x.left) k.1)))
         | inr k ↦ elim (set_cases t.numbers h.share g.share (without_place place n) m at) [
-            | inl same-share ↦ subst (λ (x : NumberState). Contains x.left q) same-share.1 (without_keeps place q n.left (right.listed q g n k.1 left (ap (slice_get t.numbers) same-share.0 ∙ there)) k.0)
-            | inr other ↦ right.listed q g m k.1 left other.1
-          ]
+          | inl same-share ↦ subst (λ (x : NumberState). Contains x.left q) same-share.1 (without_keeps place q n.left (right.listed q g n k.1 left (ap (slice_get t.numbers) same-share.0 ∙ there)) k.0)
+          | inr other ↦ right.listed q g m k.1 left other.1
+        ]
       ];
       places = λ number q m at c. elim (set_cases t.numbers h.share number (without_place place n) m at) [
         | inl k ↦
@@ -348,9 +348,9 @@ free_here t i p n right there unread k =
 -- none of a number may be read
 none_more : (t : TableState) (i : ℕ) → NoneIsFreeBefore t i → ((place : ℕ) (h : Holding) → IsHolding t place h → IsFree t h → h.share ≡ i → ⊥) → NoneIsFreeBefore t (i + 1)
 none_more t i before here place h is free lt = elim (cases_lt h.share i) [
-    | inl less ↦ before place h is free less
-    | inr le ↦ here place h is free (omega (arith, le, lt))
-  ]
+  | inl less ↦ before place h is free less
+  | inr le ↦ here place h is free (omega (arith, le, lt))
+]
 
 pub none_chosen : (t : TableState) (i : ℕ) (n : NumberState) → IsTable t → IsNumber t i n → Chooses t n.left None → NoneIsFreeBefore t i → NoneIsFreeBefore t (i + 1)
 none_chosen t i n right there k before = none_more t i before (λ place h is free e.

@@ -56,9 +56,9 @@ unlisted test (x ∷ xs) base p c = by (test x) refl c (unlisted test xs (base +
         → (Contains (places_from test (base + 1) xs) p → (base + 1 ≤ p) × ((q : Request) × (slice_get xs (p - (base + 1)) ≡ Some q) × (test q ≡ true)))
         → (base ≤ p) × ((q : Request) × (slice_get (x ∷ xs) (p - base) ≡ Some q) × (test q ≡ true))
     by true t d rest = elim (Contains-uncons base (places_from test (base + 1) xs) p d) [
-        | inl e ↦ (let at : p - base ≡ 0 = omega (arith, e) in (omega (arith, e), (x, ap (slice_get (x ∷ xs)) at, t)))
-        | inr r ↦ later (rest r)
-      ]
+      | inl e ↦ (let at : p - base ≡ 0 = omega (arith, e) in (omega (arith, e), (x, ap (slice_get (x ∷ xs)) at, t)))
+      | inr r ↦ later (rest r)
+    ]
     by false t d rest = later (rest d)
 
 get_map : (f : Request → Request) (es : List Request) (i : ℕ) (q : Request) → slice_get es i ≡ Some q → slice_get (map f es) i ≡ Some (f q)
@@ -131,9 +131,9 @@ among_more s places place holding a = (a.0, Contains-append_left places (place �
 -- one more is among them by its own place alone
 among_cases : (s : HoldingsState) (places : List ℕ) (place holding : ℕ) → IsAmong s.servers s.owners (places ++ place ∷ []) holding → IsAmong s.servers s.owners places holding ⊎ ((s.servers ≤ place) × (slice_get s.owners (place - s.servers) ≡ Some holding))
 among_cases s places place holding a = elim (Contains-push_cases places place a.0 a.1) [
-    | inl old ↦ inl (a.0, old, a.2, a.3)
-    | inr e ↦ inr (subst (λ (p : ℕ). s.servers ≤ p) (sym e) a.2, ap (λ (p : ℕ). slice_get s.owners (p - s.servers)) e ∙ a.3)
-  ]
+  | inl old ↦ inl (a.0, old, a.2, a.3)
+  | inr e ↦ inr (subst (λ (p : ℕ). s.servers ≤ p) (sym e) a.2, ap (λ (p : ℕ). slice_get s.owners (p - s.servers)) e ∙ a.3)
+]
 
 -- a place that is not owned changes nothing
 pub retires_skip : (s : HoldingsState) (places : List ℕ) (place : ℕ) (u : TableState) → place < s.servers → RetiresAll (IsAmong s.servers s.owners places) s.table u → RetiresAll (IsAmong s.servers s.owners (places ++ place ∷ [])) s.table u
@@ -141,13 +141,13 @@ retires_skip s places place u low r = record {
   long = r.long;
   holdings = λ q h g e f.
       let k = r.holdings q h g e f in
-      (k.0, k.1, k.2, (λ left. ((k.3 left).0, λ a. (k.3 left).1 (back q a))), λ left. elim (k.4 left) [ | inl was ↦ inl was | inr a ↦ inr (among_more s places place q a) ]);
+      (k.0, k.1, k.2, (λ left. ((k.3 left).0, λ a. (k.3 left).1 (back q a))), λ left. elim (k.4 left) [ inl was ↦ inl was | inr a ↦ inr (among_more s places place q a) ]);
   count = r.count;
-  numbers = λ share n m e f. elim (r.numbers share n m e f) [ | inl same ↦ inl same | inr k ↦ inr (k.0, k.1, among_more s places place k.0 k.2, k.3) ];
+  numbers = λ share n m e f. elim (r.numbers share n m e f) [ inl same ↦ inl same | inr k ↦ inr (k.0, k.1, among_more s places place k.0 k.2, k.3) ];
 }
   where
     back : (q : ℕ) → IsAmong s.servers s.owners (places ++ place ∷ []) q → IsAmong s.servers s.owners places q
-    back q a = elim (among_cases s places place q a) [ | inl old ↦ old | inr k ↦ (let le = k.0 in absurd (omega (arith, le, low))) ]
+    back q a = elim (among_cases s places place q a) [ inl old ↦ old | inr k ↦ (let le = k.0 in absurd (omega (arith, le, low))) ]
 
 -- its owner is retired
 pub retires_one : (s : HoldingsState) (places : List ℕ) (place holding : ℕ) (u v : TableState) → s.servers ≤ place → slice_get s.owners (place - s.servers) ≡ Some holding → RetiresAll (IsAmong s.servers s.owners places) s.table u → Retires holding u v → RetiresAll (IsAmong s.servers s.owners (places ++ place ∷ [])) s.table v
@@ -155,18 +155,27 @@ retires_one s places place holding u v le own r t = record {
   long = ap length t.1.holdings ∙ length-set u.holdings holding (record t.0 { left = false }) ∙ r.long;
   holdings = λ q h g e f. elim (set_cases u.holdings holding q (record t.0 { left = false }) g (sym (ap (λ (l : List Holding). slice_get l q) t.1.holdings) ∙ f)) [
     | inl k ↦
-        let before = r.holdings q h t.0 e (ap (slice_get u.holdings) k.0 ∙ t.1.is) in
-        (ap (λ (x : Holding). x.server) (sym k.1) ∙ before.0, ap (λ (x : Holding). x.share) (sym k.1) ∙ before.1, ap (λ (x : Holding). x.suspended) (sym k.1) ∙ before.2,
-        (λ left. absurd (true≢false (sym left ∙ sym (ap (λ (x : Holding). x.left) k.1)))),
-        λ left. inr (subst (IsAmong s.servers s.owners (places ++ place ∷ [])) (sym k.0) this))
+        let before = r.holdings q h t.0 e (ap (slice_get u.holdings) k.0 ∙ t.1.is) in (
+          ap (λ (x : Holding). x.server) (sym k.1) ∙ before.0,
+          ap (λ (x : Holding). x.share) (sym k.1) ∙ before.1,
+          ap (λ (x : Holding). x.suspended) (sym k.1) ∙ before.2,
+          (λ left. absurd (true≢false (sym left ∙ sym (ap (λ (x : Holding). x.left) k.1)))),
+          λ left. inr (subst (IsAmong s.servers s.owners (places ++ place ∷ [])) (sym k.0) this),
+        )
     | inr k ↦
-        let before = r.holdings q h g e k.1 in
-        (before.0, before.1, before.2,
-        (λ left. ((before.3 left).0, λ a. elim (among_cases s places place q a) [
-          | inl old ↦ (before.3 left).1 old
-          | inr w ↦ (let two : Some q ≡ Some holding = sym w.1 ∙ own in let one : q ≡ holding = cc in k.0 one)
-        ])),
-        λ left. elim (before.4 left) [ | inl was ↦ inl was | inr a ↦ inr (among_more s places place q a) ])
+        let before = r.holdings q h g e k.1 in (
+          before.0,
+          before.1,
+          before.2,
+          (λ left. (
+            (before.3 left).0,
+            λ a. elim (among_cases s places place q a) [
+              | inl old ↦ (before.3 left).1 old
+              | inr w ↦ (let two : Some q ≡ Some holding = sym w.1 ∙ own in let one : q ≡ holding = cc in k.0 one)
+            ],
+          )),
+          λ left. elim (before.4 left) [ inl was ↦ inl was | inr a ↦ inr (among_more s places place q a) ],
+        )
   ];
   count = ap length t.2.numbers ∙ length-set u.numbers t.0.share (without_place holding t.2.number) ∙ r.count;
   numbers = λ share n m e f. elim (set_cases u.numbers t.0.share share (without_place holding t.2.number) m (sym (ap (λ (l : List NumberState). slice_get l share) t.2.numbers) ∙ f)) [
@@ -177,7 +186,7 @@ retires_one s places place holding u v le own r t = record {
           | inl same ↦ by_release n.reading m.reading (now ∙ ap (released holding) same)
           | inr w ↦ inr (w.0, w.1, among_more s places place w.0 w.2, now ∙ ap (released holding) w.3)
         ]
-    | inr k ↦ elim (r.numbers share n m e k.1) [ | inl same ↦ inl same | inr w ↦ inr (w.0, w.1, among_more s places place w.0 w.2, w.3) ]
+    | inr k ↦ elim (r.numbers share n m e k.1) [ inl same ↦ inl same | inr w ↦ inr (w.0, w.1, among_more s places place w.0 w.2, w.3) ]
   ];
 }
   where
@@ -217,40 +226,42 @@ module _ (s : HoldingsState) (right : IsRight s) (now : ℕ) (u : TableState) (r
   -- the owner of a place that asks for bytes of a holding's share is this holding
   owner_is : (place : ℕ) (q : Request) (holding : ℕ) (h : Holding) (offset len : ℕ) → slice_get s.requests.entries place ≡ Some q → IsHolding s.table holding h → q.server ≡ h.server → q.asked ≡ Reading h.share offset len → (s.servers ≤ place) × (slice_get s.owners (place - s.servers) ≡ Some holding)
   owner_is place q holding h offset len there is server asked = elim (cases_lt place s.servers) [
-      | inl lt ↦ (let two : Reading h.share offset len ≡ Holdings = sym asked ∙ right.first place q there lt in absurd cc)
-      | inr le ↦
-          let c = right.counted in
-          let within = slice_get_within s.requests.entries place q there in
-          let inside : place - s.servers < length s.owners = omega (arith, le, c, within) in
-          let own = slice_get-get_or s.owners (place - s.servers) 0 inside in
-          let o = only_owner s right place _ le own in
-          (le, subst (λ (k : ℕ). slice_get s.owners (place - s.servers) ≡ Some k) (sym (o.others holding h q is there server offset len asked)) own)
-    ]
+    | inl lt ↦ (let two : Reading h.share offset len ≡ Holdings = sym asked ∙ right.first place q there lt in absurd cc)
+    | inr le ↦
+        let c = right.counted in
+        let within = slice_get_within s.requests.entries place q there in
+        let inside : place - s.servers < length s.owners = omega (arith, le, c, within) in
+        let own = slice_get-get_or s.owners (place - s.servers) 0 inside in
+        let o = only_owner s right place _ le own in
+        (le, subst (λ (k : ℕ). slice_get s.owners (place - s.servers) ≡ Some k) (sym (o.others holding h q is there server offset len asked)) own)
+  ]
 
   pub right_tick : IsRight (record s { requests = after_tick now s.requests; table = u })
   right_tick = right_goes s right (after_tick now s.requests) u (tick_goes now s.requests) pairs_after (once_ticked now s.requests right.once)
       (λ place g is left.
-        let h = there_before place g is in
-        let k = r.holdings place h.0 g h.1 is in
-        let l = right.left place h.0 h.1 (k.3 left).0 in
-        subst (λ (server : ℕ). IsLeft (after_tick now s.requests).entries s.blamed server g.share) (sym k.0) (subst (λ (share : ℕ). IsLeft (after_tick now s.requests).entries s.blamed h.0.server share) (sym k.1)
-        ((λ gone. elim (gone_tick now s.requests h.0.server h.0.share gone) [
+      let h = there_before place g is in
+      let k = r.holdings place h.0 g h.1 is in
+      let l = right.left place h.0 h.1 (k.3 left).0 in
+      subst (λ (server : ℕ). IsLeft (after_tick now s.requests).entries s.blamed server g.share) (sym k.0) (subst (λ (share : ℕ). IsLeft (after_tick now s.requests).entries s.blamed h.0.server share) (sym k.1) (
+        (λ gone. elim (gone_tick now s.requests h.0.server h.0.share gone) [
           | inl old ↦ l.0 old
           | inr new ↦
               let own = owner_is new.0 new.2.0 place h.0 new.2.3.0 new.2.3.1.0 new.2.1 h.1 new.2.2 new.2.3.1.1 in
               (k.3 left).1 (new.0, new.1, own.0, own.1)
-        ]), l.1)))
+        ]),
+        l.1,
+      )))
       (λ place g is left.
-        let h = there_before place g is in
-        let k = r.holdings place h.0 g h.1 is in
-        subst (λ (server : ℕ). IsGone (after_tick now s.requests).entries server g.share ⊎ IsBlamed s.blamed server g.share) (sym k.0) (subst (λ (share : ℕ). IsGone (after_tick now s.requests).entries h.0.server share ⊎ IsBlamed s.blamed h.0.server share) (sym k.1)
-        (elim (k.4 left) [
-          | inl was ↦ elim (right.others place h.0 h.1 was) [
-              | inl gone ↦ inl (gone_stays s.requests.entries (after_tick now s.requests).entries h.0.server h.0.share (stays_tick now s.requests) gone)
-              | inr blamed ↦ inr blamed
-            ]
-          | inr a ↦ inl (lost_gone place h.0 h.1 a)
-        ])))
+      let h = there_before place g is in
+      let k = r.holdings place h.0 g h.1 is in
+      subst (λ (server : ℕ). IsGone (after_tick now s.requests).entries server g.share ⊎ IsBlamed s.blamed server g.share) (sym k.0) (subst (λ (share : ℕ). IsGone (after_tick now s.requests).entries h.0.server share ⊎ IsBlamed s.blamed h.0.server share) (sym k.1)
+      (elim (k.4 left) [
+        | inl was ↦ elim (right.others place h.0 h.1 was) [
+          | inl gone ↦ inl (gone_stays s.requests.entries (after_tick now s.requests).entries h.0.server h.0.share (stays_tick now s.requests) gone)
+          | inr blamed ↦ inr blamed
+        ]
+        | inr a ↦ inl (lost_gone place h.0 h.1 a)
+      ])))
     where
       lost_gone : (place : ℕ) (h : Holding) → IsHolding s.table place h → IsAmong s.servers s.owners (lost_by_tick now s.requests) place → IsGone (after_tick now s.requests).entries h.server h.share
       lost_gone place h is a =

@@ -1,12 +1,14 @@
 -- What the calls on the shares that servers hold do.
-use Rattle.std.specs.Prelude.{◌≡◌, ◌⊎◌, true, false, ℕ, ◌-◌, ◌<◌, ◌≤◌, Bool, List, []}
-use Rattle.std.specs.Prelude.{◌∷◌, ◌++◌, Option, Some, None}
+use Rattle.std.specs.Prelude.{◌≡◌, ◌≢◌, ◌⊎◌, true, false, ℕ, ◌-◌, ◌<◌, ◌≤◌, Bool, List, []}
+use Rattle.std.specs.Prelude.{take, ◌∷◌, ◌++◌, Option, Some, None}
 use Rattle.std.specs.Prelude.{length, slice_get, All, Contains}
 use Rattle.share_verify.specs.declared.check.Check.{Check}
 use Rattle.wire.specs.declared.message.Body.TheVariants.{Have, NoShare}
 use Rattle.wire.specs.declared.message.HeldShare.{HeldShare}
 use Rattle.wire.specs.declared.message.Message.{Message}
 use Rattle.request_record.specs.declared.requests.Asked.TheVariants.{Reading}
+use Rattle.request_record.specs.declared.requests.Outcome.{Outcome}
+use Rattle.request_record.specs.declared.requests.Outcome.TheVariants.{Answered}
 use Rattle.request_record.specs.declared.requests.Request.{Request}
 use Rattle.request_record.specs.Asking.{AreApart, after_message, after_tick, begun}
 use Rattle.request_record.specs.Asking.{lost_by_tick}
@@ -39,18 +41,39 @@ pub record IsSame (old new : HoldingsState) : Type 0 where
   pub owners : new.owners ≡ old.owners
   pub blamed : new.blamed ≡ old.blamed
 
+-- the first shares that a server tells, so many, are holdings now
+pub record Tells (server : ℕ) (held : List HeldShare) (count : ℕ) (old new : TableState)
+    : Type 0 where
+  pub holdings : new.holdings
+      ≡ old.holdings ++ told (length old.numbers) server (take count held)
+  pub long : length new.numbers ≡ length old.numbers
+  pub reading : (share : ℕ) (n m : NumberState) → IsNumber old share n → IsNumber new share m
+      → m.reading ≡ n.reading
+
+-- what a request was answered, as shares that its server holds
+abbrev pub held_by : Outcome → List HeldShare
+held_by (Answered (Have readonly held)) = held
+held_by outcome = []
+
+-- the first shares of which the message tells, as the answer to the request at this place, so many,
+-- are holdings now
+pub record TellsHeld (place : ℕ) (m : Message) (old new : HoldingsState) (count : ℕ)
+    : Type 0 where
+  pub request : Request
+  pub there : slice_get old.requests.entries place ≡ Some request
+  pub tells : Tells request.server (held_by (Answered m.body)) count old.table new.table
+
 -- what an answer that counts, to the request at this place, brings
 abbrev pub Brings : ℕ → Message → HoldingsState → HoldingsState → Heard → Type 0
 Brings place m old new heard.Nothing = ⊥
-Brings place m old new heard.Held = (place < old.servers) × ((readonly : Bool)
-    × (held : List HeldShare) × (request : Request) × (m.body ≡ Have readonly held)
-    × (slice_get old.requests.entries place ≡ Some request)
-    × (new.table.holdings ≡ old.table.holdings
-    ++ told (length old.table.numbers) request.server held))
-Brings place m old new (heard.Gone holding) = (slice_get old.owners (place - old.servers) ≡ Some holding)
+Brings place m old new heard.Held = (place < old.servers)
+    × TellsHeld place m old new (length (held_by (Answered m.body)))
+Brings place m old new (heard.Gone holding) = (old.servers ≤ place)
+    × (slice_get old.owners (place - old.servers) ≡ Some holding)
     × (m.body ≡ NoShare) × Retires holding old.table new.table
-Brings place m old new (heard.Bytes holding at) = (at ≡ place) × (old.servers ≤ place)
-    × (slice_get old.owners (place - old.servers) ≡ Some holding) × (new.table ≡ old.table)
+Brings place m old new (heard.Bytes holding at) = (old.servers ≤ place) × (at ≡ place)
+    × (slice_get old.owners (place - old.servers) ≡ Some holding) × (m.body ≢ NoShare)
+    × (new.table ≡ old.table)
 
 -- a message counts for nothing, or brings something
 abbrev pub HearsAt : Option ℕ → Message → HoldingsState → HoldingsState → Heard → Type 0

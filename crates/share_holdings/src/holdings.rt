@@ -1,14 +1,16 @@
 //! The shares that servers hold, with the record of what was asked of each.
 
 ghost use Rattle.std.specs.Prelude.{◌≡◌, ◌<◌, ◌++◌, ◌∷◌, [], ℕ, IfNone, IfOk, IfSome, OnErr, OnOk, length, nat_eq};
-ghost use Rattle.std.specs.Prelude.{All, ◌+◌};
+ghost use Rattle.std.specs.Prelude.{All, IsTrue, ◌+◌, ◌↔◌};
+ghost use Rattle.wire.specs.declared.message.Body.TheVariants.{NoShare};
 ghost use Rattle.std.specs.List.{IsDistinct};
-ghost use Rattle.request_record.specs.Asking.{AreApart, after_tick, lost_by_tick};
+ghost use Rattle.wire.specs.Held.{AreRising};
+ghost use Rattle.request_record.specs.Asking.{after_message};
 ghost use Rattle.request_record.specs.Record.{asked_more};
-ghost use Rattle.request_record.specs.declared.requests.Asked.TheVariants.{Reading};
+ghost use Rattle.request_record.specs.declared.requests.Outcome.TheVariants.{Answered};
 ghost use Rattle.request_record.specs.declared.requests.Request.{Request};
 ghost use Rattle.share_holdings.specs.Moves.{Asks, Begins, Blames, Hears, IsUnasked};
-ghost use Rattle.share_holdings.specs.Moves.{IsAmong, RetiresAll, Ticks};
+ghost use Rattle.share_holdings.specs.Moves.{IsAmong, IsSame, RetiresAll, Tells, Ticks, held_by};
 ghost use Rattle.share_holdings.specs.Right.{AreAllHeld, IsReadOf, IsRight};
 ghost use Rattle.share_holdings.specs.Numbers.{is_at, read_count};
 ghost use Rattle.share_holdings.specs.State.{NumberState};
@@ -22,7 +24,7 @@ use request_record::requests::{Asked, Outcome, Requests};
 use share_verify::Check;
 use std::alloc::{AllocError, Global};
 use std::marker::Model;
-use wire::message::{Body, Message, NodeId, ReadLength};
+use wire::message::{Body, HeldShare, Message, NodeId, ReadLength};
 
 /// The record of an operation that reads shares, and the holdings that it reads.
 #[derive(Drop)]
@@ -176,12 +178,7 @@ impl Holdings {
 
     /// Asks for bytes of the share of a holding, from an offset on, that were not asked for. Gives
     /// the place of the request.
-    pub fn ask(
-        &mut self,
-        holding: usize,
-        offset: u64,
-        len: ReadLength,
-    ) -> Result<usize, AllocError>
+    pub fn ask(&mut self, holding: usize, offset: u64, len: ReadLength) -> Result<usize, AllocError>
         requires there { holding < length self.old.table.holdings }
         requires unasked { IsUnasked self.old holding offset len }
         ensures place { IfOk result (λ place. place ≡ length self.old.requests.entries) }
@@ -215,6 +212,38 @@ impl Holdings {
         Ok(())
     }
 
+    /// Takes a message from a server over, at a second, and says what it brings. On an `Err` some of
+    /// the shares that it tells are not among the holdings.
+    pub fn take_answer(
+        &mut self,
+        from: NodeId,
+        message: Message,
+        now: u64,
+    ) -> Result<Heard, AllocError>
+        ensures hears { IfOk result (Hears from message now self.old self.new) }
+        ensures same { IsSame self.old self.new }
+        ensures requests { self.new.requests ≡ after_message from message now self.old.requests }
+        ensures right { IsRight self.new }
+    {
+        let counted = self.requests.counts_at(from, &message);
+        let gone = is_missing(&message.body);
+        self.requests.take_answer(from, message, now);
+        let Some(place) = counted else {
+            return Ok(Heard::Nothing);
+        };
+        if place < self.servers {
+            let request = &self.requests.entries()[place];
+            tell_all(&mut self.table, request.server, held_by(&request.outcome))?;
+            return Ok(Heard::Held);
+        }
+        let holding = self.owners[place - self.servers];
+        if gone {
+            self.table.retire(holding);
+            return Ok(Heard::Gone(holding));
+        }
+        Ok(Heard::Bytes(holding, place))
+    }
+
     /// Takes note of a second: a holding of which a request is lost then is not left any more.
     pub fn tick(&mut self, now: u64) -> Result<(), AllocError>
         ensures ok { OnOk result (Ticks now self.old self.new) }
@@ -238,4 +267,46 @@ fn retire_owners(table: &mut Table, servers: usize, owners: &[usize], places: &[
             table.retire(owners[*place - servers]);
         }
     }
+}
+
+// Whether a message says that there is no such share.
+fn is_missing(body: &Body) -> bool
+    ensures { IsTrue result ↔ (body.now ≡ NoShare) }
+{
+    matches!(body, Body::NoShare)
+}
+
+// What a request was answered, as shares that its server holds.
+fn held_by(outcome: &Outcome) -> &[HeldShare]
+    ensures value { result.now ≡ held_by outcome.now }
+    ensures rising { AreRising result.now }
+{
+    match outcome {
+        Outcome::Answered(body) => held_in(body),
+        _ => &[],
+    }
+}
+
+// What a message says that its server holds.
+fn held_in(body: &Body) -> &[HeldShare]
+    ensures value { result.now ≡ held_by (Answered body.now) }
+    ensures rising { AreRising result.now }
+{
+    match body {
+        Body::Have(_, held) => held.as_slice(),
+        _ => &[],
+    }
+}
+
+// The shares that a server tells are holdings.
+fn tell_all(table: &mut Table, server: NodeId, held: &[HeldShare]) -> Result<(), AllocError>
+    ensures ok { OnOk result (Tells server held.now (length held.now) table.old table.new) }
+    ensures some { (count : ℕ) × Tells server held.now count table.old table.new }
+{
+    for share in held {
+        if usize::from(share.share) < table.number_count() {
+            table.tell(server, share.share)?;
+        }
+    }
+    Ok(())
 }

@@ -67,6 +67,13 @@ impl Table {
         self.holdings.as_slice()
     }
 
+    /// How many share numbers count.
+    pub(crate) fn number_count(&self) -> usize
+        ensures { result ≡ length self.now.numbers }
+    {
+        self.numbers.len()
+    }
+
     /// Of how many numbers a holding is read.
     pub(crate) fn reading(&self) -> usize
         ensures { result ≡ read_count self.now.numbers }

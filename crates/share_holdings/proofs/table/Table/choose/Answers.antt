@@ -38,15 +38,15 @@ returns-then-is_some-clause-free c =
 
 pub loop-number-preserved : goal.loop-number-preserved
 loop-number-preserved c = elim c.if-not-is_read.branch [
-    | then-not-is_read+else-is_some w ↦
-        let none : w.choose_among-chosen.result ≡ None = none_of (sym w.is_some.ensures ∙ w.if-is_some.false) in
-        none_chosen c.args.self.now c.loop-number.number-index c.number-item.result (right c) (there c)
-        (subst (λ o. Chooses c.args.self.now c.number-item.result.left o) none (subst (λ l. Chooses c.args.self.now l w.choose_among-chosen.result) w.left.ensures w.choose_among-chosen.ensures))
-        c.loop-number.invariant
-    | else-not-is_read w ↦
-        let some : is_some c.number-item.result.reading ≡ true = search rules in
-        one_read c.args.self.now c.loop-number.number-index c.number-item.result (there c) some c.loop-number.invariant
-  ]
+  | then-not-is_read+else-is_some w ↦
+      let none : w.choose_among-chosen.result ≡ None = none_of (sym w.is_some.ensures ∙ w.if-is_some.false) in
+      none_chosen c.args.self.now c.loop-number.number-index c.number-item.result (right c) (there c)
+      (subst (λ o. Chooses c.args.self.now c.number-item.result.left o) none (subst (λ l. Chooses c.args.self.now l w.choose_among-chosen.result) w.left.ensures w.choose_among-chosen.ensures))
+      c.loop-number.invariant
+  | else-not-is_read w ↦
+      let some : is_some c.number-item.result.reading ≡ true = search rules in
+      one_read c.args.self.now c.loop-number.number-index c.number-item.result (there c) some c.loop-number.invariant
+]
   where
     right : (c : goal.Joined-not-is_read) → IsTable c.args.self.now
     right c = subst IsTable c.self.view_is c.self.invariant.0

@@ -28,19 +28,19 @@ loop-place-preserved c = subst (λ (t : TableState). Chooses t (take (c.loop-pla
 
     by : (c : goal.Joined-not-holding) → Chooses (t c) (take (c.loop-place.place-index + 1) c.args.places.now) c.if-not-holding.chosen
     by c = elim c.if-not-holding.branch [
-        | then-not-holding+then-is_none w ↦
-            let open-one : c.index-holding.result.now.suspended ≡ false = search rules in
-            subst (λ (o : Option ℕ). Chooses (t c) (take (c.loop-place.place-index + 1) c.args.places.now) o) (sym w.chosen-is)
-            (chooses_this (t c) c.args.places.now c.loop-place.place-index (at c) c.index-holding.result.now c.loop-place-test.true (same c) (inside c) c.index-holding.ensures open-one)
-        | then-not-holding+else-is_none+else-load-least w ↦
-            let some : is_some c.loop-place.chosen ≡ true = search rules in
-            subst (λ (o : Option ℕ). Chooses (t c) (take (c.loop-place.place-index + 1) c.args.places.now) o) (sym w.chosen-is)
-            (chooses_on (t c) c.args.places.now c.loop-place.place-index (at c) c.index-holding.result.now c.loop-place.chosen c.loop-place-test.true (same c) (inside c) c.index-holding.ensures (inl some) (before c))
-        | else-not-holding w ↦
-            let closed : c.index-holding.result.now.suspended ≡ true = search rules in
-            subst (λ (o : Option ℕ). Chooses (t c) (take (c.loop-place.place-index + 1) c.args.places.now) o) (sym w.chosen-is)
-            (chooses_on (t c) c.args.places.now c.loop-place.place-index (at c) c.index-holding.result.now c.loop-place.chosen c.loop-place-test.true (same c) (inside c) c.index-holding.ensures (inr closed) (before c))
-      ]
+      | then-not-holding+then-is_none w ↦
+          let open-one : c.index-holding.result.now.suspended ≡ false = search rules in
+          subst (λ (o : Option ℕ). Chooses (t c) (take (c.loop-place.place-index + 1) c.args.places.now) o) (sym w.chosen-is)
+          (chooses_this (t c) c.args.places.now c.loop-place.place-index (at c) c.index-holding.result.now c.loop-place-test.true (same c) (inside c) c.index-holding.ensures open-one)
+      | then-not-holding+else-is_none+else-load-least w ↦
+          let some : is_some c.loop-place.chosen ≡ true = search rules in
+          subst (λ (o : Option ℕ). Chooses (t c) (take (c.loop-place.place-index + 1) c.args.places.now) o) (sym w.chosen-is)
+          (chooses_on (t c) c.args.places.now c.loop-place.place-index (at c) c.index-holding.result.now c.loop-place.chosen c.loop-place-test.true (same c) (inside c) c.index-holding.ensures (inl some) (before c))
+      | else-not-holding w ↦
+          let closed : c.index-holding.result.now.suspended ≡ true = search rules in
+          subst (λ (o : Option ℕ). Chooses (t c) (take (c.loop-place.place-index + 1) c.args.places.now) o) (sym w.chosen-is)
+          (chooses_on (t c) c.args.places.now c.loop-place.place-index (at c) c.index-holding.result.now c.loop-place.chosen c.loop-place-test.true (same c) (inside c) c.index-holding.ensures (inr closed) (before c))
+    ]
 
 pub returns : goal.returns
 returns c =
