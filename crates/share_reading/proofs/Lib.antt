@@ -1,0 +1,3 @@
+pub mod ConsecutiveLemmas
+pub mod ReadingLemmas
+pub mod VerdictLemmas

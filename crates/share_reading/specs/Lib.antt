@@ -1,0 +1,5 @@
+-- what public contracts rest on
+pub mod Reading
+pub mod Whole
+pub mod Reads
+pub mod Verdict

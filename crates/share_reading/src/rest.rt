@@ -1,0 +1,73 @@
+//! The bytes of a share between its header and its extension block.
+
+ghost use Rattle.std.specs.Prelude.{◌≡◌, ◌≤◌, ◌<◌, ◌+◌, ◌↔◌, IfOk, Err};
+ghost use Rattle.cap_text.specs.Cap.{VerifyCapValue};
+ghost use Rattle.share_layout.specs.Layout.{header_size};
+ghost use Rattle.share_verify.specs.declared.check.Check.{Check};
+ghost use Rattle.wire.specs.Limits.{most_data};
+
+use crate::reading::{Progress, Reading};
+use share_layout::Places;
+use share_opening::Opened;
+use share_verify::Check;
+use wire::message::MAX_PIECE;
+
+/// The bytes between the header and the extension block of a share whose beginning is read.
+#[derive(Clone, Copy, PartialEq, Eq)]
+pub struct Rest {
+    /// The places of the share's sections.
+    pub places: Places,
+    /// The place of the first byte that is not read.
+    pub next: u64,
+    pub ghost behind: { header_size places.layout ≤ next },
+    pub ghost more: { next < places.extension_block },
+}
+
+impl Rest {
+    ghost use Rattle.share_reading.specs.Reading.{Advances, BeginsRest, IsStop, next_length};
+    ghost use Rattle.share_reading.specs.declared.reading.Reading.TheVariants as readings;
+
+    /// What is read next of a share whose beginning is opened.
+    pub(crate) fn begin(opened: &Opened) -> Progress
+        ensures { BeginsRest opened.now result }
+    {
+        let places = opened.places;
+        let next = places.layout.header_size() as u64;
+        if next < places.extension_block {
+            Progress::Next(Reading::Remaining(Rest { places, next }))
+        } else {
+            Progress::Whole
+        }
+    }
+
+    /// How many bytes to read next: 1 to 32,768.
+    pub(crate) fn next_length(&self) -> u32
+        ensures value { result ≡ next_length (readings.Remaining self.now) }
+        ensures range { (0 < result) × (result ≤ most_data) }
+        ensures within { self.now.next + result ≤ self.now.places.extension_block }
+    {
+        (self.places.extension_block - self.next).min(MAX_PIECE as u64) as u32
+    }
+
+    /// What comes of the next bytes, or `Layout` where they are not as many as were asked for.
+    pub(crate) fn take(&self, bytes: &[u8]) -> Result<Progress, Check>
+        ensures taken { (cap : VerifyCapValue)
+            → IfOk result (Advances cap (readings.Remaining self.now) bytes.now) }
+        ensures refused { (cap : VerifyCapValue) (check : Check) → (result ≡ Err check)
+            ↔ IsStop cap (readings.Remaining self.now) bytes.now check }
+    {
+        let length = self.next_length();
+        if bytes.len() != length as usize {
+            return Err(Check::Layout);
+        }
+        let end = self.places.extension_block;
+        let next = self.next + u64::from(length);
+        if next < end {
+            return Ok(Progress::Next(Reading::Remaining(Rest {
+                places: self.places,
+                next,
+            })));
+        }
+        Ok(Progress::Whole)
+    }
+}
