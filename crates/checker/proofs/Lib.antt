@@ -1,0 +1,4 @@
+mod Entries
+mod OfferMoves
+mod AnswerMoves
+mod BookMoves

@@ -1,0 +1,239 @@
+-- How the reading of one share goes on.
+use Rattle.std.proofs.Common.{◌≡◌, ◌≢◌, ℕ, zero, suc, ◌+◌, ◌<◌, ◌≤◌, Bool, true, false, cond, List, [], ◌∷◌, ◌++◌, length, set, map, Option, Some, None, ap, refl, sym, subst, ◌∙◌, arith, inl, inr, ◌⊎◌, true≢false, append_assoc}
+use Rattle.std.specs.Prelude.{Contains, slice_get}
+use Rattle.std.specs.List.{flat_map}
+use Rattle.std.proofs.lemmas.List.{append-nil}
+use Rattle.std.proofs.lemmas.List.Elements.{Contains-append_left, Contains-append_right, Contains-append_cases, Contains-push_cases}
+use Rattle.std.proofs.lemmas.Option.{slice_get_within, same_Some}
+use Rattle.cap_text.specs.Cap.{VerifyCapValue}
+use Rattle.placement.specs.Matching.{Pair}
+use Rattle.wire.specs.declared.message.Body.{Body}
+use Rattle.wire.specs.declared.message.Body.TheVariants.{Data}
+use Rattle.request_record.specs.declared.requests.Asked.{Asked}
+use Rattle.request_record.specs.declared.requests.Asked.TheVariants.{Reading}
+use Rattle.request_record.specs.declared.requests.Outcome.{Outcome}
+use Rattle.request_record.specs.declared.requests.Outcome.TheVariants.{Unawaited, Outstanding, Answered, Lost}
+use Rattle.request_record.specs.declared.requests.Request.{Request}
+use Rattle.request_record.specs.Record.{is_outstanding}
+use Rattle.request_record.proofs.RecordLaws.{get_last}
+use Rattle.share_opening.specs.Reads.{Brought}
+use Rattle.share_reading.specs.Reading as reading
+use Rattle.share_reading.specs.Verdict.{IsVerdict, Settled}
+use Rattle.share_reading.specs.declared.reading.Reading as readings
+use Rattle.share_reading.specs.declared.verdict.Verdict.{Verdict}
+use Rattle.share_reading.proofs.ConsecutiveLemmas.{contains_cases, contains_head, contains_none, contains_tail}
+use Rattle.checker.specs.Shares.{settled_in, settled_of}
+use Rattle.checker.specs.Offers.{key_of}
+use Rattle.checker.specs.Book.{AreReadAt, IsAbout, IsAt, IsEnded, IsNext, IsOffer, IsReadAt, IsReadOnlyAt, IsReading, IsUnread}
+use Rattle.checker.specs.declared.offers.Offer.{Offer}
+use Rattle.checker.specs.declared.offers.Stage.{Stage}
+use Rattle.checker.specs.declared.offers.Stage.TheVariants.{Waiting, Read, Ended}
+use Rattle.checker.proofs.Entries.{BecomesAt, GoesTo, WasAt, about_by, about_one, about_same, get_kept, get_pushed, settled_push, settled_stays, was_at}
+
+-- what was read at one of these places
+read_among : (es : List Request) (key : Pair) (places : List ℕ) (reads : List Brought) (i : ℕ) → AreReadAt es key places reads → Contains places i
+    → (b : Brought) × Contains reads b × IsReadAt es key i b
+read_among es key [] [] i are at = absurd (contains_none i at)
+read_among es key [] (b ∷ bs) i are at = absurd are
+read_among es key (p ∷ ps) [] i are at = absurd are
+read_among es key (p ∷ ps) (b ∷ bs) i are at = elim (contains_cases p i ps at) [
+  | inl here ↦ (b, contains_head b bs, subst (λ n. IsReadAt es key n b) here are.0)
+  | inr later ↦ (let found = read_among es key ps bs i are.1 later in (found.0, contains_tail b found.0 bs found.1, found.2))
+]
+
+-- ---- as the record goes on
+
+answered_quiet : (o : Outcome) (bytes : List ℕ) → o ≡ Answered (Data bytes) → is_outstanding o ≡ false
+answered_quiet o bytes is = ap is_outstanding is
+
+read_goes : (es ns : List Request) (todo : List ℕ) (key : Pair) (place : ℕ) (b : Brought) → GoesTo es ns todo → IsReadAt es key place b → IsReadAt ns key place b
+read_goes es ns todo key place b goes is =
+    let becomes = goes.each place is.request is.there in
+    let same : becomes.request ≡ is.request = becomes.still (answered_quiet is.request.outcome b.1 is.answer) in
+    record { request = is.request; there = becomes.there ∙ ap Some same; server = is.server; asked = is.asked; answer = is.answer }
+
+reads_go : (es ns : List Request) (todo : List ℕ) (key : Pair) (places : List ℕ) (reads : List Brought) → GoesTo es ns todo → AreReadAt es key places reads → AreReadAt ns key places reads
+reads_go es ns todo key [] [] goes are = tt
+reads_go es ns todo key [] (b ∷ bs) goes are = absurd are
+reads_go es ns todo key (p ∷ ps) [] goes are = absurd are
+reads_go es ns todo key (p ∷ ps) (b ∷ bs) goes are = (read_goes es ns todo key p b goes are.0, reads_go es ns todo key ps bs goes are.1)
+
+only_goes : (es ns : List Request) (todo : List ℕ) (key : Pair) (places : List ℕ) → GoesTo es ns todo → IsReadOnlyAt es key places → IsReadOnlyAt ns key places
+only_goes es ns todo key places goes only i n there about =
+    let was = was_at es ns todo goes i n there in
+    only i was.request was.there (about_same key was.request n was.server was.asked about)
+
+next_goes : (es ns : List Request) (todo : List ℕ) (key : Pair) (place : ℕ) (r : readings.Reading) → GoesTo es ns todo → IsNext es [] key place r → IsNext ns todo key place r
+next_goes es ns todo key place r goes is =
+    let becomes = goes.each place is.request is.there in
+    record {
+      request = becomes.request;
+      there = becomes.there;
+      server = becomes.server ∙ is.server;
+      asked = becomes.asked ∙ is.asked;
+      waits = elim becomes.waits [
+        | inl same ↦ elim is.waits [
+          | inl waits ↦ inl (same ∙ waits)
+          | inr at ↦ absurd (contains_none place at)
+        ]
+        | inr at ↦ inr at
+      ];
+    }
+
+quiet_goes : (es ns : List Request) (todo : List ℕ) (key : Pair) → GoesTo es ns todo
+    → ((i : ℕ) (r : Request) → slice_get es i ≡ Some r → IsAbout key r → is_outstanding r.outcome ≡ false)
+    → (i : ℕ) (r : Request) → slice_get ns i ≡ Some r → IsAbout key r → is_outstanding r.outcome ≡ false
+quiet_goes es ns todo key goes quiet i n there about =
+    let was = was_at es ns todo goes i n there in
+    let still = quiet i was.request was.there (about_same key was.request n was.server was.asked about) in
+    ap (λ (r : Request). is_outstanding r.outcome) (was.still still) ∙ still
+
+at_goes : (cap : VerifyCapValue) (es ns : List Request) (todo : List ℕ) (o : Offer) (s : Stage) → GoesTo es ns todo → IsAt cap es [] o s → IsAt cap ns todo o s
+at_goes cap es ns todo o Waiting goes is = record { front = is.front; back = is.back; none = only_goes es ns todo (key_of o) [] goes is.none }
+at_goes cap es ns todo o (Read r place) goes is = record {
+  front = is.front;
+  back = is.back;
+  led = is.led;
+  front_at = reads_go es ns todo (key_of o) o.front.items is.front goes is.front_at;
+  back_at = reads_go es ns todo (key_of o) o.back.items is.back goes is.back_at;
+  next = next_goes es ns todo (key_of o) place r goes is.next;
+  only = only_goes es ns todo (key_of o) (place ∷ (o.front.items ++ o.back.items)) goes is.only;
+}
+at_goes cap es ns todo o (Ended v) goes is = record {
+  verdict = subst (λ (l : List Settled). IsVerdict cap o.share l v) (sym (settled_stays es ns todo (key_of o) goes is.quiet)) is.verdict;
+  quiet = quiet_goes es ns todo (key_of o) goes is.quiet;
+}
+
+pub offer_goes : (cap : VerifyCapValue) (es ns : List Request) (todo : List ℕ) (o : Offer) → GoesTo es ns todo → IsOffer cap es [] o → IsOffer cap ns todo o
+offer_goes cap es ns todo o goes is = at_goes cap es ns todo o o.stage goes is
+
+-- ---- as more is asked
+
+read_push : (es : List Request) (new : Request) (key : Pair) (place : ℕ) (b : Brought) → IsReadAt es key place b → IsReadAt (es ++ new ∷ []) key place b
+read_push es new key place b is =
+    record { request = is.request; there = get_kept es new is.request place is.there; server = is.server; asked = is.asked; answer = is.answer }
+
+pub reads_push : (es : List Request) (new : Request) (key : Pair) (places : List ℕ) (reads : List Brought) → AreReadAt es key places reads → AreReadAt (es ++ new ∷ []) key places reads
+reads_push es new key [] [] are = tt
+reads_push es new key [] (b ∷ bs) are = absurd are
+reads_push es new key (p ∷ ps) [] are = absurd are
+reads_push es new key (p ∷ ps) (b ∷ bs) are = (read_push es new key p b are.0, reads_push es new key ps bs are.1)
+
+only_push : (es : List Request) (new : Request) (key : Pair) (places : List ℕ) → (IsAbout key new → ⊥) → IsReadOnlyAt es key places → IsReadOnlyAt (es ++ new ∷ []) key places
+only_push es new key places other only i r there about = elim (get_pushed es new r i there) [
+  | inl before ↦ only i r before about
+  | inr last ↦ absurd (other (subst (IsAbout key) (sym last.1) about))
+]
+
+at_push : (cap : VerifyCapValue) (es : List Request) (new : Request) (todo : List ℕ) (o : Offer) (s : Stage) → is_outstanding new.outcome ≡ true → (IsAbout (key_of o) new → ⊥)
+    → IsAt cap es todo o s → IsAt cap (es ++ new ∷ []) todo o s
+at_push cap es new todo o Waiting waits other is = record { front = is.front; back = is.back; none = only_push es new (key_of o) [] other is.none }
+at_push cap es new todo o (Read r place) waits other is = record {
+  front = is.front;
+  back = is.back;
+  led = is.led;
+  front_at = reads_push es new (key_of o) o.front.items is.front is.front_at;
+  back_at = reads_push es new (key_of o) o.back.items is.back is.back_at;
+  next = record {
+    request = is.next.request;
+    there = get_kept es new is.next.request place is.next.there;
+    server = is.next.server;
+    asked = is.next.asked;
+    waits = is.next.waits;
+  };
+  only = only_push es new (key_of o) (place ∷ (o.front.items ++ o.back.items)) other is.only;
+}
+at_push cap es new todo o (Ended v) waits other is = record {
+  verdict = subst (λ (l : List Settled). IsVerdict cap o.share l v) (sym (settled_push es (key_of o) new waits)) is.verdict;
+  quiet = λ i r there about. elim (get_pushed es new r i there) [
+    | inl before ↦ is.quiet i r before about
+    | inr last ↦ absurd (other (subst (IsAbout (key_of o)) (sym last.1) about))
+  ];
+}
+
+pub offer_push : (cap : VerifyCapValue) (es : List Request) (new : Request) (todo : List ℕ) (o : Offer) → is_outstanding new.outcome ≡ true → (IsAbout (key_of o) new → ⊥)
+    → IsOffer cap es todo o → IsOffer cap (es ++ new ∷ []) todo o
+offer_push cap es new todo o waits other is = at_push cap es new todo o o.stage waits other is
+
+-- ---- what is taken in of another share
+
+at_done : (cap : VerifyCapValue) (es : List Request) (todo : List ℕ) (done : ℕ) (o : Offer) (s : Stage) → ((r : readings.Reading) → s ≡ Read r done → ⊥)
+    → IsAt cap es (done ∷ todo) o s → IsAt cap es todo o s
+at_done cap es todo done o Waiting other is = is
+at_done cap es todo done o (Read r place) other is = record {
+  front = is.front;
+  back = is.back;
+  led = is.led;
+  front_at = is.front_at;
+  back_at = is.back_at;
+  next = record {
+    request = is.next.request;
+    there = is.next.there;
+    server = is.next.server;
+    asked = is.next.asked;
+    waits = elim is.next.waits [
+      | inl waits ↦ inl waits
+      | inr at ↦ elim (contains_cases done place todo at) [
+        | inl here ↦ absurd (other r (ap (λ n. Read r n) (sym here)))
+        | inr later ↦ inr later
+      ]
+    ];
+  };
+  only = is.only;
+}
+at_done cap es todo done o (Ended v) other is = is
+
+pub offer_done : (cap : VerifyCapValue) (es : List Request) (todo : List ℕ) (done : ℕ) (o : Offer) → ((r : readings.Reading) → o.stage ≡ Read r done → ⊥)
+    → IsOffer cap es (done ∷ todo) o → IsOffer cap es todo o
+offer_done cap es todo done o other is = at_done cap es todo done o o.stage other is
+
+-- a share that waits for the answer to a request is what that is about
+pub waits_about : (cap : VerifyCapValue) (es : List Request) (todo : List ℕ) (o : Offer) (r : readings.Reading) (place : ℕ) (q : Request) → IsReading cap es todo o r place
+    → slice_get es place ≡ Some q → IsAbout (key_of o) q
+waits_about cap es todo o r place q is there =
+    let same : is.next.request ≡ q = same_Some is.next.request q (sym is.next.there ∙ there) in
+    subst (IsAbout (key_of o)) same (about_by (key_of o) is.next.request _ _ is.next.server is.next.asked)
+
+pub offer_other : (cap : VerifyCapValue) (es : List Request) (todo : List ℕ) (done : ℕ) (o : Offer) (q : Request) → slice_get es done ≡ Some q → (IsAbout (key_of o) q → ⊥)
+    → IsOffer cap es (done ∷ todo) o → IsOffer cap es todo o
+offer_other cap es todo done o q there other is =
+    offer_done cap es todo done o
+    (λ r at. other (waits_about cap es (done ∷ todo) o r done q (subst (IsAt cap es (done ∷ todo) o) at is) there))
+    is
+
+-- ---- its request is answered
+
+-- the request of the next bytes waits no more, and is the only one of it that brought no bytes so far
+module _ (cap : VerifyCapValue) (es : List Request) (todo : List ℕ) (o : Offer) (r : readings.Reading) (place : ℕ) (is : IsReading cap es todo o r place)
+    (q : Request) (there : slice_get es place ≡ Some q) (settled : is_outstanding q.outcome ≡ false) where
+
+  pub same_next : is.next.request ≡ q
+  same_next = same_Some is.next.request q (sym is.next.there ∙ there)
+
+  pub next_asked : q.asked ≡ Reading o.share (reading.next_place r) (reading.next_length r)
+  next_asked = ap (λ (x : Request). x.asked) (sym same_next) ∙ is.next.asked
+
+  pub next_about : IsAbout (key_of o) q
+  next_about = subst (IsAbout (key_of o)) same_next (about_by (key_of o) is.next.request _ _ is.next.server is.next.asked)
+
+  -- the reads of it
+  pub data IsOneOf (i : ℕ) (x : Request) : Type 0 where
+    brought : (b : Brought) → Contains (is.front ++ is.back) b → IsReadAt es (key_of o) i b → IsOneOf i x
+    last : i ≡ place → x ≡ q → IsOneOf i x
+
+  pub one_of : (i : ℕ) (x : Request) → slice_get es i ≡ Some x → IsAbout (key_of o) x → IsOneOf i x
+  one_of i x at about = elim (contains_cases place i (o.front.items ++ o.back.items) (is.only i x at about)) [
+    | inl here ↦ last (sym here) (same_Some x q (sym at ∙ ap (slice_get es) (sym here) ∙ there))
+    | inr later ↦ elim (Contains-append_cases o.front.items o.back.items i later) [
+      | inl front ↦ (let found = read_among es (key_of o) o.front.items is.front i is.front_at front in brought found.0 (Contains-append_left is.front is.back found.0 found.1) found.2)
+      | inr back ↦ (let found = read_among es (key_of o) o.back.items is.back i is.back_at back in brought found.0 (Contains-append_right is.front is.back found.0 found.1) found.2)
+    ]
+  ]
+
+  pub all_quiet : (i : ℕ) (x : Request) → slice_get es i ≡ Some x → IsAbout (key_of o) x → is_outstanding x.outcome ≡ false
+  all_quiet i x at about = by (one_of i x at about)
+    where
+      by : IsOneOf i x → is_outstanding x.outcome ≡ false
+      by (brought b among read) =
+          ap (λ (y : Request). is_outstanding y.outcome) (same_Some x read.request (sym at ∙ read.there)) ∙ answered_quiet read.request.outcome b.1 read.answer
+      by (last here same) = ap (λ (y : Request). is_outstanding y.outcome) same ∙ settled

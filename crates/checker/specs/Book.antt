@@ -1,0 +1,245 @@
+-- How a check keeps the shares that were offered, beside its record.
+use Rattle.std.specs.Prelude.{◌≡◌, ◌≢◌, ◌⊎◌, ℕ, ◌+◌, ◌<◌, ◌≤◌, List, [], ◌∷◌, ◌++◌, length, map}
+use Rattle.std.specs.Prelude.{take, drop, Some, slice_get, true, false, Contains, Result}
+use Rattle.std.specs.Prelude.{Ok, Err, replicate, slice_set}
+use Rattle.cap_text.specs.Cap.{VerifyCapValue}
+use Rattle.placement.specs.Matching.{Pair}
+use Rattle.wire.specs.declared.message.Body.TheVariants.{Data}
+use Rattle.request_record.specs.Asking.{AsksOnce, begun}
+use Rattle.request_record.specs.Record.{asked_all, asked_more, is_outstanding}
+use Rattle.request_record.specs.Record.{outstanding_count}
+use Rattle.request_record.specs.declared.requests.Asked.{Asked}
+use Rattle.request_record.specs.declared.requests.Asked.TheVariants.{Holdings, Reading}
+use Rattle.request_record.specs.declared.requests.Outcome.TheVariants.{Answered, Outstanding}
+use Rattle.request_record.specs.declared.requests.Request.{Request}
+use Rattle.share_verify.specs.declared.check.Check.{Check}
+use Rattle.share_opening.specs.Reads.{Brought}
+use Rattle.share_reading.specs.Reading as reading
+use Rattle.share_reading.specs.declared.reading.Reading as readings
+use Rattle.share_reading.specs.Reads.{IsReadBy}
+use Rattle.share_reading.specs.Verdict.{IsVerdict}
+use Rattle.share_reading.specs.declared.reading.Progress.{Progress}
+use Rattle.share_reading.specs.declared.verdict.Verdict.{Verdict}
+use Rattle.share_reading.specs.declared.verdict.Verdict.TheVariants.{Good, Corrupt, Lost}
+use Rattle.checker.specs.Offers.{key_of, with_stage}
+use Rattle.checker.specs.Right.{AreOfShares}
+use Rattle.checker.specs.Shares.{is_about, offered_in, settled_of}
+use Rattle.checker.specs.State.{CheckState}
+use Rattle.checker.specs.declared.machine.Machine.{Machine}
+use Rattle.checker.specs.declared.machine.Told.{Told}
+use Rattle.checker.specs.declared.offers.Offer.{Offer}
+use Rattle.checker.specs.declared.offers.Stage.{Stage}
+use Rattle.checker.specs.declared.offers.Stage.TheVariants.{Waiting, Read, Ended}
+use Rattle.checker.specs.declared.status.CheckStatus.{CheckStatus}
+use Rattle.checker.specs.declared.status.CheckStatus.TheVariants.{Running, Done, Failed}
+
+-- ---- the reads of one share
+
+-- it is a read of this share
+abbrev pub IsAbout : Pair → Request → Type 0
+IsAbout key r = is_about key.0 key.1 r ≡ true
+
+-- the request at a place brought these bytes of the share
+pub record IsReadAt (entries : List Request) (key : Pair) (place : ℕ) (read : Brought)
+    : Type 0 where
+  pub request : Request
+  pub there : slice_get entries place ≡ Some request
+  pub server : request.server ≡ key.0
+  pub asked : request.asked ≡ Reading key.1 read.0 (length read.1)
+  pub answer : request.outcome ≡ Answered (Data read.1)
+
+-- the requests at these places brought these bytes
+abbrev pub AreReadAt : List Request → Pair → List ℕ → List Brought → Type 0
+AreReadAt entries key [] [] = Unit {0}
+AreReadAt entries key [] (read ∷ reads) = ⊥
+AreReadAt entries key (place ∷ places) [] = ⊥
+AreReadAt entries key (place ∷ places) (read ∷ reads) =
+    IsReadAt entries key place read × AreReadAt entries key places reads
+
+-- the share is read by the requests at these places alone
+abbrev pub IsReadOnlyAt : List Request → Pair → List ℕ → Type 0
+IsReadOnlyAt entries key places =
+    (i : ℕ) (r : Request) → slice_get entries i ≡ Some r → IsAbout key r → Contains places i
+
+-- the request at a place asks for the next bytes, and waits, or is to be taken in
+pub record IsNext (entries : List Request) (todo : List ℕ) (key : Pair) (place : ℕ)
+    (r : readings.Reading) : Type 0 where
+  pub request : Request
+  pub there : slice_get entries place ≡ Some request
+  pub server : request.server ≡ key.0
+  pub asked : request.asked ≡ Reading key.1 (reading.next_place r) (reading.next_length r)
+  pub waits : (request.outcome ≡ Outstanding) ⊎ Contains todo place
+
+-- it is read so far, by requests that brought these bytes
+pub record IsReading (cap : VerifyCapValue) (entries : List Request) (todo : List ℕ) (o : Offer)
+    (r : readings.Reading) (place : ℕ) : Type 0 where
+  pub front : List Brought
+  pub back : List Brought
+  pub led : IsReadBy cap front back r
+  pub front_at : AreReadAt entries (key_of o) o.front.items front
+  pub back_at : AreReadAt entries (key_of o) o.back.items back
+  pub next : IsNext entries todo (key_of o) place r
+  pub only : IsReadOnlyAt entries (key_of o) (place ∷ (o.front.items ++ o.back.items))
+
+-- its verdict is found, and nothing more is read of it
+pub record IsEnded (cap : VerifyCapValue) (entries : List Request) (o : Offer) (v : Verdict)
+    : Type 0 where
+  pub verdict : IsVerdict cap o.share (settled_of entries o.server o.share) v
+  pub quiet : (i : ℕ) (r : Request) → slice_get entries i ≡ Some r → IsAbout (key_of o) r
+      → is_outstanding r.outcome ≡ false
+
+-- nothing is asked of it yet
+pub record IsUnread (entries : List Request) (o : Offer) : Type 0 where
+  pub front : o.front.items ≡ []
+  pub back : o.back.items ≡ []
+  pub none : IsReadOnlyAt entries (key_of o) []
+
+abbrev pub IsAt : VerifyCapValue → List Request → List ℕ → Offer → Stage → Type 0
+IsAt cap entries todo o Waiting = IsUnread entries o
+IsAt cap entries todo o (Read r place) = IsReading cap entries todo o r place
+IsAt cap entries todo o (Ended v) = IsEnded cap entries o v
+
+abbrev pub IsOffer : VerifyCapValue → List Request → List ℕ → Offer → Type 0
+IsOffer cap entries todo o = IsAt cap entries todo o o.stage
+
+-- ---- all of them
+
+-- the offer is that of the share that the request at a place reads
+pub record IsOwner (entries : List Request) (offers : List Offer) (place k : ℕ) : Type 0 where
+  pub offer : Offer
+  pub there : slice_get offers k ≡ Some offer
+  pub request : Request
+  pub asks : slice_get entries place ≡ Some request
+  pub about : IsAbout (key_of offer) request
+
+-- the share was offered in the answer to one of the first requests, which is taken in
+pub record IsTold (n : ℕ) (entries : List Request) (todo : List ℕ) (o : Offer) : Type 0 where
+  pub place : ℕ
+  pub first : place < n
+  pub request : Request
+  pub there : slice_get entries place ≡ Some request
+  pub server : request.server ≡ o.server
+  pub quiet : is_outstanding request.outcome ≡ false
+  pub taken : Contains todo place → ⊥
+
+-- these are the shares of the offers of a server
+abbrev pub AreKeys : List Offer → Told → List Pair → Type 0
+AreKeys offers t keys =
+    (t.first + t.count ≤ length offers) × (take t.count (drop t.first (map key_of offers)) ≡ keys)
+
+-- the offers of a server are those that its answer lists, where that is taken in
+abbrev pub HasTold : ℕ → List ℕ → List Offer → ℕ → Told → Request → Type 0
+HasTold total todo offers place t r =
+    (Contains todo place × AreKeys offers t [])
+    ⊎ AreKeys offers t (offered_in total r.server r.outcome)
+
+abbrev pub IsStarted : Stage → Type 0
+IsStarted stage = stage ≢ Waiting
+
+-- What is kept of the shares is as the record says. `todo`: the places of requests that wait no
+-- more, of which this is not taken in yet.
+pub record IsBook (cap : VerifyCapValue) (entries : List Request) (told : List Told)
+    (owners : List ℕ) (offers : List Offer) (begun : ℕ) (todo : List ℕ) : Type 0 where
+  -- the first requests ask which shares the servers hold, and each other one reads a share
+  pub asks : (i : ℕ) (r : Request) → i < length told → slice_get entries i ≡ Some r
+      → r.asked ≡ Holdings
+  pub long : length entries ≡ length told + length owners
+  pub owned : (p k : ℕ) → slice_get owners p ≡ Some k
+      → IsOwner entries offers (length told + p) k
+  -- each offer is a share of its own, and is read so far
+  pub apart : (k l : ℕ) (a b : Offer) → slice_get offers k ≡ Some a
+      → slice_get offers l ≡ Some b → key_of a ≡ key_of b → k ≡ l
+  pub reading : (k : ℕ) (o : Offer) → slice_get offers k ≡ Some o → IsOffer cap entries todo o
+  pub offered : (k : ℕ) (o : Offer) → slice_get offers k ≡ Some o
+      → IsTold (length told) entries todo o
+  pub tells : (i : ℕ) (t : Told) (r : Request) → slice_get told i ≡ Some t
+      → slice_get entries i ≡ Some r → HasTold cap.total todo offers i t r
+  pub quiet : (i : ℕ) (r : Request) → Contains todo i → slice_get entries i ≡ Some r
+      → is_outstanding r.outcome ≡ false
+  -- those up to one are begun
+  pub started : (k : ℕ) (o : Offer) → slice_get offers k ≡ Some o → k < begun
+      → IsStarted o.stage
+  pub unread : (k : ℕ) (o : Offer) → slice_get offers k ≡ Some o → begun ≤ k
+      → o.stage ≡ Waiting
+  pub few : begun ≤ length offers
+
+abbrev pub HasBook : Machine → List ℕ → Type 0
+HasBook m todo =
+    IsBook m.cap m.requests.entries m.told.items m.owners.items m.offers.items m.begun todo
+
+-- what is asked is right, whatever becomes of the check
+pub record IsSafe (m : Machine) : Type 0 where
+  pub once : AsksOnce m.requests.entries
+  pub reads : AreOfShares m.cap m.requests.entries
+
+-- what is kept of each check
+pub record IsKept (m : Machine) (status : CheckStatus) : Type 0 where
+  pub safe : IsSafe m
+  pub book : status ≢ Failed → HasBook m []
+  pub works : status ≡ Running → 0 < outstanding_count m.requests.entries
+  pub idle : status ≡ Done → outstanding_count m.requests.entries ≡ 0
+  pub begun : status ≡ Done → m.begun ≡ length m.offers.items
+
+-- what contracts see of it
+abbrev pub state_of : Machine → List ℕ → CheckStatus → CheckState
+state_of m servers status =
+    record { cap = m.cap; servers = servers; requests = m.requests; status = status }
+
+-- more is asked
+pub record AsksMore (old new : Machine) : Type 0 where
+  pub cap : new.cap ≡ old.cap
+  pub asks : List (ℕ × Asked)
+  pub requests : new.requests ≡ asked_all asks old.requests
+
+-- ---- what a request brought
+
+-- bytes answered the request at a place
+pub record HasBytes (entries : List Request) (place : ℕ) (bytes : List ℕ) : Type 0 where
+  pub request : Request
+  pub there : slice_get entries place ≡ Some request
+  pub answer : request.outcome ≡ Answered (Data bytes)
+
+-- what comes of what the request for the next bytes brought
+abbrev pub IsReadOn : VerifyCapValue → List Request → readings.Reading → ℕ → Result Progress Verdict
+    → Type 0
+IsReadOn cap entries r place (Ok progress) =
+    (bytes : List ℕ) × HasBytes entries place bytes × reading.Advances cap r bytes progress
+IsReadOn cap entries r place (Err Good) = ⊥
+IsReadOn cap entries r place (Err (Corrupt check)) =
+    (bytes : List ℕ) × HasBytes entries place bytes × reading.IsStop cap r bytes check
+IsReadOn cap entries r place (Err Lost) =
+    (bytes : List ℕ) → HasBytes entries place bytes → ⊥
+
+-- the next bytes of a share are asked for
+pub record HasAsked (old : Machine) (k : ℕ) (r : readings.Reading) (o : Offer) (new : Machine)
+    : Type 0 where
+  pub cap : new.cap ≡ old.cap
+  pub told : new.told.items ≡ old.told.items
+  pub begun : new.begun ≡ old.begun
+  pub requests : new.requests
+      ≡ asked_more o.server (Reading o.share (reading.next_place r) (reading.next_length r))
+      old.requests
+  pub owners : new.owners.items ≡ old.owners.items ++ k ∷ []
+  pub offers : new.offers.items ≡ slice_set old.offers.items k
+      (with_stage (Read r (length old.requests.entries)) o)
+
+-- nothing is asked
+pub record AsksNothing (old new : Machine) : Type 0 where
+  pub cap : new.cap ≡ old.cap
+  pub requests : new.requests ≡ old.requests
+
+-- the share waits for the answer to the request at a place
+pub record AwaitsAt (m : Machine) (k place : ℕ) (r : readings.Reading) : Type 0 where
+  pub offer : Offer
+  pub there : slice_get m.offers.items k ≡ Some offer
+  pub stage : offer.stage ≡ Read r place
+
+-- a check that has just begun
+pub record IsFresh (cap : VerifyCapValue) (servers : List ℕ) (session now : ℕ) (m : Machine)
+    : Type 0 where
+  pub of_cap : m.cap ≡ cap
+  pub requests : m.requests ≡ begun servers session now
+  pub told : m.told.items ≡ replicate (length servers) (record { first = 0; count = 0 })
+  pub owners : m.owners.items ≡ []
+  pub offers : m.offers.items ≡ []
+  pub begun_none : m.begun ≡ 0

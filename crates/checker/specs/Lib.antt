@@ -1,0 +1,10 @@
+-- what public contracts rest on
+pub mod State
+pub mod Shares
+pub mod Moves
+pub mod Sending
+pub mod Report
+pub mod Right
+-- words of private clauses
+pub mod Offers
+pub mod Book

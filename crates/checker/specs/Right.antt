@@ -1,0 +1,28 @@
+-- What holds of each check.
+use Rattle.std.specs.Prelude.{◌≡◌, ◌<◌, ℕ, List, Some, slice_get}
+use Rattle.cap_text.specs.Cap.{VerifyCapValue}
+use Rattle.request_record.specs.declared.requests.Asked.TheVariants.{Reading}
+use Rattle.request_record.specs.declared.requests.Request.{Request}
+use Rattle.request_record.specs.Asking.{AsksOnce}
+use Rattle.request_record.specs.Record.{outstanding_count}
+use Rattle.share_reading.specs.Reads.{IsAsked}
+use Rattle.share_reading.specs.Verdict.{brought_of}
+use Rattle.checker.specs.declared.status.CheckStatus.TheVariants.{Running, Done}
+use Rattle.checker.specs.Shares.{settled_of}
+use Rattle.checker.specs.State.{CheckState}
+
+-- Each read of a share is one of its beginning, or one between its header and its extension block,
+-- by what the same server told of that share.
+abbrev pub AreOfShares : VerifyCapValue → List Request → Type 0
+AreOfShares cap entries =
+    (i : ℕ) (r : Request) (share offset len : ℕ) → slice_get entries i ≡ Some r
+    → r.asked ≡ Reading share offset len
+    → IsAsked cap (brought_of (settled_of entries r.server share)) offset len
+
+-- While a check runs a request is outstanding, and once it is done none is. No server is asked the
+-- same thing twice, nor for a byte of a share twice.
+pub record IsRight (c : CheckState) : Type 0 where
+  pub works : c.status ≡ Running → 0 < outstanding_count c.requests.entries
+  pub idle : c.status ≡ Done → outstanding_count c.requests.entries ≡ 0
+  pub once : AsksOnce c.requests.entries
+  pub reads : AreOfShares c.cap c.requests.entries

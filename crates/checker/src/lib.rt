@@ -1,0 +1,16 @@
+//! Checks of a file's shares by its verify cap: what one asks of servers, and its verdict on each
+//! share that they offer.
+//!
+//! A check asks every server once what it holds, and reads each share offered to its end, one piece
+//! after another. As many shares are read at once as there are servers, and 64 more. Its record
+//! keeps every answer that counted, so a check holds the shares that it read; beside it at most one
+//! share is joined at a time, when its last bytes came.
+#![tactic(auto)]
+
+mod check;
+mod machine;
+mod offers;
+mod report;
+pub mod status;
+
+pub use check::Check;
