@@ -22,7 +22,7 @@ use Rattle.share_opening.specs.Opening as opening
 use Rattle.share_opening.specs.Reads.{Brought}
 use Rattle.share_opening.specs.declared.opening.Opening.TheVariants.{Start, Second, Header, Block}
 use Rattle.share_reading.specs.Reading as reading
-use Rattle.share_reading.specs.Reads.{IsReadBy, more_back, more_front}
+use Rattle.share_reading.specs.Reads.{AsksNone, IsAsked, IsReadBy, IsRest, more_back, more_front}
 use Rattle.share_reading.specs.Verdict.{AreAnswered, AreFull, IsJudged, IsStopped, IsVerdict, Settled, brought_at, brought_by, brought_of}
 use Rattle.share_reading.specs.Whole.{IsWhole, joined}
 use Rattle.share_reading.specs.declared.reading.Progress.{Progress}
@@ -32,7 +32,7 @@ use Rattle.share_reading.specs.declared.reading.Reading.TheVariants.{Beginning, 
 use Rattle.share_reading.specs.declared.verdict.Verdict.{Verdict}
 use Rattle.share_reading.specs.declared.verdict.Verdict.TheVariants as verdicts
 use Rattle.share_reading.proofs.ConsecutiveLemmas.{contains_cases, contains_head, contains_none, contains_tail}
-use Rattle.share_reading.proofs.ReadingLemmas.{end_whole, go_on}
+use Rattle.share_reading.proofs.ReadingLemmas.{ask, end_whole, go_on, more_led}
 use Rattle.share_reading.proofs.VerdictLemmas.{brought_has}
 use Rattle.checker.specs.Shares.{settled_in, settled_of}
 use Rattle.checker.specs.Offers.{IsKeptBy, key_of}
@@ -164,7 +164,7 @@ brought_in place (Some bytes) b at =
     let same : (place, bytes) ≡ b = only_one b (place, bytes) ((place, bytes) ∷ []) refl at in
     (ap (λ (x : Brought). x.0) same, ap (λ (x : Brought). Some x.1) same)
 
-brought_from : (reads : List Settled) (b : Brought) → Contains (brought_of reads) b → IsBroughtBy reads b
+pub brought_from : (reads : List Settled) (b : Brought) → Contains (brought_of reads) b → IsBroughtBy reads b
 brought_from reads b at =
     let found = flat_map_from brought_by reads b at in
     let parts = brought_in found.source.place found.source.answer b found.has in
@@ -176,6 +176,33 @@ brought_from reads b at =
     get_contains (y ∷ ys) (suc i) x e = contains_tail y x ys (get_contains ys i x e)
 
 -- ---- the next request
+
+pub more_asked : (cap : VerifyCapValue) (reads more : List Brought) (place len : ℕ) → ((b : Brought) → Contains reads b → Contains more b) → IsAsked cap reads place len → IsAsked cap more place len
+more_asked cap reads more place len grows is = elim is [
+  | inl opens ↦ inl (record { opening = opens.opening; led = more_led reads more grows opens.opening opens.led; place_is = opens.place_is; len_is = opens.len_is })
+  | inr rest ↦ inr (record { u = rest.u; block = rest.block; ueb = rest.ueb; brought = grows _ rest.brought; low = rest.low; high = rest.high })
+]
+
+abbrev place_in : Asked → ℕ
+place_in (Reading n offset count) = offset
+place_in a = 0
+
+abbrev count_in : Asked → ℕ
+count_in (Reading n offset count) = count
+count_in a = 0
+
+-- what is safe to ask of a share
+pub record IsSafeToAsk (cap : VerifyCapValue) (es : List Request) (key : Pair) (r : readings.Reading) : Type 0 where
+  pub apart : (i : ℕ) (x : Request) (offset count : ℕ) → slice_get es i ≡ Some x → IsAbout key x → x.asked ≡ Reading key.1 offset count
+      → (offset + count ≤ reading.next_place r) ⊎ (reading.next_place r + reading.next_length r ≤ offset)
+  pub asked : IsAsked cap (brought_of (settled_of es key.0 key.1)) (reading.next_place r) (reading.next_length r)
+
+-- the first bytes are
+pub safe_first : (cap : VerifyCapValue) (es : List Request) (o : Offer) → IsUnread es o → IsSafeToAsk cap es (key_of o) (Beginning Start)
+safe_first cap es o is = record {
+  apart = λ i x offset count at about asked. absurd (contains_none i (is.none i x at about));
+  asked = inl (record { opening = Start; led = tt; place_is = refl; len_is = refl });
+}
 
 abbrev pub next_request : ℕ → ℕ → readings.Reading → ℕ → Request
 next_request server share r now = first_request server (Reading share (reading.next_place r) (reading.next_length r)) now
@@ -390,14 +417,14 @@ module _ (cap : VerifyCapValue) (es : List Request) (todo : List ℕ) (o : Offer
         key_is : key_of n ≡ key_of o
         key_is = ap (λ m. (m, n.share)) kept.server ∙ ap (λ m. (o.server, m)) kept.share
 
-        front_kept : AreReadAt es (key_of o) n.front.items (more_front r bytes is.front)
+        pub front_kept : AreReadAt es (key_of o) n.front.items (more_front r bytes is.front)
         front_kept = subst (λ (l : List ℕ). AreReadAt es (key_of o) l (more_front r bytes is.front)) (sym kept.front) (by (reading.is_behind r))
           where
             by : (b : Bool) → AreReadAt es (key_of o) (cond b o.front.items (o.front.items ++ place ∷ [])) (cond b is.front (is.front ++ (reading.next_place r, bytes) ∷ []))
             by true = is.front_at
             by false = reads_snoc es (key_of o) o.front.items is.front place (reading.next_place r, bytes) is.front_at new_read
 
-        back_kept : AreReadAt es (key_of o) n.back.items (more_back r bytes is.back)
+        pub back_kept : AreReadAt es (key_of o) n.back.items (more_back r bytes is.back)
         back_kept = subst (λ (l : List ℕ). AreReadAt es (key_of o) l (more_back r bytes is.back)) (sym kept.back) (by (reading.is_behind r))
           where
             by : (b : Bool) → AreReadAt es (key_of o) (cond b (o.back.items ++ place ∷ []) o.back.items) (cond b (is.back ++ (reading.next_place r, bytes) ∷ []) is.back)
@@ -425,3 +452,34 @@ module _ (cap : VerifyCapValue) (es : List Request) (todo : List ℕ) (o : Offer
             (subst (λ (l : List ℕ). AreReadAt es (key_of o) l (more_front r bytes is.front)) (sym front) front_kept)
             (subst (λ (l : List ℕ). AreReadAt es (key_of o) l (more_back r bytes is.back)) (sym back) back_kept)
             (subst (λ (l : List ℕ). IsReadOnlyAt es (key_of o) l) (ap (λ (l : List ℕ). l ++ n.back.items) (sym front) ∙ ap (λ (l : List ℕ). m.front.items ++ l) (sym back)) only_kept)
+
+        -- and it is safe to ask it
+        pub safe_next : (next : readings.Reading) → reading.Advances cap r bytes (Next next) → IsSafeToAsk cap es (key_of o) next
+        safe_next next a = record { apart = apart_from; asked = more_asked cap more_reads (brought_of reads) (reading.next_place next) (reading.next_length next) more_brought law.0 }
+          where
+            law : IsAsked cap more_reads (reading.next_place next) (reading.next_length next)
+                × ((b : Brought) → Contains more_reads b → AsksNone b (reading.next_place next) (reading.next_length next))
+            law = ask cap (more_front r bytes is.front) (more_back r bytes is.back) next (go_on cap is.front is.back r next bytes is.led a)
+
+            apart_from : (i : ℕ) (x : Request) (offset count : ℕ) → slice_get es i ≡ Some x → IsAbout (key_of o) x → x.asked ≡ Reading o.share offset count
+                → (offset + count ≤ reading.next_place next) ⊎ (reading.next_place next + reading.next_length next ≤ offset)
+            apart_from i x offset count at about asked = by (one_of cap es todo o r place is q there settled i x at about)
+              where
+                as_read : (b : Brought) → x.asked ≡ Reading o.share b.0 (length b.1) → AsksNone b (reading.next_place next) (reading.next_length next)
+                    → (offset + count ≤ reading.next_place next) ⊎ (reading.next_place next + reading.next_length next ≤ offset)
+                as_read b same none =
+                    let reading_is : Reading o.share b.0 (length b.1) ≡ Reading o.share offset count = sym same ∙ asked in
+                    let place_is : b.0 ≡ offset = ap place_in reading_is in
+                    let len_is : length b.1 ≡ count = ap count_in reading_is in
+                    elim none [
+                      | inl low ↦ inl (omega (arith, low, place_is, len_is))
+                      | inr high ↦ inr (omega (arith, high, place_is))
+                    ]
+
+                by : IsOneOf cap es todo o r place is q there settled i x → (offset + count ≤ reading.next_place next) ⊎ (reading.next_place next + reading.next_length next ≤ offset)
+                by (brought b among read) =
+                    as_read b (ap (λ (y : Request). y.asked) (same_Some x read.request (sym at ∙ read.there)) ∙ read.asked)
+                    (law.1 b (more_old (reading.is_behind r) is.front is.back (reading.next_place r, bytes) b among))
+                by (last here same) =
+                    as_read (reading.next_place r, bytes) (ap (λ (y : Request). y.asked) same ∙ next_asked cap es todo o r place is q there settled ∙ ap (λ m. Reading o.share (reading.next_place r) m) (sym long))
+                    (law.1 (reading.next_place r, bytes) (more_new (reading.is_behind r) is.front is.back (reading.next_place r, bytes)))

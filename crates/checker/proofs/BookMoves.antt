@@ -124,7 +124,7 @@ told_push n entries todo new o is = record {
 module _ (cap : VerifyCapValue) (entries : List Request) (told : List Told) (owners : List ℕ) (offers : List Offer) (begun : ℕ) (place : ℕ) (todo : List ℕ)
     (b : IsBook cap entries told owners offers begun (place ∷ todo)) (after : length told ≤ place) where
 
-  tells_less : (i : ℕ) (t : Told) (r : Request) → slice_get told i ≡ Some t → slice_get entries i ≡ Some r → HasTold cap.total todo offers i t r
+  pub tells_less : (i : ℕ) (t : Told) (r : Request) → slice_get told i ≡ Some t → slice_get entries i ≡ Some r → HasTold cap.total todo offers i t r
   tells_less i t r e f = elim (b.tells i t r e f) [
     | inr are ↦ inr are
     | inl waits ↦ elim (contains_cases place i todo waits.0) [
@@ -133,7 +133,7 @@ module _ (cap : VerifyCapValue) (entries : List Request) (told : List Told) (own
     ]
   ]
 
-  told_less : (l : ℕ) (x : Offer) → slice_get offers l ≡ Some x → IsTold (length told) entries todo x
+  pub told_less : (l : ℕ) (x : Offer) → slice_get offers l ≡ Some x → IsTold (length told) entries todo x
   told_less l x e = let old = b.offered l x e in
       record {
         place = old.place;
@@ -145,7 +145,7 @@ module _ (cap : VerifyCapValue) (entries : List Request) (told : List Told) (own
         taken = λ h. old.taken (tail place old.place todo h);
       }
 
-  quiet_less : (i : ℕ) (r : Request) → Contains todo i → slice_get entries i ≡ Some r → is_outstanding r.outcome ≡ false
+  pub quiet_less : (i : ℕ) (r : Request) → Contains todo i → slice_get entries i ≡ Some r → is_outstanding r.outcome ≡ false
   quiet_less i r h e = b.quiet i r (tail place i todo h) e
 
   -- nothing comes of it

@@ -2,3 +2,6 @@ mod Entries
 mod OfferMoves
 mod AnswerMoves
 mod BookMoves
+mod RecordMoves
+mod Joining
+mod MachineMoves

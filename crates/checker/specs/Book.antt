@@ -1,16 +1,17 @@
 -- How a check keeps the shares that were offered, beside its record.
 use Rattle.std.specs.Prelude.{◌≡◌, ◌≢◌, ◌⊎◌, ℕ, ◌+◌, ◌<◌, ◌≤◌, List, [], ◌∷◌, ◌++◌, length, map}
 use Rattle.std.specs.Prelude.{take, drop, Some, slice_get, true, false, Contains, Result}
-use Rattle.std.specs.Prelude.{Ok, Err, replicate, slice_set}
+use Rattle.std.specs.Prelude.{Ok, Err, replicate, slice_set, filter, nat_lt, All}
 use Rattle.cap_text.specs.Cap.{VerifyCapValue}
 use Rattle.placement.specs.Matching.{Pair}
 use Rattle.wire.specs.declared.message.Body.TheVariants.{Data}
+use Rattle.wire.specs.declared.message.HeldShare.{HeldShare}
 use Rattle.request_record.specs.Asking.{AsksOnce, begun}
 use Rattle.request_record.specs.Record.{asked_all, asked_more, is_outstanding}
 use Rattle.request_record.specs.Record.{outstanding_count}
 use Rattle.request_record.specs.declared.requests.Asked.{Asked}
 use Rattle.request_record.specs.declared.requests.Asked.TheVariants.{Holdings, Reading}
-use Rattle.request_record.specs.declared.requests.Outcome.TheVariants.{Answered, Outstanding}
+use Rattle.request_record.specs.declared.requests.Outcome.TheVariants.{Answered, Lost, Outstanding}
 use Rattle.request_record.specs.declared.requests.Request.{Request}
 use Rattle.share_verify.specs.declared.check.Check.{Check}
 use Rattle.share_opening.specs.Reads.{Brought}
@@ -20,7 +21,7 @@ use Rattle.share_reading.specs.Reads.{IsReadBy}
 use Rattle.share_reading.specs.Verdict.{IsVerdict}
 use Rattle.share_reading.specs.declared.reading.Progress.{Progress}
 use Rattle.share_reading.specs.declared.verdict.Verdict.{Verdict}
-use Rattle.share_reading.specs.declared.verdict.Verdict.TheVariants.{Good, Corrupt, Lost}
+use Rattle.share_reading.specs.declared.verdict.Verdict.TheVariants as verdicts
 use Rattle.checker.specs.Offers.{key_of, with_stage}
 use Rattle.checker.specs.Right.{AreOfShares}
 use Rattle.checker.specs.Shares.{is_about, offered_in, settled_of}
@@ -204,10 +205,10 @@ abbrev pub IsReadOn : VerifyCapValue → List Request → readings.Reading → �
     → Type 0
 IsReadOn cap entries r place (Ok progress) =
     (bytes : List ℕ) × HasBytes entries place bytes × reading.Advances cap r bytes progress
-IsReadOn cap entries r place (Err Good) = ⊥
-IsReadOn cap entries r place (Err (Corrupt check)) =
+IsReadOn cap entries r place (Err verdicts.Good) = ⊥
+IsReadOn cap entries r place (Err (verdicts.Corrupt check)) =
     (bytes : List ℕ) × HasBytes entries place bytes × reading.IsStop cap r bytes check
-IsReadOn cap entries r place (Err Lost) =
+IsReadOn cap entries r place (Err verdicts.Lost) =
     (bytes : List ℕ) → HasBytes entries place bytes → ⊥
 
 -- the next bytes of a share are asked for
@@ -243,3 +244,50 @@ pub record IsFresh (cap : VerifyCapValue) (servers : List ℕ) (session now : �
   pub owners : m.owners.items ≡ []
   pub offers : m.offers.items ≡ []
   pub begun_none : m.begun ≡ 0
+
+-- a request that is at a place waits no more
+abbrev pub IsSettledAt : List Request → ℕ → Type 0
+IsSettledAt entries place =
+    (r : Request) → slice_get entries place ≡ Some r → is_outstanding r.outcome ≡ false
+
+-- these requests are lost
+abbrev pub AreLost : List Request → List ℕ → Type 0
+AreLost entries places = (i : ℕ) (r : Request) → Contains places i → slice_get entries i ≡ Some r
+    → r.outcome ≡ Lost
+
+-- the answer to the request at a place is not to be taken in again, unless it was lost
+abbrev pub IsTakenOnce : List Request → ℕ → List ℕ → Type 0
+IsTakenOnce entries place todo =
+    (Contains todo place → ⊥)
+    ⊎ ((r : Request) → slice_get entries place ≡ Some r → r.outcome ≡ Lost)
+
+-- a check asks which shares a server holds, and for bytes of them
+abbrev pub IsAskedBy : Asked → Type 0
+IsAskedBy Holdings = Unit {0}
+IsAskedBy (Reading share offset len) = Unit {0}
+IsAskedBy asked = ⊥
+
+abbrev pub AreAsked : List Request → Type 0
+AreAsked entries = (i : ℕ) (r : Request) → slice_get entries i ≡ Some r → IsAskedBy r.asked
+
+-- an offer of a share that is not read yet
+pub record IsNew (o : Offer) : Type 0 where
+  pub front : o.front.items ≡ []
+  pub back : o.back.items ≡ []
+  pub stage : o.stage ≡ Waiting
+
+-- the shares of these that have a number below the file's are added
+pub record ArePushed (total server : ℕ) (held : List HeldShare) (old new : List Offer)
+    : Type 0 where
+  pub more : List Offer
+  pub offers : new ≡ old ++ more
+  pub keys : map key_of more
+      ≡ map (λ (h : HeldShare). (server, h.share))
+      (filter (λ (h : HeldShare). nat_lt h.share total) held)
+  pub unread : All IsNew more
+
+-- a check with this record may stand so
+pub record IsStanding (entries : List Request) (status : CheckStatus) : Type 0 where
+  pub runs_or_done : status ≢ Failed
+  pub works : status ≡ Running → 0 < outstanding_count entries
+  pub idle : status ≡ Done → outstanding_count entries ≡ 0

@@ -1,6 +1,23 @@
 //! How a check takes what comes, and what it asks.
 
-ghost use Rattle.std.specs.Prelude.{◌≡◌};
+ghost use Rattle.std.specs.Prelude.{◌≡◌, ◌<◌, ◌≤◌, ◌+◌, ◌++◌, ◌∷◌, List, ℕ, [], Some, None, IfOk};
+ghost use Rattle.std.specs.Prelude.{IfNone, IfSome, OnErr, OnOk, length, slice_get, Contains};
+ghost use Rattle.placement.specs.Matching.{Pair};
+ghost use Rattle.wire.specs.declared.message.Body.TheVariants.{Data};
+ghost use Rattle.request_record.specs.declared.requests.Outcome.TheVariants.{Answered};
+ghost use Rattle.share_opening.specs.Reads.{Brought};
+ghost use Rattle.share_reading.specs.Verdict.{IsJudged};
+ghost use Rattle.share_reading.specs.Whole.{joined};
+ghost use Rattle.checker.specs.Book.{AreReadAt, AsksMore, AsksNothing, AwaitsAt, HasAsked, HasBook};
+ghost use Rattle.checker.specs.Book.{HasBytes, IsFresh, IsKept, IsReadOn, IsSafe, IsSettledAt};
+ghost use Rattle.checker.specs.Book.{AreAsked, AreLost, ArePushed, IsStanding, IsTakenOnce};
+ghost use Rattle.checker.specs.Book.{state_of};
+ghost use Rattle.checker.specs.Moves.{Advances, TicksOn};
+ghost use Rattle.checker.specs.Offers.{key_of};
+ghost use Rattle.checker.specs.Sending.{Takes};
+ghost use Rattle.checker.specs.declared.offers.Offer.{Offer};
+ghost use Rattle.checker.specs.declared.status.CheckStatus.{CheckStatus};
+ghost use Rattle.checker.specs.declared.status.CheckStatus.TheVariants.{Failed};
 
 use crate::offers::{Offer, Stage, end, keep, wait};
 use crate::status::CheckStatus;
@@ -47,7 +64,9 @@ impl Machine {
         servers: &[NodeId],
         session: u64,
         now: u64,
-    ) -> Result<Machine, AllocError> {
+    ) -> Result<Machine, AllocError>
+        ensures { IfOk result (IsFresh cap servers.now session now) }
+    {
         Ok(Machine {
             alloc,
             cap,
@@ -66,7 +85,13 @@ impl Machine {
         from: NodeId,
         message: Message,
         now: u64,
-    ) -> Result<CheckStatus, AllocError> {
+    ) -> Result<CheckStatus, AllocError>
+        requires kept { IsKept self.old status }
+        ensures ok { IfOk result (λ ended. (servers : List ℕ) → Advances from message now
+            (state_of self.old servers status) (state_of self.new servers ended)) }
+        ensures kept { IfOk result (IsKept self.new) }
+        ensures failed { IsKept self.new Failed }
+    {
         let Some(place) = self.requests.take_answer(from, message, now) else {
             return Ok(status);
         };
@@ -78,19 +103,28 @@ impl Machine {
     }
 
     /// Takes note of a second, and tells where it stands then.
-    pub(crate) fn pass(&mut self, status: CheckStatus, now: u64) -> Result<CheckStatus, AllocError> {
+    pub(crate) fn pass(&mut self, status: CheckStatus, now: u64) -> Result<CheckStatus, AllocError>
+        requires kept { IsKept self.old status }
+        ensures ok { IfOk result (λ ended. (servers : List ℕ) → TicksOn now
+            (state_of self.old servers status) (state_of self.new servers ended)) }
+        ensures kept { IfOk result (IsKept self.new) }
+        ensures failed { IsKept self.new Failed }
+    {
         let lost = self.requests.tick(now)?;
         if status != CheckStatus::Running {
             return Ok(status);
         }
-        for place in &lost {
-            self.take_in(*place)?;
-        }
+        self.lose(&lost)?;
         self.settle()
     }
 
     /// Takes the next message to send, and the node that it is for.
-    pub(crate) fn take_outgoing(&mut self) -> Option<(NodeId, Message)> {
+    pub(crate) fn take_outgoing(&mut self) -> Option<(NodeId, Message)>
+        requires asked { AreAsked self.old.requests.entries }
+        ensures takes { (servers : List ℕ) (status : CheckStatus) → Takes
+            (state_of self.old servers status) result (state_of self.new servers status) }
+        ensures kept { (status : CheckStatus) → IsKept self.old status → IsKept self.new status }
+    {
         let place = self.requests.first()?;
         let request = &self.requests.entries()[place];
         let server = request.server;
@@ -100,8 +134,32 @@ impl Machine {
         Some((server, message))
     }
 
-    // Takes what became of the request at a place.
-    fn take_in(&mut self, place: usize) -> Result<(), AllocError> {
+    // These requests found no answer.
+    fn lose(&mut self, places: &[usize]) -> Result<(), AllocError>
+        requires book { HasBook self.old places.now }
+        requires lost { AreLost self.old.requests.entries places.now }
+        requires safe { IsSafe self.old }
+        ensures book { OnOk result (HasBook self.new []) }
+        ensures asks { OnOk result (AsksMore self.old self.new) }
+        ensures safe { IsSafe self.new }
+    {
+        for place in places {
+            self.take_in(*place)?;
+        }
+        Ok(())
+    }
+
+    // Takes in what became of the request at a place.
+    fn take_in(&mut self, place: usize) -> Result<(), AllocError>
+        requires safe { IsSafe self.old }
+        requires settled { IsSettledAt self.old.requests.entries place }
+        requires book { (todo : List ℕ) × HasBook self.old (place ∷ todo) }
+        ensures book { (todo : List ℕ) → HasBook self.old (place ∷ todo)
+            → IsTakenOnce self.old.requests.entries place todo
+            → OnOk result (HasBook self.new todo) }
+        ensures asks { OnOk result (AsksMore self.old self.new) }
+        ensures safe { IsSafe self.new }
+    {
         if place < self.told.len() {
             return self.take_holdings(place);
         }
@@ -115,7 +173,16 @@ impl Machine {
     }
 
     // Takes note of the shares that a server holds, by the answer to the request at a place.
-    fn take_holdings(&mut self, place: usize) -> Result<(), AllocError> {
+    fn take_holdings(&mut self, place: usize) -> Result<(), AllocError>
+        requires safe { IsSafe self.old }
+        requires asks { place < length self.old.told.items }
+        requires settled { IsSettledAt self.old.requests.entries place }
+        requires book { (todo : List ℕ) × HasBook self.old (place ∷ todo) }
+        ensures book { (todo : List ℕ) → HasBook self.old (place ∷ todo)
+            → IsTakenOnce self.old.requests.entries place todo
+            → OnOk result (HasBook self.new todo) }
+        ensures same { AsksNothing self.old self.new }
+    {
         let first = self.offers.len();
         let request = &self.requests.entries()[place];
         if let Outcome::Answered(Body::Have(_, held)) = &request.outcome {
@@ -135,7 +202,17 @@ impl Machine {
         offer: usize,
         reading: &Reading,
         place: usize,
-    ) -> Result<(), AllocError> {
+    ) -> Result<(), AllocError>
+        requires safe { IsSafe self.old }
+        requires behind { length self.old.told.items ≤ place }
+        requires settled { IsSettledAt self.old.requests.entries place }
+        requires waits { AwaitsAt self.old offer place reading.now }
+        requires book { (todo : List ℕ) × HasBook self.old (place ∷ todo) }
+        ensures book { (todo : List ℕ) → HasBook self.old (place ∷ todo)
+            → OnOk result (HasBook self.new todo) }
+        ensures asks { OnOk result (AsksMore self.old self.new) }
+        ensures safe { IsSafe self.new }
+    {
         let progress = match self.read_on(reading, place) {
             Ok(progress) => progress,
             Err(verdict) => {
@@ -155,18 +232,25 @@ impl Machine {
     }
 
     // What comes of what the request for the next bytes of a share brought, or the verdict on it.
-    fn read_on(&self, reading: &Reading, place: usize) -> Result<Progress, Verdict> {
-        let Outcome::Answered(Body::Data(bytes)) = &self.requests.entries()[place].outcome else {
+    fn read_on(&self, reading: &Reading, place: usize) -> Result<Progress, Verdict>
+        ensures { IsReadOn self.now.cap self.now.requests.entries reading.now place result }
+    {
+        let Some(bytes) = bytes_at(&self.requests, place) else {
             return Err(Verdict::Lost);
         };
-        match reading.take(&self.cap, bytes.as_slice()) {
+        match reading.take(&self.cap, bytes) {
             Ok(progress) => Ok(progress),
             Err(check) => Err(Verdict::Corrupt(check)),
         }
     }
 
     // Asks for the next bytes of a share.
-    fn ask(&mut self, offer: usize, reading: &Reading) -> Result<(), AllocError> {
+    fn ask(&mut self, offer: usize, reading: &Reading) -> Result<(), AllocError>
+        requires { offer < length self.old.offers.items }
+        ensures ok { OnOk result ((o : Offer) → slice_get self.old.offers.items offer ≡ Some o
+            → HasAsked self.old offer reading.now o self.new) }
+        ensures err { OnErr result (AsksNothing self.old self.new) }
+    {
         let place = self.requests.entries().len();
         let server = self.offers[offer].server;
         let share = self.offers[offer].share;
@@ -179,7 +263,14 @@ impl Machine {
     }
 
     // The verdict on a share that is read whole.
-    fn judge(&self, offer: usize) -> Result<Verdict, AllocError> {
+    fn judge(&self, offer: usize) -> Result<Verdict, AllocError>
+        requires { offer < length self.now.offers.items }
+        ensures { IfOk result (λ verdict. (o : Offer) (front back : List Brought)
+            → slice_get self.now.offers.items offer ≡ Some o
+            → AreReadAt self.now.requests.entries (key_of o) o.front.items front
+            → AreReadAt self.now.requests.entries (key_of o) o.back.items back
+            → IsJudged self.now.cap o.share (joined front ++ joined back) verdict) }
+    {
         let found = &self.offers[offer];
         let mut bytes = Vec::new(self.alloc);
         join(&mut bytes, &self.requests, &found.front)?;
@@ -189,18 +280,41 @@ impl Machine {
 
     // Begins to read more shares, where fewer are read at once than may be, and tells where it
     // stands.
-    fn settle(&mut self) -> Result<CheckStatus, AllocError> {
+    fn settle(&mut self) -> Result<CheckStatus, AllocError>
+        requires safe { IsSafe self.old }
+        requires book { HasBook self.old [] }
+        ensures kept { IfOk result (IsKept self.new) }
+        ensures asks { IfOk result (λ _. AsksMore self.old self.new) }
+        ensures failed { IsSafe self.new }
+    {
         let most = self.told.len().saturating_add(MORE_AT_ONCE);
         while self.begun < self.offers.len() && self.requests.outstanding() < most {
-            self.ask(self.begun, &Reading::start())?;
-            self.begun += 1;
+            self.begin_next()?;
         }
         Ok(self.standing())
     }
 
+    // Begins to read the next share.
+    fn begin_next(&mut self) -> Result<(), AllocError>
+        requires safe { IsSafe self.old }
+        requires book { HasBook self.old [] }
+        requires more { self.old.begun < length self.old.offers.items }
+        ensures book { OnOk result (HasBook self.new []) }
+        ensures asks { OnOk result (AsksMore self.old self.new) }
+        ensures safe { IsSafe self.new }
+        ensures less { OnOk result ((self.new.begun ≡ self.old.begun + 1)
+            × (length self.new.offers.items ≡ length self.old.offers.items)) }
+    {
+        self.ask(self.begun, &Reading::start())?;
+        self.begun += 1;
+        Ok(())
+    }
+
     // Where it stands.
-    fn standing(&self) -> CheckStatus {
-        if self.requests.has_work() {
+    fn standing(&self) -> CheckStatus
+        ensures { IsStanding self.now.requests.entries result }
+    {
+        if 0 < self.requests.outstanding() {
             CheckStatus::Running
         } else {
             CheckStatus::Done
@@ -215,7 +329,10 @@ fn push_offers(
     total: u16,
     server: NodeId,
     held: &[HeldShare],
-) -> Result<(), AllocError> {
+) -> Result<(), AllocError>
+    ensures { OnOk result
+        (ArePushed total server held.now offers.old.items offers.new.items) }
+{
     for share in held {
         if u16::from(share.share) < total {
             offers.push(Offer {
@@ -231,11 +348,38 @@ fn push_offers(
 }
 
 // Adds the bytes that the requests at these places brought.
-fn join(bytes: &mut Vec<u8>, requests: &Requests, places: &[usize]) -> Result<(), AllocError> {
+fn join(bytes: &mut Vec<u8>, requests: &Requests, places: &[usize]) -> Result<(), AllocError>
+    ensures { OnOk result ((key : Pair) (reads : List Brought)
+        → AreReadAt requests.now.entries key places.now reads
+        → bytes.new.items ≡ bytes.old.items ++ joined reads) }
+{
     for place in places {
-        if let Outcome::Answered(Body::Data(found)) = &requests.entries()[*place].outcome {
-            bytes.extend_from_slice(found.as_slice())?;
+        if let Some(found) = bytes_at(requests, *place) {
+            bytes.extend_from_slice(found)?;
         }
     }
     Ok(())
+}
+
+// The bytes that answered the request at a place.
+fn bytes_at(requests: &Requests, place: usize) -> Option<&[u8]>
+    ensures some { IfSome result (λ bytes. HasBytes requests.now.entries place bytes.now) }
+    ensures none { IfNone result ((bytes : List ℕ) → HasBytes requests.now.entries place bytes
+        → ⊥) }
+{
+    match requests.entries().get(place) {
+        Some(request) => data_of(&request.outcome),
+        None => None,
+    }
+}
+
+// The bytes that answered a request.
+fn data_of(outcome: &Outcome) -> Option<&[u8]>
+    ensures some { IfSome result (λ bytes. outcome.now ≡ Answered (Data bytes.now)) }
+    ensures none { IfNone result ((bytes : List ℕ) → outcome.now ≡ Answered (Data bytes) → ⊥) }
+{
+    match outcome {
+        Outcome::Answered(Body::Data(bytes)) => Some(bytes.as_slice()),
+        _ => None,
+    }
 }

@@ -1,0 +1,150 @@
+-- How a check goes on, step by step.
+use Rattle.std.proofs.Common.{◌≡◌, ◌≢◌, ℕ, zero, suc, ◌+◌, ◌<◌, ◌≤◌, Bool, true, false, List, [], ◌∷◌, ◌++◌, length, set, map, take, drop, get_or, Result, Ok, Err, Option, Some, None, ap, refl, sym, subst, ◌∙◌, arith, inl, inr, ◌⊎◌, true≢false}
+use Rattle.std.specs.Prelude.{Contains, slice_get}
+use Rattle.std.proofs.lemmas.Bool.{cases_lt}
+use Rattle.std.proofs.lemmas.List.{length-append, length-set}
+use Rattle.std.proofs.lemmas.Option.{slice_get_within, slice_get-get_or, same_Some}
+use Rattle.cap_text.specs.Cap.{VerifyCapValue}
+use Rattle.placement.specs.Matching.{Pair}
+use Rattle.request_record.specs.declared.requests.Asked.{Asked}
+use Rattle.request_record.specs.declared.requests.Asked.TheVariants.{Holdings, Reading}
+use Rattle.request_record.specs.declared.requests.Request.{Request}
+use Rattle.request_record.specs.Record.{RequestsState, asked_all, asked_more, first_request, is_outstanding}
+use Rattle.request_record.specs.Asking.{AsksOnce}
+use Rattle.share_opening.specs.Reads.{Brought}
+use Rattle.share_opening.specs.declared.opening.Opening.TheVariants.{Start}
+use Rattle.share_reading.specs.Reading as reading
+use Rattle.share_reading.specs.Reads.{more_back, more_front}
+use Rattle.share_reading.specs.Verdict.{IsJudged, IsVerdict}
+use Rattle.share_reading.specs.Whole.{joined}
+use Rattle.share_reading.specs.declared.reading.Progress.TheVariants.{Next, Whole}
+use Rattle.share_reading.specs.declared.reading.Reading as readings
+use Rattle.share_reading.specs.declared.reading.Reading.TheVariants.{Beginning}
+use Rattle.share_reading.specs.declared.verdict.Verdict.{Verdict}
+use Rattle.share_reading.specs.declared.verdict.Verdict.TheVariants as verdicts
+use Rattle.share_reading.proofs.ConsecutiveLemmas.{contains_none}
+use Rattle.checker.specs.Shares.{settled_of}
+use Rattle.checker.specs.Offers.{IsKeptBy, key_of, with_stage}
+use Rattle.checker.specs.Right.{AreOfShares}
+use Rattle.checker.specs.Book.{AreReadAt, AsksMore, AsksNothing, AwaitsAt, HasAsked, HasBook, HasBytes, HasTold, IsAbout, IsAt, IsBook, IsEnded, IsOffer, IsReadOn, IsReading, IsSafe, IsSettledAt, IsStarted, IsTold, IsUnread}
+use Rattle.checker.specs.declared.machine.Machine.{Machine}
+use Rattle.checker.specs.declared.machine.Told.{Told}
+use Rattle.checker.specs.declared.offers.Offer.{Offer}
+use Rattle.checker.specs.declared.offers.Stage.{Stage}
+use Rattle.checker.specs.declared.offers.Stage.TheVariants.{Waiting, Read, Ended}
+use Rattle.checker.proofs.Entries.{get_set_same}
+use Rattle.checker.proofs.OfferMoves.{waits_about}
+use Rattle.checker.proofs.AnswerMoves.{IsSafeToAsk, advances_long, goes_on, is_judged, is_lost, is_stopped, back_kept, front_kept, next_request, reads_first, safe_first, safe_next}
+use Rattle.checker.proofs.BookMoves.{BeginsTo, book_asked, book_ended, others_less, quiet_less, tells_less, told_less}
+use Rattle.checker.proofs.RecordMoves.{once_next, shares_next}
+use Rattle.checker.proofs.Joining.{joined_both}
+
+-- ---- the same, spelled otherwise
+
+pub book_as : (cap cap2 : VerifyCapValue) (es es2 : List Request) (told told2 : List Told) (owners owners2 : List ℕ) (offers offers2 : List Offer) (begun begun2 : ℕ) (todo : List ℕ)
+    → cap2 ≡ cap → es2 ≡ es → told2 ≡ told → owners2 ≡ owners → offers2 ≡ offers → begun2 ≡ begun
+    → IsBook cap es told owners offers begun todo → IsBook cap2 es2 told2 owners2 offers2 begun2 todo
+book_as cap cap2 es es2 told told2 owners owners2 offers offers2 begun begun2 todo e1 e2 e3 e4 e5 e6 b =
+    subst (λ (x : VerifyCapValue). IsBook x es2 told2 owners2 offers2 begun2 todo) (sym e1)
+    (subst (λ (x : List Request). IsBook cap x told2 owners2 offers2 begun2 todo) (sym e2)
+    (subst (λ (x : List Told). IsBook cap es x owners2 offers2 begun2 todo) (sym e3)
+    (subst (λ (x : List ℕ). IsBook cap es told x offers2 begun2 todo) (sym e4)
+    (subst (λ (x : List Offer). IsBook cap es told owners x begun2 todo) (sym e5)
+    (subst (λ n. IsBook cap es told owners offers n todo) (sym e6) b)))))
+
+pub set_set : {X : Type 0} (xs : List X) (k : ℕ) (a b : X) → set (set xs k a) k b ≡ set xs k b
+set_set [] k a b = refl
+set_set (x ∷ xs) zero a b = refl
+set_set (x ∷ xs) (suc k) a b = ap (λ l. x ∷ l) (set_set xs k a b)
+
+-- ---- the first bytes of a share are asked for
+
+entries_asked : (m new : Machine) (k : ℕ) (r : readings.Reading) (o : Offer) → HasAsked m k r o new → new.requests.entries ≡ m.requests.entries ++ next_request o.server o.share r m.requests.clock ∷ []
+entries_asked m new k r o a = ap (λ (x : RequestsState). x.entries) a.requests
+
+pub asks_asked : (m new : Machine) (k : ℕ) (r : readings.Reading) (o : Offer) → HasAsked m k r o new → (new.cap ≡ m.cap) × (new.requests ≡ asked_all ((o.server, Reading o.share (reading.next_place r) (reading.next_length r)) ∷ []) m.requests)
+asks_asked m new k r o a = (a.cap, a.requests)
+
+pub once_asked_now : (m new : Machine) (k : ℕ) (r : readings.Reading) (o : Offer) → IsSafe m → IsSafeToAsk m.cap m.requests.entries (key_of o) r → HasAsked m k r o new → AsksOnce new.requests.entries
+once_asked_now m new k r o safe may a =
+    subst AsksOnce (sym (entries_asked m new k r o a)) (once_next m.cap m.requests.entries (key_of o) r m.requests.clock may safe.once)
+
+pub shares_asked_now : (m new : Machine) (k : ℕ) (r : readings.Reading) (o : Offer) → IsSafe m → IsSafeToAsk m.cap m.requests.entries (key_of o) r → HasAsked m k r o new → AreOfShares new.cap new.requests.entries
+shares_asked_now m new k r o safe may a =
+    subst (λ (c : VerifyCapValue). AreOfShares c new.requests.entries) (sym a.cap)
+    (subst (AreOfShares m.cap) (sym (entries_asked m new k r o a)) (shares_next m.cap m.requests.entries (key_of o) r m.requests.clock may safe.reads))
+
+pub unread_at : (m : Machine) (o : Offer) → HasBook m [] → slice_get m.offers.items m.begun ≡ Some o → IsUnread m.requests.entries o
+unread_at m o b at = subst (IsAt m.cap m.requests.entries [] o) (b.unread m.begun o at (omega arith)) (b.reading m.begun o at)
+
+pub book_begun : (m new : Machine) (o : Offer) → HasBook m [] → slice_get m.offers.items m.begun ≡ Some o → HasAsked m m.begun (Beginning Start) o new
+    → IsBook new.cap new.requests.entries new.told.items new.owners.items new.offers.items (new.begun + 1) []
+book_begun m new o b at a =
+    let es = m.requests.entries in
+    let n : Offer = with_stage (Read (Beginning Start) (length es)) o in
+    book_as m.cap new.cap (es ++ next_request o.server o.share (Beginning Start) m.requests.clock ∷ []) new.requests.entries m.told.items new.told.items (m.owners.items ++ m.begun ∷ []) new.owners.items
+    (set m.offers.items m.begun n) new.offers.items (m.begun + 1) (new.begun + 1) []
+    a.cap (entries_asked m new m.begun (Beginning Start) o a) a.told a.owners a.offers (ap (λ i. i + 1) a.begun)
+    (book_asked m.cap es m.told.items m.owners.items m.offers.items m.begun (m.begun + 1) [] m.begun o n (Beginning Start) m.requests.clock at refl [] b
+    (λ l x other e. b.reading l x e) b.offered b.tells b.quiet (λ i h. absurd (contains_none i h))
+    (record {
+      up_to = λ l lt. up_to l m.begun lt;
+      from = λ l le. (omega (arith, le), λ e. omega (arith, le, e));
+      few = omega (arith, slice_get_within m.offers.items m.begun o at);
+    })
+    (λ e. cc)
+    (reads_first m.cap es [] o n m.requests.clock (unread_at m o b at) refl refl refl refl))
+  where
+    up_to : (l k : ℕ) → l < k + 1 → (l < k) ⊎ (l ≡ k)
+    up_to l k lt = elim (cases_lt l k) [ inl below ↦ inl below | inr le ↦ inr (omega (arith, lt, le)) ]
+
+-- ---- what the request for the next bytes brought
+
+-- what is found of a share is found of it however far it is read
+ended_as : {cap : VerifyCapValue} {entries : List Request} (o n : Offer) (v : Verdict) → n.server ≡ o.server → n.share ≡ o.share → IsEnded cap entries o v → IsEnded cap entries n v
+ended_as {cap} {entries} o n v server share is = record {
+  verdict = subst (λ s. IsVerdict cap n.share (settled_of entries s n.share) v) (sym server) (subst (λ i. IsVerdict cap i (settled_of entries o.server i) v) (sym share) is.verdict);
+  quiet = λ i x e about. is.quiet i x e (subst (λ (key : Pair). IsAbout key x) (ap (λ s. (s, n.share)) server ∙ ap (λ i. (o.server, i)) share) about);
+}
+
+module _ (m : Machine) (place : ℕ) (todo : List ℕ) (k : ℕ) (o : Offer) (r : readings.Reading) (b : HasBook m (place ∷ todo)) (after : length m.told.items ≤ place)
+    (settled : IsSettledAt m.requests.entries place) (at : slice_get m.offers.items k ≡ Some o) (stage : o.stage ≡ Read r place) where
+
+  abbrev es : List Request
+  es = m.requests.entries
+
+  is_reading : IsReading m.cap es (place ∷ todo) o r place
+  is_reading = subst (IsAt m.cap es (place ∷ todo) o) stage (b.reading k o at)
+
+  abbrev asked : Request
+  asked = is_reading.next.request
+
+  is_settled : is_outstanding asked.outcome ≡ false
+  is_settled = settled asked is_reading.next.there
+
+  is_about : IsAbout (key_of o) asked
+  is_about = waits_about m.cap es (place ∷ todo) o r place asked is_reading is_reading.next.there
+
+  is_started : IsStarted o.stage
+  is_started = λ e. not_waiting (sym stage ∙ e)
+    where
+      not_waiting : Read r place ≡ Waiting → ⊥
+      not_waiting e = cc
+
+  ended_by : (n : Offer) (v : Verdict) → key_of n ≡ key_of o → n.stage ≡ Ended v → IsEnded m.cap es n v → IsBook m.cap es m.told.items m.owners.items (set m.offers.items k n) m.begun todo
+  ended_by n v key stage_is is =
+      book_ended m.cap es m.told.items m.owners.items m.offers.items m.begun place todo b after k o n asked at is_reading.next.there is_about is_started key
+      (λ e. not_waiting (sym stage_is ∙ e)) (subst (IsAt m.cap es todo n) (sym stage_is) is)
+    where
+      not_waiting : Ended v ≡ Waiting → ⊥
+      not_waiting e = cc
+
+  -- no bytes came, or they are refused
+  pub book_stopped : (v : Verdict) → IsReadOn m.cap es r place (Err v) → IsBook m.cap es m.told.items m.owners.items (set m.offers.items k (with_stage (Ended v) o)) m.begun todo
+  book_stopped verdicts.Good told = absurd told
+  book_stopped (verdicts.Corrupt check) told = ended_by (with_stage (Ended (verdicts.Corrupt check)) o) (verdicts.Corrupt check) refl refl
+      (ended_as o (with_stage (Ended (verdicts.Corrupt check)) o) (verdicts.Corrupt check) refl refl
+      (is_stopped m.cap es (place ∷ todo) o r place is_reading asked is_reading.next.there is_settled told.0 told.1 check told.2))
+  book_stopped verdicts.Lost told = ended_by (with_stage (Ended verdicts.Lost) o) verdicts.Lost refl refl
+      (ended_as o (with_stage (Ended verdicts.Lost) o) verdicts.Lost refl refl
+      (is_lost m.cap es (place ∷ todo) o r place is_reading asked is_reading.next.there is_settled told))

@@ -1,0 +1,275 @@
+-- How the record goes on from a message and a tick.
+use Rattle.std.proofs.Common.{◌≡◌, ◌≢◌, ℕ, zero, suc, ◌+◌, ◌<◌, ◌≤◌, ◌-◌, Bool, true, false, cond, List, [], ◌∷◌, ◌++◌, length, set, map, max, Option, Some, None, ap, refl, sym, subst, ◌∙◌, arith, inl, inr, ◌⊎◌, true≢false}
+use Rattle.std.specs.Prelude.{Contains, slice_get, slice_set, nat_le, nat_lt, ◌&&◌}
+use Rattle.std.proofs.lemmas.Bool.{cases_lt}
+use Rattle.std.proofs.lemmas.List.{length-map, length-set, length-append, append-nil}
+use Rattle.std.proofs.lemmas.Option.{slice_get_within, same_Some, none-some}
+use Rattle.cap_text.specs.Cap.{VerifyCapValue}
+use Rattle.placement.specs.Matching.{Pair}
+use Rattle.wire.specs.declared.message.Body.{Body}
+use Rattle.wire.specs.declared.message.Message.{Message}
+use Rattle.request_record.specs.declared.requests.Asked.{Asked}
+use Rattle.request_record.specs.declared.requests.Asked.TheVariants.{Holdings, Allocation, Writing, Closing, Reading, Aborting}
+use Rattle.request_record.specs.declared.requests.Outcome.{Outcome}
+use Rattle.request_record.specs.declared.requests.Outcome.TheVariants.{Unawaited, Outstanding, Answered, Lost}
+use Rattle.request_record.specs.declared.requests.Request.{Request}
+use Rattle.request_record.specs.Record.{RequestsState, age_of, answered_in, at, counted_at, counts_at, first_request, is_lost_at, is_outstanding, is_resent_at, lost_places, passed, places_from, resent_one, ticked_one, with_outcome}
+use Rattle.request_record.specs.Asking.{AreApart, AsksOnce, after_message, after_tick, lost_by_tick}
+use Rattle.request_record.proofs.RecordLaws.{counts_is}
+use Rattle.request_record.proofs.AskingLaws.{once_asked}
+use Rattle.share_opening.specs.Reads.{Brought}
+use Rattle.share_reading.specs.Reading as reading
+use Rattle.share_reading.specs.Reads.{IsAsked, IsRest}
+use Rattle.share_reading.specs.Verdict.{Settled, brought_of}
+use Rattle.share_reading.specs.declared.reading.Reading as readings
+use Rattle.share_reading.proofs.ConsecutiveLemmas.{contains_cases, contains_head, contains_none, contains_tail}
+use Rattle.share_reading.proofs.VerdictLemmas.{brought_has}
+use Rattle.checker.specs.Right.{AreOfShares}
+use Rattle.checker.specs.Shares.{settled_in, settled_of}
+use Rattle.checker.specs.Book.{IsAbout}
+use Rattle.checker.proofs.Entries.{BecomesAt, GoesTo, IsSettledBy, WasAt, about_by, about_same, both, get_pushed, get_set_other, get_set_same, settled_from, settled_has, settled_push, unsettled, was_at}
+use Rattle.checker.proofs.AnswerMoves.{IsBroughtBy, IsSafeToAsk, brought_from, more_asked, next_request}
+
+-- ---- a message
+
+becomes_same : (es : List Request) (todo : List ℕ) (i : ℕ) (r : Request) → slice_get es i ≡ Some r → BecomesAt es todo i r
+becomes_same es todo i r there = record { request = r; there = there; server = refl; asked = refl; still = λ _. refl; waits = inl refl }
+
+goes_set : (es : List Request) (place : ℕ) (q : Request) (body : Body) → slice_get es place ≡ Some q → is_outstanding q.outcome ≡ true
+    → GoesTo es (set es place (with_outcome q (Answered body))) (place ∷ [])
+goes_set es place q body there waits = record {
+  long = length-set es place (with_outcome q (Answered body));
+  each = each;
+}
+  where
+    other : (i : ℕ) (r : Request) → slice_get es i ≡ Some r → (i ≡ place → ⊥) → BecomesAt (set es place (with_outcome q (Answered body))) (place ∷ []) i r
+    other i r e apart = record {
+      request = r;
+      there = get_set_other es place i (with_outcome q (Answered body)) apart ∙ e;
+      server = refl;
+      asked = refl;
+      still = λ _. refl;
+      waits = inl refl;
+    }
+
+    each : (i : ℕ) (r : Request) → slice_get es i ≡ Some r → BecomesAt (set es place (with_outcome q (Answered body))) (place ∷ []) i r
+    each i r e = elim (cases_lt i place) [
+      | inl lt ↦ other i r e (λ h. omega (arith, h, lt))
+      | inr le ↦ elim (cases_lt place i) [
+        | inl lt ↦ other i r e (λ h. omega (arith, h, lt))
+        | inr ge ↦ (
+            let here : i ≡ place = omega (arith, le, ge) in
+            let same : q ≡ r = same_Some q r (sym there ∙ ap (slice_get es) (sym here) ∙ e) in
+            record {
+              request = with_outcome q (Answered body);
+              there = ap (slice_get (set es place (with_outcome q (Answered body)))) here ∙ get_set_same es place q (with_outcome q (Answered body)) there;
+              server = ap (λ (x : Request). x.server) same;
+              asked = ap (λ (x : Request). x.asked) same;
+              still = λ quiet. absurd (true≢false (sym waits ∙ ap (λ (x : Request). is_outstanding x.outcome) same ∙ quiet));
+              waits = inr (subst (Contains (place ∷ [])) (sym here) (contains_head place []));
+            })
+      ]
+    ]
+
+-- what a message that counts makes of the record
+pub record IsCounted (es ns : List Request) (place : ℕ) : Type 0 where
+  pub goes : GoesTo es ns (place ∷ [])
+  pub waited : (i : ℕ) (r : Request) → Contains (place ∷ []) i → slice_get es i ≡ Some r → is_outstanding r.outcome ≡ true
+  pub quiet : (i : ℕ) (r : Request) → Contains (place ∷ []) i → slice_get ns i ≡ Some r → is_outstanding r.outcome ≡ false
+  pub request : Request
+  pub there : slice_get ns place ≡ Some request
+
+counted_by : (from now : ℕ) (m : Message) (s : RequestsState) (place : ℕ) → counts_at from m (at now s) ≡ Some place → IsCounted s.entries (after_message from m now s).entries place
+counted_by from now m s place counts =
+    let is = counts_is from m (at now s) place counts in
+    let q = is.request in
+    let ns = set s.entries place (with_outcome q (Answered m.body)) in
+    let result : (after_message from m now s).entries ≡ ns =
+    ap (λ (o : Option ℕ). (counted_at m (at now s) o).entries) counts ∙ ap (λ (o : Option Request). answered_in s.entries place o m.body) is.there in
+    subst (λ (l : List Request). IsCounted s.entries l place) (sym result) (record {
+      goes = goes_set s.entries place q m.body is.there is.waits;
+      waited = λ i r h e. (let same : q ≡ r = same_Some q r (sym is.there ∙ ap (slice_get s.entries) (alone place i h) ∙ e) in
+      ap (λ (x : Request). is_outstanding x.outcome) (sym same) ∙ is.waits);
+      quiet = λ i r h e. (let new : with_outcome q (Answered m.body) ≡ r =
+      same_Some (with_outcome q (Answered m.body)) r (sym (get_set_same s.entries place q (with_outcome q (Answered m.body)) is.there) ∙ ap (slice_get ns) (alone place i h) ∙ e) in
+      ap (λ (x : Request). is_outstanding x.outcome) (sym new));
+      request = with_outcome q (Answered m.body);
+      there = get_set_same s.entries place q (with_outcome q (Answered m.body)) is.there;
+    })
+  where
+    alone : (x i : ℕ) → Contains (x ∷ []) i → x ≡ i
+    alone x i h = elim (contains_cases x i [] h) [ inl same ↦ same | inr none ↦ absurd (contains_none i none) ]
+
+-- the same with the place that the call told
+pub counted_at_place : (from now : ℕ) (m : Message) (s : RequestsState) (place : ℕ) → Some place ≡ counts_at from m s → IsCounted s.entries (after_message from m now s).entries place
+counted_at_place from now m s place counts = counted_by from now m s place (sym counts)
+
+pub uncounted : (from : ℕ) (m : Message) (now : ℕ) (s : RequestsState) → None ≡ counts_at from m s → (after_message from m now s).entries ≡ s.entries
+uncounted from m now s e = ap (λ (o : Option ℕ). (counted_at m (at now s) o).entries) (sym e)
+
+-- ---- a tick
+
+ticked_cases : (now : ℕ) (r : Request) → (is_lost_at now r ≡ true × ticked_one now r ≡ with_outcome r Lost) ⊎ ((ticked_one now r).server ≡ r.server × (ticked_one now r).asked ≡ r.asked × (ticked_one now r).outcome ≡ r.outcome)
+ticked_cases now r = by (is_lost_at now r) (is_resent_at now r) refl
+  where
+    by : (lost again : Bool) → is_lost_at now r ≡ lost
+        → (is_lost_at now r ≡ true × cond lost (with_outcome r Lost) (cond again (resent_one now r) r) ≡ with_outcome r Lost)
+        ⊎ ((cond lost (with_outcome r Lost) (cond again (resent_one now r) r)).server ≡ r.server
+        × (cond lost (with_outcome r Lost) (cond again (resent_one now r) r)).asked ≡ r.asked
+        × (cond lost (with_outcome r Lost) (cond again (resent_one now r) r)).outcome ≡ r.outcome)
+    by true again e = inl (e, refl)
+    by false true e = inr (refl, refl, refl)
+    by false false e = inr (refl, refl, refl)
+
+quiet_ticked : (now : ℕ) (r : Request) → is_outstanding r.outcome ≡ false → ticked_one now r ≡ r
+quiet_ticked now r quiet = rw quiet refl
+
+lost_waits : (now : ℕ) (r : Request) → is_lost_at now r ≡ true → is_outstanding r.outcome ≡ true
+lost_waits now r e = (both (is_outstanding r.outcome) (nat_le 20 (age_of now r)) e).0
+
+in_rest : (test : Request → Bool) (from : ℕ) (x : Request) (xs : List Request) (p : ℕ) (b : Bool) → Contains (places_from test (from + 1) xs) p
+    → Contains (cond b (from ∷ places_from test (from + 1) xs) (places_from test (from + 1) xs)) p
+in_rest test from x xs p true later = contains_tail from p (places_from test (from + 1) xs) later
+in_rest test from x xs p false later = later
+
+-- the places of the lost ones, from a place on
+in_places : (test : Request → Bool) (from : ℕ) (es : List Request) (i : ℕ) (r : Request) → slice_get es i ≡ Some r → test r ≡ true → Contains (places_from test from es) (from + i)
+in_places test from [] i r there e = absurd cc
+in_places test from (x ∷ xs) zero r there e =
+    let is : test x ≡ true = ap test (same_Some x r there) ∙ e in
+    rw is (subst (Contains (from ∷ places_from test (from + 1) xs)) (omega arith) (contains_head from (places_from test (from + 1) xs)))
+in_places test from (x ∷ xs) (suc i) r there e =
+    in_rest test from x xs (from + suc i) (test x) (subst (Contains (places_from test (from + 1) xs)) (omega arith) (in_places test (from + 1) xs i r there e))
+
+pub record IsPlaceOf (test : Request → Bool) (from : ℕ) (es : List Request) (p : ℕ) : Type 0 where
+  pub index : ℕ
+  pub is : p ≡ from + index
+  pub request : Request
+  pub there : slice_get es index ≡ Some request
+  pub passes : test request ≡ true
+
+place_later : (test : Request → Bool) (from : ℕ) (x : Request) (xs : List Request) (p : ℕ) → IsPlaceOf test (from + 1) xs p → IsPlaceOf test from (x ∷ xs) p
+place_later test from x xs p found = record { index = suc found.index; is = omega (arith, found.is); request = found.request; there = found.there; passes = found.passes }
+
+place_by : (test : Request → Bool) (from : ℕ) (x : Request) (xs : List Request) (p : ℕ) (b : Bool) → test x ≡ b
+    → (Contains (places_from test (from + 1) xs) p → IsPlaceOf test (from + 1) xs p)
+    → Contains (cond b (from ∷ places_from test (from + 1) xs) (places_from test (from + 1) xs)) p → IsPlaceOf test from (x ∷ xs) p
+place_by test from x xs p true e rest k = elim (contains_cases from p (places_from test (from + 1) xs) k) [
+  | inl here ↦ record { index = 0; is = omega (arith, here); request = x; there = refl; passes = e }
+  | inr later ↦ place_later test from x xs p (rest later)
+]
+place_by test from x xs p false e rest k = place_later test from x xs p (rest k)
+
+of_places : (test : Request → Bool) (from : ℕ) (es : List Request) (p : ℕ) → Contains (places_from test from es) p → IsPlaceOf test from es p
+of_places test from [] p h = absurd (contains_none p h)
+of_places test from (x ∷ xs) p h = place_by test from x xs p (test x) refl (of_places test (from + 1) xs p) h
+
+get_map : {X Y : Type 0} (f : X → Y) (xs : List X) (i : ℕ) (x : X) → slice_get xs i ≡ Some x → slice_get (map f xs) i ≡ Some (f x)
+get_map f [] i x e = absurd cc
+get_map f (y ∷ ys) zero x e = ap (λ z. Some (f z)) (same_Some y x e)
+get_map f (y ∷ ys) (suc i) x e = get_map f ys i x e
+
+-- what a tick makes of the record
+pub record IsTicked (es ns : List Request) (lost : List ℕ) : Type 0 where
+  pub goes : GoesTo es ns lost
+  pub waited : (i : ℕ) (r : Request) → Contains lost i → slice_get es i ≡ Some r → is_outstanding r.outcome ≡ true
+  pub quiet : (i : ℕ) (r : Request) → Contains lost i → slice_get ns i ≡ Some r → r.outcome ≡ Lost
+
+ticked_at : (now : ℕ) (es : List Request) → IsTicked es (map (ticked_one now) es) (lost_places now es)
+ticked_at now es = record {
+  goes = record { long = length-map es (ticked_one now); each = each };
+  waited = λ i r h e. (
+    let p = of_places (is_lost_at now) 0 es i h in
+    let same : p.request ≡ r = same_Some p.request r (sym p.there ∙ ap (slice_get es) (omega (arith, p.is)) ∙ e) in
+    lost_waits now r (ap (is_lost_at now) (sym same) ∙ p.passes));
+  quiet = λ i r h e. (
+    let p = of_places (is_lost_at now) 0 es i h in
+    let new : ticked_one now p.request ≡ r = same_Some (ticked_one now p.request) r (sym (get_map (ticked_one now) es p.index p.request p.there) ∙ ap (slice_get (map (ticked_one now) es)) (omega (arith, p.is)) ∙ e) in
+    ap (λ (x : Request). x.outcome) (sym new) ∙ (rw p.passes refl));
+}
+  where
+    each : (i : ℕ) (r : Request) → slice_get es i ≡ Some r → BecomesAt (map (ticked_one now) es) (lost_places now es) i r
+    each i r e = elim (ticked_cases now r) [
+      | inl lost ↦ record {
+          request = ticked_one now r;
+          there = get_map (ticked_one now) es i r e;
+          server = ap (λ (x : Request). x.server) lost.1;
+          asked = ap (λ (x : Request). x.asked) lost.1;
+          still = quiet_ticked now r;
+          waits = inr (subst (Contains (lost_places now es)) (omega arith) (in_places (is_lost_at now) 0 es i r e lost.0));
+        }
+      | inr same ↦ record {
+          request = ticked_one now r;
+          there = get_map (ticked_one now) es i r e;
+          server = same.0;
+          asked = same.1;
+          still = quiet_ticked now r;
+          waits = inl same.2;
+        }
+    ]
+
+pub ticked_by : (now : ℕ) (s : RequestsState) → IsTicked s.entries (after_tick now s).entries (lost_by_tick now s)
+ticked_by now s = ticked_at (max s.clock now) s.entries
+
+-- ---- what is asked stays of shares
+
+-- what waits no more tells what it told
+pub told_on : (es ns : List Request) (todo : List ℕ) (key : Pair) (s : Settled) → GoesTo es ns todo → Contains (settled_of es key.0 key.1) s → Contains (settled_of ns key.0 key.1) s
+told_on es ns todo key s goes h =
+    let by = settled_from es key s h in
+    let becomes = goes.each by.place by.request by.there in
+    by_quiet by becomes (is_outstanding by.request.outcome) refl
+  where
+    by_quiet : (by : IsSettledBy es key s) → BecomesAt ns todo by.place by.request → (b : Bool) → is_outstanding by.request.outcome ≡ b → Contains (settled_of ns key.0 key.1) s
+    by_quiet by becomes true e =
+        absurd (contains_none s (subst (λ (l : List Settled). Contains l s) (unsettled by.request.asked by.request.outcome e) by.has))
+    by_quiet by becomes false e =
+        settled_has ns key by.place by.request s (becomes.there ∙ ap Some (becomes.still e)) by.about by.has
+
+grows_on : (es ns : List Request) (todo : List ℕ) (key : Pair) (b : Brought) → GoesTo es ns todo → Contains (brought_of (settled_of es key.0 key.1)) b → Contains (brought_of (settled_of ns key.0 key.1)) b
+grows_on es ns todo key b goes h =
+    let by = brought_from (settled_of es key.0 key.1) b h in
+    let same : (by.read.place, b.1) ≡ b = ap (λ n. (n, b.1)) by.place in
+    subst (Contains (brought_of (settled_of ns key.0 key.1))) same
+    (brought_has (settled_of ns key.0 key.1) by.read b.1 (told_on es ns todo key by.read goes by.among) by.answer)
+
+pub shares_go : (cap : VerifyCapValue) (es ns : List Request) (todo : List ℕ) → GoesTo es ns todo → AreOfShares cap es → AreOfShares cap ns
+shares_go cap es ns todo goes are i r share offset len there asked =
+    let was = was_at es ns todo goes i r there in
+    let old = are i was.request share offset len was.there (sym was.asked ∙ asked) in
+    let key : Pair = (r.server, share) in
+    more_asked cap (brought_of (settled_of es r.server share)) (brought_of (settled_of ns r.server share)) offset len
+    (λ b h. grows_on es ns todo key b goes h)
+    (subst (λ n. IsAsked cap (brought_of (settled_of es n share)) offset len) (sym was.server) old)
+
+apart_none : (a : Asked) (share place len : ℕ) → ((offset count : ℕ) → a ≡ Reading share offset count → (offset + count ≤ place) ⊎ (place + len ≤ offset)) → AreApart a (Reading share place len)
+apart_none Holdings share place len none = λ e. cc
+apart_none (Allocation n l) share place len none = λ e. cc
+apart_none (Writing n offset l) share place len none = λ e. cc
+apart_none (Closing n) share place len none = λ e. cc
+apart_none (Reading n offset count) share place len none = λ same. none offset count (ap (λ m. Reading m offset count) same)
+apart_none (Aborting n) share place len none = λ e. cc
+
+pub once_next : (cap : VerifyCapValue) (es : List Request) (key : Pair) (r : readings.Reading) (now : ℕ) → IsSafeToAsk cap es key r → AsksOnce es → AsksOnce (es ++ next_request key.0 key.1 r now ∷ [])
+once_next cap es key r now safe once =
+    once_asked key.0 now (Reading key.1 (reading.next_place r) (reading.next_length r)) es
+    (λ i x there server. apart_none x.asked key.1 (reading.next_place r) (reading.next_length r)
+    (λ offset count asked. safe.apart i x offset count there (about_by key x offset count server asked) asked))
+    once
+
+abbrev IsAskedAs : VerifyCapValue → List Request → ℕ → Asked → Type 0
+IsAskedAs cap es server (Reading n place count) = IsAsked cap (brought_of (settled_of es server n)) place count
+IsAskedAs cap es server a = ⊥
+
+pub shares_next : (cap : VerifyCapValue) (es : List Request) (key : Pair) (r : readings.Reading) (now : ℕ) → IsSafeToAsk cap es key r → AreOfShares cap es → AreOfShares cap (es ++ next_request key.0 key.1 r now ∷ [])
+shares_next cap es key r now safe are i x share offset len there asked =
+    let new = next_request key.0 key.1 r now in
+    subst (λ (l : List Settled). IsAsked cap (brought_of l) offset len) (sym (settled_push es (x.server, share) new refl))
+    (elim (get_pushed es new x i there) [
+      | inl before ↦ are i x share offset len before asked
+      | inr pushed ↦ (
+          let same : Reading key.1 (reading.next_place r) (reading.next_length r) ≡ Reading share offset len = ap (λ (q : Request). q.asked) pushed.1 ∙ asked in
+          let servers : key.0 ≡ x.server = ap (λ (q : Request). q.server) pushed.1 in
+          subst (λ n. IsAsked cap (brought_of (settled_of es n share)) offset len) servers
+          (subst (λ (a : Asked). IsAskedAs cap es key.0 a) same safe.asked))
+    ])
