@@ -443,11 +443,11 @@ module _ (cap : VerifyCapValue) (es : List Request) (todo : List ℕ) (o : Offer
             more = cond (reading.is_behind r) o.front.items (o.front.items ++ place ∷ [])
 
         -- it goes on, by what is asked of it now
-        pub goes_on : (next : readings.Reading) (now : ℕ) → reading.Advances cap r bytes (Next next) → (m : Offer) → m.server ≡ o.server → m.share ≡ o.share
+        pub goes_on : (rest : List ℕ) (next : readings.Reading) (now : ℕ) → reading.Advances cap r bytes (Next next) → (m : Offer) → m.server ≡ o.server → m.share ≡ o.share
             → m.front.items ≡ n.front.items → m.back.items ≡ n.back.items
-            → IsReading cap (es ++ next_request o.server o.share next now ∷ []) todo m next (length es)
-        goes_on next now a m server share front back =
-            reads_on cap es todo m next now (o.server, o.share) (ap (λ k. (k, m.share)) server ∙ ap (λ k. (o.server, k)) share)
+            → IsReading cap (es ++ next_request o.server o.share next now ∷ []) rest m next (length es)
+        goes_on rest next now a m server share front back =
+            reads_on cap es rest m next now (o.server, o.share) (ap (λ k. (k, m.share)) server ∙ ap (λ k. (o.server, k)) share)
             (more_front r bytes is.front) (more_back r bytes is.back) (go_on cap is.front is.back r next bytes is.led a)
             (subst (λ (l : List ℕ). AreReadAt es (key_of o) l (more_front r bytes is.front)) (sym front) front_kept)
             (subst (λ (l : List ℕ). AreReadAt es (key_of o) l (more_back r bytes is.back)) (sym back) back_kept)

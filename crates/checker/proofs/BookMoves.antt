@@ -86,7 +86,7 @@ module _ (entries : List Request) (offers : List Offer) (k : ℕ) (o n : Offer) 
   keys_set : map key_of (set offers k n) ≡ map key_of offers
   keys_set = map_set key_of offers k o n at key
 
-tail : (place i : ℕ) (todo : List ℕ) → Contains todo i → Contains (place ∷ todo) i
+pub tail : (place i : ℕ) (todo : List ℕ) → Contains todo i → Contains (place ∷ todo) i
 tail place i todo h = (suc h.0, omega (arith, h.1), h.2)
 
 keys_kept : (offers : List Offer) (k : ℕ) (o n : Offer) (t : Told) (keys : List Pair) → slice_get offers k ≡ Some o → key_of n ≡ key_of o → AreKeys offers t keys → AreKeys (set offers k n) t keys
@@ -160,6 +160,7 @@ module _ (cap : VerifyCapValue) (entries : List Request) (told : List Told) (own
     offered = told_less;
     tells = tells_less;
     quiet = quiet_less;
+    inside = λ i h. b.inside i (tail place i todo h);
     started = b.started;
     unread = b.unread;
     few = b.few;
@@ -207,6 +208,7 @@ module _ (cap : VerifyCapValue) (entries : List Request) (told : List Told) (own
       | inr are ↦ inr (keys_kept offers k o n t (offered_in cap.total r.server r.outcome) at key are)
     ];
     quiet = quiet_less cap entries told owners offers begun place todo b after;
+    inside = λ i h. b.inside i (tail place i todo h);
     started = λ l x e lt. elim (get_changed offers k l o n x at e) [
       | inl here ↦ subst (λ (y : Offer). IsStarted y.stage) (sym here.1) is_started
       | inr other ↦ b.started l x other.1 lt
@@ -287,6 +289,7 @@ module _ (cap : VerifyCapValue) (entries : List Request) (told : List Told) (own
       | inl before ↦ quiet i q h before
       | inr pushed ↦ absurd (omega (arith, pushed.0, inside i h))
     ];
+    inside = λ i h. omega (arith, inside i h, length-append entries (new ∷ []));
     started = λ l x e lt. elim (get_changed offers k l o n x at e) [
       | inl here ↦ subst (λ (y : Offer). IsStarted y.stage) (sym here.1) is_started
       | inr other ↦ elim (begins.up_to l lt) [
@@ -306,8 +309,9 @@ module _ (cap : VerifyCapValue) (entries : List Request) (told : List Told) (own
 pub book_goes : (cap : VerifyCapValue) (es ns : List Request) (told : List Told) (owners : List ℕ) (offers : List Offer) (begun : ℕ) (todo : List ℕ)
     → GoesTo es ns todo → ((i : ℕ) (r : Request) → Contains todo i → slice_get es i ≡ Some r → is_outstanding r.outcome ≡ true)
     → ((i : ℕ) (r : Request) → Contains todo i → slice_get ns i ≡ Some r → is_outstanding r.outcome ≡ false)
+    → ((i : ℕ) → Contains todo i → i < length ns)
     → IsBook cap es told owners offers begun [] → IsBook cap ns told owners offers begun todo
-book_goes cap es ns told owners offers begun todo goes waited quiet b = record {
+book_goes cap es ns told owners offers begun todo goes waited quiet inside b = record {
   asks = λ i r lt e. (let was = was_at es ns todo goes i r e in was.asked ∙ b.asks i was.request lt was.there);
   long = goes.long ∙ b.long;
   owned = λ p l e. (
@@ -336,6 +340,7 @@ book_goes cap es ns told owners offers begun todo goes waited quiet b = record {
     });
   tells = λ i t r e f. tells_on i t r e f;
   quiet = quiet;
+  inside = inside;
   started = b.started;
   unread = b.unread;
   few = b.few;

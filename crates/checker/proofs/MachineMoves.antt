@@ -1,6 +1,7 @@
 -- How a check goes on, step by step.
-use Rattle.std.proofs.Common.{◌≡◌, ◌≢◌, ℕ, zero, suc, ◌+◌, ◌<◌, ◌≤◌, Bool, true, false, List, [], ◌∷◌, ◌++◌, length, set, map, take, drop, get_or, Result, Ok, Err, Option, Some, None, ap, refl, sym, subst, ◌∙◌, arith, inl, inr, ◌⊎◌, true≢false}
+use Rattle.std.proofs.Common.{◌≡◌, ◌≢◌, ℕ, zero, suc, ◌+◌, ◌<◌, ◌≤◌, Bool, true, false, List, [], ◌∷◌, ◌++◌, length, set, map, take, drop, get_or, Result, Ok, Err, Option, Some, None, Vec, Global, ap, refl, sym, subst, ◌∙◌, arith, inl, inr, ◌⊎◌, true≢false}
 use Rattle.std.specs.Prelude.{Contains, slice_get}
+use Rattle.std.specs.Result.{OnErr, OnOk}
 use Rattle.std.proofs.lemmas.Bool.{cases_lt}
 use Rattle.std.proofs.lemmas.List.{length-append, length-set}
 use Rattle.std.proofs.lemmas.Option.{slice_get_within, slice_get-get_or, same_Some}
@@ -35,7 +36,7 @@ use Rattle.checker.specs.declared.offers.Stage.TheVariants.{Waiting, Read, Ended
 use Rattle.checker.proofs.Entries.{get_set_same}
 use Rattle.checker.proofs.OfferMoves.{waits_about}
 use Rattle.checker.proofs.AnswerMoves.{IsSafeToAsk, advances_long, goes_on, is_judged, is_lost, is_stopped, back_kept, front_kept, next_request, reads_first, safe_first, safe_next}
-use Rattle.checker.proofs.BookMoves.{BeginsTo, book_asked, book_ended, others_less, quiet_less, tells_less, told_less}
+use Rattle.checker.proofs.BookMoves.{BeginsTo, book_asked, tail, book_ended, others_less, quiet_less, tells_less, told_less}
 use Rattle.checker.proofs.RecordMoves.{once_next, shares_next}
 use Rattle.checker.proofs.Joining.{joined_both}
 
@@ -62,7 +63,11 @@ set_set (x ∷ xs) (suc k) a b = ap (λ l. x ∷ l) (set_set xs k a b)
 entries_asked : (m new : Machine) (k : ℕ) (r : readings.Reading) (o : Offer) → HasAsked m k r o new → new.requests.entries ≡ m.requests.entries ++ next_request o.server o.share r m.requests.clock ∷ []
 entries_asked m new k r o a = ap (λ (x : RequestsState). x.entries) a.requests
 
-pub asks_asked : (m new : Machine) (k : ℕ) (r : readings.Reading) (o : Offer) → HasAsked m k r o new → (new.cap ≡ m.cap) × (new.requests ≡ asked_all ((o.server, Reading o.share (reading.next_place r) (reading.next_length r)) ∷ []) m.requests)
+-- the one request
+abbrev pub one_ask : Offer → readings.Reading → List (ℕ × Asked)
+one_ask o r = (o.server, Reading o.share (reading.next_place r) (reading.next_length r)) ∷ []
+
+pub asks_asked : (m new : Machine) (k : ℕ) (r : readings.Reading) (o : Offer) → HasAsked m k r o new → (new.cap ≡ m.cap) × (new.requests ≡ asked_all (one_ask o r) m.requests)
 asks_asked m new k r o a = (a.cap, a.requests)
 
 pub once_asked_now : (m new : Machine) (k : ℕ) (r : readings.Reading) (o : Offer) → IsSafe m → IsSafeToAsk m.cap m.requests.entries (key_of o) r → HasAsked m k r o new → AsksOnce new.requests.entries
@@ -148,3 +153,99 @@ module _ (m : Machine) (place : ℕ) (todo : List ℕ) (k : ℕ) (o : Offer) (r 
   book_stopped verdicts.Lost told = ended_by (with_stage (Ended verdicts.Lost) o) verdicts.Lost refl refl
       (ended_as o (with_stage (Ended verdicts.Lost) o) verdicts.Lost refl refl
       (is_lost m.cap es (place ∷ todo) o r place is_reading asked is_reading.next.there is_settled told))
+
+  -- these bytes came, and it is read on
+  module _ (bytes : List ℕ) (has : HasBytes es place bytes) (n : Offer) (kept : IsKeptBy r place o n) where
+
+    kept_key : key_of n ≡ key_of o
+    kept_key = ap (λ s. (s, n.share)) kept.server ∙ ap (λ i. (o.server, i)) kept.share
+
+    module _ (long : length bytes ≡ reading.next_length r) where
+
+      kept_front : AreReadAt es (key_of o) n.front.items (more_front r bytes is_reading.front)
+      kept_front = front_kept m.cap es (place ∷ todo) o r place is_reading asked is_reading.next.there is_settled bytes has long n kept
+
+      kept_back : AreReadAt es (key_of o) n.back.items (more_back r bytes is_reading.back)
+      kept_back = back_kept m.cap es (place ∷ todo) o r place is_reading asked is_reading.next.there is_settled bytes has long n kept
+
+      -- it is read whole
+      pub book_judged : (v : Verdict) → reading.Advances m.cap r bytes Whole
+          → ((front back : List Brought) → AreReadAt es (key_of n) n.front.items front → AreReadAt es (key_of n) n.back.items back → IsJudged m.cap n.share (joined front ++ joined back) v)
+          → IsBook m.cap es m.told.items m.owners.items (set m.offers.items k (with_stage (Ended v) n)) m.begun todo
+      book_judged v a judged =
+          let front = more_front r bytes is_reading.front in
+          let back = more_back r bytes is_reading.back in
+          let found : IsJudged m.cap n.share (joined front ++ joined back) v =
+          judged front back (subst (λ (key : Pair). AreReadAt es key n.front.items front) (sym kept_key) kept_front) (subst (λ (key : Pair). AreReadAt es key n.back.items back) (sym kept_key) kept_back) in
+          ended_by (with_stage (Ended v) n) v kept_key refl
+          (ended_as o (with_stage (Ended v) n) v kept.server kept.share
+          (is_judged m.cap es (place ∷ todo) o r place is_reading asked is_reading.next.there is_settled bytes has long (joined front ++ joined back) v a (sym (joined_both front back))
+          (subst (λ i. IsJudged m.cap i (joined front ++ joined back) v) kept.share found)))
+
+      -- the next bytes are asked for
+      pub may_ask : (next : readings.Reading) → reading.Advances m.cap r bytes (Next next) → IsSafeToAsk m.cap es (key_of n) next
+      may_ask next a =
+          subst (λ (key : Pair). IsSafeToAsk m.cap es key next) (sym kept_key)
+          (safe_next m.cap es (place ∷ todo) o r place is_reading asked is_reading.next.there is_settled bytes has long n kept next a)
+
+      begun_before : k < m.begun
+      begun_before = elim (cases_lt k m.begun) [
+        | inl lt ↦ lt
+        | inr le ↦ absurd (is_started (b.unread k o at le))
+      ]
+
+      pub book_next : (next : readings.Reading) (now : ℕ) → reading.Advances m.cap r bytes (Next next)
+          → IsBook m.cap (es ++ next_request n.server n.share next now ∷ []) m.told.items (m.owners.items ++ k ∷ []) (set m.offers.items k (with_stage (Read next (length es)) n)) m.begun todo
+      book_next next now a =
+          let x : Offer = with_stage (Read next (length es)) n in
+          subst (λ (key : Pair). IsBook m.cap (es ++ next_request key.0 key.1 next now ∷ []) m.told.items (m.owners.items ++ k ∷ []) (set m.offers.items k x) m.begun todo) (sym kept_key)
+          (book_asked m.cap es m.told.items m.owners.items m.offers.items m.begun m.begun todo k o x next now at kept_key (place ∷ todo) b
+          (others_less m.cap es m.told.items m.owners.items m.offers.items m.begun place todo b after k o asked at is_reading.next.there is_about)
+          (told_less m.cap es m.told.items m.owners.items m.offers.items m.begun place todo b after)
+          (tells_less m.cap es m.told.items m.owners.items m.offers.items m.begun place todo b after)
+          (quiet_less m.cap es m.told.items m.owners.items m.offers.items m.begun place todo b after)
+          (λ i h. b.inside i (tail place i todo h))
+          (record { up_to = λ l lt. inl lt; from = λ l le. (le, λ e. omega (arith, le, e, begun_before)); few = b.few })
+          (λ e. cc)
+          (goes_on m.cap es (place ∷ todo) o r place is_reading asked is_reading.next.there is_settled bytes has long n kept todo next now a x kept.server kept.share refl refl))
+
+      -- what was asked, beside the record and what is kept
+      module _ (new : Machine) (v : Vec Offer Global) (next : readings.Reading) (is : v.items ≡ set m.offers.items k n) (a : reading.Advances m.cap r bytes (Next next))
+          (asked_now : HasAsked (record m { offers = v }) k next n new) where
+
+        pub taken_book : HasBook new todo
+        taken_book =
+            let x : Offer = with_stage (Read next (length es)) n in
+            book_as m.cap new.cap (es ++ next_request n.server n.share next m.requests.clock ∷ []) new.requests.entries m.told.items new.told.items (m.owners.items ++ k ∷ []) new.owners.items
+            (set m.offers.items k x) new.offers.items m.begun new.begun todo
+            asked_now.cap (ap (λ (q : RequestsState). q.entries) asked_now.requests) asked_now.told asked_now.owners
+            (asked_now.offers ∙ ap (λ (l : List Offer). set l k x) is ∙ set_set m.offers.items k n x) asked_now.begun
+            (book_next next m.requests.clock a)
+
+        pub taken_once : IsSafe m → AsksOnce new.requests.entries
+        taken_once safe = once_asked_now (record m { offers = v }) new k next n (record { once = safe.once; reads = safe.reads }) (may_ask next a) asked_now
+
+        pub taken_shares : IsSafe m → AreOfShares new.cap new.requests.entries
+        taken_shares safe = shares_asked_now (record m { offers = v }) new k next n (record { once = safe.once; reads = safe.reads }) (may_ask next a) asked_now
+
+-- ---- results
+
+pub on_ok : {A E : Type 0} (r : Result A E) (P Q : Type 0) → OnOk r P → (P → Q) → OnOk r Q
+on_ok (Ok x) P Q p f = f p
+on_ok (Err e) P Q p f = tt
+
+pub by_result : {A E : Type 0} (r : Result A E) (P Q C : Type 0) → OnOk r P → OnErr r Q → (P → C) → (Q → C) → C
+by_result (Ok x) P Q C p q f g = f p
+by_result (Err e) P Q C p q f g = g q
+
+pub safe_same : (m new : Machine) → AsksNothing m new → IsSafe m → IsSafe new
+safe_same m new same safe = record {
+  once = subst AsksOnce (ap (λ (x : RequestsState). x.entries) (sym same.requests)) safe.once;
+  reads = subst (λ (c : VerifyCapValue). AreOfShares c new.requests.entries) (sym same.cap)
+      (subst (λ (l : List Request). AreOfShares m.cap l) (ap (λ (x : RequestsState). x.entries) (sym same.requests)) safe.reads);
+}
+
+pub get_of : {X : Type 0} (xs : List X) (i : ℕ) → i < length xs → (x : X) × (slice_get xs i ≡ Some x)
+get_of [] i lt = absurd (omega (arith, lt))
+get_of (x ∷ xs) zero lt = (x, refl)
+get_of (x ∷ xs) (suc i) lt = get_of xs i (omega (arith, lt))

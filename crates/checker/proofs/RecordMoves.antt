@@ -76,8 +76,7 @@ pub record IsCounted (es ns : List Request) (place : ℕ) : Type 0 where
   pub goes : GoesTo es ns (place ∷ [])
   pub waited : (i : ℕ) (r : Request) → Contains (place ∷ []) i → slice_get es i ≡ Some r → is_outstanding r.outcome ≡ true
   pub quiet : (i : ℕ) (r : Request) → Contains (place ∷ []) i → slice_get ns i ≡ Some r → is_outstanding r.outcome ≡ false
-  pub request : Request
-  pub there : slice_get ns place ≡ Some request
+  pub inside : (i : ℕ) → Contains (place ∷ []) i → i < length ns
 
 counted_by : (from now : ℕ) (m : Message) (s : RequestsState) (place : ℕ) → counts_at from m (at now s) ≡ Some place → IsCounted s.entries (after_message from m now s).entries place
 counted_by from now m s place counts =
@@ -93,8 +92,8 @@ counted_by from now m s place counts =
       quiet = λ i r h e. (let new : with_outcome q (Answered m.body) ≡ r =
       same_Some (with_outcome q (Answered m.body)) r (sym (get_set_same s.entries place q (with_outcome q (Answered m.body)) is.there) ∙ ap (slice_get ns) (alone place i h) ∙ e) in
       ap (λ (x : Request). is_outstanding x.outcome) (sym new));
-      request = with_outcome q (Answered m.body);
-      there = get_set_same s.entries place q (with_outcome q (Answered m.body)) is.there;
+      inside = λ i h. subst (λ j. j < length ns) (alone place i h)
+          (slice_get_within ns place (with_outcome q (Answered m.body)) (get_set_same s.entries place q (with_outcome q (Answered m.body)) is.there));
     })
   where
     alone : (x i : ℕ) → Contains (x ∷ []) i → x ≡ i
@@ -174,6 +173,7 @@ pub record IsTicked (es ns : List Request) (lost : List ℕ) : Type 0 where
   pub goes : GoesTo es ns lost
   pub waited : (i : ℕ) (r : Request) → Contains lost i → slice_get es i ≡ Some r → is_outstanding r.outcome ≡ true
   pub quiet : (i : ℕ) (r : Request) → Contains lost i → slice_get ns i ≡ Some r → r.outcome ≡ Lost
+  pub inside : (i : ℕ) → Contains lost i → i < length ns
 
 ticked_at : (now : ℕ) (es : List Request) → IsTicked es (map (ticked_one now) es) (lost_places now es)
 ticked_at now es = record {
@@ -186,6 +186,7 @@ ticked_at now es = record {
     let p = of_places (is_lost_at now) 0 es i h in
     let new : ticked_one now p.request ≡ r = same_Some (ticked_one now p.request) r (sym (get_map (ticked_one now) es p.index p.request p.there) ∙ ap (slice_get (map (ticked_one now) es)) (omega (arith, p.is)) ∙ e) in
     ap (λ (x : Request). x.outcome) (sym new) ∙ (rw p.passes refl));
+  inside = λ i h. (let p = of_places (is_lost_at now) 0 es i h in omega (arith, p.is, slice_get_within es p.index p.request p.there, length-map es (ticked_one now)));
 }
   where
     each : (i : ℕ) (r : Request) → slice_get es i ≡ Some r → BecomesAt (map (ticked_one now) es) (lost_places now es) i r

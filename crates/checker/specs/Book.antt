@@ -157,6 +157,7 @@ pub record IsBook (cap : VerifyCapValue) (entries : List Request) (told : List T
       → slice_get entries i ≡ Some r → HasTold cap.total todo offers i t r
   pub quiet : (i : ℕ) (r : Request) → Contains todo i → slice_get entries i ≡ Some r
       → is_outstanding r.outcome ≡ false
+  pub inside : (i : ℕ) → Contains todo i → i < length entries
   -- those up to one are begun
   pub started : (k : ℕ) (o : Offer) → slice_get offers k ≡ Some o → k < begun
       → IsStarted o.stage

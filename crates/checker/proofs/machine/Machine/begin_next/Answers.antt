@@ -1,35 +1,53 @@
-use Rattle.std.proofs.Common.{rules, ◌≡◌, ◌<◌, ◌≤◌, ◌+◌, ◌++◌, ◌∷◌, List, ℕ, [], Some, None, IfOk, IfNone, IfSome, OnErr, OnOk, length, slice_get, Contains, ◌-◌, ◌*◌, ◌/◌, ◌%◌, Bool, true, false, nat_eq, nat_lt, slice_index_or, slice_set, bit_and, bit_or, Fits, w8, w32, w64, Bor, MutBor}
-use Rattle.placement.specs.Matching.{Pair}
-use Rattle.wire.specs.declared.message.Body.TheVariants.{Data}
-use Rattle.request_record.specs.declared.requests.Outcome.TheVariants.{Answered}
-use Rattle.share_opening.specs.Reads.{Brought}
-use Rattle.share_reading.specs.Verdict.{IsJudged}
-use Rattle.share_reading.specs.Whole.{joined}
-use Rattle.checker.specs.Book.{AreReadAt, AsksMore, AsksNothing, AwaitsAt, HasAsked, HasBook, HasBytes, IsFresh, IsKept, IsReadOn, IsSafe, IsSettledAt, AreAsked, AreLost, ArePushed, IsStanding, IsTakenOnce, state_of}
-use Rattle.checker.specs.Moves.{Advances, TicksOn}
+use Rattle.std.proofs.Common.{◌≡◌, ◌+◌, ◌<◌, ◌∙◌, ℕ, List, [], ◌∷◌, Some, length, get_or, ap, sym, subst, refl, arith}
+use Rattle.std.specs.Prelude.{slice_get}
+use Rattle.std.proofs.lemmas.List.{length-set}
+use Rattle.std.proofs.lemmas.Option.{slice_get-get_or}
+use Rattle.share_opening.specs.declared.opening.Opening.TheVariants.{Start}
+use Rattle.share_reading.specs.declared.reading.Reading.TheVariants.{Beginning}
+use Rattle.share_reading.specs.declared.reading.Reading.{Reading}
 use Rattle.checker.specs.Offers.{key_of}
-use Rattle.checker.specs.Sending.{Takes}
+use Rattle.checker.specs.Book.{HasAsked}
+use Rattle.checker.specs.declared.machine.Machine.{Machine}
 use Rattle.checker.specs.declared.offers.Offer.{Offer}
-use Rattle.checker.specs.declared.status.CheckStatus.{CheckStatus}
-use Rattle.checker.specs.declared.status.CheckStatus.TheVariants.{Failed}
+use Rattle.checker.proofs.AnswerMoves.{safe_first}
+use Rattle.checker.proofs.MachineMoves.{asks_asked, book_begun, one_ask, get_of, once_asked_now, shares_asked_now, unread_at}
 use Rattle.checker.proofs.machine.Machine.begin_next.Goals as goal
 
--- src/machine.rt:309:9
 pub overflow_add-self : goal.overflow_add-self
-overflow_add-self c = ?
+overflow_add-self c =
+    let m = c.args.self.now in
+    let o = get_of m.offers.items m.begun c.requires.more in
+    let a = c.in_ok-ask.ensures.ok o.0 o.1 in
+    omega (arith, a.begun, c.requires.more, m.offers.small)
 
--- src/machine.rt:298:5
 pub returns-clause-book : goal.returns-clause-book
-returns-clause-book c = ?
+returns-clause-book c =
+    let m = c.args.self.now in
+    let o = get_of m.offers.items m.begun c.requires.more in
+    let a = subst (λ (r : Reading). HasAsked m m.begun r o.0 c.ask.new.self) c.start.ensures (c.in_ok-ask.ensures.ok o.0 o.1) in
+    book_begun m c.ask.new.self o.0 c.requires.book o.1 a
 
--- src/machine.rt:298:5
 pub returns-clause-asks : goal.returns-clause-asks
-returns-clause-asks c = ?
+returns-clause-asks c =
+    let m = c.args.self.now in
+    let o = get_of m.offers.items m.begun c.requires.more in
+    let a = c.in_ok-ask.ensures.ok o.0 o.1 in
+    record { cap = a.cap; asks = one_ask o.0 c.start.result; requests = (asks_asked m c.ask.new.self m.begun c.start.result o.0 a).1 }
 
--- src/machine.rt:298:5
 pub returns-clause-safe : goal.returns-clause-safe
-returns-clause-safe c = ?
+returns-clause-safe c =
+    let m = c.args.self.now in
+    let o = get_of m.offers.items m.begun c.requires.more in
+    let a = subst (λ (r : Reading). HasAsked m m.begun r o.0 c.ask.new.self) c.start.ensures (c.in_ok-ask.ensures.ok o.0 o.1) in
+    let may = safe_first m.cap m.requests.entries o.0 (unread_at m o.0 c.requires.book o.1) in
+    record {
+      once = once_asked_now m c.ask.new.self m.begun (Beginning Start) o.0 c.requires.safe may a;
+      reads = shares_asked_now m c.ask.new.self m.begun (Beginning Start) o.0 c.requires.safe may a;
+    }
 
--- src/machine.rt:298:5
 pub returns-clause-less : goal.returns-clause-less
-returns-clause-less c = ?
+returns-clause-less c =
+    let m = c.args.self.now in
+    let o = get_of m.offers.items m.begun c.requires.more in
+    let a = c.in_ok-ask.ensures.ok o.0 o.1 in
+    (ap (λ n. n + 1) a.begun, ap length a.offers ∙ length-set m.offers.items m.begun _)
