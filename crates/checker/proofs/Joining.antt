@@ -85,7 +85,7 @@ joined_all es places i start text le before key reads are =
 
 -- ---- the shares that an answer lists
 
-abbrev pair_at : ℕ → HeldShare → Pair
+abbrev pub pair_at : ℕ → HeldShare → Pair
 pair_at server h = (server, h.share)
 
 pub pushed_none : (total server : ℕ) (held : List HeldShare) (old : List Offer) → ArePushed total server (take 0 held) old old

@@ -5,3 +5,5 @@ mod BookMoves
 mod RecordMoves
 mod Joining
 mod MachineMoves
+mod ToldMoves
+mod Keeping

@@ -1,5 +1,5 @@
 -- How a check goes on, step by step.
-use Rattle.std.proofs.Common.{◌≡◌, ◌≢◌, ℕ, zero, suc, ◌+◌, ◌<◌, ◌≤◌, Bool, true, false, List, [], ◌∷◌, ◌++◌, length, set, map, take, drop, get_or, Result, Ok, Err, Option, Some, None, Vec, Global, ap, refl, sym, subst, ◌∙◌, arith, inl, inr, ◌⊎◌, true≢false}
+use Rattle.std.proofs.Common.{◌≡◌, ◌≢◌, ℕ, zero, suc, ◌+◌, ◌-◌, ◌<◌, ◌≤◌, Bool, true, false, List, [], ◌∷◌, ◌++◌, length, set, map, take, drop, get_or, Result, Ok, Err, Option, Some, None, Vec, Global, ap, refl, sym, subst, ◌∙◌, arith, inl, inr, ◌⊎◌, true≢false}
 use Rattle.std.specs.Prelude.{Contains, slice_get}
 use Rattle.std.specs.Result.{OnErr, OnOk}
 use Rattle.std.proofs.lemmas.Bool.{cases_lt}
@@ -36,7 +36,7 @@ use Rattle.checker.specs.declared.offers.Stage.TheVariants.{Waiting, Read, Ended
 use Rattle.checker.proofs.Entries.{get_set_same}
 use Rattle.checker.proofs.OfferMoves.{waits_about}
 use Rattle.checker.proofs.AnswerMoves.{IsSafeToAsk, advances_long, goes_on, is_judged, is_lost, is_stopped, back_kept, front_kept, next_request, reads_first, safe_first, safe_next}
-use Rattle.checker.proofs.BookMoves.{BeginsTo, book_asked, tail, book_ended, others_less, quiet_less, tells_less, told_less}
+use Rattle.checker.proofs.BookMoves.{BeginsTo, book_asked, book_done, tail, book_ended, others_less, quiet_less, tells_less, told_less}
 use Rattle.checker.proofs.RecordMoves.{once_next, shares_next}
 use Rattle.checker.proofs.Joining.{joined_both}
 
@@ -249,3 +249,24 @@ pub get_of : {X : Type 0} (xs : List X) (i : ℕ) → i < length xs → (x : X) 
 get_of [] i lt = absurd (omega (arith, lt))
 get_of (x ∷ xs) zero lt = (x, refl)
 get_of (x ∷ xs) (suc i) lt = get_of xs i (omega (arith, lt))
+
+-- ---- the share that a request reads
+
+pub record IsOwned (m : Machine) (place k : ℕ) (o : Offer) : Type 0 where
+  pub there : slice_get m.offers.items k ≡ Some o
+  pub request : Request
+  pub asks : slice_get m.requests.entries place ≡ Some request
+  pub about : IsAbout (key_of o) request
+
+-- by the owner that was read
+pub owned_at : (m : Machine) (todo : List ℕ) (place p k : ℕ) → HasBook m todo → length m.told.items ≤ place → p ≡ place - length m.told.items → slice_get m.owners.items p ≡ Some k
+    → (o : Offer) × IsOwned m place k o
+owned_at m todo place p k b low is e =
+    let owner = b.owned p k e in
+    let here : length m.told.items + p ≡ place = omega (arith, is, low) in
+    (owner.offer, record { there = owner.there; request = owner.request; asks = ap (slice_get m.requests.entries) (sym here) ∙ owner.asks; about = owner.about })
+
+pub book_passed : (m : Machine) (place : ℕ) (todo : List ℕ) (k : ℕ) (o : Offer) → HasBook m (place ∷ todo) → length m.told.items ≤ place → IsOwned m place k o
+    → ((r : readings.Reading) → o.stage ≡ Read r place → ⊥) → HasBook m todo
+book_passed m place todo k o b low is other =
+    book_done m.cap m.requests.entries m.told.items m.owners.items m.offers.items m.begun place todo b low k o is.request is.there is.asks is.about other

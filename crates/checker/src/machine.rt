@@ -1,9 +1,11 @@
 //! How a check takes what comes, and what it asks.
 
 ghost use Rattle.std.specs.Prelude.{◌≡◌, ◌<◌, ◌≤◌, ◌+◌, ◌++◌, ◌∷◌, List, ℕ, [], Some, None, IfOk};
-ghost use Rattle.std.specs.Prelude.{IfNone, IfSome, OnErr, OnOk, length, slice_get, Contains};
+ghost use Rattle.std.specs.Prelude.{IfNone, IfSome, OnErr, OnOk, length, slice_get, map, filter, nat_lt};
 ghost use Rattle.placement.specs.Matching.{Pair};
+ghost use Rattle.wire.specs.Held.{AreRising};
 ghost use Rattle.wire.specs.declared.message.Body.TheVariants.{Data};
+ghost use Rattle.wire.specs.declared.message.HeldShare.{HeldShare};
 ghost use Rattle.request_record.specs.declared.requests.Outcome.TheVariants.{Answered};
 ghost use Rattle.share_opening.specs.Reads.{Brought};
 ghost use Rattle.share_reading.specs.Verdict.{IsJudged};
@@ -15,11 +17,12 @@ ghost use Rattle.checker.specs.Book.{state_of};
 ghost use Rattle.checker.specs.Moves.{Advances, TicksOn};
 ghost use Rattle.checker.specs.Offers.{key_of};
 ghost use Rattle.checker.specs.Sending.{Takes};
+ghost use Rattle.checker.specs.Shares.{offered_in};
 ghost use Rattle.checker.specs.declared.offers.Offer.{Offer};
 ghost use Rattle.checker.specs.declared.status.CheckStatus.{CheckStatus};
 ghost use Rattle.checker.specs.declared.status.CheckStatus.TheVariants.{Failed};
 
-use crate::offers::{Offer, Stage, end, keep, wait};
+use crate::offers::{Offer, Stage, end, keep, reading_at, wait};
 use crate::status::CheckStatus;
 use cap_text::VerifyCap;
 use request_record::requests::{Asked, Outcome, Requests};
@@ -164,11 +167,9 @@ impl Machine {
             return self.take_holdings(place);
         }
         let offer = self.owners[place - self.told.len()];
-        match self.offers[offer].stage {
-            Stage::Read(reading, asked) if asked == place => {
-                self.take_answer(offer, &reading, place)
-            }
-            _ => Ok(()),
+        match reading_at(&self.offers[offer].stage, place) {
+            Some(reading) => self.take_answer(offer, &reading, place),
+            None => Ok(()),
         }
     }
 
@@ -185,14 +186,12 @@ impl Machine {
     {
         let first = self.offers.len();
         let request = &self.requests.entries()[place];
-        if let Outcome::Answered(Body::Have(_, held)) = &request.outcome {
-            let held = held.as_slice();
-            push_offers(self.alloc, &mut self.offers, self.cap.total(), request.server, held)?;
-            self.told[place] = Told {
-                first,
-                count: self.offers.len() - first,
-            };
-        }
+        let held = held_by(&request.outcome);
+        push_offers(self.alloc, &mut self.offers, self.cap.total(), request.server, held)?;
+        self.told[place] = Told {
+            first,
+            count: self.offers.len() - first,
+        };
         Ok(())
     }
 
@@ -319,6 +318,19 @@ impl Machine {
         } else {
             CheckStatus::Done
         }
+    }
+}
+
+// The shares that an answer lists.
+fn held_by(outcome: &Outcome) -> &[HeldShare]
+    ensures offered { (total server : ℕ) → offered_in total server outcome.now
+        ≡ map (λ (h : HeldShare). (server, h.share))
+        (filter (λ (h : HeldShare). nat_lt h.share total) result.now) }
+    ensures held { AreRising result.now }
+{
+    match outcome {
+        Outcome::Answered(Body::Have(_, held)) => held.as_slice(),
+        _ => &[],
     }
 }
 

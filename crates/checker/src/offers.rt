@@ -1,6 +1,8 @@
 //! The shares that servers offered, and how far each is read.
 
 ghost use Rattle.std.specs.Prelude.{◌≡◌, ◌<◌, Some, slice_get, slice_set, vec_len, OnOk};
+ghost use Rattle.std.specs.Prelude.{IfNone, IfSome};
+ghost use Rattle.share_reading.specs.declared.reading.Reading.{Reading};
 ghost use Rattle.checker.specs.Offers.{IsKeptBy, with_stage};
 ghost use Rattle.checker.specs.declared.offers.Offer.{Offer};
 
@@ -32,6 +34,24 @@ pub(crate) struct Offer {
     pub(crate) back: Vec<usize>,
     /// How far it is read.
     pub(crate) stage: Stage,
+}
+
+/// How far a share is read whose next bytes the request at this place asks for.
+pub(crate) fn reading_at(stage: &Stage, place: usize) -> Option<Reading>
+    ensures some { IfSome result (λ reading. stage.now ≡ Stage.Read reading place) }
+    ensures none { IfNone result ((reading : Reading) → stage.now ≡ Stage.Read reading place
+        → ⊥) }
+{
+    match stage {
+        Stage::Read(reading, asked) => {
+            if *asked == place {
+                Some(*reading)
+            } else {
+                None
+            }
+        }
+        Stage::Waiting | Stage::Ended(_) => None,
+    }
 }
 
 /// The request at this place asks for the next bytes of a share.

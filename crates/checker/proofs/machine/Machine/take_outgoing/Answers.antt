@@ -1,19 +1,5 @@
-use Rattle.std.proofs.Common.{rules, ◌≡◌, ◌<◌, ◌≤◌, ◌+◌, ◌++◌, ◌∷◌, List, ℕ, [], Some, None, IfOk, IfNone, IfSome, OnErr, OnOk, length, slice_get, Contains, ◌-◌, ◌*◌, ◌/◌, ◌%◌, Bool, true, false, nat_eq, nat_lt, slice_index_or, slice_set, bit_and, bit_or, Fits, w8, w32, w64, Bor, MutBor}
-use Rattle.placement.specs.Matching.{Pair}
-use Rattle.wire.specs.declared.message.Body.TheVariants.{Data}
-use Rattle.request_record.specs.declared.requests.Outcome.TheVariants.{Answered}
-use Rattle.share_opening.specs.Reads.{Brought}
-use Rattle.share_reading.specs.Verdict.{IsJudged}
-use Rattle.share_reading.specs.Whole.{joined}
-use Rattle.checker.specs.Book.{AreReadAt, AsksMore, AsksNothing, AwaitsAt, HasAsked, HasBook, HasBytes, IsFresh, IsKept, IsReadOn, IsSafe, IsSettledAt, AreAsked, AreLost, ArePushed, IsStanding, IsTakenOnce, state_of}
-use Rattle.checker.specs.Moves.{Advances, TicksOn}
-use Rattle.checker.specs.Offers.{key_of}
-use Rattle.checker.specs.Sending.{Takes}
-use Rattle.checker.specs.declared.offers.Offer.{Offer}
-use Rattle.checker.specs.declared.status.CheckStatus.{CheckStatus}
-use Rattle.checker.specs.declared.status.CheckStatus.TheVariants.{Failed}
+use Rattle.checker.proofs.Keeping.{kept_sent}
 use Rattle.checker.proofs.machine.Machine.take_outgoing.Goals as goal
 
--- src/machine.rt:122:5
 pub returns-clause-kept : goal.returns-clause-kept
-returns-clause-kept c = ?
+returns-clause-kept c status k = kept_sent c.args.self.now c.take_next.new.self c.take_next.result status c.take_next.ensures k
