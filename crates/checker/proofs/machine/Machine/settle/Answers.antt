@@ -1,0 +1,9 @@
+use Rattle.checker.proofs.Keeping.{asks_trans}
+use Rattle.checker.proofs.machine.Machine.settle.Goals as goal
+
+pub loop-self-preserved : goal.loop-self-preserved
+loop-self-preserved c = record {
+  book = c.in_ok-begin_next.ensures.book;
+  safe = c.in_ok-begin_next.ensures.safe;
+  asks = asks_trans c.args.self.now c.loop-self.self c.begin_next.new.self c.loop-self.invariant.asks c.in_ok-begin_next.ensures.asks;
+}
