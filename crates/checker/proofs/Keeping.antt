@@ -1,6 +1,8 @@
 -- What is kept of each check, as it goes on.
-use Rattle.std.proofs.Common.{◌≡◌, ◌≢◌, ℕ, zero, suc, ◌+◌, ◌<◌, ◌≤◌, List, [], ◌∷◌, ◌++◌, length, get_or, drop, Option, Some, None, Result, Ok, Err, ap, refl, sym, subst, ◌∙◌, arith}
+use Rattle.std.proofs.Common.{◌≡◌, ◌≢◌, ℕ, zero, suc, ◌+◌, ◌<◌, ◌≤◌, List, [], ◌∷◌, ◌++◌, length, get_or, drop, Bool, true, false, cond, inl, Option, Some, None, Result, Ok, Err, ap, refl, sym, subst, ◌∙◌, arith}
 use Rattle.std.specs.Prelude.{Contains, slice_get}
+use Rattle.std.specs.Result.{IfOk}
+use Rattle.std.proofs.lemmas.List.Sums.{sum_by-cons}
 use Rattle.std.proofs.Common.{drop-cons}
 use Rattle.std.proofs.lemmas.List.{drop_all}
 use Rattle.std.proofs.lemmas.List.Elements.{Contains-get_or}
@@ -10,10 +12,14 @@ use Rattle.request_record.specs.declared.requests.Outcome.TheVariants.{Lost}
 use Rattle.request_record.specs.declared.requests.Request.{Request}
 use Rattle.request_record.specs.Record.{RequestsState, TakesNext, asked_all, asked_more, first_request, is_outstanding, outstanding_count}
 use Rattle.request_record.specs.Asking.{AsksOnce}
+use Rattle.share_reading.proofs.ConsecutiveLemmas.{contains_head}
+use Rattle.checker.specs.Moves.{GoesOn}
 use Rattle.checker.specs.Right.{AreOfShares}
-use Rattle.checker.specs.Book.{AreLost, AsksMore, HasBook, IsBook, IsKept, IsSafe, IsStanding}
+use Rattle.checker.specs.Book.{AreLost, AsksMore, HasBook, IsBook, IsKept, IsSafe, IsStanding, state_of}
 use Rattle.checker.specs.declared.machine.Machine.{Machine}
-use Rattle.checker.proofs.Entries.{get_kept}
+use Rattle.checker.proofs.Entries.{BecomesAt, GoesTo, WasAt, get_kept, was_at}
+use Rattle.checker.proofs.BookMoves.{book_goes}
+use Rattle.checker.proofs.RecordMoves.{IsCounted, IsTicked, shares_go}
 use Rattle.checker.proofs.MachineMoves.{get_of}
 use Rattle.checker.specs.declared.status.CheckStatus.{CheckStatus}
 use Rattle.checker.specs.declared.status.CheckStatus.TheVariants.{Running, Done, Failed}
@@ -111,3 +117,97 @@ pub record IsSettling (old m : Machine) : Type 0 where
   pub book : HasBook m []
   pub safe : IsSafe m
   pub asks : AsksMore old m
+
+-- ---- how many requests wait
+
+abbrev waits_in : Request → ℕ
+waits_in r = cond (is_outstanding r.outcome) 1 0
+
+waits_one : (r : Request) → is_outstanding r.outcome ≡ true → waits_in r ≡ 1
+waits_one r e = rw e refl
+
+waits_none : (r : Request) → is_outstanding r.outcome ≡ false → waits_in r ≡ 0
+waits_none r e = rw e refl
+
+pub none_waits : (es : List Request) (i : ℕ) (r : Request) → outstanding_count es ≡ 0 → slice_get es i ≡ Some r → is_outstanding r.outcome ≡ true → ⊥
+none_waits [] i r none e waits = absurd cc
+none_waits (x ∷ xs) zero r none e waits =
+    omega (arith, none, sum_by-cons waits_in x xs, waits_one x (ap (λ (y : Request). is_outstanding y.outcome) (same_Some x r e) ∙ waits))
+none_waits (x ∷ xs) (suc i) r none e waits = none_waits xs i r (omega (arith, none, sum_by-cons waits_in x xs)) e waits
+
+all_settled : (es : List Request) → ((i : ℕ) (r : Request) → slice_get es i ≡ Some r → is_outstanding r.outcome ≡ false) → outstanding_count es ≡ 0
+all_settled [] quiet = refl
+all_settled (x ∷ xs) quiet =
+    omega (arith, sum_by-cons waits_in x xs, waits_none x (quiet zero x refl), all_settled xs (λ i r e. quiet (suc i) r e))
+
+settled_quiet : (es : List Request) (i : ℕ) (r : Request) → outstanding_count es ≡ 0 → slice_get es i ≡ Some r → is_outstanding r.outcome ≡ false
+settled_quiet es i r none e = by (is_outstanding r.outcome) refl
+  where
+    by : (b : Bool) → is_outstanding r.outcome ≡ b → b ≡ false
+    by true f = absurd (none_waits es i r none e f)
+    by false f = refl
+
+-- ---- the record goes on
+
+pub goes_same : (es ns : List Request) → ns ≡ es → GoesTo es ns []
+goes_same es ns same = subst (λ (l : List Request). GoesTo es l []) (sym same) (record {
+  long = refl;
+  each = λ i r e. record { request = r; there = e; server = refl; asked = refl; still = λ _. refl; waits = inl refl };
+})
+
+pub safe_goes : (m : Machine) (r : RequestsState) (todo : List ℕ) → GoesTo m.requests.entries r.entries todo → AsksOnce r.entries → IsSafe m → IsSafe (with_requests m r)
+safe_goes m r todo goes once safe = record { once = once; reads = shares_go m.cap m.requests.entries r.entries todo goes safe.reads }
+
+pub book_counted : (m : Machine) (r : RequestsState) (place : ℕ) → IsCounted m.requests.entries r.entries place → HasBook m [] → HasBook (with_requests m r) (place ∷ [])
+book_counted m r place c b =
+    book_goes m.cap m.requests.entries r.entries m.told.items m.owners.items m.offers.items m.begun (place ∷ []) c.goes c.waited c.quiet c.inside b
+
+pub book_ticked : (m : Machine) (r : RequestsState) (lost : List ℕ) → IsTicked m.requests.entries r.entries lost → HasBook m [] → HasBook (with_requests m r) lost
+book_ticked m r lost t b =
+    book_goes m.cap m.requests.entries r.entries m.told.items m.owners.items m.offers.items m.begun lost t.goes t.waited (λ i q h e. ap is_outstanding (t.quiet i q h e)) t.inside b
+
+failed_kept : (m : Machine) → IsSafe m → IsKept m Failed
+failed_kept m safe = record { safe = safe; book = λ no. absurd (no refl); works = λ e. absurd cc; idle = λ e. absurd cc; begun = λ e. absurd cc }
+
+pub kept_failed : (m : Machine) (status : CheckStatus) → IsKept m status → IsKept m Failed
+kept_failed m status k = failed_kept m k.safe
+
+-- the check is done or failed, and an answer counts: it failed, since nothing waited otherwise
+pub kept_counted : (m : Machine) (r : RequestsState) (place : ℕ) (status : CheckStatus) → status ≢ Running → IsCounted m.requests.entries r.entries place → AsksOnce r.entries → IsKept m status → IsKept (with_requests m r) status
+kept_counted m r place Running ended c once k = absurd (ended refl)
+kept_counted m r place Done ended c once k =
+    let old = get_of m.requests.entries place (omega (arith, c.inside place (contains_head place []), c.goes.long)) in
+    absurd (none_waits m.requests.entries place old.0 (k.idle refl) old.1 (c.waited place old.0 (contains_head place []) old.1))
+kept_counted m r place Failed ended c once k = failed_kept (with_requests m r) (safe_goes m r (place ∷ []) c.goes once k.safe)
+
+no_lost : (es ns : List Request) (lost : List ℕ) → outstanding_count es ≡ 0 → IsTicked es ns lost → lost ≡ []
+no_lost es ns [] none t = refl
+no_lost es ns (x ∷ xs) none t =
+    let old = get_of es x (omega (arith, t.inside x (contains_head x xs), t.goes.long)) in
+    absurd (none_waits es x old.0 none old.1 (t.waited x old.0 (contains_head x xs) old.1))
+
+pub kept_ticked : (m : Machine) (r : RequestsState) (lost : List ℕ) (status : CheckStatus) → status ≢ Running → IsTicked m.requests.entries r.entries lost → AsksOnce r.entries → IsKept m status → IsKept (with_requests m r) status
+kept_ticked m r lost Running ended t once k = absurd (ended refl)
+kept_ticked m r lost Done ended t once k = record {
+  safe = safe_goes m r lost t.goes once k.safe;
+  book = λ ok. subst (HasBook (with_requests m r)) (no_lost m.requests.entries r.entries lost (k.idle refl) t) (book_ticked m r lost t (k.book ok));
+  works = λ e. absurd cc;
+  idle = λ e. all_settled r.entries (λ i q there. (
+    let was = was_at m.requests.entries r.entries lost t.goes i q there in
+    let quiet = settled_quiet m.requests.entries i was.request (k.idle refl) was.there in
+    ap (λ (x : Request). is_outstanding x.outcome) (was.still quiet) ∙ quiet));
+  begun = k.begun;
+}
+kept_ticked m r lost Failed ended t once k = failed_kept (with_requests m r) (safe_goes m r lost t.goes once k.safe)
+
+-- ---- what the calls do
+
+pub goes_on_ended : (m : Machine) (r : RequestsState) (servers : List ℕ) (status : CheckStatus) → GoesOn r (state_of m servers status) (state_of (with_requests m r) servers status)
+goes_on_ended m r servers status = record { cap = refl; servers = refl; asks = []; requests = refl; ended = λ _. refl }
+
+pub goes_on_running : (m new : Machine) (r : RequestsState) (servers : List ℕ) (status ended : CheckStatus) → status ≡ Running → AsksMore (with_requests m r) new → GoesOn r (state_of m servers status) (state_of new servers ended)
+goes_on_running m new r servers status ended runs more = record { cap = more.cap; servers = refl; asks = more.asks; requests = more.requests; ended = λ no. absurd (no runs) }
+
+pub if_ok_then : {A E : Type 0} (r : Result A E) (P Q : A → Type 0) → IfOk r P → ((a : A) → P a → Q a) → IfOk r Q
+if_ok_then (Ok a) P Q p f = f a p
+if_ok_then (Err e) P Q p f = tt

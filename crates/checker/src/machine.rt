@@ -1,6 +1,6 @@
 //! How a check takes what comes, and what it asks.
 
-ghost use Rattle.std.specs.Prelude.{◌≡◌, ◌<◌, ◌≤◌, ◌+◌, ◌++◌, ◌∷◌, List, ℕ, [], Some, None, IfOk};
+ghost use Rattle.std.specs.Prelude.{◌≡◌, ◌↔◌, IsTrue, ◌<◌, ◌≤◌, ◌+◌, ◌++◌, ◌∷◌, List, ℕ, [], Some, None, IfOk};
 ghost use Rattle.std.specs.Prelude.{IfNone, IfSome, OnErr, OnOk, length, slice_get, map, filter, nat_lt};
 ghost use Rattle.placement.specs.Matching.{Pair};
 ghost use Rattle.wire.specs.Held.{AreRising};
@@ -20,7 +20,7 @@ ghost use Rattle.checker.specs.Sending.{Takes};
 ghost use Rattle.checker.specs.Shares.{offered_in};
 ghost use Rattle.checker.specs.declared.offers.Offer.{Offer};
 ghost use Rattle.checker.specs.declared.status.CheckStatus.{CheckStatus};
-ghost use Rattle.checker.specs.declared.status.CheckStatus.TheVariants.{Failed};
+ghost use Rattle.checker.specs.declared.status.CheckStatus.TheVariants.{Failed, Running};
 
 use crate::offers::{Offer, Stage, end, keep, reading_at, wait};
 use crate::status::CheckStatus;
@@ -98,7 +98,7 @@ impl Machine {
         let Some(place) = self.requests.take_answer(from, message, now) else {
             return Ok(status);
         };
-        if status != CheckStatus::Running {
+        if !is_running(status) {
             return Ok(status);
         }
         self.take_in(place)?;
@@ -114,7 +114,7 @@ impl Machine {
         ensures failed { IsKept self.new Failed }
     {
         let lost = self.requests.tick(now)?;
-        if status != CheckStatus::Running {
+        if !is_running(status) {
             return Ok(status);
         }
         self.lose(&lost)?;
@@ -319,6 +319,13 @@ impl Machine {
             CheckStatus::Done
         }
     }
+}
+
+// Whether a check that stands so runs.
+fn is_running(status: CheckStatus) -> bool
+    ensures { IsTrue result ↔ (status ≡ Running) }
+{
+    matches!(status, CheckStatus::Running)
 }
 
 // The shares that an answer lists.

@@ -1,0 +1,79 @@
+use Rattle.std.proofs.Common.{◌≡◌, ◌∙◌, ℕ, List, [], ◌∷◌, Bool, true, false, inl, Some, ap, sym, subst, refl}
+use Rattle.std.proofs.lemmas.Bool.{false≢true}
+use Rattle.request_record.specs.declared.requests.Request.{Request}
+use Rattle.request_record.specs.Record.{RequestsState, counts_at}
+use Rattle.wire.specs.declared.message.Message.{Message}
+use Rattle.request_record.specs.Asking.{AsksOnce, after_message}
+use Rattle.request_record.proofs.AskingLaws.{once_answered}
+use Rattle.share_reading.proofs.ConsecutiveLemmas.{contains_head, contains_none}
+use Rattle.checker.specs.Book.{IsSafe, state_of}
+use Rattle.checker.specs.Moves.{GoesOn}
+use Rattle.checker.specs.declared.status.CheckStatus.TheVariants.{Running, Failed}
+use Rattle.checker.specs.declared.status.CheckStatus.{CheckStatus}
+use Rattle.checker.proofs.Keeping.{asks_trans, book_counted, goes_on_running, if_ok_then, kept_counted, kept_failed, safe_goes}
+use Rattle.checker.proofs.RecordMoves.{IsCounted, counted_at_place}
+use Rattle.checker.proofs.machine.Machine.answer.Goals as goal
+
+runs_well : (s : CheckStatus) → s ≡ Running → s ≡ Failed → ⊥
+runs_well s e f = clash (sym e ∙ f)
+  where
+    clash : Running ≡ Failed → ⊥
+    clash g = cc
+
+counted_as : (from now : ℕ) (m : Message) (s r : RequestsState) (place : ℕ) → Some place ≡ counts_at from m s → r ≡ after_message from m now s → IsCounted s.entries r.entries place
+counted_as from now m s r place counts is = subst (λ (x : RequestsState). IsCounted s.entries x.entries place) (sym is) (counted_at_place from now m s place counts)
+
+once_as : (from now : ℕ) (m : Message) (s r : RequestsState) → r ≡ after_message from m now s → AsksOnce s.entries → AsksOnce r.entries
+once_as from now m s r is once = subst (λ (x : RequestsState). AsksOnce x.entries) (sym is) (once_answered from now m s once)
+
+pub returns-then-not-is_running-clause-kept : goal.returns-then-not-is_running-clause-kept
+returns-then-not-is_running-clause-kept c =
+    let m = c.args.self.now in
+    let r = c.take_answer.new.self in
+    kept_counted m r c.in-Some.place c.args.status (λ e. false≢true (sym c.if-not-is_running.true ∙ c.is_running.ensures.1 e))
+    (counted_as c.args.from c.args.now c.args.message m.requests r c.in-Some.place c.in-Some.ensures.place c.take_answer.ensures.«record»)
+    (once_as c.args.from c.args.now c.args.message m.requests r c.take_answer.ensures.«record» c.requires.kept.safe.once) c.requires.kept
+
+pub returns-then-not-is_running-clause-failed : goal.returns-then-not-is_running-clause-failed
+returns-then-not-is_running-clause-failed c =
+    let m = c.args.self.now in
+    let r = c.take_answer.new.self in
+    kept_failed (record m { requests = r }) c.args.status
+    (kept_counted m r c.in-Some.place c.args.status (λ e. false≢true (sym c.if-not-is_running.true ∙ c.is_running.ensures.1 e))
+    (counted_as c.args.from c.args.now c.args.message m.requests r c.in-Some.place c.in-Some.ensures.place c.take_answer.ensures.«record»)
+    (once_as c.args.from c.args.now c.args.message m.requests r c.take_answer.ensures.«record» c.requires.kept.safe.once) c.requires.kept)
+
+pub take_in-requires-clause-safe : goal.take_in-requires-clause-safe
+take_in-requires-clause-safe c =
+    let m = c.args.self.now in
+    let r = c.take_answer.new.self in
+    safe_goes m r (c.in-Some.place ∷ [])
+    (counted_as c.args.from c.args.now c.args.message m.requests r c.in-Some.place c.in-Some.ensures.place c.take_answer.ensures.«record»).goes
+    (once_as c.args.from c.args.now c.args.message m.requests r c.take_answer.ensures.«record» c.requires.kept.safe.once) c.requires.kept.safe
+
+pub take_in-requires-clause-settled : goal.take_in-requires-clause-settled
+take_in-requires-clause-settled c r e =
+    (counted_as c.args.from c.args.now c.args.message c.args.self.now.requests c.take_answer.new.self c.in-Some.place c.in-Some.ensures.place c.take_answer.ensures.«record»).quiet
+    c.in-Some.place r (contains_head c.in-Some.place []) e
+
+pub take_in-requires-clause-book : goal.take_in-requires-clause-book
+take_in-requires-clause-book c = ([], book_counted c.args.self.now c.take_answer.new.self c.in-Some.place
+    (counted_as c.args.from c.args.now c.args.message c.args.self.now.requests c.take_answer.new.self c.in-Some.place c.in-Some.ensures.place c.take_answer.ensures.«record»)
+    (c.requires.kept.book (runs_well c.args.status (c.is_running.ensures.0 c.if-not-is_running.false))))
+
+pub settle-requires-clause-book : goal.settle-requires-clause-book
+settle-requires-clause-book c =
+    c.in_ok-take_in.ensures.book []
+    (book_counted c.args.self.now c.take_answer.new.self c.in-Some.place
+    (counted_as c.args.from c.args.now c.args.message c.args.self.now.requests c.take_answer.new.self c.in-Some.place c.in-Some.ensures.place c.take_answer.ensures.«record»)
+    (c.requires.kept.book (runs_well c.args.status (c.is_running.ensures.0 c.if-not-is_running.false))))
+    (inl (λ h. contains_none c.in-Some.place h))
+
+pub returns-clause-ok : goal.returns-clause-ok
+returns-clause-ok c =
+    let m = c.args.self.now in
+    let r = c.take_answer.new.self in
+    if_ok_then c.settle.result _ _ c.settle.ensures.asks
+    (λ ended more servers. subst (λ (x : RequestsState). GoesOn x (state_of m servers c.args.status) (state_of c.settle.new.self servers ended)) c.take_answer.ensures.«record»
+    (goes_on_running m c.settle.new.self r servers c.args.status ended (c.is_running.ensures.0 c.if-not-is_running.false)
+    (asks_trans (record m { requests = r }) c.take_in.new.self c.settle.new.self c.in_ok-take_in.ensures.asks more)))
