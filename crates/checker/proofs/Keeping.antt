@@ -1,26 +1,33 @@
 -- What is kept of each check, as it goes on.
-use Rattle.std.proofs.Common.{◌≡◌, ◌≢◌, ℕ, zero, suc, ◌+◌, ◌<◌, ◌≤◌, List, [], ◌∷◌, ◌++◌, length, get_or, drop, Bool, true, false, cond, inl, Option, Some, None, Result, Ok, Err, ap, refl, sym, subst, ◌∙◌, arith}
+use Rattle.std.proofs.Common.{◌≡◌, ◌≢◌, ℕ, zero, suc, ◌+◌, ◌<◌, ◌≤◌, List, [], ◌∷◌, ◌++◌, length, get_or, drop, map, replicate, eqb, append_assoc, true≢false, Bool, true, false, cond, inl, inr, Option, Some, None, Result, Ok, Err, ap, refl, sym, subst, ◌∙◌, arith}
 use Rattle.std.specs.Prelude.{Contains, slice_get}
 use Rattle.std.specs.Result.{IfOk}
+use Rattle.std.specs.List.{AllByRecursion, IsDistinct}
 use Rattle.std.proofs.lemmas.List.Sums.{sum_by-cons}
 use Rattle.std.proofs.Common.{drop-cons}
-use Rattle.std.proofs.lemmas.List.{drop_all}
+use Rattle.std.proofs.lemmas.List.{append-nil, drop_all, length-map, length-replicate}
 use Rattle.std.proofs.lemmas.List.Elements.{Contains-get_or}
-use Rattle.std.proofs.lemmas.Option.{same_Some}
+use Rattle.std.proofs.lemmas.Option.{none-some, same_Some}
+use Rattle.std.proofs.lemmas.Bool.{eq-eqb}
+use Rattle.cap_text.specs.Cap.{VerifyCapValue}
 use Rattle.request_record.specs.declared.requests.Asked.{Asked}
+use Rattle.request_record.specs.declared.requests.Asked.TheVariants.{Holdings, Reading}
 use Rattle.request_record.specs.declared.requests.Outcome.TheVariants.{Lost}
 use Rattle.request_record.specs.declared.requests.Request.{Request}
 use Rattle.request_record.specs.Record.{RequestsState, TakesNext, asked_all, asked_more, first_request, is_outstanding, outstanding_count}
-use Rattle.request_record.specs.Asking.{AsksOnce}
-use Rattle.share_reading.proofs.ConsecutiveLemmas.{contains_head}
+use Rattle.request_record.specs.Asking.{AsksOnce, asks_of, begun, fresh}
+use Rattle.share_reading.proofs.ConsecutiveLemmas.{contains_head, contains_none}
 use Rattle.checker.specs.Moves.{GoesOn}
-use Rattle.checker.specs.Right.{AreOfShares}
-use Rattle.checker.specs.Book.{AreLost, AsksMore, HasBook, IsBook, IsKept, IsSafe, IsStanding, state_of}
+use Rattle.checker.specs.Right.{AreOfShares, IsRight}
+use Rattle.checker.specs.Book.{AreAsked, AreKeys, AreLost, AsksMore, HasBook, IsAskedBy, IsBook, IsFresh, IsKept, IsSafe, IsStanding, state_of}
+use Rattle.checker.specs.Shares.{offered_in}
 use Rattle.checker.specs.declared.machine.Machine.{Machine}
+use Rattle.checker.specs.declared.machine.Told.{Told}
 use Rattle.checker.proofs.Entries.{BecomesAt, GoesTo, WasAt, get_kept, was_at}
 use Rattle.checker.proofs.BookMoves.{book_goes}
 use Rattle.checker.proofs.RecordMoves.{IsCounted, IsTicked, shares_go}
-use Rattle.checker.proofs.MachineMoves.{get_of}
+use Rattle.checker.proofs.MachineMoves.{book_as, get_of}
+use Rattle.checker.proofs.ToldMoves.{not_read}
 use Rattle.checker.specs.declared.status.CheckStatus.{CheckStatus}
 use Rattle.checker.specs.declared.status.CheckStatus.TheVariants.{Running, Done, Failed}
 
@@ -34,6 +41,7 @@ kept_same m r status same k = record {
   safe = record {
     once = subst AsksOnce (sym same) k.safe.once;
     reads = subst (AreOfShares m.cap) (sym same) k.safe.reads;
+    asked = subst AreAsked (sym same) k.safe.asked;
   };
   book = λ ok. subst (λ (l : List Request). IsBook m.cap l m.told.items m.owners.items m.offers.items m.begun []) (sym same) (k.book ok);
   works = λ e. subst (λ (l : List Request). 0 < outstanding_count l) (sym same) (k.works e);
@@ -156,7 +164,11 @@ goes_same es ns same = subst (λ (l : List Request). GoesTo es l []) (sym same) 
 })
 
 pub safe_goes : (m : Machine) (r : RequestsState) (todo : List ℕ) → GoesTo m.requests.entries r.entries todo → AsksOnce r.entries → IsSafe m → IsSafe (with_requests m r)
-safe_goes m r todo goes once safe = record { once = once; reads = shares_go m.cap m.requests.entries r.entries todo goes safe.reads }
+safe_goes m r todo goes once safe = record {
+  once = once;
+  reads = shares_go m.cap m.requests.entries r.entries todo goes safe.reads;
+  asked = λ i n e. (let was = was_at m.requests.entries r.entries todo goes i n e in subst IsAskedBy (sym was.asked) (safe.asked i was.request was.there));
+}
 
 pub book_counted : (m : Machine) (r : RequestsState) (place : ℕ) → IsCounted m.requests.entries r.entries place → HasBook m [] → HasBook (with_requests m r) (place ∷ [])
 book_counted m r place c b =
@@ -211,3 +223,121 @@ goes_on_running m new r servers status ended runs more = record { cap = more.cap
 pub if_ok_then : {A E : Type 0} (r : Result A E) (P Q : A → Type 0) → IfOk r P → ((a : A) → P a → Q a) → IfOk r Q
 if_ok_then (Ok a) P Q p f = f a p
 if_ok_then (Err e) P Q p f = tt
+
+-- ---- a check begins
+
+asks_begun : (servers : List ℕ) (r : RequestsState) → (asked_all (asks_of servers) r).entries ≡ r.entries ++ map (λ s. first_request s Holdings r.clock) servers
+asks_begun [] r = sym (append-nil r.entries)
+asks_begun (s ∷ ss) r = asks_begun ss (asked_more s Holdings r) ∙ append_assoc r.entries (first_request s Holdings r.clock ∷ []) (map (λ x. first_request x Holdings r.clock) ss)
+
+begun_entries : (servers : List ℕ) (session now : ℕ) → (begun servers session now).entries ≡ map (λ s. first_request s Holdings now) servers
+begun_entries servers session now = asks_begun servers (fresh session now)
+
+pub record IsBegunAt (servers : List ℕ) (now i : ℕ) (r : Request) : Type 0 where
+  pub server : ℕ
+  pub there : slice_get servers i ≡ Some server
+  pub is : r ≡ first_request server Holdings now
+
+begun_at : (servers : List ℕ) (now i : ℕ) (r : Request) → slice_get (map (λ s. first_request s Holdings now) servers) i ≡ Some r → IsBegunAt servers now i r
+begun_at [] now i r e = absurd cc
+begun_at (s ∷ ss) now zero r e = record { server = s; there = refl; is = sym (same_Some (first_request s Holdings now) r e) }
+begun_at (s ∷ ss) now (suc i) r e = let found = begun_at ss now i r e in record { server = found.server; there = found.there; is = found.is }
+
+all_at : (P : ℕ → Type 0) (xs : List ℕ) (i x : ℕ) → AllByRecursion P xs → slice_get xs i ≡ Some x → P x
+all_at P [] i x all e = absurd cc
+all_at P (y ∷ ys) zero x all e = subst P (same_Some y x e) all.0
+all_at P (y ∷ ys) (suc i) x all e = all_at P ys i x all.1 e
+
+distinct_at : (ss : List ℕ) (i j x : ℕ) → IsDistinct eqb ss → i < j → slice_get ss i ≡ Some x → slice_get ss j ≡ Some x → ⊥
+unfolding IsDistinct
+distinct_at [] i j x d lt e f = absurd cc
+distinct_at (s ∷ ss) zero zero x d lt e f = absurd (omega (arith, lt))
+distinct_at (s ∷ ss) zero (suc j) x d lt e f =
+    let other : eqb s x ≡ false = all_at (λ y. eqb s y ≡ false) ss j x d.0 f in
+    true≢false (sym (eq-eqb s x (same_Some s x e)) ∙ other)
+distinct_at (s ∷ ss) (suc i) zero x d lt e f = absurd (omega (arith, lt))
+distinct_at (s ∷ ss) (suc i) (suc j) x d lt e f = distinct_at ss i j x d.1 (omega (arith, lt)) e f
+
+begun_once : (servers : List ℕ) (now : ℕ) → IsDistinct eqb servers → AsksOnce (map (λ s. first_request s Holdings now) servers)
+begun_once servers now distinct i j a b lt e f same =
+    let x = begun_at servers now i a e in
+    let y = begun_at servers now j b f in
+    let servers_same : x.server ≡ y.server = ap (λ (r : Request). r.server) (sym x.is) ∙ same ∙ ap (λ (r : Request). r.server) y.is in
+    absurd (distinct_at servers i j x.server distinct lt x.there (y.there ∙ ap Some (sym servers_same)))
+
+get_replicate : {X : Type 0} (n i : ℕ) (x y : X) → slice_get (replicate n x) i ≡ Some y → y ≡ x
+get_replicate zero i x y e = absurd cc
+get_replicate (suc n) zero x y e = sym (same_Some x y e)
+get_replicate (suc n) (suc i) x y e = get_replicate n i x y e
+
+module _ (cap : VerifyCapValue) (servers : List ℕ) (session now : ℕ) (m : Machine) (is : IsFresh cap servers session now m) (distinct : IsDistinct eqb servers) where
+
+  abbrev asked_first : List Request
+  asked_first = map (λ s. first_request s Holdings now) servers
+
+  entries_are : m.requests.entries ≡ asked_first
+  entries_are = ap (λ (r : RequestsState). r.entries) is.requests ∙ begun_entries servers session now
+
+  all_holdings : (i : ℕ) (r : Request) → slice_get asked_first i ≡ Some r → r.asked ≡ Holdings
+  all_holdings i r e = ap (λ (x : Request). x.asked) (begun_at servers now i r e).is
+
+  fresh_safe : IsSafe m
+  fresh_safe = record {
+    once = subst AsksOnce (sym entries_are) (begun_once servers now distinct);
+    reads = subst (AreOfShares m.cap) (sym entries_are) (λ i r share offset len e asked. absurd (not_read (all_holdings i r e) asked));
+    asked = subst AreAsked (sym entries_are) (λ i r e. subst IsAskedBy (sym (all_holdings i r e)) tt);
+  }
+
+  abbrev told_first : List Told
+  told_first = replicate (length servers) (record { first = 0; count = 0 })
+
+  fresh_book : HasBook m []
+  fresh_book =
+      book_as cap m.cap asked_first m.requests.entries told_first m.told.items [] m.owners.items [] m.offers.items 0 m.begun [] is.of_cap entries_are is.told is.owners is.offers is.begun_none
+      (record {
+        asks = λ i r lt e. all_holdings i r e;
+        long = omega (arith, length-map servers (λ s. first_request s Holdings now), length-replicate {A = Told} (length servers) (record { first = 0; count = 0 }));
+        owned = λ p k e. absurd (none-some k e);
+        apart = λ k l a b e f same. absurd (none-some a e);
+        reading = λ k o e. absurd (none-some o e);
+        offered = λ k o e. absurd (none-some o e);
+        tells = λ i t r e f. inr (told_none t r (get_replicate (length servers) i (record { first = 0; count = 0 }) t e) (begun_at servers now i r f));
+        quiet = λ i r h e. absurd (contains_none i h);
+        inside = λ i h. absurd (contains_none i h);
+        started = λ k o e lt. absurd (none-some o e);
+        unread = λ k o e le. absurd (none-some o e);
+        few = omega arith;
+      })
+    where
+      told_none : {i : ℕ} (t : Told) (r : Request) → t ≡ record { first = 0; count = 0 } → IsBegunAt servers now i r → AreKeys [] t (offered_in cap.total r.server r.outcome)
+      told_none t r e at =
+          subst (λ (x : Told). AreKeys [] x (offered_in cap.total r.server r.outcome)) (sym e)
+          (subst (λ (x : Request). AreKeys [] (record { first = 0; count = 0 }) (offered_in cap.total x.server x.outcome)) (sym at.is) (omega arith, refl))
+
+  works_first : (ss : List ℕ) → ss ≢ [] → 0 < outstanding_count (map (λ s. first_request s Holdings now) ss)
+  works_first [] some = absurd (some refl)
+  works_first (s ∷ ss) some = omega (arith, sum_by-cons waits_in (first_request s Holdings now) (map (λ x. first_request x Holdings now) ss))
+
+  pub fresh_kept : (status : CheckStatus) → (servers ≢ [] → status ≡ Running) → (servers ≡ [] → status ≡ Done) → IsKept m status
+  fresh_kept status runs alone = record {
+    safe = fresh_safe;
+    book = λ _. fresh_book;
+    works = λ e. subst (λ (l : List Request). 0 < outstanding_count l) (sym entries_are) (works_first servers (λ none. running_done (sym e ∙ alone none)));
+    idle = λ e. ap outstanding_count entries_are ∙ idle_first servers refl e;
+    begun = λ _. is.begun_none ∙ sym (ap length is.offers);
+  }
+    where
+      running_done : Running ≡ Done → ⊥
+      running_done e = cc
+
+      idle_first : (ss : List ℕ) → ss ≡ servers → status ≡ Done → outstanding_count (map (λ s. first_request s Holdings now) ss) ≡ 0
+      idle_first [] same e = refl
+      idle_first (s ∷ ss) same e = absurd (running_done (sym (runs (λ none. cons_nil (same ∙ none))) ∙ e))
+        where
+          cons_nil : s ∷ ss ≡ [] → ⊥
+          cons_nil h = cc
+
+-- ---- what holds of each check
+
+pub right_of : (m : Machine) (servers : List ℕ) (status : CheckStatus) → IsKept m status → IsRight (state_of m servers status)
+right_of m servers status k = record { works = k.works; idle = k.idle; once = k.safe.once; reads = k.safe.reads }

@@ -27,13 +27,13 @@ use Rattle.share_reading.proofs.ConsecutiveLemmas.{contains_none}
 use Rattle.checker.specs.Shares.{settled_of}
 use Rattle.checker.specs.Offers.{IsKeptBy, key_of, with_stage}
 use Rattle.checker.specs.Right.{AreOfShares}
-use Rattle.checker.specs.Book.{AreReadAt, AsksMore, AsksNothing, AwaitsAt, HasAsked, HasBook, HasBytes, HasTold, IsAbout, IsAt, IsBook, IsEnded, IsOffer, IsReadOn, IsReading, IsSafe, IsSettledAt, IsStarted, IsTold, IsUnread}
+use Rattle.checker.specs.Book.{AreAsked, AreReadAt, AsksMore, AsksNothing, AwaitsAt, HasAsked, HasBook, HasBytes, HasTold, IsAbout, IsAskedBy, IsAt, IsBook, IsEnded, IsOffer, IsReadOn, IsReading, IsSafe, IsSettledAt, IsStarted, IsTold, IsUnread}
 use Rattle.checker.specs.declared.machine.Machine.{Machine}
 use Rattle.checker.specs.declared.machine.Told.{Told}
 use Rattle.checker.specs.declared.offers.Offer.{Offer}
 use Rattle.checker.specs.declared.offers.Stage.{Stage}
 use Rattle.checker.specs.declared.offers.Stage.TheVariants.{Waiting, Read, Ended}
-use Rattle.checker.proofs.Entries.{get_set_same}
+use Rattle.checker.proofs.Entries.{get_pushed, get_set_same}
 use Rattle.checker.proofs.OfferMoves.{waits_about}
 use Rattle.checker.proofs.AnswerMoves.{IsSafeToAsk, advances_long, goes_on, is_judged, is_lost, is_stopped, back_kept, front_kept, next_request, reads_first, safe_first, safe_next}
 use Rattle.checker.proofs.BookMoves.{BeginsTo, book_asked, book_done, tail, book_ended, others_less, quiet_less, tells_less, told_less}
@@ -78,6 +78,15 @@ pub shares_asked_now : (m new : Machine) (k : ℕ) (r : readings.Reading) (o : O
 shares_asked_now m new k r o safe may a =
     subst (λ (c : VerifyCapValue). AreOfShares c new.requests.entries) (sym a.cap)
     (subst (AreOfShares m.cap) (sym (entries_asked m new k r o a)) (shares_next m.cap m.requests.entries (key_of o) r m.requests.clock may safe.reads))
+
+pub kinds_asked_now : (m new : Machine) (k : ℕ) (r : readings.Reading) (o : Offer) → IsSafe m → HasAsked m k r o new → AreAsked new.requests.entries
+kinds_asked_now m new k r o safe a = subst AreAsked (sym (entries_asked m new k r o a)) kinds
+  where
+    kinds : AreAsked (m.requests.entries ++ next_request o.server o.share r m.requests.clock ∷ [])
+    kinds i x e = elim (get_pushed m.requests.entries (next_request o.server o.share r m.requests.clock) x i e) [
+      | inl before ↦ safe.asked i x before
+      | inr pushed ↦ subst (λ (q : Request). IsAskedBy q.asked) pushed.1 tt
+    ]
 
 pub unread_at : (m : Machine) (o : Offer) → HasBook m [] → slice_get m.offers.items m.begun ≡ Some o → IsUnread m.requests.entries o
 unread_at m o b at = subst (IsAt m.cap m.requests.entries [] o) (b.unread m.begun o at (omega arith)) (b.reading m.begun o at)
@@ -223,10 +232,13 @@ module _ (m : Machine) (place : ℕ) (todo : List ℕ) (k : ℕ) (o : Offer) (r 
             (book_next next m.requests.clock a)
 
         pub taken_once : IsSafe m → AsksOnce new.requests.entries
-        taken_once safe = once_asked_now (record m { offers = v }) new k next n (record { once = safe.once; reads = safe.reads }) (may_ask next a) asked_now
+        taken_once safe = once_asked_now (record m { offers = v }) new k next n (record { once = safe.once; reads = safe.reads; asked = safe.asked }) (may_ask next a) asked_now
 
         pub taken_shares : IsSafe m → AreOfShares new.cap new.requests.entries
-        taken_shares safe = shares_asked_now (record m { offers = v }) new k next n (record { once = safe.once; reads = safe.reads }) (may_ask next a) asked_now
+        taken_shares safe = shares_asked_now (record m { offers = v }) new k next n (record { once = safe.once; reads = safe.reads; asked = safe.asked }) (may_ask next a) asked_now
+
+        pub taken_kinds : IsSafe m → AreAsked new.requests.entries
+        taken_kinds safe = kinds_asked_now (record m { offers = v }) new k next n (record { once = safe.once; reads = safe.reads; asked = safe.asked }) asked_now
 
 -- ---- results
 
@@ -241,6 +253,7 @@ by_result (Err e) P Q C p q f g = g q
 pub safe_same : (m new : Machine) → AsksNothing m new → IsSafe m → IsSafe new
 safe_same m new same safe = record {
   once = subst AsksOnce (ap (λ (x : RequestsState). x.entries) (sym same.requests)) safe.once;
+  asked = subst AreAsked (ap (λ (x : RequestsState). x.entries) (sym same.requests)) safe.asked;
   reads = subst (λ (c : VerifyCapValue). AreOfShares c new.requests.entries) (sym same.cap)
       (subst (λ (l : List Request). AreOfShares m.cap l) (ap (λ (x : RequestsState). x.entries) (sym same.requests)) safe.reads);
 }

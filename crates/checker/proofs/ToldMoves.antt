@@ -114,7 +114,7 @@ rises_apart low (x ∷ xs) (suc i) (suc j) a b e f g lt =
     let parts = both (leb low x.share) (rises_from (x.share + 1) xs) e in
     rises_apart (x.share + 1) xs i j a b parts.1 f g (omega (arith, lt))
 
-not_read : {a : Asked} {share offset len : ℕ} → a ≡ Holdings → a ≡ Reading share offset len → ⊥
+pub not_read : {a : Asked} {share offset len : ℕ} → a ≡ Holdings → a ≡ Reading share offset len → ⊥
 not_read e f = clash (sym e ∙ f)
   where
     clash : {share offset len : ℕ} → Holdings ≡ Reading share offset len → ⊥

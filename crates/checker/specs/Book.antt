@@ -169,10 +169,20 @@ abbrev pub HasBook : Machine → List ℕ → Type 0
 HasBook m todo =
     IsBook m.cap m.requests.entries m.told.items m.owners.items m.offers.items m.begun todo
 
+-- a check asks which shares a server holds, and for bytes of them
+abbrev pub IsAskedBy : Asked → Type 0
+IsAskedBy Holdings = Unit {0}
+IsAskedBy (Reading share offset len) = Unit {0}
+IsAskedBy asked = ⊥
+
+abbrev pub AreAsked : List Request → Type 0
+AreAsked entries = (i : ℕ) (r : Request) → slice_get entries i ≡ Some r → IsAskedBy r.asked
+
 -- what is asked is right, whatever becomes of the check
 pub record IsSafe (m : Machine) : Type 0 where
   pub once : AsksOnce m.requests.entries
   pub reads : AreOfShares m.cap m.requests.entries
+  pub asked : AreAsked m.requests.entries
 
 -- what is kept of each check
 pub record IsKept (m : Machine) (status : CheckStatus) : Type 0 where
@@ -261,15 +271,6 @@ abbrev pub IsTakenOnce : List Request → ℕ → List ℕ → Type 0
 IsTakenOnce entries place todo =
     (Contains todo place → ⊥)
     ⊎ ((r : Request) → slice_get entries place ≡ Some r → r.outcome ≡ Lost)
-
--- a check asks which shares a server holds, and for bytes of them
-abbrev pub IsAskedBy : Asked → Type 0
-IsAskedBy Holdings = Unit {0}
-IsAskedBy (Reading share offset len) = Unit {0}
-IsAskedBy asked = ⊥
-
-abbrev pub AreAsked : List Request → Type 0
-AreAsked entries = (i : ℕ) (r : Request) → slice_get entries i ≡ Some r → IsAskedBy r.asked
 
 -- an offer of a share that is not read yet
 pub record IsNew (o : Offer) : Type 0 where

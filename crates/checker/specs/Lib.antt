@@ -8,3 +8,4 @@ pub mod Right
 -- words of private clauses
 pub mod Offers
 pub mod Book
+pub mod Found

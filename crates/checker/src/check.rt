@@ -1,10 +1,20 @@
 //! A check of a file's shares by its verify cap.
 
+ghost use Rattle.std.specs.Prelude.{◌≡◌, ◌≢◌, ◌↔◌, [], None, IfOk, IfSome, OnErr, OnOk, is_some};
+ghost use Rattle.std.specs.Prelude.{nat_eq};
+ghost use Rattle.std.specs.List.{IsDistinct};
+ghost use Rattle.checker.specs.Moves.{Advances, Begins, TicksOn};
+ghost use Rattle.checker.specs.Report.{IsReport};
+ghost use Rattle.checker.specs.Right.{IsRight};
+ghost use Rattle.checker.specs.Sending.{Takes, first_to_send};
+ghost use Rattle.checker.specs.declared.status.CheckStatus.TheVariants.{Done, Failed, Running};
+
 use crate::machine::Machine;
 use crate::report::report_of;
 use crate::status::{CheckStatus, Report};
 use cap_text::VerifyCap;
 use std::alloc::{AllocError, Global};
+use std::marker::Model;
 use wire::message::{Message, NodeId};
 
 /// A check of the shares that servers offer of one file.
@@ -15,23 +25,43 @@ pub struct Check {
     status: CheckStatus,
 }
 
+impl Model for Check {
+    ghost use Rattle.checker.specs.State.{CheckState};
+    ghost use Rattle.checker.specs.Book.{IsKept, state_of};
+
+    ghost Value = { CheckState };
+
+    ghost view = { λ c. state_of c.machine c.servers.items c.status };
+
+    ghost invariant = { λ c. IsKept c.machine c.status };
+}
+
 impl Check {
+    /// Asks each of the servers which shares it holds. Without servers the check is done at once.
+    /// The servers are of distinct nodes.
     pub fn start(
         alloc: Global,
         cap: VerifyCap,
         servers: &[NodeId],
         session: u64,
         now: u64,
-    ) -> Result<Check, AllocError> {
+    ) -> Result<Check, AllocError>
+        requires distinct { IsDistinct nat_eq servers.now }
+        ensures begins { IfOk result (Begins cap servers.now session now) }
+    {
         let machine = Machine::begin(alloc, cap, servers, session, now)?;
         Ok(Check {
             servers: Vec::from_slice(alloc, servers)?,
             machine,
-            status: if servers.is_empty() { CheckStatus::Done } else { CheckStatus::Running },
+            status: first_status(servers),
         })
     }
 
-    pub fn on_message(&mut self, from: NodeId, message: Message, now: u64) -> Result<(), AllocError> {
+    /// Takes a message from a node over, at a second.
+    pub fn on_message(&mut self, from: NodeId, message: Message, now: u64) -> Result<(), AllocError>
+        ensures ok { OnOk result (Advances from message now self.old self.new) }
+        ensures err { OnErr result (self.new.status ≡ Failed) }
+    {
         match self.machine.answer(self.status, from, message, now) {
             Ok(status) => {
                 self.status = status;
@@ -44,7 +74,11 @@ impl Check {
         }
     }
 
-    pub fn tick(&mut self, now: u64) -> Result<(), AllocError> {
+    /// Takes note of a second.
+    pub fn tick(&mut self, now: u64) -> Result<(), AllocError>
+        ensures ok { OnOk result (TicksOn now self.old self.new) }
+        ensures err { OnErr result (self.new.status ≡ Failed) }
+    {
         match self.machine.pass(self.status, now) {
             Ok(status) => {
                 self.status = status;
@@ -57,22 +91,51 @@ impl Check {
         }
     }
 
-    pub fn status(&self) -> CheckStatus {
+    /// Where it stands. While it runs a request is outstanding, and once it is done none is. No
+    /// server is asked the same thing twice, nor for a byte of a share twice.
+    #[tactic(auto, using(crate::proofs::Keeping::right_of))]
+    pub fn status(&self) -> CheckStatus
+        ensures value { result ≡ self.now.status }
+        ensures right { IsRight self.now }
+    {
         self.status
     }
 
-    pub fn take_outgoing(&mut self) -> Option<(NodeId, Message)> {
+    /// Takes the next message to send, and the node that it is for.
+    pub fn take_outgoing(&mut self) -> Option<(NodeId, Message)>
+        ensures { Takes self.old result self.new }
+    {
         self.machine.take_outgoing()
     }
 
-    pub fn has_outgoing(&self) -> bool {
+    /// Is there a message to send?
+    pub fn has_outgoing(&self) -> bool
+        ensures { result ≡ is_some (first_to_send self.now) }
+    {
         self.machine.requests.first().is_some()
     }
 
-    pub fn report(&self, alloc: Global) -> Result<Option<Report>, AllocError> {
-        if self.status != CheckStatus::Done {
-            return Ok(None);
+    /// What the check found, once it is done; `None` before, and where it failed.
+    pub fn report(&self, alloc: Global) -> Result<Option<Report>, AllocError>
+        ensures report { IfOk result (λ told. IfSome told
+            (IsReport self.now.cap self.now.requests.entries)) }
+        ensures none { IfOk result (λ told. (told ≡ None) ↔ (self.now.status ≢ Done)) }
+    {
+        match self.status {
+            CheckStatus::Done => Ok(Some(report_of(alloc, &self.machine)?)),
+            CheckStatus::Running | CheckStatus::Failed => Ok(None),
         }
-        Ok(Some(report_of(alloc, &self.machine)?))
+    }
+}
+
+// Where a check stands that begins.
+fn first_status(servers: &[NodeId]) -> CheckStatus
+    ensures runs { servers.now ≢ [] → result ≡ Running }
+    ensures alone { servers.now ≡ [] → result ≡ Done }
+{
+    if servers.is_empty() {
+        CheckStatus::Done
+    } else {
+        CheckStatus::Running
     }
 }

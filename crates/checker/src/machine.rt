@@ -12,7 +12,7 @@ ghost use Rattle.share_reading.specs.Verdict.{IsJudged};
 ghost use Rattle.share_reading.specs.Whole.{joined};
 ghost use Rattle.checker.specs.Book.{AreReadAt, AsksMore, AsksNothing, AwaitsAt, HasAsked, HasBook};
 ghost use Rattle.checker.specs.Book.{HasBytes, IsFresh, IsKept, IsReadOn, IsSafe, IsSettledAt};
-ghost use Rattle.checker.specs.Book.{AreAsked, AreLost, ArePushed, IsStanding, IsTakenOnce};
+ghost use Rattle.checker.specs.Book.{AreLost, ArePushed, IsStanding, IsTakenOnce};
 ghost use Rattle.checker.specs.Book.{state_of};
 ghost use Rattle.checker.specs.Moves.{Advances, TicksOn};
 ghost use Rattle.checker.specs.Offers.{key_of};
@@ -123,7 +123,7 @@ impl Machine {
 
     /// Takes the next message to send, and the node that it is for.
     pub(crate) fn take_outgoing(&mut self) -> Option<(NodeId, Message)>
-        requires asked { AreAsked self.old.requests.entries }
+        requires safe { IsSafe self.old }
         ensures takes { (servers : List ℕ) (status : CheckStatus) → Takes
             (state_of self.old servers status) result (state_of self.new servers status) }
         ensures kept { (status : CheckStatus) → IsKept self.old status → IsKept self.new status }

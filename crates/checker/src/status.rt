@@ -68,5 +68,5 @@ pub struct Report {
     /// There are good shares of as many numbers as are needed.
     pub recoverable: bool,
     /// The size of a largest matching of servers with their good shares.
-    pub happiness: u16,
+    pub happiness: usize,
 }

@@ -10,7 +10,7 @@ use Rattle.checker.specs.Book.{HasAsked}
 use Rattle.checker.specs.declared.machine.Machine.{Machine}
 use Rattle.checker.specs.declared.offers.Offer.{Offer}
 use Rattle.checker.proofs.AnswerMoves.{safe_first}
-use Rattle.checker.proofs.MachineMoves.{asks_asked, book_begun, one_ask, get_of, once_asked_now, shares_asked_now, unread_at}
+use Rattle.checker.proofs.MachineMoves.{asks_asked, book_begun, one_ask, get_of, kinds_asked_now, once_asked_now, shares_asked_now, unread_at}
 use Rattle.checker.proofs.machine.Machine.begin_next.Goals as goal
 
 pub overflow_add-self : goal.overflow_add-self
@@ -42,6 +42,7 @@ returns-clause-safe c =
     let may = safe_first m.cap m.requests.entries o.0 (unread_at m o.0 c.requires.book o.1) in
     record {
       once = once_asked_now m c.ask.new.self m.begun (Beginning Start) o.0 c.requires.safe may a;
+      asked = kinds_asked_now m c.ask.new.self m.begun (Beginning Start) o.0 c.requires.safe a;
       reads = shares_asked_now m c.ask.new.self m.begun (Beginning Start) o.0 c.requires.safe may a;
     }
 

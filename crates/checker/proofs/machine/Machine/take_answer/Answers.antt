@@ -10,7 +10,7 @@ use Rattle.checker.specs.declared.offers.Offer.{Offer}
 use Rattle.checker.specs.declared.offers.Stage.TheVariants.{Ended}
 use Rattle.checker.proofs.Entries.{get_set_same}
 use Rattle.checker.proofs.AnswerMoves.{advances_long}
-use Rattle.checker.proofs.MachineMoves.{asks_asked, book_judged, book_stopped, by_result, on_ok, one_ask, safe_same, set_set, taken_book, taken_once, taken_shares}
+use Rattle.checker.proofs.MachineMoves.{asks_asked, book_judged, book_stopped, by_result, on_ok, one_ask, safe_same, set_set, taken_book, taken_kinds, taken_once, taken_shares}
 use Rattle.checker.proofs.machine.Machine.take_answer.Goals as goal
 
 pub returns-in-Err-clause-book : goal.returns-in-Err-clause-book
@@ -53,6 +53,8 @@ returns-in-Next-clause-safe c =
       once = taken_once m c.args.place c.requires.book.0 c.args.offer w.offer c.args.reading.now c.requires.book.1 c.requires.behind c.requires.settled w.there w.stage told.0 told.1 kept.0 kept.2
           long c.ask.new.self c.keep.new.offers c.in-Next.next kept.1 told.2 (all kept.0 there) c.requires.safe;
       reads = taken_shares m c.args.place c.requires.book.0 c.args.offer w.offer c.args.reading.now c.requires.book.1 c.requires.behind c.requires.settled w.there w.stage told.0 told.1 kept.0 kept.2
+          long c.ask.new.self c.keep.new.offers c.in-Next.next kept.1 told.2 (all kept.0 there) c.requires.safe;
+      asked = taken_kinds m c.args.place c.requires.book.0 c.args.offer w.offer c.args.reading.now c.requires.book.1 c.requires.behind c.requires.settled w.there w.stage told.0 told.1 kept.0 kept.2
           long c.ask.new.self c.keep.new.offers c.in-Next.next kept.1 told.2 (all kept.0 there) c.requires.safe;
     })
     (λ same. safe_same m c.ask.new.self (record { cap = same.cap; requests = same.requests }) c.requires.safe)
