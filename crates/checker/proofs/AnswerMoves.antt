@@ -1,13 +1,10 @@
 -- What comes of the answer to the request for the next bytes of a share.
-use Rattle.std.proofs.Common.{◌≡◌, ◌≢◌, ℕ, zero, suc, ◌+◌, ◌<◌, ◌≤◌, Bool, true, false, cond, List, [], ◌∷◌, ◌++◌, length, set, map, Option, Some, None, ap, refl, sym, subst, ◌∙◌, arith, inl, inr, ◌⊎◌, true≢false, append_assoc}
+use Rattle.std.proofs.Common.{◌≡◌, ℕ, zero, suc, ◌+◌, ◌≤◌, Bool, true, false, cond, List, [], ◌∷◌, ◌++◌, length, Option, Some, None, ap, refl, sym, subst, ◌∙◌, arith, inl, inr, ◌⊎◌, true≢false}
 use Rattle.std.specs.Prelude.{Contains, slice_get}
-use Rattle.std.specs.List.{flat_map}
-use Rattle.std.proofs.lemmas.List.{append-nil}
 use Rattle.std.proofs.lemmas.List.Elements.{Contains-append_left, Contains-append_right, Contains-append_cases, Contains-push, Contains-push_cases}
-use Rattle.std.proofs.lemmas.Option.{same_Some, none-some}
+use Rattle.std.proofs.lemmas.Option.{same_Some}
 use Rattle.cap_text.specs.Cap.{VerifyCapValue}
 use Rattle.placement.specs.Matching.{Pair}
-use Rattle.wire.specs.declared.message.Body.{Body}
 use Rattle.wire.specs.declared.message.Body.TheVariants.{Ask, Have, Allocate, Granted, Already, Busy, Full, Write, Wrote, WrongOffset, Close, Closed, NotComplete, Abort, Read, Data, NoShare}
 use Rattle.request_record.specs.declared.requests.Asked.{Asked}
 use Rattle.request_record.specs.declared.requests.Asked.TheVariants.{Reading}
@@ -17,13 +14,11 @@ use Rattle.request_record.specs.declared.requests.Request.{Request}
 use Rattle.request_record.specs.Record.{first_request, is_outstanding}
 use Rattle.request_record.proofs.RecordLaws.{get_last}
 use Rattle.share_verify.specs.declared.check.Check.{Check}
-use Rattle.share_opening.specs.Blame.{HasReads}
-use Rattle.share_opening.specs.Opening as opening
 use Rattle.share_opening.specs.Reads.{Brought}
 use Rattle.share_opening.specs.declared.opening.Opening.TheVariants.{Start, Second, Header, Block}
 use Rattle.share_reading.specs.Reading as reading
-use Rattle.share_reading.specs.Reads.{AsksNone, IsAsked, IsReadBy, IsRest, more_back, more_front}
-use Rattle.share_reading.specs.Verdict.{AreAnswered, AreFull, IsJudged, IsStopped, IsVerdict, Settled, brought_at, brought_by, brought_of}
+use Rattle.share_reading.specs.Reads.{AsksNone, IsAsked, IsReadBy, more_back, more_front}
+use Rattle.share_reading.specs.Verdict.{AreAnswered, AreFull, IsJudged, IsVerdict, Settled, brought_at, brought_by, brought_of}
 use Rattle.share_reading.specs.Whole.{IsWhole, joined}
 use Rattle.share_reading.specs.declared.reading.Progress.{Progress}
 use Rattle.share_reading.specs.declared.reading.Progress.TheVariants.{Next, Whole}
@@ -36,9 +31,9 @@ use Rattle.share_reading.proofs.ReadingLemmas.{ask, end_whole, go_on, more_led}
 use Rattle.share_reading.proofs.VerdictLemmas.{brought_has}
 use Rattle.checker.specs.Shares.{settled_in, settled_of}
 use Rattle.checker.specs.Offers.{IsKeptBy, key_of}
-use Rattle.checker.specs.Book.{AreReadAt, HasBytes, IsAbout, IsAt, IsEnded, IsNext, IsOffer, IsReadAt, IsReadOnlyAt, IsReading, IsUnread}
+use Rattle.checker.specs.Book.{AreReadAt, HasBytes, IsAbout, IsEnded, IsReadAt, IsReadOnlyAt, IsReading, IsUnread}
 use Rattle.checker.specs.declared.offers.Offer.{Offer}
-use Rattle.checker.proofs.Entries.{about_by, IsFrom, IsSettledBy, flat_map_from, get_pushed, settled_from, settled_has}
+use Rattle.checker.proofs.Entries.{about_by, IsSettledBy, flat_map_from, get_pushed, settled_from, settled_has}
 use Rattle.checker.proofs.OfferMoves.{IsOneOf, brought, last, reads_push, all_quiet, next_about, next_asked, one_of, same_next}
 
 -- ---- what a request that waits no more tells
@@ -250,7 +245,6 @@ reads_first cap es todo o m now is server share front back =
 
 module _ (cap : VerifyCapValue) (es : List Request) (todo : List ℕ) (o : Offer) (r : readings.Reading) (place : ℕ) (is : IsReading cap es todo o r place)
     (q : Request) (there : slice_get es place ≡ Some q) (settled : is_outstanding q.outcome ≡ false) where
-
   abbrev pub reads : List Settled
   reads = settled_of es o.server o.share
 
@@ -260,7 +254,7 @@ module _ (cap : VerifyCapValue) (es : List Request) (todo : List ℕ) (o : Offer
     verdict = (
       lost,
       settled_has es (key_of o) place q lost there (next_about cap es todo o r place is q there settled)
-      (subst (λ (l : List Settled). Contains l lost) (sym told) (contains_head lost [])),
+          (subst (λ (l : List Settled). Contains l lost) (sym told) (contains_head lost [])),
       refl,
     );
     quiet = all_quiet cap es todo o r place is q there settled;
@@ -276,7 +270,6 @@ module _ (cap : VerifyCapValue) (es : List Request) (todo : List ℕ) (o : Offer
 
   -- these bytes came
   module _ (bytes : List ℕ) (has : HasBytes es place bytes) where
-
     answer_is : q.outcome ≡ Answered (Data bytes)
     answer_is = ap (λ (x : Request). x.outcome) (same_Some q has.request (sym there ∙ has.there)) ∙ has.answer
 
@@ -355,7 +348,6 @@ module _ (cap : VerifyCapValue) (es : List Request) (todo : List ℕ) (o : Offer
 
     -- as many came as were asked for
     module _ (long : length bytes ≡ reading.next_length r) where
-
       all_full : AreFull reads
       all_full s at = go (known s at)
         where
@@ -413,7 +405,6 @@ module _ (cap : VerifyCapValue) (es : List Request) (todo : List ℕ) (o : Offer
 
       -- the same share, with one more request that brought its bytes
       module _ (n : Offer) (kept : IsKeptBy r place o n) where
-
         key_is : key_of n ≡ key_of o
         key_is = ap (λ m. (m, n.share)) kept.server ∙ ap (λ m. (o.server, m)) kept.share
 

@@ -1,29 +1,26 @@
 -- How what is kept of the shares goes on.
-use Rattle.std.proofs.Common.{◌≡◌, ◌≢◌, ℕ, zero, suc, ◌+◌, ◌<◌, ◌≤◌, Bool, true, false, List, [], ◌∷◌, ◌++◌, length, set, map, take, drop, Option, Some, None, ap, refl, sym, subst, ◌∙◌, arith, inl, inr, ◌⊎◌, true≢false}
+use Rattle.std.proofs.Common.{◌≡◌, ◌≢◌, ℕ, zero, suc, ◌+◌, ◌<◌, ◌≤◌, true, false, List, [], ◌∷◌, ◌++◌, length, set, map, take, drop, Some, ap, refl, sym, subst, ◌∙◌, arith, inl, inr, ◌⊎◌, true≢false}
 use Rattle.std.specs.Prelude.{Contains, slice_get}
 use Rattle.std.proofs.lemmas.Bool.{cases_lt}
 use Rattle.std.proofs.lemmas.List.{length-append, length-set}
 use Rattle.std.proofs.lemmas.Option.{slice_get_within, same_Some}
 use Rattle.cap_text.specs.Cap.{VerifyCapValue}
 use Rattle.placement.specs.Matching.{Pair}
-use Rattle.request_record.specs.declared.requests.Asked.{Asked}
-use Rattle.request_record.specs.declared.requests.Asked.TheVariants.{Holdings, Reading}
 use Rattle.request_record.specs.declared.requests.Outcome.{Outcome}
 use Rattle.request_record.specs.declared.requests.Outcome.TheVariants.{Unawaited, Outstanding, Answered, Lost}
 use Rattle.request_record.specs.declared.requests.Request.{Request}
-use Rattle.request_record.specs.Record.{first_request, is_outstanding}
+use Rattle.request_record.specs.Record.{is_outstanding}
 use Rattle.request_record.proofs.RecordLaws.{get_last}
 use Rattle.share_reading.specs.Reading as reading
 use Rattle.share_reading.specs.declared.reading.Reading as readings
 use Rattle.share_reading.proofs.ConsecutiveLemmas.{contains_cases, contains_none}
 use Rattle.checker.specs.Offers.{key_of}
 use Rattle.checker.specs.Shares.{offered_in}
-use Rattle.checker.specs.Book.{AreKeys, HasTold, IsAbout, IsAt, IsBook, IsOffer, IsOwner, IsReadOnlyAt, IsStarted, IsTold}
+use Rattle.checker.specs.Book.{AreKeys, HasTold, IsAbout, IsAt, IsBook, IsOffer, IsOwner, IsStarted, IsTold}
 use Rattle.checker.specs.declared.machine.Told.{Told}
 use Rattle.checker.specs.declared.offers.Offer.{Offer}
-use Rattle.checker.specs.declared.offers.Stage.{Stage}
-use Rattle.checker.specs.declared.offers.Stage.TheVariants.{Waiting, Read, Ended}
-use Rattle.checker.proofs.Entries.{BecomesAt, GoesTo, WasAt, about_by, about_one, about_same, get_kept, get_pushed, get_set_other, get_set_same, was_at}
+use Rattle.checker.specs.declared.offers.Stage.TheVariants.{Read}
+use Rattle.checker.proofs.Entries.{GoesTo, about_by, about_one, about_same, get_kept, get_pushed, get_set_other, get_set_same, was_at}
 use Rattle.checker.proofs.OfferMoves.{offer_done, offer_goes, offer_other, offer_push, waits_about}
 use Rattle.checker.proofs.AnswerMoves.{next_request}
 
@@ -48,7 +45,6 @@ get_changed (w ∷ ws) (suc k) (suc i) x y z e f = elim (get_changed ws k i x y 
 -- ---- lists that are changed at one offer
 
 module _ (entries : List Request) (offers : List Offer) (k : ℕ) (o n : Offer) (at : slice_get offers k ≡ Some o) (key : key_of n ≡ key_of o) where
-
   owner_set : (place l : ℕ) → IsOwner entries offers place l → IsOwner entries (set offers k n) place l
   owner_set place l is = elim (cases_lt l k) [
     | inl lt ↦ same (λ e. omega (arith, lt, e))
@@ -123,7 +119,6 @@ told_push n entries todo new o is = record {
 -- what is to do gets less: what is left of it for the shares that were offered
 module _ (cap : VerifyCapValue) (entries : List Request) (told : List Told) (owners : List ℕ) (offers : List Offer) (begun : ℕ) (place : ℕ) (todo : List ℕ)
     (b : IsBook cap entries told owners offers begun (place ∷ todo)) (after : length told ≤ place) where
-
   pub tells_less : (i : ℕ) (t : Told) (r : Request) → slice_get told i ≡ Some t → slice_get entries i ≡ Some r → HasTold cap.total todo offers i t r
   tells_less i t r e f = elim (b.tells i t r e f) [
     | inr are ↦ inr are
@@ -187,7 +182,6 @@ module _ (cap : VerifyCapValue) (entries : List Request) (told : List Told) (own
     (b : IsBook cap entries told owners offers begun (place ∷ todo)) (after : length told ≤ place)
     (k : ℕ) (o n : Offer) (q : Request) (at : slice_get offers k ≡ Some o) (there : slice_get entries place ≡ Some q) (about : IsAbout (key_of o) q)
     (was_started : IsStarted o.stage) (key : key_of n ≡ key_of o) (is_started : IsStarted n.stage) where
-
   pub book_ended : IsOffer cap entries todo n → IsBook cap entries told owners (set offers k n) begun todo
   book_ended is = record {
     asks = b.asks;
@@ -233,7 +227,6 @@ pub record BeginsTo (begun k more : ℕ) (len : ℕ) : Type 0 where
 
 module _ (cap : VerifyCapValue) (entries : List Request) (told : List Told) (owners : List ℕ) (offers : List Offer) (begun more : ℕ) (todo : List ℕ)
     (k : ℕ) (o n : Offer) (r : readings.Reading) (now : ℕ) (at : slice_get offers k ≡ Some o) (key : key_of n ≡ key_of o) where
-
   abbrev new : Request
   new = next_request o.server o.share r now
 
@@ -315,29 +308,29 @@ book_goes cap es ns told owners offers begun todo goes waited quiet inside b = r
   asks = λ i r lt e. (let was = was_at es ns todo goes i r e in was.asked ∙ b.asks i was.request lt was.there);
   long = goes.long ∙ b.long;
   owned = λ p l e. (
-    let is = b.owned p l e in
-    let becomes = goes.each (length told + p) is.request is.asks in
-    record {
-      offer = is.offer;
-      there = is.there;
-      request = becomes.request;
-      asks = becomes.there;
-      about = about_same (key_of is.offer) becomes.request is.request (sym becomes.server) (sym becomes.asked) is.about;
-    });
+      let is = b.owned p l e in
+      let becomes = goes.each (length told + p) is.request is.asks in
+      record {
+        offer = is.offer;
+        there = is.there;
+        request = becomes.request;
+        asks = becomes.there;
+        about = about_same (key_of is.offer) becomes.request is.request (sym becomes.server) (sym becomes.asked) is.about;
+      });
   apart = b.apart;
   reading = λ l x e. offer_goes cap es ns todo x goes (b.reading l x e);
   offered = λ l x e. (
-    let is = b.offered l x e in
-    let becomes = goes.each is.place is.request is.there in
-    record {
-      place = is.place;
-      first = is.first;
-      request = is.request;
-      there = becomes.there ∙ ap Some (becomes.still is.quiet);
-      server = is.server;
-      quiet = is.quiet;
-      taken = λ h. true≢false (sym (waited is.place is.request h is.there) ∙ is.quiet);
-    });
+      let is = b.offered l x e in
+      let becomes = goes.each is.place is.request is.there in
+      record {
+        place = is.place;
+        first = is.first;
+        request = is.request;
+        there = becomes.there ∙ ap Some (becomes.still is.quiet);
+        server = is.server;
+        quiet = is.quiet;
+        taken = λ h. true≢false (sym (waited is.place is.request h is.there) ∙ is.quiet);
+      });
   tells = λ i t r e f. tells_on i t r e f;
   quiet = quiet;
   inside = inside;

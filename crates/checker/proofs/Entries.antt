@@ -1,28 +1,24 @@
 -- The requests of a record, as it goes on, and what they tell of a share.
-use Rattle.std.proofs.Common.{◌≡◌, ◌≢◌, ℕ, zero, suc, ◌+◌, ◌<◌, ◌≤◌, Bool, true, false, cond, List, [], ◌∷◌, ◌++◌, length, set, map, Option, Some, None, ap, refl, sym, subst, ◌∙◌, arith, inl, inr, ◌⊎◌, true≢false}
+use Rattle.std.proofs.Common.{◌≡◌, ℕ, zero, suc, ◌<◌, Bool, true, false, cond, List, [], ◌∷◌, ◌++◌, length, set, Some, ap, refl, sym, subst, ◌∙◌, arith, inl, inr, ◌⊎◌, true≢false}
 use Rattle.std.specs.Prelude.{Contains, slice_get, ◌==◌, ◌&&◌}
 use Rattle.std.specs.List.{flat_map}
-use Rattle.std.proofs.lemmas.Bool.{cases_lt}
-use Rattle.std.proofs.lemmas.List.{append-nil, length-append}
+use Rattle.std.proofs.lemmas.List.{append-nil}
 use Rattle.std.proofs.lemmas.List.Concat.{flat_map-append}
 use Rattle.std.proofs.lemmas.List.Elements.{Contains-append_left, Contains-append_right, Contains-append_cases}
 use Rattle.std.proofs.lemmas.Option.{slice_get_within, same_Some}
 use Rattle.std.proofs.lemmas.Bool.{eqb-true, eq-eqb}
 use Rattle.placement.specs.Matching.{Pair}
-use Rattle.wire.specs.declared.message.Body.{Body}
-use Rattle.wire.specs.declared.message.Body.TheVariants.{Data}
 use Rattle.request_record.specs.declared.requests.Asked.{Asked}
 use Rattle.request_record.specs.declared.requests.Asked.TheVariants.{Holdings, Allocation, Writing, Closing, Reading, Aborting}
 use Rattle.request_record.specs.declared.requests.Outcome.{Outcome}
 use Rattle.request_record.specs.declared.requests.Outcome.TheVariants.{Unawaited, Outstanding, Answered, Lost}
 use Rattle.request_record.specs.declared.requests.Request.{Request}
 use Rattle.request_record.specs.Record.{is_outstanding}
-use Rattle.request_record.proofs.RecordLaws.{get_last, get_push}
-use Rattle.share_opening.specs.Reads.{Brought}
+use Rattle.request_record.proofs.RecordLaws.{get_push}
 use Rattle.share_reading.specs.Verdict.{Settled}
 use Rattle.share_reading.proofs.ConsecutiveLemmas.{contains_none}
 use Rattle.checker.specs.Shares.{is_about, reads_share, settled_by, settled_in, settled_of}
-use Rattle.checker.specs.Book.{AreReadAt, IsAbout, IsReadAt, IsReadOnlyAt}
+use Rattle.checker.specs.Book.{IsAbout}
 
 -- ---- lists
 

@@ -11,7 +11,7 @@ use Rattle.std.proofs.lemmas.Option.{none-some, same_Some}
 use Rattle.std.proofs.lemmas.Bool.{eq-eqb}
 use Rattle.cap_text.specs.Cap.{VerifyCapValue}
 use Rattle.request_record.specs.declared.requests.Asked.{Asked}
-use Rattle.request_record.specs.declared.requests.Asked.TheVariants.{Holdings, Reading}
+use Rattle.request_record.specs.declared.requests.Asked.TheVariants.{Holdings}
 use Rattle.request_record.specs.declared.requests.Outcome.TheVariants.{Lost}
 use Rattle.request_record.specs.declared.requests.Request.{Request}
 use Rattle.request_record.specs.Record.{RequestsState, TakesNext, asked_all, asked_more, first_request, is_outstanding, outstanding_count}
@@ -19,11 +19,11 @@ use Rattle.request_record.specs.Asking.{AsksOnce, asks_of, begun, fresh}
 use Rattle.share_reading.proofs.ConsecutiveLemmas.{contains_head, contains_none}
 use Rattle.checker.specs.Moves.{GoesOn}
 use Rattle.checker.specs.Right.{AreOfShares, IsRight}
-use Rattle.checker.specs.Book.{AreAsked, AreKeys, AreLost, AsksMore, HasBook, IsAskedBy, IsBook, IsFresh, IsKept, IsSafe, IsStanding, state_of}
+use Rattle.checker.specs.Book.{AreAsked, AreKeys, AreLost, AsksMore, HasBook, IsAskedBy, IsBook, IsFresh, IsKept, IsSafe, state_of}
 use Rattle.checker.specs.Shares.{offered_in}
 use Rattle.checker.specs.declared.machine.Machine.{Machine}
 use Rattle.checker.specs.declared.machine.Told.{Told}
-use Rattle.checker.proofs.Entries.{BecomesAt, GoesTo, WasAt, get_kept, was_at}
+use Rattle.checker.proofs.Entries.{GoesTo, get_kept, was_at}
 use Rattle.checker.proofs.BookMoves.{book_goes}
 use Rattle.checker.proofs.RecordMoves.{IsCounted, IsTicked, shares_go}
 use Rattle.checker.proofs.MachineMoves.{book_as, get_of}
@@ -205,9 +205,9 @@ kept_ticked m r lost Done ended t once k = record {
   book = λ ok. subst (HasBook (with_requests m r)) (no_lost m.requests.entries r.entries lost (k.idle refl) t) (book_ticked m r lost t (k.book ok));
   works = λ e. absurd cc;
   idle = λ e. all_settled r.entries (λ i q there. (
-    let was = was_at m.requests.entries r.entries lost t.goes i q there in
-    let quiet = settled_quiet m.requests.entries i was.request (k.idle refl) was.there in
-    ap (λ (x : Request). is_outstanding x.outcome) (was.still quiet) ∙ quiet));
+      let was = was_at m.requests.entries r.entries lost t.goes i q there in
+      let quiet = settled_quiet m.requests.entries i was.request (k.idle refl) was.there in
+      ap (λ (x : Request). is_outstanding x.outcome) (was.still quiet) ∙ quiet));
   begun = k.begun;
 }
 kept_ticked m r lost Failed ended t once k = failed_kept (with_requests m r) (safe_goes m r lost t.goes once k.safe)
@@ -271,7 +271,6 @@ get_replicate (suc n) zero x y e = sym (same_Some x y e)
 get_replicate (suc n) (suc i) x y e = get_replicate n i x y e
 
 module _ (cap : VerifyCapValue) (servers : List ℕ) (session now : ℕ) (m : Machine) (is : IsFresh cap servers session now m) (distinct : IsDistinct eqb servers) where
-
   abbrev asked_first : List Request
   asked_first = map (λ s. first_request s Holdings now) servers
 

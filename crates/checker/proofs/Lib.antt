@@ -7,3 +7,4 @@ mod Joining
 mod MachineMoves
 mod ToldMoves
 mod Keeping
+mod FoundLemmas

@@ -1,16 +1,15 @@
 -- How a check goes on, step by step.
-use Rattle.std.proofs.Common.{◌≡◌, ◌≢◌, ℕ, zero, suc, ◌+◌, ◌-◌, ◌<◌, ◌≤◌, Bool, true, false, List, [], ◌∷◌, ◌++◌, length, set, map, take, drop, get_or, Result, Ok, Err, Option, Some, None, Vec, Global, ap, refl, sym, subst, ◌∙◌, arith, inl, inr, ◌⊎◌, true≢false}
-use Rattle.std.specs.Prelude.{Contains, slice_get}
+use Rattle.std.proofs.Common.{◌≡◌, ℕ, zero, suc, ◌+◌, ◌-◌, ◌<◌, ◌≤◌, false, List, [], ◌∷◌, ◌++◌, length, set, Result, Ok, Err, Some, Vec, Global, ap, refl, sym, subst, ◌∙◌, arith, inl, inr, ◌⊎◌}
+use Rattle.std.specs.Prelude.{slice_get}
 use Rattle.std.specs.Result.{OnErr, OnOk}
 use Rattle.std.proofs.lemmas.Bool.{cases_lt}
-use Rattle.std.proofs.lemmas.List.{length-append, length-set}
-use Rattle.std.proofs.lemmas.Option.{slice_get_within, slice_get-get_or, same_Some}
+use Rattle.std.proofs.lemmas.Option.{slice_get_within}
 use Rattle.cap_text.specs.Cap.{VerifyCapValue}
 use Rattle.placement.specs.Matching.{Pair}
 use Rattle.request_record.specs.declared.requests.Asked.{Asked}
-use Rattle.request_record.specs.declared.requests.Asked.TheVariants.{Holdings, Reading}
+use Rattle.request_record.specs.declared.requests.Asked.TheVariants.{Reading}
 use Rattle.request_record.specs.declared.requests.Request.{Request}
-use Rattle.request_record.specs.Record.{RequestsState, asked_all, asked_more, first_request, is_outstanding}
+use Rattle.request_record.specs.Record.{RequestsState, asked_all, is_outstanding}
 use Rattle.request_record.specs.Asking.{AsksOnce}
 use Rattle.share_opening.specs.Reads.{Brought}
 use Rattle.share_opening.specs.declared.opening.Opening.TheVariants.{Start}
@@ -27,16 +26,15 @@ use Rattle.share_reading.proofs.ConsecutiveLemmas.{contains_none}
 use Rattle.checker.specs.Shares.{settled_of}
 use Rattle.checker.specs.Offers.{IsKeptBy, key_of, with_stage}
 use Rattle.checker.specs.Right.{AreOfShares}
-use Rattle.checker.specs.Book.{AreAsked, AreReadAt, AsksMore, AsksNothing, AwaitsAt, HasAsked, HasBook, HasBytes, HasTold, IsAbout, IsAskedBy, IsAt, IsBook, IsEnded, IsOffer, IsReadOn, IsReading, IsSafe, IsSettledAt, IsStarted, IsTold, IsUnread}
+use Rattle.checker.specs.Book.{AreAsked, AreReadAt, AsksNothing, HasAsked, HasBook, HasBytes, IsAbout, IsAskedBy, IsAt, IsBook, IsEnded, IsReadOn, IsReading, IsSafe, IsSettledAt, IsStarted, IsUnread}
 use Rattle.checker.specs.declared.machine.Machine.{Machine}
 use Rattle.checker.specs.declared.machine.Told.{Told}
 use Rattle.checker.specs.declared.offers.Offer.{Offer}
-use Rattle.checker.specs.declared.offers.Stage.{Stage}
 use Rattle.checker.specs.declared.offers.Stage.TheVariants.{Waiting, Read, Ended}
-use Rattle.checker.proofs.Entries.{get_pushed, get_set_same}
+use Rattle.checker.proofs.Entries.{get_pushed}
 use Rattle.checker.proofs.OfferMoves.{waits_about}
-use Rattle.checker.proofs.AnswerMoves.{IsSafeToAsk, advances_long, goes_on, is_judged, is_lost, is_stopped, back_kept, front_kept, next_request, reads_first, safe_first, safe_next}
-use Rattle.checker.proofs.BookMoves.{BeginsTo, book_asked, book_done, tail, book_ended, others_less, quiet_less, tells_less, told_less}
+use Rattle.checker.proofs.AnswerMoves.{IsSafeToAsk, goes_on, is_judged, is_lost, is_stopped, back_kept, front_kept, next_request, reads_first, safe_next}
+use Rattle.checker.proofs.BookMoves.{book_asked, book_done, tail, book_ended, others_less, quiet_less, tells_less, told_less}
 use Rattle.checker.proofs.RecordMoves.{once_next, shares_next}
 use Rattle.checker.proofs.Joining.{joined_both}
 
@@ -123,7 +121,6 @@ ended_as {cap} {entries} o n v server share is = record {
 
 module _ (m : Machine) (place : ℕ) (todo : List ℕ) (k : ℕ) (o : Offer) (r : readings.Reading) (b : HasBook m (place ∷ todo)) (after : length m.told.items ≤ place)
     (settled : IsSettledAt m.requests.entries place) (at : slice_get m.offers.items k ≡ Some o) (stage : o.stage ≡ Read r place) where
-
   abbrev es : List Request
   es = m.requests.entries
 
@@ -165,12 +162,10 @@ module _ (m : Machine) (place : ℕ) (todo : List ℕ) (k : ℕ) (o : Offer) (r 
 
   -- these bytes came, and it is read on
   module _ (bytes : List ℕ) (has : HasBytes es place bytes) (n : Offer) (kept : IsKeptBy r place o n) where
-
     kept_key : key_of n ≡ key_of o
     kept_key = ap (λ s. (s, n.share)) kept.server ∙ ap (λ i. (o.server, i)) kept.share
 
     module _ (long : length bytes ≡ reading.next_length r) where
-
       kept_front : AreReadAt es (key_of o) n.front.items (more_front r bytes is_reading.front)
       kept_front = front_kept m.cap es (place ∷ todo) o r place is_reading asked is_reading.next.there is_settled bytes has long n kept
 
@@ -221,7 +216,6 @@ module _ (m : Machine) (place : ℕ) (todo : List ℕ) (k : ℕ) (o : Offer) (r 
       -- what was asked, beside the record and what is kept
       module _ (new : Machine) (v : Vec Offer Global) (next : readings.Reading) (is : v.items ≡ set m.offers.items k n) (a : reading.Advances m.cap r bytes (Next next))
           (asked_now : HasAsked (record m { offers = v }) k next n new) where
-
         pub taken_book : HasBook new todo
         taken_book =
             let x : Offer = with_stage (Read next (length es)) n in

@@ -1,34 +1,27 @@
 -- How the reading of one share goes on.
-use Rattle.std.proofs.Common.{◌≡◌, ◌≢◌, ℕ, zero, suc, ◌+◌, ◌<◌, ◌≤◌, Bool, true, false, cond, List, [], ◌∷◌, ◌++◌, length, set, map, Option, Some, None, ap, refl, sym, subst, ◌∙◌, arith, inl, inr, ◌⊎◌, true≢false, append_assoc}
+use Rattle.std.proofs.Common.{◌≡◌, ℕ, true, false, List, [], ◌∷◌, ◌++◌, Some, ap, sym, subst, ◌∙◌, inl, inr}
 use Rattle.std.specs.Prelude.{Contains, slice_get}
-use Rattle.std.specs.List.{flat_map}
-use Rattle.std.proofs.lemmas.List.{append-nil}
-use Rattle.std.proofs.lemmas.List.Elements.{Contains-append_left, Contains-append_right, Contains-append_cases, Contains-push_cases}
-use Rattle.std.proofs.lemmas.Option.{slice_get_within, same_Some}
+use Rattle.std.proofs.lemmas.List.Elements.{Contains-append_left, Contains-append_right, Contains-append_cases}
+use Rattle.std.proofs.lemmas.Option.{same_Some}
 use Rattle.cap_text.specs.Cap.{VerifyCapValue}
 use Rattle.placement.specs.Matching.{Pair}
-use Rattle.wire.specs.declared.message.Body.{Body}
 use Rattle.wire.specs.declared.message.Body.TheVariants.{Data}
-use Rattle.request_record.specs.declared.requests.Asked.{Asked}
 use Rattle.request_record.specs.declared.requests.Asked.TheVariants.{Reading}
 use Rattle.request_record.specs.declared.requests.Outcome.{Outcome}
-use Rattle.request_record.specs.declared.requests.Outcome.TheVariants.{Unawaited, Outstanding, Answered, Lost}
+use Rattle.request_record.specs.declared.requests.Outcome.TheVariants.{Answered}
 use Rattle.request_record.specs.declared.requests.Request.{Request}
 use Rattle.request_record.specs.Record.{is_outstanding}
-use Rattle.request_record.proofs.RecordLaws.{get_last}
 use Rattle.share_opening.specs.Reads.{Brought}
 use Rattle.share_reading.specs.Reading as reading
 use Rattle.share_reading.specs.Verdict.{IsVerdict, Settled}
 use Rattle.share_reading.specs.declared.reading.Reading as readings
-use Rattle.share_reading.specs.declared.verdict.Verdict.{Verdict}
 use Rattle.share_reading.proofs.ConsecutiveLemmas.{contains_cases, contains_head, contains_none, contains_tail}
-use Rattle.checker.specs.Shares.{settled_in, settled_of}
 use Rattle.checker.specs.Offers.{key_of}
-use Rattle.checker.specs.Book.{AreReadAt, IsAbout, IsAt, IsEnded, IsNext, IsOffer, IsReadAt, IsReadOnlyAt, IsReading, IsUnread}
+use Rattle.checker.specs.Book.{AreReadAt, IsAbout, IsAt, IsNext, IsOffer, IsReadAt, IsReadOnlyAt, IsReading}
 use Rattle.checker.specs.declared.offers.Offer.{Offer}
 use Rattle.checker.specs.declared.offers.Stage.{Stage}
 use Rattle.checker.specs.declared.offers.Stage.TheVariants.{Waiting, Read, Ended}
-use Rattle.checker.proofs.Entries.{BecomesAt, GoesTo, WasAt, about_by, about_one, about_same, get_kept, get_pushed, settled_push, settled_stays, was_at}
+use Rattle.checker.proofs.Entries.{GoesTo, about_by, about_same, get_kept, get_pushed, settled_push, settled_stays, was_at}
 
 -- what was read at one of these places
 read_among : (es : List Request) (key : Pair) (places : List ℕ) (reads : List Brought) (i : ℕ) → AreReadAt es key places reads → Contains places i
@@ -206,7 +199,6 @@ offer_other cap es todo done o q there other is =
 -- the request of the next bytes waits no more, and is the only one of it that brought no bytes so far
 module _ (cap : VerifyCapValue) (es : List Request) (todo : List ℕ) (o : Offer) (r : readings.Reading) (place : ℕ) (is : IsReading cap es todo o r place)
     (q : Request) (there : slice_get es place ≡ Some q) (settled : is_outstanding q.outcome ≡ false) where
-
   pub same_next : is.next.request ≡ q
   same_next = same_Some is.next.request q (sym is.next.there ∙ there)
 

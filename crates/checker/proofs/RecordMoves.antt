@@ -1,34 +1,32 @@
 -- How the record goes on from a message and a tick.
-use Rattle.std.proofs.Common.{◌≡◌, ◌≢◌, ℕ, zero, suc, ◌+◌, ◌<◌, ◌≤◌, ◌-◌, Bool, true, false, cond, List, [], ◌∷◌, ◌++◌, length, set, map, max, Option, Some, None, ap, refl, sym, subst, ◌∙◌, arith, inl, inr, ◌⊎◌, true≢false}
-use Rattle.std.specs.Prelude.{Contains, slice_get, slice_set, nat_le, nat_lt, ◌&&◌}
+use Rattle.std.proofs.Common.{◌≡◌, ℕ, zero, suc, ◌+◌, ◌<◌, ◌≤◌, Bool, true, false, cond, List, [], ◌∷◌, ◌++◌, length, set, map, max, Option, Some, None, ap, refl, sym, subst, ◌∙◌, arith, inl, inr, ◌⊎◌, true≢false}
+use Rattle.std.specs.Prelude.{Contains, slice_get, nat_le}
 use Rattle.std.proofs.lemmas.Bool.{cases_lt}
-use Rattle.std.proofs.lemmas.List.{length-map, length-set, length-append, append-nil}
-use Rattle.std.proofs.lemmas.Option.{slice_get_within, same_Some, none-some}
+use Rattle.std.proofs.lemmas.List.{length-map, length-set}
+use Rattle.std.proofs.lemmas.Option.{slice_get_within, same_Some}
 use Rattle.cap_text.specs.Cap.{VerifyCapValue}
 use Rattle.placement.specs.Matching.{Pair}
 use Rattle.wire.specs.declared.message.Body.{Body}
 use Rattle.wire.specs.declared.message.Message.{Message}
 use Rattle.request_record.specs.declared.requests.Asked.{Asked}
 use Rattle.request_record.specs.declared.requests.Asked.TheVariants.{Holdings, Allocation, Writing, Closing, Reading, Aborting}
-use Rattle.request_record.specs.declared.requests.Outcome.{Outcome}
-use Rattle.request_record.specs.declared.requests.Outcome.TheVariants.{Unawaited, Outstanding, Answered, Lost}
+use Rattle.request_record.specs.declared.requests.Outcome.TheVariants.{Answered, Lost}
 use Rattle.request_record.specs.declared.requests.Request.{Request}
-use Rattle.request_record.specs.Record.{RequestsState, age_of, answered_in, at, counted_at, counts_at, first_request, is_lost_at, is_outstanding, is_resent_at, lost_places, passed, places_from, resent_one, ticked_one, with_outcome}
+use Rattle.request_record.specs.Record.{RequestsState, age_of, answered_in, at, counted_at, counts_at, is_lost_at, is_outstanding, is_resent_at, lost_places, places_from, resent_one, ticked_one, with_outcome}
 use Rattle.request_record.specs.Asking.{AreApart, AsksOnce, after_message, after_tick, lost_by_tick}
 use Rattle.request_record.proofs.RecordLaws.{counts_is}
 use Rattle.request_record.proofs.AskingLaws.{once_asked}
 use Rattle.share_opening.specs.Reads.{Brought}
 use Rattle.share_reading.specs.Reading as reading
-use Rattle.share_reading.specs.Reads.{IsAsked, IsRest}
+use Rattle.share_reading.specs.Reads.{IsAsked}
 use Rattle.share_reading.specs.Verdict.{Settled, brought_of}
 use Rattle.share_reading.specs.declared.reading.Reading as readings
 use Rattle.share_reading.proofs.ConsecutiveLemmas.{contains_cases, contains_head, contains_none, contains_tail}
 use Rattle.share_reading.proofs.VerdictLemmas.{brought_has}
 use Rattle.checker.specs.Right.{AreOfShares}
-use Rattle.checker.specs.Shares.{settled_in, settled_of}
-use Rattle.checker.specs.Book.{IsAbout}
-use Rattle.checker.proofs.Entries.{BecomesAt, GoesTo, IsSettledBy, WasAt, about_by, about_same, both, get_pushed, get_set_other, get_set_same, settled_from, settled_has, settled_push, unsettled, was_at}
-use Rattle.checker.proofs.AnswerMoves.{IsBroughtBy, IsSafeToAsk, brought_from, more_asked, next_request}
+use Rattle.checker.specs.Shares.{settled_of}
+use Rattle.checker.proofs.Entries.{BecomesAt, GoesTo, IsSettledBy, about_by, both, get_pushed, get_set_other, get_set_same, settled_from, settled_has, settled_push, unsettled, was_at}
+use Rattle.checker.proofs.AnswerMoves.{IsSafeToAsk, brought_from, more_asked, next_request}
 
 -- ---- a message
 
@@ -88,10 +86,10 @@ counted_by from now m s place counts =
     subst (λ (l : List Request). IsCounted s.entries l place) (sym result) (record {
       goes = goes_set s.entries place q m.body is.there is.waits;
       waited = λ i r h e. (let same : q ≡ r = same_Some q r (sym is.there ∙ ap (slice_get s.entries) (alone place i h) ∙ e) in
-      ap (λ (x : Request). is_outstanding x.outcome) (sym same) ∙ is.waits);
+          ap (λ (x : Request). is_outstanding x.outcome) (sym same) ∙ is.waits);
       quiet = λ i r h e. (let new : with_outcome q (Answered m.body) ≡ r =
-      same_Some (with_outcome q (Answered m.body)) r (sym (get_set_same s.entries place q (with_outcome q (Answered m.body)) is.there) ∙ ap (slice_get ns) (alone place i h) ∙ e) in
-      ap (λ (x : Request). is_outstanding x.outcome) (sym new));
+          same_Some (with_outcome q (Answered m.body)) r (sym (get_set_same s.entries place q (with_outcome q (Answered m.body)) is.there) ∙ ap (slice_get ns) (alone place i h) ∙ e) in
+          ap (λ (x : Request). is_outstanding x.outcome) (sym new));
       inside = λ i h. subst (λ j. j < length ns) (alone place i h)
           (slice_get_within ns place (with_outcome q (Answered m.body)) (get_set_same s.entries place q (with_outcome q (Answered m.body)) is.there));
     })
@@ -179,34 +177,34 @@ ticked_at : (now : ℕ) (es : List Request) → IsTicked es (map (ticked_one now
 ticked_at now es = record {
   goes = record { long = length-map es (ticked_one now); each = each };
   waited = λ i r h e. (
-    let p = of_places (is_lost_at now) 0 es i h in
-    let same : p.request ≡ r = same_Some p.request r (sym p.there ∙ ap (slice_get es) (omega (arith, p.is)) ∙ e) in
-    lost_waits now r (ap (is_lost_at now) (sym same) ∙ p.passes));
+      let p = of_places (is_lost_at now) 0 es i h in
+      let same : p.request ≡ r = same_Some p.request r (sym p.there ∙ ap (slice_get es) (omega (arith, p.is)) ∙ e) in
+      lost_waits now r (ap (is_lost_at now) (sym same) ∙ p.passes));
   quiet = λ i r h e. (
-    let p = of_places (is_lost_at now) 0 es i h in
-    let new : ticked_one now p.request ≡ r = same_Some (ticked_one now p.request) r (sym (get_map (ticked_one now) es p.index p.request p.there) ∙ ap (slice_get (map (ticked_one now) es)) (omega (arith, p.is)) ∙ e) in
-    ap (λ (x : Request). x.outcome) (sym new) ∙ (rw p.passes refl));
+      let p = of_places (is_lost_at now) 0 es i h in
+      let new : ticked_one now p.request ≡ r = same_Some (ticked_one now p.request) r (sym (get_map (ticked_one now) es p.index p.request p.there) ∙ ap (slice_get (map (ticked_one now) es)) (omega (arith, p.is)) ∙ e) in
+      ap (λ (x : Request). x.outcome) (sym new) ∙ (rw p.passes refl));
   inside = λ i h. (let p = of_places (is_lost_at now) 0 es i h in omega (arith, p.is, slice_get_within es p.index p.request p.there, length-map es (ticked_one now)));
 }
   where
     each : (i : ℕ) (r : Request) → slice_get es i ≡ Some r → BecomesAt (map (ticked_one now) es) (lost_places now es) i r
     each i r e = elim (ticked_cases now r) [
       | inl lost ↦ record {
-          request = ticked_one now r;
-          there = get_map (ticked_one now) es i r e;
-          server = ap (λ (x : Request). x.server) lost.1;
-          asked = ap (λ (x : Request). x.asked) lost.1;
-          still = quiet_ticked now r;
-          waits = inr (subst (Contains (lost_places now es)) (omega arith) (in_places (is_lost_at now) 0 es i r e lost.0));
-        }
+        request = ticked_one now r;
+        there = get_map (ticked_one now) es i r e;
+        server = ap (λ (x : Request). x.server) lost.1;
+        asked = ap (λ (x : Request). x.asked) lost.1;
+        still = quiet_ticked now r;
+        waits = inr (subst (Contains (lost_places now es)) (omega arith) (in_places (is_lost_at now) 0 es i r e lost.0));
+      }
       | inr same ↦ record {
-          request = ticked_one now r;
-          there = get_map (ticked_one now) es i r e;
-          server = same.0;
-          asked = same.1;
-          still = quiet_ticked now r;
-          waits = inl same.2;
-        }
+        request = ticked_one now r;
+        there = get_map (ticked_one now) es i r e;
+        server = same.0;
+        asked = same.1;
+        still = quiet_ticked now r;
+        waits = inl same.2;
+      }
     ]
 
 pub ticked_by : (now : ℕ) (s : RequestsState) → IsTicked s.entries (after_tick now s).entries (lost_by_tick now s)

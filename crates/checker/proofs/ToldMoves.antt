@@ -1,29 +1,27 @@
 -- How the shares that a server offers are added to the others.
-use Rattle.std.proofs.Common.{◌≡◌, ◌≢◌, ℕ, zero, suc, ◌+◌, ◌-◌, ◌<◌, ◌≤◌, Bool, true, false, cond, ltb, leb, List, [], ◌∷◌, ◌++◌, length, set, map, take, drop, filter, All, get_or, Option, Some, None, ap, refl, sym, subst, ◌∙◌, arith, inl, inr, ◌⊎◌, true≢false}
-use Rattle.std.specs.Prelude.{Contains, slice_get, ◌&&◌}
+use Rattle.std.proofs.Common.{◌≡◌, ℕ, zero, suc, ◌+◌, ◌-◌, ◌<◌, ◌≤◌, Bool, true, false, cond, ltb, leb, List, [], ◌∷◌, ◌++◌, length, set, map, take, drop, filter, All, Some, ap, refl, sym, subst, ◌∙◌, arith, inl, inr, ◌⊎◌}
+use Rattle.std.specs.Prelude.{Contains, slice_get}
 use Rattle.std.proofs.lemmas.Bool.{cases_lt, leb-true, le-leb}
 use Rattle.std.proofs.lemmas.List.{length-append, length-set, length-map, length-drop, drop-append-le, map-append, take_all, take-append-le}
-use Rattle.std.proofs.Math.Seq.{drop-append_seam, take-append_seam}
+use Rattle.std.proofs.Math.Seq.{drop-append_seam}
 use Rattle.std.proofs.lemmas.List.Elements.{All-get_or}
-use Rattle.std.proofs.lemmas.Option.{slice_get_within, same_Some, none-some, get_or_from_slice_get}
+use Rattle.std.proofs.lemmas.Option.{slice_get_within, same_Some, get_or_from_slice_get}
 use Rattle.cap_text.specs.Cap.{VerifyCapValue}
 use Rattle.placement.specs.Matching.{Pair}
 use Rattle.wire.specs.Held.{rises_from}
 use Rattle.wire.specs.declared.message.HeldShare.{HeldShare}
 use Rattle.request_record.specs.declared.requests.Asked.{Asked}
 use Rattle.request_record.specs.declared.requests.Asked.TheVariants.{Holdings, Reading}
-use Rattle.request_record.specs.declared.requests.Outcome.TheVariants.{Lost}
 use Rattle.request_record.specs.declared.requests.Request.{Request}
 use Rattle.request_record.specs.Record.{is_outstanding}
 use Rattle.request_record.specs.Asking.{AreApart, AsksOnce}
-use Rattle.share_reading.proofs.ConsecutiveLemmas.{contains_cases, contains_head, contains_none}
+use Rattle.share_reading.proofs.ConsecutiveLemmas.{contains_cases, contains_head}
 use Rattle.checker.specs.Offers.{key_of}
 use Rattle.checker.specs.Shares.{offered_in}
-use Rattle.checker.specs.Book.{AreKeys, ArePushed, HasTold, IsAbout, IsAt, IsBook, IsNew, IsOffer, IsOwner, IsReadOnlyAt, IsStarted, IsTakenOnce, IsTold, IsUnread}
+use Rattle.checker.specs.Book.{AreKeys, ArePushed, HasTold, IsAbout, IsAt, IsBook, IsNew, IsOffer, IsOwner, IsReadOnlyAt, IsTakenOnce, IsTold}
 use Rattle.checker.specs.declared.machine.Told.{Told}
 use Rattle.checker.specs.declared.offers.Offer.{Offer}
-use Rattle.checker.specs.declared.offers.Stage.TheVariants.{Waiting, Read, Ended}
-use Rattle.checker.proofs.Entries.{about_one, about_read, about_server, both, get_set_other, get_set_same}
+use Rattle.checker.proofs.Entries.{about_one, about_read, both, get_set_other, get_set_same}
 use Rattle.checker.proofs.OfferMoves.{offer_other}
 use Rattle.checker.proofs.BookMoves.{tail}
 use Rattle.checker.proofs.Joining.{pair_at}
@@ -127,7 +125,6 @@ module _ (cap : VerifyCapValue) (es : List Request) (told : List Told) (owners :
     (listed : map key_of more ≡ map (pair_at q.server) (filter (λ (h : HeldShare). ltb h.share cap.total) held)) (rising : rises_from 0 held ≡ true)
     (offered : offered_in cap.total q.server q.outcome ≡ map (pair_at q.server) (filter (λ (h : HeldShare). ltb h.share cap.total) held))
     (fresh : All IsNew more) (taken : IsTakenOnce es place todo) where
-
   abbrev kept : List HeldShare
   kept = filter (λ (h : HeldShare). ltb h.share cap.total) held
 
@@ -202,20 +199,20 @@ module _ (cap : VerifyCapValue) (es : List Request) (told : List Told) (owners :
   keys_here = (
     omega (arith, length-append offers more),
     ap (λ (l : List Pair). take (length more) (drop (length offers) l)) (map-append key_of offers more)
-    ∙ ap (λ n. take (length more) (drop n (map key_of offers ++ map key_of more))) (sym (length-map offers key_of))
-    ∙ ap (take (length more)) (drop-append_seam (map key_of offers) (map key_of more))
-    ∙ take_all (length more) (map key_of more) (omega (arith, length-map more key_of))
-    ∙ listed
-    ∙ sym offered,
+        ∙ ap (λ n. take (length more) (drop n (map key_of offers ++ map key_of more))) (sym (length-map offers key_of))
+        ∙ ap (take (length more)) (drop-append_seam (map key_of offers) (map key_of more))
+        ∙ take_all (length more) (map key_of more) (omega (arith, length-map more key_of))
+        ∙ listed
+        ∙ sym offered,
   )
 
   keys_before : (t : Told) (keys : List Pair) → AreKeys offers t keys → AreKeys (offers ++ more) t keys
   keys_before t keys are = (
     omega (arith, are.0, length-append offers more),
     ap (λ (l : List Pair). take t.count (drop t.first l)) (map-append key_of offers more)
-    ∙ ap (take t.count) (drop-append-le t.first (map key_of offers) (map key_of more) (omega (arith, are.0, length-map offers key_of)))
-    ∙ take-append-le t.count (drop t.first (map key_of offers)) (map key_of more) (omega (arith, are.0, length-map offers key_of, length-drop t.first (map key_of offers)))
-    ∙ are.1,
+        ∙ ap (take t.count) (drop-append-le t.first (map key_of offers) (map key_of more) (omega (arith, are.0, length-map offers key_of)))
+        ∙ take-append-le t.count (drop t.first (map key_of offers)) (map key_of more) (omega (arith, are.0, length-map offers key_of, length-drop t.first (map key_of offers)))
+        ∙ are.1,
   )
 
   fresh_at : (j : ℕ) (y : Offer) → slice_get more j ≡ Some y → IsNew y
@@ -264,14 +261,14 @@ module _ (cap : VerifyCapValue) (es : List Request) (told : List Told) (owners :
           taken = λ h. is.taken (tail place is.place todo h);
         })
     | inr new ↦ record {
-        place = place;
-        first = low;
-        request = q;
-        there = there;
-        server = sym (new_server new.index x new.there);
-        quiet = quiet_here;
-        taken = not_again new.index x new.there;
-      }
+      place = place;
+      first = low;
+      request = q;
+      there = there;
+      server = sym (new_server new.index x new.there);
+      quiet = quiet_here;
+      taken = not_again new.index x new.there;
+    }
   ]
 
   tells_more : (i : ℕ) (t : Told) (r : Request) → slice_get (set told place here) i ≡ Some t → slice_get es i ≡ Some r → HasTold cap.total todo (offers ++ more) i t r

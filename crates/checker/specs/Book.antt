@@ -13,7 +13,6 @@ use Rattle.request_record.specs.declared.requests.Asked.{Asked}
 use Rattle.request_record.specs.declared.requests.Asked.TheVariants.{Holdings, Reading}
 use Rattle.request_record.specs.declared.requests.Outcome.TheVariants.{Answered, Lost, Outstanding}
 use Rattle.request_record.specs.declared.requests.Request.{Request}
-use Rattle.share_verify.specs.declared.check.Check.{Check}
 use Rattle.share_opening.specs.Reads.{Brought}
 use Rattle.share_reading.specs.Reading as reading
 use Rattle.share_reading.specs.declared.reading.Reading as readings

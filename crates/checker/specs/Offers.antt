@@ -1,5 +1,5 @@
 -- The shares that servers offered.
-use Rattle.std.specs.Prelude.{◌≡◌, ℕ, List, [], ◌∷◌, ◌++◌, if◌then◌else◌}
+use Rattle.std.specs.Prelude.{◌≡◌, ℕ, [], ◌∷◌, ◌++◌, if◌then◌else◌}
 use Rattle.placement.specs.Matching.{Pair}
 use Rattle.share_reading.specs.Reading.{is_behind}
 use Rattle.share_reading.specs.declared.reading.Reading.{Reading}

@@ -1,6 +1,6 @@
 -- What a check tells once it is done.
-use Rattle.std.specs.Prelude.{◌≡◌, ◌↔◌, ℕ, ◌≤◌, Bool, true, false, List, length, map, filter, nat_eq}
-use Rattle.std.specs.Prelude.{Contains, IsTrue, count_by}
+use Rattle.std.specs.Prelude.{◌≡◌, ◌↔◌, ℕ, ◌≤◌, Bool, true, false, List, length, map, filter}
+use Rattle.std.specs.Prelude.{Contains, IsTrue, count_by, nat_eq}
 use Rattle.std.specs.List.{range_with_len}
 use Rattle.std.specs.Set.{is_member}
 use Rattle.cap_text.specs.Cap.{VerifyCapValue}

@@ -1,12 +1,12 @@
 -- What a check's record tells of each share: who offered it, and what was read of it.
-use Rattle.std.specs.Prelude.{ℕ, ◌==◌, ◌&&◌, List, [], ◌∷◌, Bool, true, false, Some, None, map}
+use Rattle.std.specs.Prelude.{ℕ, ◌==◌, ◌&&◌, List, [], ◌∷◌, Bool, false, Some, None, map}
 use Rattle.std.specs.Prelude.{filter, nat_lt, if◌then◌else◌}
 use Rattle.std.specs.List.{flat_map}
 use Rattle.placement.specs.Matching.{Pair}
 use Rattle.wire.specs.declared.message.Body.TheVariants.{Data, Have}
 use Rattle.wire.specs.declared.message.HeldShare.{HeldShare}
 use Rattle.request_record.specs.declared.requests.Asked.{Asked}
-use Rattle.request_record.specs.declared.requests.Asked.TheVariants.{Reading}
+use Rattle.request_record.specs.declared.requests.Asked.TheVariants.{Holdings, Reading}
 use Rattle.request_record.specs.declared.requests.Outcome.{Outcome}
 use Rattle.request_record.specs.declared.requests.Outcome.TheVariants.{Answered, Outstanding}
 use Rattle.request_record.specs.declared.requests.Request.{Request}
@@ -20,9 +20,13 @@ offered_in total server (Answered (Have readonly held)) =
 offered_in total server outcome = []
 
 -- the shares that were offered, by server as asked and then as told
+abbrev pub offered_to : ℕ → ℕ → Asked → Outcome → List Pair
+offered_to total server Holdings outcome = offered_in total server outcome
+offered_to total server asked outcome = []
+
 abbrev pub offered_pairs : ℕ → List Request → List Pair
 offered_pairs total entries =
-    flat_map (λ (r : Request). offered_in total r.server r.outcome) entries
+    flat_map (λ (r : Request). offered_to total r.server r.asked r.outcome) entries
 
 -- does it ask for bytes of this share?
 abbrev pub reads_share : ℕ → Asked → Bool

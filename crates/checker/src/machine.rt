@@ -1,7 +1,8 @@
 //! How a check takes what comes, and what it asks.
 
-ghost use Rattle.std.specs.Prelude.{◌≡◌, ◌↔◌, IsTrue, ◌<◌, ◌≤◌, ◌+◌, ◌++◌, ◌∷◌, List, ℕ, [], Some, None, IfOk};
-ghost use Rattle.std.specs.Prelude.{IfNone, IfSome, OnErr, OnOk, length, slice_get, map, filter, nat_lt};
+ghost use Rattle.std.specs.Prelude.{◌≡◌, ◌↔◌, ◌<◌, ◌≤◌, ◌+◌, ◌++◌, ◌∷◌, List, ℕ, [], Some, None};
+ghost use Rattle.std.specs.Prelude.{IfNone, IfOk, IfSome, IsTrue, OnErr, OnOk, length, slice_get};
+ghost use Rattle.std.specs.Prelude.{filter, map, nat_lt};
 ghost use Rattle.placement.specs.Matching.{Pair};
 ghost use Rattle.wire.specs.Held.{AreRising};
 ghost use Rattle.wire.specs.declared.message.Body.TheVariants.{Data};
@@ -187,7 +188,13 @@ impl Machine {
         let first = self.offers.len();
         let request = &self.requests.entries()[place];
         let held = held_by(&request.outcome);
-        push_offers(self.alloc, &mut self.offers, self.cap.total(), request.server, held)?;
+        push_offers(
+            self.alloc,
+            &mut self.offers,
+            self.cap.total(),
+            request.server,
+            held,
+        )?;
         self.told[place] = Told {
             first,
             count: self.offers.len() - first,
@@ -255,8 +262,7 @@ impl Machine {
         let share = self.offers[offer].share;
         let length = ReadLength::new(reading.next_length()).unwrap();
         self.owners.push(offer)?;
-        self.requests
-            .ask(server, Asked::Reading(share, reading.next_place(), length))?;
+        self.requests.ask(server, Asked::Reading(share, reading.next_place(), length))?;
         wait(&mut self.offers, offer, reading, place);
         Ok(())
     }

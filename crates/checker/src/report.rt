@@ -75,10 +75,7 @@ fn verdict_of(offer: &Offer) -> ShareVerdict
 }
 
 // The servers and numbers of the good shares.
-fn good_pairs(
-    alloc: Global,
-    verdicts: &[ShareVerdict],
-) -> Result<Vec<(NodeId, u16)>, AllocError>
+fn good_pairs(alloc: Global, verdicts: &[ShareVerdict]) -> Result<Vec<(NodeId, u16)>, AllocError>
     ensures { IfOk result (λ pairs. pairs.items ≡ good_pairs verdicts.now) }
 {
     let mut pairs = Vec::new(alloc);

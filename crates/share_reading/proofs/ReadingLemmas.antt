@@ -1,20 +1,17 @@
 -- The reads of a share, as its reading goes on.
-use Rattle.std.proofs.Common.{◌≡◌, ◌≢◌, ℕ, ◌+◌, ◌≤◌, ◌<◌, List, [], ◌∷◌, ◌++◌, length, take, drop, min, ap, refl, sym, subst, ◌∙◌, arith, inl, inr, ◌⊎◌}
+use Rattle.std.proofs.Common.{◌≡◌, ℕ, ◌+◌, ◌≤◌, List, [], ◌∷◌, ◌++◌, length, ap, refl, sym, subst, ◌∙◌, arith, inl, inr}
 use Rattle.std.specs.Prelude.{Contains}
-use Rattle.std.proofs.lemmas.List.{append-nil}
 use Rattle.std.proofs.lemmas.List.Elements.{Contains-append_left, Contains-append_right, Contains-append_cases, Contains-push}
 use Rattle.cap_text.specs.Cap.{VerifyCapValue}
-use Rattle.ueb.specs.Shape.{Contents}
-use Rattle.wire.specs.Limits.{most_data}
 use Rattle.share_layout.specs.declared.layout.Layout.{Layout}
 use Rattle.share_layout.specs.declared.layout.Layout.TheVariants.{One, Two}
 use Rattle.share_layout.specs.declared.places.Places.{Places}
 use Rattle.share_layout.specs.Geometry.{Geometry}
 use Rattle.share_layout.specs.Layout.{header_size, places_of, width}
-use Rattle.share_layout.specs.Places.{number_at, places_in}
+use Rattle.share_layout.specs.Places.{number_at}
 use Rattle.share_layout.specs.Reading.{HasHeader}
 use Rattle.share_layout.proofs.LawLemmas.{tells_places}
-use Rattle.share_verify.specs.CapBlock.{IsUebFor, geometry_by}
+use Rattle.share_verify.specs.CapBlock.{geometry_by}
 use Rattle.share_verify.specs.Checks.{Passes}
 use Rattle.share_verify.specs.declared.check.Check.{Check}
 use Rattle.share_verify.proofs.GeometryOfUeb.{is_geometry}
@@ -28,11 +25,11 @@ use Rattle.share_opening.specs.declared.header.HeaderStart.{HeaderStart}
 use Rattle.share_opening.specs.declared.opening.Opening.{Opening}
 use Rattle.share_opening.specs.declared.opening.Opening.TheVariants.{Start, Second, Header, Block}
 use Rattle.share_opening.specs.declared.opening.Progress.TheVariants as progress
-use Rattle.share_opening.proofs.ReadLemmas.{lead_on, length-text_of, rise}
+use Rattle.share_opening.proofs.ReadLemmas.{lead_on, rise}
 use Rattle.share_opening.proofs.BlameLemmas.{refused_fail}
-use Rattle.share_reading.specs.Reading.{Advances, IsStop, is_behind, next_length, next_place}
-use Rattle.share_reading.specs.Reads.{Ask, AsksNone, End, GoOn, HasHeaderBy, IsReadBy, IsRest, IsRestBy, Stop, more_back, more_front}
-use Rattle.share_reading.specs.Whole.{AreConsecutive, IsWhole, joined}
+use Rattle.share_reading.specs.Reading.{next_length, next_place}
+use Rattle.share_reading.specs.Reads.{Ask, AsksNone, End, GoOn, HasHeaderBy, IsReadBy, IsRest, IsRestBy, Stop}
+use Rattle.share_reading.specs.Whole.{AreConsecutive}
 use Rattle.share_reading.specs.declared.reading.Reading.{Reading}
 use Rattle.share_reading.specs.declared.reading.Reading.TheVariants.{Beginning, Remaining}
 use Rattle.share_reading.specs.declared.rest.Rest.{Rest}

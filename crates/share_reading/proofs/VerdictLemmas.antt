@@ -1,8 +1,7 @@
 -- A share has at most one kind of verdict.
-use Rattle.std.proofs.Common.{◌≡◌, ◌≢◌, ℕ, ◌+◌, List, [], ◌∷◌, ◌++◌, length, Option, Some, None, ap, refl, sym, subst, ◌∙◌, inl, inr, ◌⊎◌}
+use Rattle.std.proofs.Common.{◌≡◌, ℕ, List, [], ◌∷◌, ◌++◌, length, Some, ap, refl, sym, subst, ◌∙◌, inl, inr}
 use Rattle.std.specs.Prelude.{Contains}
-use Rattle.std.specs.List.{flat_map}
-use Rattle.std.proofs.lemmas.List.Elements.{Contains-append_left, Contains-append_right, Contains-append_cases}
+use Rattle.std.proofs.lemmas.List.Elements.{Contains-append_left, Contains-append_right}
 use Rattle.std.proofs.lemmas.Option.{none-some, same_Some}
 use Rattle.cap_text.specs.Cap.{VerifyCapValue}
 use Rattle.share_verify.specs.Checks.{check_of}
@@ -11,9 +10,8 @@ use Rattle.share_verify.proofs.Passing.{sound_passes}
 use Rattle.share_verify.specs.Verify.{IsSoundShare}
 use Rattle.share_verify.specs.declared.check.Check.{Check}
 use Rattle.share_opening.specs.Reads.{Brought}
-use Rattle.share_opening.specs.Blame.{HasAt, HasReads}
-use Rattle.share_reading.specs.Reading.{next_length, next_place}
-use Rattle.share_reading.specs.Whole.{IsWhole}
+use Rattle.share_opening.specs.Blame.{HasReads}
+use Rattle.share_reading.specs.Reading.{next_place}
 use Rattle.share_reading.specs.Verdict.{AreAnswered, AreExclusive, AreFull, FailsFirst, IsGood, IsLost, IsStopped, IsVerdict, Settled, brought_at, brought_by, brought_of}
 use Rattle.share_reading.specs.declared.verdict.Verdict.{Verdict}
 use Rattle.share_reading.specs.declared.verdict.Verdict.TheVariants.{Good, Corrupt, Lost}

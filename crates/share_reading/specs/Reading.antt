@@ -1,6 +1,6 @@
 -- How a share is read whole: which bytes are read, and what comes of them. Places and lengths are
 -- in bytes.
-use Rattle.std.specs.Prelude.{◌≡◌, ◌≢◌, ℕ, ◌+◌, ◌-◌, ◌<◌, ◌≤◌, List, length, min, Bool}
+use Rattle.std.specs.Prelude.{◌≡◌, ◌≢◌, ℕ, ◌+◌, ◌-◌, ◌≤◌, List, length, min, Bool}
 use Rattle.std.specs.Prelude.{true, false}
 use Rattle.wire.specs.Limits.{most_data}
 use Rattle.cap_text.specs.Cap.{VerifyCapValue}

@@ -4,6 +4,7 @@ use Rattle.std.specs.Prelude.{◌≡◌, ◌⊎◌, ℕ, ◌+◌, ◌≤◌, Lis
 use Rattle.std.specs.Prelude.{if◌then◌else◌}
 use Rattle.cap_text.specs.Cap.{VerifyCapValue}
 use Rattle.ueb.specs.Shape.{Contents}
+use Rattle.share_layout.specs.declared.places.Places.{Places}
 use Rattle.share_layout.specs.Layout.{header_size, places_of, width}
 use Rattle.share_verify.specs.CapBlock.{IsUebFor, geometry_by}
 use Rattle.share_verify.specs.Checks.{Passes}
@@ -21,14 +22,17 @@ use Rattle.share_reading.specs.declared.rest.Rest.{Rest}
 use Rattle.share_reading.specs.declared.reading.Reading.TheVariants.{Beginning, Remaining}
 use Rattle.share_reading.specs.declared.reading.Progress.TheVariants.{Next, Whole}
 
+-- where an extension block stands: behind its length
+abbrev pub block_place : Places → ℕ
+block_place p = p.extension_block + width p.layout
+
 -- a read of so many bytes is one of the rest: it lies between the header and the extension block,
 -- by an extension block of the cap's file that these reads brought
 pub record IsRest (cap : VerifyCapValue) (reads : List Brought) (place len : ℕ) : Type 0 where
   pub u : Contents
   pub block : List ℕ
   pub ueb : IsUebFor cap block u
-  pub brought : Contains reads
-      ((places_of (geometry_by u)).extension_block + width (places_of (geometry_by u)).layout, block)
+  pub brought : Contains reads (block_place (places_of (geometry_by u)), block)
   pub low : header_size (places_of (geometry_by u)).layout ≤ place
   pub high : place + len ≤ (places_of (geometry_by u)).extension_block
 

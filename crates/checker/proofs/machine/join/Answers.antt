@@ -1,4 +1,4 @@
-use Rattle.std.proofs.Common.{◌≡◌, ◌∙◌, ◌++◌, List, ℕ, sym, ap, Vec, Global}
+use Rattle.std.proofs.Common.{◌∙◌, ℕ, sym, ap, Vec, Global}
 use Rattle.std.proofs.lemmas.List.{append-nil}
 use Rattle.checker.proofs.Joining.{joined_all, joined_more, joined_none}
 use Rattle.checker.proofs.machine.join.Goals.{in-Some+in_ok-extend_from_slice, in_default}

@@ -1,4 +1,4 @@
-use Rattle.std.proofs.Common.{◌≡◌, ◌<◌, ◌≤◌, ◌+◌, ◌∙◌, take, ap, sym, subst, refl, Vec, Global}
+use Rattle.std.proofs.Common.{◌<◌, ◌≤◌, ◌+◌, ◌∙◌, take, ap, sym, subst, refl, Vec, Global}
 use Rattle.checker.specs.Book.{ArePushed}
 use Rattle.checker.specs.declared.offers.Offer.{Offer}
 use Rattle.checker.proofs.Joining.{pushed_all, pushed_more, pushed_none, pushed_same}

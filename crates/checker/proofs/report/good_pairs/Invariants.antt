@@ -1,6 +1,4 @@
-use Rattle.std.proofs.Common.{◌≡◌, ◌++◌, drop, map}
-use Rattle.std.specs.List.{flat_map}
-use Rattle.checker.specs.Found.{found_among, found_of}
+use Rattle.std.proofs.Common.{◌≡◌, ◌++◌, drop}
 use Rattle.checker.specs.Report.{good_pairs}
 use Rattle.checker.proofs.report.good_pairs.Given as goal
 

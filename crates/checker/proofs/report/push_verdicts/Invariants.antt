@@ -1,7 +1,5 @@
 use Rattle.std.proofs.Common.{◌≡◌, ◌++◌, drop, map}
-use Rattle.std.specs.List.{flat_map}
-use Rattle.checker.specs.Found.{found_among, found_of}
-use Rattle.checker.specs.Report.{good_pairs}
+use Rattle.checker.specs.Found.{found_of}
 use Rattle.checker.proofs.report.push_verdicts.Given as goal
 
 -- the verdicts so far, and those that the rest gives

@@ -1,7 +1,6 @@
-use Rattle.std.proofs.Common.{◌≡◌, ◌++◌, drop, map}
+use Rattle.std.proofs.Common.{◌≡◌, ◌++◌, drop}
 use Rattle.std.specs.List.{flat_map}
-use Rattle.checker.specs.Found.{found_among, found_of}
-use Rattle.checker.specs.Report.{good_pairs}
+use Rattle.checker.specs.Found.{found_among}
 use Rattle.checker.proofs.report.verdicts_of.Given as goal
 
 -- the verdicts so far, and those that the rest gives

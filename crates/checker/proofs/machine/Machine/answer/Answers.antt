@@ -1,12 +1,11 @@
-use Rattle.std.proofs.Common.{◌≡◌, ◌∙◌, ℕ, List, [], ◌∷◌, Bool, true, false, inl, Some, ap, sym, subst, refl}
+use Rattle.std.proofs.Common.{◌≡◌, ◌∙◌, ℕ, [], ◌∷◌, inl, Some, sym, subst}
 use Rattle.std.proofs.lemmas.Bool.{false≢true}
-use Rattle.request_record.specs.declared.requests.Request.{Request}
 use Rattle.request_record.specs.Record.{RequestsState, counts_at}
 use Rattle.wire.specs.declared.message.Message.{Message}
 use Rattle.request_record.specs.Asking.{AsksOnce, after_message}
 use Rattle.request_record.proofs.AskingLaws.{once_answered}
 use Rattle.share_reading.proofs.ConsecutiveLemmas.{contains_head, contains_none}
-use Rattle.checker.specs.Book.{IsSafe, state_of}
+use Rattle.checker.specs.Book.{state_of}
 use Rattle.checker.specs.Moves.{GoesOn}
 use Rattle.checker.specs.declared.status.CheckStatus.TheVariants.{Running, Failed}
 use Rattle.checker.specs.declared.status.CheckStatus.{CheckStatus}
@@ -57,9 +56,12 @@ take_in-requires-clause-settled c r e =
     c.in-Some.place r (contains_head c.in-Some.place []) e
 
 pub take_in-requires-clause-book : goal.take_in-requires-clause-book
-take_in-requires-clause-book c = ([], book_counted c.args.self.now c.take_answer.new.self c.in-Some.place
-    (counted_as c.args.from c.args.now c.args.message c.args.self.now.requests c.take_answer.new.self c.in-Some.place c.in-Some.ensures.place c.take_answer.ensures.«record»)
-    (c.requires.kept.book (runs_well c.args.status (c.is_running.ensures.0 c.if-not-is_running.false))))
+take_in-requires-clause-book c = (
+  [],
+  book_counted c.args.self.now c.take_answer.new.self c.in-Some.place
+      (counted_as c.args.from c.args.now c.args.message c.args.self.now.requests c.take_answer.new.self c.in-Some.place c.in-Some.ensures.place c.take_answer.ensures.«record»)
+      (c.requires.kept.book (runs_well c.args.status (c.is_running.ensures.0 c.if-not-is_running.false))),
+)
 
 pub settle-requires-clause-book : goal.settle-requires-clause-book
 settle-requires-clause-book c =

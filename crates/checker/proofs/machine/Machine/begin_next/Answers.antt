@@ -1,14 +1,9 @@
-use Rattle.std.proofs.Common.{◌≡◌, ◌+◌, ◌<◌, ◌∙◌, ℕ, List, [], ◌∷◌, Some, length, get_or, ap, sym, subst, refl, arith}
-use Rattle.std.specs.Prelude.{slice_get}
+use Rattle.std.proofs.Common.{◌+◌, ◌∙◌, length, ap, subst, arith}
 use Rattle.std.proofs.lemmas.List.{length-set}
-use Rattle.std.proofs.lemmas.Option.{slice_get-get_or}
 use Rattle.share_opening.specs.declared.opening.Opening.TheVariants.{Start}
 use Rattle.share_reading.specs.declared.reading.Reading.TheVariants.{Beginning}
 use Rattle.share_reading.specs.declared.reading.Reading.{Reading}
-use Rattle.checker.specs.Offers.{key_of}
 use Rattle.checker.specs.Book.{HasAsked}
-use Rattle.checker.specs.declared.machine.Machine.{Machine}
-use Rattle.checker.specs.declared.offers.Offer.{Offer}
 use Rattle.checker.proofs.AnswerMoves.{safe_first}
 use Rattle.checker.proofs.MachineMoves.{asks_asked, book_begun, one_ask, get_of, kinds_asked_now, once_asked_now, shares_asked_now, unread_at}
 use Rattle.checker.proofs.machine.Machine.begin_next.Goals as goal

@@ -1,6 +1,6 @@
 use Rattle.std.proofs.Common.{◌+◌, drop, inr, ap}
 use Rattle.request_record.specs.Record.{is_outstanding}
-use Rattle.checker.proofs.Keeping.{losing_all, losing_first, losing_more, losing_none, losing_settled}
+use Rattle.checker.proofs.Keeping.{losing_first, losing_more, losing_none, losing_settled}
 use Rattle.checker.proofs.machine.Machine.lose.Goals as goal
 
 pub loop-place-init : goal.loop-place-init

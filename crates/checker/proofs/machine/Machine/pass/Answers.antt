@@ -1,11 +1,10 @@
-use Rattle.std.proofs.Common.{◌≡◌, ◌∙◌, ℕ, List, [], ◌∷◌, Bool, true, false, inl, Some, ap, sym, subst, refl}
+use Rattle.std.proofs.Common.{◌≡◌, ◌∙◌, ℕ, List, sym, subst}
 use Rattle.std.proofs.lemmas.Bool.{false≢true}
-use Rattle.request_record.specs.declared.requests.Request.{Request}
 use Rattle.request_record.specs.Record.{RequestsState}
 use Rattle.std.specs.Prelude.{Contains}
 use Rattle.request_record.specs.Asking.{AsksOnce, after_tick, lost_by_tick}
 use Rattle.request_record.proofs.AskingLaws.{once_ticked}
-use Rattle.checker.specs.Book.{HasBook, IsSafe, state_of}
+use Rattle.checker.specs.Book.{HasBook, state_of}
 use Rattle.checker.specs.Moves.{GoesOn}
 use Rattle.checker.specs.declared.status.CheckStatus.TheVariants.{Running, Failed}
 use Rattle.checker.specs.declared.status.CheckStatus.{CheckStatus}

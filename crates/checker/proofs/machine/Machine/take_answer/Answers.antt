@@ -1,16 +1,14 @@
-use Rattle.std.proofs.Common.{◌≡◌, ◌∙◌, ℕ, List, [], ◌∷◌, Ok, Err, Some, ap, sym, subst, refl}
+use Rattle.std.proofs.Common.{◌∙◌, List, Ok, ap, sym, subst}
 use Rattle.std.specs.Prelude.{slice_get, slice_set}
-use Rattle.std.specs.Result.{OnErr, OnOk}
-use Rattle.share_reading.specs.Reading as reading
 use Rattle.share_reading.specs.declared.reading.Progress.{Progress}
 use Rattle.share_reading.specs.declared.reading.Progress.TheVariants.{Next, Whole}
 use Rattle.checker.specs.Offers.{with_stage}
-use Rattle.checker.specs.Book.{AsksMore, AsksNothing, HasAsked, HasBook, IsBook, IsReadOn, IsSafe}
+use Rattle.checker.specs.Book.{AsksMore, HasBook, IsBook, IsReadOn, IsSafe}
 use Rattle.checker.specs.declared.offers.Offer.{Offer}
 use Rattle.checker.specs.declared.offers.Stage.TheVariants.{Ended}
 use Rattle.checker.proofs.Entries.{get_set_same}
 use Rattle.checker.proofs.AnswerMoves.{advances_long}
-use Rattle.checker.proofs.MachineMoves.{asks_asked, book_judged, book_stopped, by_result, on_ok, one_ask, safe_same, set_set, taken_book, taken_kinds, taken_once, taken_shares}
+use Rattle.checker.proofs.MachineMoves.{book_judged, book_stopped, by_result, on_ok, one_ask, safe_same, set_set, taken_book, taken_kinds, taken_once, taken_shares}
 use Rattle.checker.proofs.machine.Machine.take_answer.Goals as goal
 
 pub returns-in-Err-clause-book : goal.returns-in-Err-clause-book

@@ -1,7 +1,6 @@
-use Rattle.std.proofs.Common.{◌≡◌, ◌∙◌, ℕ, ◌-◌, List, [], ◌∷◌, Some, length, get_or, ap, sym, refl, arith}
+use Rattle.std.proofs.Common.{◌∙◌, List, length, get_or, ap, refl, arith}
 use Rattle.std.proofs.lemmas.Option.{slice_get_read}
 use Rattle.request_record.specs.declared.requests.Request.{Request}
-use Rattle.checker.specs.Book.{AsksNothing}
 use Rattle.checker.proofs.ToldMoves.{told_pushed}
 use Rattle.checker.proofs.machine.Machine.take_holdings.Goals as goal
 

@@ -1,12 +1,8 @@
-use Rattle.std.proofs.Common.{◌≡◌, ◌≢◌, ◌∙◌, ℕ, ◌+◌, ◌-◌, ◌<◌, ◌≤◌, List, [], ◌∷◌, Some, length, slice_index_or, ap, sym, subst, refl, arith}
-use Rattle.std.specs.Prelude.{slice_get}
+use Rattle.std.proofs.Common.{◌≡◌, ◌∙◌, ℕ, ◌-◌, ◌<◌, ◌≤◌, List, ◌∷◌, length, slice_index_or, ap, sym, refl, arith}
 use Rattle.std.proofs.lemmas.Option.{get_or_from_slice_get, slice_get_read, slice_get_within}
-use Rattle.share_reading.specs.declared.reading.Reading.{Reading}
-use Rattle.checker.specs.Book.{HasBook, IsBook, IsOwner}
+use Rattle.checker.specs.Book.{HasBook}
 use Rattle.checker.specs.declared.machine.Machine.{Machine}
 use Rattle.checker.specs.declared.offers.Offer.{Offer}
-use Rattle.checker.specs.declared.offers.Stage.{Stage}
-use Rattle.checker.specs.declared.offers.Stage.TheVariants.{Waiting, Read, Ended}
 use Rattle.checker.proofs.MachineMoves.{IsOwned, book_passed, owned_at}
 use Rattle.checker.proofs.machine.Machine.take_in.Goals as goal
 
