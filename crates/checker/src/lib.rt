@@ -2,9 +2,10 @@
 //! share that they offer.
 //!
 //! A check asks every server once what it holds, and reads each share offered to its end, one piece
-//! after another. As many shares are read at once as there are servers, and 64 more. Its record
-//! keeps every answer that counted, so a check holds the shares that it read; beside it at most one
-//! share is joined at a time, when its last bytes came.
+//! of at most 32,768 bytes after another. It begins to read a share while fewer requests wait than
+//! there are servers and 64 more, so silent servers do not hold the others up. Its record keeps
+//! every answer that counted, so a check holds the shares that it read; beside it at most one share
+//! is joined at a time, when its last bytes came.
 #![tactic(auto)]
 
 mod check;

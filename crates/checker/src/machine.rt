@@ -31,7 +31,7 @@ use share_reading::{Progress, Reading, Verdict, judge};
 use std::alloc::{AllocError, Global};
 use wire::message::{Body, HeldShare, Message, NodeId, ReadLength};
 
-/// How many more shares than servers are read at once.
+/// How many requests may wait at once beside one for each server.
 const MORE_AT_ONCE: usize = 64;
 
 /// Which of the offers are those of one server.
@@ -283,8 +283,7 @@ impl Machine {
         Ok(judge(&self.cap, u16::from(found.share), &bytes))
     }
 
-    // Begins to read more shares, where fewer are read at once than may be, and tells where it
-    // stands.
+    // Begins to read more shares, while fewer requests wait than may, and tells where it stands.
     fn settle(&mut self) -> Result<CheckStatus, AllocError>
         requires safe { IsSafe self.old }
         requires book { HasBook self.old [] }

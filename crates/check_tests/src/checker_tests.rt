@@ -1,0 +1,391 @@
+//! Checks of shares at servers in memory, some of which do not do as they should.
+
+use cap_text::{Cap, VerifyCap};
+use checker::Check;
+use checker::status::CheckStatus;
+use file_encoding::{Encoded, Params, encode_all};
+use share_layout::Places;
+use share_reading::Verdict;
+use share_verify::Check as Section;
+use std::alloc::{AllocError, Global};
+use wire::message::{Body, HeldList, HeldShare, Message, NodeId, ReadData};
+
+// A file of so many bytes has 10 shares, of which 3 are needed; share n is at server n. The rest of
+// a share takes two reads.
+const SIZE: usize = 131_074;
+
+// The servers.
+const NODES: [NodeId; 10] = [0, 1, 2, 3, 4, 5, 6, 7, 8, 9];
+
+// The share with which something is wrong.
+const WRONG: usize = 3;
+
+// What is wrong.
+#[derive(Clone, Copy)]
+enum Wrong {
+    Nothing,
+    // The servers from this one on hold nothing.
+    Gone(usize),
+    // Each server holds all shares.
+    Copied,
+    // This byte of the share is another one.
+    Byte(usize),
+    // This byte from its end.
+    ByteFromEnd(usize),
+    // The first byte of this section: the unused place, the ciphertext tree, the block tree, or
+    // the share hashes.
+    Section(usize),
+    // The extension block's length is 0.
+    NoBlock,
+    // More bytes stand behind the extension block.
+    Grown,
+    // The share ends at this place.
+    Cut(usize),
+    // The header and the length of the extension block are spelled in the second layout.
+    SecondLayout,
+    // The server answers no read.
+    Mute,
+    // It never answers.
+    Silent,
+    // It answers each read that it has no such share.
+    NoShare,
+}
+
+#[derive(Clone, Copy, PartialEq, Eq, Debug)]
+enum Found {
+    Nothing,
+    Good,
+    Lost,
+    Layout,
+    Ueb,
+    Unused,
+    CiphertextTree,
+    BlockTree,
+    ShareHashes,
+    Data,
+}
+
+// What a check told: how many verdicts, how many of them are `Good`, the one on the share that is
+// wrong, and what follows from the good ones.
+#[derive(Clone, Copy, PartialEq, Eq, Debug)]
+struct Ending {
+    verdicts: usize,
+    good: usize,
+    found: Found,
+    healthy: bool,
+    recoverable: bool,
+    happiness: usize,
+}
+
+fn encoded(alloc: Global) -> Option<Encoded> {
+    let mut file = Vec::with_capacity(alloc, SIZE).ok()?;
+    for i in 0..SIZE {
+        file.push((i % 251) as u8).ok()?;
+    }
+    let params = Params::new(3, 7, 10, 4_096).ok()?;
+    encode_all(alloc, &file, &[], &params).ok()
+}
+
+fn verify_cap(encoded: &Encoded) -> Option<VerifyCap> {
+    match encoded.cap {
+        Cap::Chk(cap) => Some(cap.to_verify()),
+        _ => None,
+    }
+}
+
+// The share as its server has it.
+fn kept_share(alloc: Global, share: &[u8], wrong: Wrong) -> Option<Vec<u8>> {
+    let mut bytes = Vec::from_slice(alloc, share).ok()?;
+    let places = Places::read(share).ok()?;
+    let block = places.extension_block as usize;
+    match wrong {
+        Wrong::Byte(place) => *bytes.get_mut(place)? ^= 1,
+        Wrong::ByteFromEnd(behind) => *bytes.get_mut(share.len().checked_sub(behind)?)? ^= 1,
+        Wrong::Section(number) => {
+            let sections = [
+                places.unused,
+                places.ciphertext_tree,
+                places.block_tree,
+                places.share_hashes.saturating_add(2),
+            ];
+            *bytes.get_mut(*sections.get(number)? as usize)? ^= 1;
+        }
+        Wrong::NoBlock => {
+            for place in block..block.saturating_add(4) {
+                *bytes.get_mut(place)? = 0;
+            }
+        }
+        Wrong::Grown => bytes.extend_from_slice(&[7; 40]).ok()?,
+        Wrong::Cut(place) => bytes.truncate(place),
+        Wrong::SecondLayout => return second_layout(alloc, share, &places),
+        _ => {}
+    }
+    Some(bytes)
+}
+
+// The share spelled in the second layout: all places are 32 bytes further, and the length of the
+// extension block takes four bytes more.
+fn second_layout(alloc: Global, share: &[u8], places: &Places) -> Option<Vec<u8>> {
+    let block = places.extension_block as usize;
+    let mut bytes = Vec::new(alloc);
+    bytes.extend_from_slice(&[0, 0, 0, 2]).ok()?;
+    for i in 0..8usize {
+        let from = i.saturating_mul(4).saturating_add(4);
+        let mut number = number_in(share.get(from..from.saturating_add(4))?)?;
+        if 2 <= i {
+            number = number.saturating_add(32);
+        }
+        bytes.extend_from_slice(&number.to_be_bytes()).ok()?;
+    }
+    bytes.extend_from_slice(share.get(36..block)?).ok()?;
+    bytes.extend_from_slice(&[0; 4]).ok()?;
+    bytes.extend_from_slice(share.get(block..)?).ok()?;
+    Some(bytes)
+}
+
+fn number_in(bytes: &[u8]) -> Option<u64> {
+    let mut number: u64 = 0;
+    for byte in bytes {
+        number = number.saturating_mul(256).saturating_add(u64::from(*byte));
+    }
+    Some(number)
+}
+
+// What a server answers, if it does.
+fn answer(
+    alloc: Global,
+    encoded: &Encoded,
+    wrong: Wrong,
+    node: NodeId,
+    request: &Message,
+) -> Option<Option<Message>> {
+    let is_wrong = usize::from(node) == WRONG;
+    if is_wrong && matches!(wrong, Wrong::Silent) {
+        return Some(None);
+    }
+    let body = match &request.body {
+        Body::Ask(_) => Body::Have(false, held_by(alloc, encoded, wrong, usize::from(node))?),
+        Body::Read(_, _, _) if is_wrong && matches!(wrong, Wrong::Mute) => return Some(None),
+        Body::Read(_, _, _) if is_wrong && matches!(wrong, Wrong::NoShare) => Body::NoShare,
+        Body::Read(id, offset, length) => {
+            let share = encoded.shares.get(usize::from(id.share))?.as_slice();
+            let wrong_here = if is_wrong { wrong } else { Wrong::Nothing };
+            let kept = kept_share(alloc, share, wrong_here)?;
+            let from = (*offset as usize).min(kept.len());
+            let upto = from.saturating_add(length.get() as usize).min(kept.len());
+            let bytes = Vec::from_slice(alloc, kept.get(from..upto)?).ok()?;
+            Body::Data(ReadData::from_vec(bytes)?)
+        }
+        _ => return None,
+    };
+    Some(Some(Message {
+        session: request.session,
+        number: request.number,
+        body,
+    }))
+}
+
+fn held_by(alloc: Global, encoded: &Encoded, wrong: Wrong, node: usize) -> Option<HeldList> {
+    let mut held = Vec::new(alloc);
+    for number in 0..encoded.shares.len() {
+        let is_held = match wrong {
+            Wrong::Gone(first) => number == node && number < first,
+            Wrong::Copied => true,
+            _ => number == node,
+        };
+        if is_held {
+            let share = u8::try_from(number).ok()?;
+            held.push(HeldShare {
+                share,
+                digest: [0; 32],
+            })
+            .ok()?;
+        }
+    }
+    // Numbers of the file's count of shares and above are passed over.
+    held.push(HeldShare {
+        share: 10,
+        digest: [0; 32],
+    })
+    .ok()?;
+    HeldList::from_vec(held)
+}
+
+fn found_of(verdict: Verdict) -> Found {
+    match verdict {
+        Verdict::Good => Found::Good,
+        Verdict::Lost => Found::Lost,
+        Verdict::Corrupt(Section::Layout) => Found::Layout,
+        Verdict::Corrupt(Section::Ueb) => Found::Ueb,
+        Verdict::Corrupt(Section::Unused) => Found::Unused,
+        Verdict::Corrupt(Section::CiphertextTree) => Found::CiphertextTree,
+        Verdict::Corrupt(Section::BlockTree) => Found::BlockTree,
+        Verdict::Corrupt(Section::ShareHashes) => Found::ShareHashes,
+        Verdict::Corrupt(Section::Data) => Found::Data,
+    }
+}
+
+// A check to its end. `None` where more requests wait at once than servers and 64 more.
+fn end_of(alloc: Global, encoded: &Encoded, wrong: Wrong) -> Option<Ending> {
+    let cap = verify_cap(encoded)?;
+    let mut check = Check::start(alloc, cap, &NODES, 5, 0).ok()?;
+    let mut now: u64 = 0;
+    for _ in 0..1_000 {
+        if check.status() != CheckStatus::Running {
+            break;
+        }
+        let mut sent: Vec<(NodeId, Message)> = Vec::new(alloc);
+        for _ in 0..1_000 {
+            match check.take_outgoing() {
+                Some(request) => sent.push(request).ok()?,
+                None => break,
+            }
+        }
+        if 74 < sent.len() {
+            return None;
+        }
+        if sent.is_empty() {
+            now = now.saturating_add(5);
+            check.tick(now).ok()?;
+        }
+        for (node, request) in &sent {
+            if let Some(message) = answer(alloc, encoded, wrong, *node, request)? {
+                check.on_message(*node, message, now).ok()?;
+            }
+        }
+    }
+    let report = check.report(alloc).ok()??;
+    let mut found = Found::Nothing;
+    let mut good: usize = 0;
+    for verdict in report.verdicts.as_slice() {
+        if usize::from(verdict.server) == WRONG && usize::from(verdict.share) == WRONG {
+            found = found_of(verdict.verdict);
+        }
+        if verdict.verdict == Verdict::Good {
+            good = good.saturating_add(1);
+        }
+    }
+    Some(Ending {
+        verdicts: report.verdicts.as_slice().len(),
+        good,
+        found,
+        healthy: report.healthy,
+        recoverable: report.recoverable,
+        happiness: report.happiness,
+    })
+}
+
+// One share that is wrong among ten.
+fn one_wrong(found: Found) -> Ending {
+    Ending {
+        verdicts: 10,
+        good: 9,
+        found,
+        healthy: false,
+        recoverable: true,
+        happiness: 9,
+    }
+}
+
+// So many good shares, of distinct numbers at distinct servers, and no others.
+fn good_ones(good: usize) -> Ending {
+    Ending {
+        verdicts: good,
+        good,
+        found: if WRONG < good {
+            Found::Good
+        } else {
+            Found::Nothing
+        },
+        healthy: good == 10,
+        recoverable: 3 <= good,
+        happiness: good,
+    }
+}
+
+const WRONG_SHARES: [(Wrong, Found); 15] = [
+    // The version, the blocks' length, and the place of the share hashes.
+    (Wrong::Byte(3), Found::Layout),
+    (Wrong::Byte(7), Found::Layout),
+    (Wrong::Byte(30), Found::Layout),
+    (Wrong::Byte(36), Found::Data),
+    (Wrong::Byte(36_000), Found::Data),
+    (Wrong::Section(0), Found::Unused),
+    (Wrong::Section(1), Found::CiphertextTree),
+    (Wrong::Section(2), Found::BlockTree),
+    (Wrong::Section(3), Found::ShareHashes),
+    (Wrong::ByteFromEnd(1), Found::Ueb),
+    (Wrong::NoBlock, Found::Ueb),
+    (Wrong::Cut(20_000), Found::Layout),
+    (Wrong::SecondLayout, Found::Layout),
+    (Wrong::Mute, Found::Lost),
+    (Wrong::NoShare, Found::Lost),
+];
+
+#[test]
+fn wrong_shares_are_found(rt: HostRuntime) {
+    let shares = encoded(rt.alloc());
+    assert!(rt; shares.is_some());
+    if let Some(encoded) = &shares {
+        for (i, (wrong, found)) in WRONG_SHARES.iter().enumerate() {
+            let ended = end_of(rt.alloc(), encoded, *wrong);
+            assert!(rt; ended == Some(one_wrong(*found)), "share {i}: {ended:?}");
+        }
+    }
+}
+
+#[test]
+fn good_shares_are_counted(rt: HostRuntime) {
+    let shares = encoded(rt.alloc());
+    assert!(rt; shares.is_some());
+    if let Some(encoded) = &shares {
+        let counts = [
+            (Wrong::Nothing, good_ones(10)),
+            (Wrong::Grown, good_ones(10)),
+            (Wrong::Gone(8), good_ones(8)),
+            (Wrong::Gone(2), good_ones(2)),
+            (Wrong::Gone(0), good_ones(0)),
+            (
+                Wrong::Silent,
+                Ending {
+                    found: Found::Nothing,
+                    ..good_ones(9)
+                },
+            ),
+            (
+                Wrong::Copied,
+                Ending {
+                    verdicts: 100,
+                    good: 100,
+                    ..good_ones(10)
+                },
+            ),
+        ];
+        for (i, (wrong, expected)) in counts.iter().enumerate() {
+            let ended = end_of(rt.alloc(), encoded, *wrong);
+            assert!(rt; ended == Some(*expected), "check {i}: {ended:?}");
+        }
+    }
+}
+
+#[test]
+fn a_check_without_servers_is_done(rt: HostRuntime) {
+    let is_done = match without_servers(rt.alloc()) {
+        Some(is_done) => is_done,
+        None => false,
+    };
+    assert!(rt; is_done);
+}
+
+fn without_servers(alloc: Global) -> Option<bool> {
+    let cap = verify_cap(&encoded(alloc)?)?;
+    let check = Check::start(alloc, cap, &[], 5, 0).ok()?;
+    let report = check.report(alloc).ok()??;
+    Some(
+        check.status() == CheckStatus::Done
+            && !check.has_outgoing()
+            && !report.healthy
+            && !report.recoverable
+            && report.happiness == 0,
+    )
+}

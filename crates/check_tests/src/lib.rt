@@ -1,0 +1,5 @@
+//! The tests of checks.
+#![tactic(auto)]
+
+#[cfg(test)]
+mod checker_tests;
