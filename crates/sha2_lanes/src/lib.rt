@@ -1,0 +1,26 @@
+//! SHA-256 (FIPS 180-4) of eight messages of one length, side by side in the lanes of vectors.
+//!
+//! The definition is that of the crate `sha2`. No call takes memory.
+#![tactic(auto)]
+
+ghost use Rattle.std.specs.Prelude.{◌≡◌, ◌<◌, ◌^◌, ◌++◌, All, length, map};
+ghost use Rattle.sha2.specs.Sha256.{sha256};
+
+use digest::{digests, second};
+use message::hashes;
+
+mod digest;
+mod message;
+mod round;
+mod words;
+
+/// SHA-256, applied twice, of `prefix` with each of eight messages behind it. The messages have
+/// `len` bytes each, and the prefix has fewer than 2^32.
+pub fn double_sha256_of_eight(prefix: &[u8], messages: &[&[u8]; 8], len: usize) -> [[u8; 32]; 8]
+    requires prefix { length prefix.now < 2 ^ 32 }
+    requires len { len < 2 ^ 63 }
+    requires messages { All (λ m. length m.now ≡ len) messages.now }
+    ensures { result ≡ map (λ m. sha256 (sha256 (prefix.now ++ m.now))) messages.now }
+{
+    digests(second(hashes(prefix, messages, len)))
+}
