@@ -13,6 +13,8 @@ mod placement_tests;
 #[cfg(test)]
 mod sha256_tests;
 #[cfg(test)]
+mod sha2_lanes_tests;
+#[cfg(test)]
 mod tagged_hash_tests;
 #[cfg(test)]
 mod zfec_code_tests;

@@ -16,11 +16,13 @@ mod convergence;
 mod decimal;
 mod hasher;
 mod input;
+mod row;
 mod tag;
 
 pub use convergence::KeyHasher;
 pub use decimal::{DecimalText, read_decimal};
 pub use hasher::TaggedHasher;
+pub use row::{tagged_eight, tagged_pieces};
 pub use tag::Tag;
 
 /// The hash of `message` under `tag`.
