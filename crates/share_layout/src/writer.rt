@@ -143,6 +143,13 @@ impl<W: Write> ShareWriter<W> {
         self.number
     }
 
+    /// The writer, with what is written so far.
+    pub fn inner(&self) -> &W
+        ensures { W.contents result.now ≡ self.now.contents }
+    {
+        &self.writer
+    }
+
     /// The writer, with what was written.
     pub fn into_inner(self) -> W
         ensures { W.contents result ≡ self.contents }

@@ -1,31 +1,33 @@
 //! The blocks of a share against its block tree.
 
-ghost use Rattle.std.specs.Prelude.{◌≡◌, ◌<◌, ◌↔◌, IsTrue, length};
-ghost use Rattle.tagged_hash.specs.TaggedHash.{tagged_hash};
-ghost use Rattle.tagged_hash.specs.declared.tag.Tag.TheVariants.{Block};
+ghost use Rattle.std.specs.Prelude.{◌≤◌, ◌↔◌, IsTrue, length};
 ghost use Rattle.share_verify.specs.Leaves.{AreBlockHashes};
 
-use tagged_hash::{Tag, tagged};
+use tagged_hash::{Tag, pieces_from, tagged_pieces};
 
 /// Whether the leaves are the hashes of the blocks, which have `block_size` bytes each, the last
 /// one perhaps fewer.
 pub(crate) fn are_hashes_of(leaves: &[[u8; 32]], block_size: usize, blocks: &[u8]) -> bool
     ensures { IsTrue result ↔ AreBlockHashes leaves.now block_size blocks.now }
 {
-    let mut rest = blocks;
-    for leaf in leaves {
-        let (block, after) = rest.split_at(block_size.min(rest.len()));
-        if !is_block_hash(leaf, block) {
+    for group in 0..leaves.len().div_ceil(8) {
+        let first = 8 * group;
+        let end = leaves.len().min(first + 8);
+        let rest = pieces_from(blocks, block_size, first);
+        if !are_first_hashes(&leaves[first..end], block_size, rest) {
             return false;
         }
-        rest = after;
     }
     true
 }
 
-// Whether this is the block's hash.
-fn is_block_hash(leaf: &[u8; 32], block: &[u8]) -> bool
-    ensures { IsTrue result ↔ (leaf.now ≡ tagged_hash Block block.now) }
+// Whether the leaves, of which there are at most eight, are the hashes of the first blocks.
+fn are_first_hashes(leaves: &[[u8; 32]], block_size: usize, blocks: &[u8]) -> bool
+    requires { length leaves.now ≤ 8 }
+    ensures { IsTrue result ↔ AreBlockHashes leaves.now block_size blocks.now }
 {
-    *leaf == tagged(Tag::Block, block)
+    let mut hashes = [[0u8; 32]; 8];
+    let count = leaves.len();
+    tagged_pieces(Tag::Block, blocks, block_size, &mut hashes[..count]);
+    leaves == &hashes[..count]
 }

@@ -22,7 +22,7 @@ mod tag;
 pub use convergence::KeyHasher;
 pub use decimal::{DecimalText, read_decimal};
 pub use hasher::TaggedHasher;
-pub use row::{tagged_eight, tagged_pieces};
+pub use row::{pieces_from, tagged_eight, tagged_pieces};
 pub use tag::Tag;
 
 /// The hash of `message` under `tag`.

@@ -32,7 +32,7 @@ pub fn tagged_pieces(tag: Tag, text: &[u8], size: usize, hashes: &mut [[u8; 32]]
         let end = whole.min(first + 8);
         hash_group(
             tag,
-            rest_from(text, size, first),
+            pieces_from(text, size, first),
             size,
             &mut hashes[first..end],
         );
@@ -92,12 +92,12 @@ fn hash_eight(tag: Tag, text: &[u8], size: usize, last: usize) -> [[u8; 32]; 8]
 fn piece(text: &[u8], size: usize, number: usize) -> &[u8]
     ensures { result.now ≡ take size (drop (number * size) text.now) }
 {
-    let rest = rest_from(text, size, number);
+    let rest = pieces_from(text, size, number);
     &rest[..size.min(rest.len())]
 }
 
-// The text from the piece of this number on.
-fn rest_from(text: &[u8], size: usize, number: usize) -> &[u8]
+/// The text from the piece of this number on, where pieces have `size` bytes.
+pub fn pieces_from(text: &[u8], size: usize, number: usize) -> &[u8]
     ensures { result.now ≡ drop (number * size) text.now }
 {
     &text[text.len().min(number.saturating_mul(size))..]

@@ -21,7 +21,7 @@ hash_group-requires-clause-whole c =
       arith,
       ap (λ (n : ℕ). n * size) many,
       room_behind first end c.whole_pieces.result size (length text) low high c.whole_pieces.ensures,
-      ap length c.rest_from.ensures,
+      ap length c.pieces_from.ensures,
       length-drop (first * size) text,
     )
 
@@ -42,7 +42,7 @@ loop-group-preserved c k below within =
           let there : first * size + (k - first) * size ≡ k * size = pieces_more first k size ge in
           get_or-overwritten first k xs ys _ [] ge (omega arith) (omega arith)
           ∙ c.hash_group.ensures (k - first) (omega arith)
-          ∙ ap (λ (rest : List ℕ). tagged_hash c.args.tag (take size (drop ((k - first) * size) rest))) c.rest_from.ensures
+          ∙ ap (λ (rest : List ℕ). tagged_hash c.args.tag (take size (drop ((k - first) * size) rest))) c.pieces_from.ensures
           ∙ ap (λ (rest : List ℕ). tagged_hash c.args.tag (take size rest)) (drop-drop ((k - first) * size) (first * size) text)
           ∙ ap (λ (n : ℕ). tagged_hash c.args.tag (take size (drop n text))) there
     ]
