@@ -11,7 +11,7 @@ ghost use Rattle.proved_parts.specs.FileOf.{segment_hashes};
 
 use share_layout::Geometry;
 use std::alloc::{AllocError, Global};
-use tagged_hash::{Tag, tagged};
+use tagged_hash::{Tag, tagged_pieces};
 use zfec_code::Code;
 
 /// A text that is cut into so many segments of `size` bytes, the last perhaps shorter.
@@ -60,10 +60,8 @@ impl<'a> Segments<'a> {
             (pieces self.now.count self.now.size self.now.text.now)) }
         ensures count { IfOk result (λ hashes. length hashes.items ≡ self.now.count) }
     {
-        let mut hashes = Vec::with_capacity(alloc, self.count)?;
-        for number in 0..self.count {
-            hashes.push(tagged(Tag::CiphertextSegment, self.segment(number)))?;
-        }
+        let mut hashes = vec![in alloc; [0u8; 32]; self.count]?;
+        tagged_pieces(Tag::CiphertextSegment, self.text, self.size, &mut hashes);
         Ok(hashes)
     }
 }

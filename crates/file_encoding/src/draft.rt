@@ -61,6 +61,13 @@ impl Draft {
         self.writer.number()
     }
 
+    /// The share's bytes so far.
+    pub(crate) fn bytes(&self) -> &[u8]
+        ensures { result.now ≡ self.now.bytes }
+    {
+        self.writer.inner()
+    }
+
     /// Writes the next bytes of the sections before the extension block, which have room for them.
     pub(crate) fn put(&mut self, bytes: &[u8]) -> Result<(), AllocError>
         requires { length self.old.bytes + length bytes.now

@@ -19,7 +19,7 @@ use crate::share::Share;
 use merkle::Tree;
 use share_layout::Geometry;
 use std::alloc::{AllocError, Global};
-use tagged_hash::{Tag, tagged};
+use tagged_hash::{Tag, tagged_pieces};
 use zfec_code::Code;
 
 /// What all shares of a file are made of.
@@ -92,39 +92,42 @@ impl<'a> Common<'a> {
             (padded_blocks self.now.geometry.now draft.old.number self.now.padded.now)) }
         ensures leaves { IfOk result (λ tree. length tree ≡ segment_count self.now.geometry.now) }
     {
+        let before = draft.bytes().len();
         let segments = Segments::of(self.geometry, self.padded);
-        let mut hashes = Vec::with_capacity(alloc, segments.count)?;
         for number in 0..segments.count {
-            let hash = self.put_block(segments.segment(number), block, draft)?;
-            hashes.push(hash)?;
+            self.put_block(segments.segment(number), block, draft)?;
         }
+        let mut hashes = vec![in alloc; [0u8; 32]; segments.count]?;
+        tagged_pieces(
+            Tag::Block,
+            &draft.bytes()[before..],
+            block.len(),
+            &mut hashes,
+        );
         build_tree(alloc, &hashes)
     }
 
-    // Writes a share's block of a padded segment, and gives the block's hash.
+    // Writes a share's block of a padded segment.
     fn put_block(
         &self,
         segment: &[u8],
         buffer: &mut [u8],
         draft: &mut Draft,
-    ) -> Result<[u8; 32], AllocError>
+    ) -> Result<(), AllocError>
         requires in_range { draft.old.number < self.now.geometry.now.total }
         requires whole { length segment.now % self.now.geometry.now.needed ≡ 0 }
         requires buffer { length segment.now / self.now.geometry.now.needed ≤ length buffer.old }
         requires room { length draft.old.bytes + length segment.now / self.now.geometry.now.needed
             ≤ (places_of draft.old.geometry).extension_block }
-        ensures block { OnOk result (draft.new ≡ record draft.old {
+        ensures { OnOk result (draft.new ≡ record draft.old {
           bytes = draft.old.bytes ++ padded_block self.now.geometry.now.needed draft.old.number
               segment.now;
         }) }
-        ensures hash { IfOk result (λ hash. hash ≡ tagged_hash Block
-            (padded_block self.now.geometry.now.needed draft.old.number segment.now)) }
     {
         let size = segment.len() / usize::from(self.geometry.needed());
         let block = &mut buffer[..size];
         self.code.encode(segment, draft.number(), block);
-        draft.put(block)?;
-        Ok(tagged(Tag::Block, block))
+        draft.put(block)
     }
 
     // Writes a share's three trees behind its blocks.

@@ -1,26 +1,14 @@
-use Rattle.std.proofs.Common.{◌-◌, ◌+◌, ◌*◌, List, ℕ, [], ◌∷◌, ◌++◌, drop, length, rules, ap, sym, ◌∙◌, arith}
-use Rattle.std.proofs.lemmas.List.{length-map}
+use Rattle.std.proofs.Common.{List, ℕ, ◌∙◌, arith}
+use Rattle.std.proofs.lemmas.List.{take_at}
 use Rattle.tagged_hash.specs.TaggedHash.{tagged_hash}
 use Rattle.tagged_hash.specs.declared.tag.Tag.TheVariants.{CiphertextSegment}
-use Rattle.share_layout.specs.Pieces.{pieces}
-use Rattle.proved_parts.specs.FileOf.{segment_hashes}
-use Rattle.proved_parts.proofs.Files.{length-pieces}
-use Rattle.file_encoding.proofs.Pieces.{map_pieces-from}
+use Rattle.file_encoding.proofs.Pieces.{values_of_pieces}
 use Rattle.file_encoding.proofs.blocks.Segments.hashes.Goals as goal
 
-pub loop-number-preserved : goal.loop-number-preserved
-loop-number-preserved c =
-    let rest : List (List ℕ) = segment_hashes (pieces (c.args.self.now.count - (c.loop-number.number + 1)) c.args.self.now.size (drop ((c.loop-number.number + 1) * c.args.self.now.size) c.args.self.now.text.now)) in
-    map_pieces-from (tagged_hash CiphertextSegment) c.args.self.now.count c.args.self.now.size c.loop-number.number c.args.self.now.text.now
-    (segment_hashes (pieces c.args.self.now.count c.args.self.now.size c.args.self.now.text.now)) c.loop-number.hashes.items (omega (arith, c.loop-number-test.true)) c.loop-number.invariant
-    ∙ ap (λ done. done ++ rest)
-    (sym (c.in_ok-push.ensures.items ∙ ap (λ x. c.loop-number.hashes.items ++ x ∷ []) (c.tagged.ensures ∙ ap (tagged_hash CiphertextSegment) c.segment.ensures)))
-
 pub returns-clause-hashes : goal.returns-clause-hashes
-returns-clause-hashes c = search rules
-
-pub returns-clause-count : goal.returns-clause-count
-returns-clause-count c =
-    ap length (returns-clause-hashes c)
-    ∙ length-map (pieces c.args.self.now.count c.args.self.now.size c.args.self.now.text.now) (tagged_hash CiphertextSegment)
-    ∙ length-pieces c.args.self.now.count c.args.self.now.size c.args.self.now.text.now
+returns-clause-hashes c =
+    let own = c.args.self.now in
+    let hashes : List (List ℕ) = c.tagged_pieces.new.hashes in
+    take_at hashes _ c.in_ok-hashes.hashes.len (omega (arith, c.in_ok-hashes.ensures.len))
+    ∙ values_of_pieces (tagged_hash CiphertextSegment) own.count own.size own.text.now hashes (omega (arith, c.in_ok-hashes.ensures.len))
+    (λ i below. c.tagged_pieces.ensures i (omega (arith, below)))

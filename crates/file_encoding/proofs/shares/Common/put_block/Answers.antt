@@ -1,11 +1,10 @@
 use Rattle.std.proofs.Common.{◌≡◌, ◌*◌, ◌/◌, ◌<◌, ◌≤◌, ◌++◌, ℕ, List, length, get_or, ap, subst, sym, ◌∙◌, arith}
 use Rattle.std.proofs.Math.Nat.{mul-div_cancel}
-use Rattle.tagged_hash.specs.TaggedHash.{tagged_hash}
-use Rattle.tagged_hash.specs.declared.tag.Tag.TheVariants.{Block}
 use Rattle.zfec_code.specs.ShareValue.{share_block}
 use Rattle.zfec_code.specs.Shares.{IsShareOf}
 use Rattle.file_encoding.specs.Blocks.{padded_block}
 use Rattle.file_encoding.specs.Drafts.{DraftState}
+use Rattle.file_encoding.proofs.Reread.{ok_map}
 use Rattle.file_encoding.proofs.ShareBlock.{share_block-is}
 use Rattle.file_encoding.proofs.shares.Common.put_block.Goals as goal
 
@@ -19,19 +18,13 @@ block_is k n i number segment block some few bytes same numbered is =
     share_block-is n i segment block few bytes share
     ∙ ap (λ (size : ℕ). share_block n i size segment) (sym (ap (λ (s : ℕ). s / n) long ∙ mul-div_cancel (length block) some))
 
-pub returns-clause-block : goal.returns-clause-block
-returns-clause-block c =
+pub returns : goal.returns
+returns c =
     let valid = c.needed.ensures.valid in
     let d : DraftState = c.args.draft.now in
-    c.in_ok-put.ensures
+    ok_map _ _ c.put.result
+    (λ _ put.
+    put
     ∙ ap (λ (b : List ℕ). let after : DraftState = record d { bytes = d.bytes ++ b } in after)
     (block_is _ c.args.self.now.geometry.now.needed d.number _ c.args.segment.now c.encode.new.out valid.some_needed (omega (arith, valid.enough, valid.shares))
-    (λ t. (c.type_inv.segment t).fits) c.args.self.now.fit.needed c.number.ensures c.encode.ensures)
-
-pub returns-clause-hash : goal.returns-clause-hash
-returns-clause-hash c =
-    let valid = c.needed.ensures.valid in
-    c.tagged.ensures
-    ∙ ap (tagged_hash Block)
-    (block_is _ c.args.self.now.geometry.now.needed c.args.draft.now.number _ c.args.segment.now c.encode.new.out valid.some_needed (omega (arith, valid.enough, valid.shares))
-    (λ t. (c.type_inv.segment t).fits) c.args.self.now.fit.needed c.number.ensures c.encode.ensures)
+    (λ t. (c.type_inv.segment t).fits) c.args.self.now.fit.needed c.number.ensures c.encode.ensures)) c.put.ensures

@@ -1,20 +1,20 @@
-use Rattle.std.proofs.Common.{◌≡◌, ◌-◌, ◌+◌, ◌*◌, ◌/◌, ◌%◌, ◌<◌, ◌≤◌, List, ℕ, [], ◌∷◌, ◌++◌, drop, length, take, map, ap, sym, ◌∙◌, arith}
+use Rattle.std.proofs.Common.{◌≡◌, ◌-◌, ◌+◌, ◌*◌, ◌/◌, ◌%◌, ◌<◌, ◌≤◌, List, ℕ, [], ◌∷◌, ◌++◌, drop, length, take, map, refl, ap, sym, ◌∙◌, arith}
 use Rattle.std.proofs.Math.Nat.{div-le_of_le-mul}
-use Rattle.std.proofs.lemmas.List.{append_assoc, append-nil, length-append, length-take}
+use Rattle.std.proofs.lemmas.List.{append_assoc, append-nil, drop_at, length-append, length-take, take_all, take_at}
 use Rattle.std.proofs.lemmas.List.FromFn.{length-map-range_with_len}
 use Rattle.std.proofs.lemmas.Nat.{div-add-mod'}
 use Rattle.std.proofs.lemmas.Nat.Gcd.{mod-eq-zero_of_dvd}
 use Rattle.tagged_hash.specs.TaggedHash.{tagged_hash}
 use Rattle.tagged_hash.specs.declared.tag.Tag.TheVariants.{Block}
 use Rattle.ueb.specs.Shape.{rounded_up}
-use Rattle.share_layout.specs.Geometry.{Geometry, IsGeometry, segment_count, share_data_size}
+use Rattle.share_layout.specs.Geometry.{Geometry, IsGeometry, block_size, segment_count, share_data_size}
 use Rattle.share_layout.specs.Layout.{header_size, layout_of, places_of}
 use Rattle.share_verify.specs.Pieces.{block_hashes, joined, pieces}
 use Rattle.file_encoding.specs.Blocks.{padded_block, padded_blocks}
 use Rattle.file_encoding.specs.Drafts.{DraftState}
-use Rattle.file_encoding.proofs.Drafting.{length-block_hashes, length-padded_blocks}
+use Rattle.file_encoding.proofs.Drafting.{length-padded_blocks, padded_blocks-again}
 use Rattle.file_encoding.proofs.Padding.{rounded_up-whole}
-use Rattle.file_encoding.proofs.Pieces.{pieces-from, piece-whole}
+use Rattle.file_encoding.proofs.Pieces.{pieces-from, piece-whole, values_of_pieces}
 use Rattle.file_encoding.proofs.Reread.{ok_map}
 use Rattle.file_encoding.proofs.shares.Common.put_blocks.Invariants.{Written, rest_of}
 use Rattle.file_encoding.proofs.shares.Common.put_blocks.Goals as goal
@@ -35,34 +35,30 @@ rest_none g i text number over =
     ap (λ n. map (padded_block g.needed i) (pieces n g.segment_size (drop (number * g.segment_size) text))) none
 
 -- what is written in the end
-record Done (g : Geometry) (text : List ℕ) (before now : DraftState) (leaves : List (List ℕ)) : Type 0 where
+record Done (g : Geometry) (text : List ℕ) (before now : DraftState) : Type 0 where
   draft : now ≡ record before { bytes = before.bytes ++ joined (padded_blocks g before.number text) }
-  hashes : leaves ≡ block_hashes (padded_blocks g before.number text)
+  bytes : now.bytes ≡ before.bytes ++ joined (padded_blocks g before.number text)
   size : length now.bytes ≡ (places_of g).unused
-  count : length leaves ≡ segment_count g
 
-done : (g : Geometry) (text : List ℕ) (before now : DraftState) (number : ℕ) (leaves : List (List ℕ)) → IsGeometry g
+done : (g : Geometry) (text : List ℕ) (before now : DraftState) (number : ℕ) → IsGeometry g
     → length text ≡ rounded_up g.size g.needed → length before.bytes ≡ header_size (layout_of g)
-    → Written g text before now number leaves → segment_count g ≤ number → Done g text before now leaves
-done g text before now number leaves valid padded front have over =
+    → Written g text before now number → segment_count g ≤ number → Done g text before now
+done g text before now number valid padded front have over =
     let i : ℕ = before.number in
     let blocks : List ℕ = joined (padded_blocks g i text) in
     let all : now.bytes ≡ before.bytes ++ blocks = sym (have.blocks ∙ ap (λ bs. now.bytes ++ joined bs) (rest_none g i text number over) ∙ append-nil now.bytes) in
-    let hashed : leaves ≡ block_hashes (padded_blocks g i text) = sym (have.hashes ∙ ap (λ bs. leaves ++ block_hashes bs) (rest_none g i text number over) ∙ append-nil leaves) in
     record {
       draft = λ p. record { geometry = have.geometry p; number = have.same p; bytes = all p };
-      hashes = hashed;
+      bytes = all;
       size = ap length all ∙ length-append before.bytes blocks ∙ omega (arith, front, length-padded_blocks g i text valid padded);
-      count = ap length hashed ∙ length-block_hashes g i text;
     }
 
 -- one block more
-one_more : (g : Geometry) (text : List ℕ) (before now after : DraftState) (number : ℕ) (leaves hashed : List (List ℕ)) (segment hash : List ℕ)
-    → Written g text before now number leaves → number < segment_count g → segment ≡ this g text number
+one_more : (g : Geometry) (text : List ℕ) (before now after : DraftState) (number : ℕ) (segment : List ℕ)
+    → Written g text before now number → number < segment_count g → segment ≡ this g text number
     → after ≡ record now { bytes = now.bytes ++ padded_block g.needed now.number segment }
-    → hash ≡ tagged_hash Block (padded_block g.needed now.number segment) → hashed ≡ leaves ++ hash ∷ []
-    → Written g text before after (number + 1) hashed
-one_more g text before now after number leaves hashed segment hash have below is put same pushed =
+    → Written g text before after (number + 1)
+one_more g text before now after number segment have below is put =
     let i : ℕ = before.number in
     let block : List ℕ = padded_block g.needed i (this g text number) in
     let rest : List (List ℕ) = rest_of g i text (number + 1) in
@@ -74,18 +70,14 @@ one_more g text before now after number leaves hashed segment hash have below is
           have.blocks ∙ ap (λ bs. now.bytes ++ joined bs) (rest_more g i text number below)
           ∙ sym (append_assoc now.bytes block (joined rest))
           ∙ ap (λ out. out ++ joined rest) (sym (ap (λ (d : DraftState). d.bytes) put ∙ ap (λ b. now.bytes ++ b) written));
-      hashes =
-          have.hashes ∙ ap (λ bs. leaves ++ block_hashes bs) (rest_more g i text number below)
-          ∙ sym (append_assoc leaves (tagged_hash Block block ∷ []) (block_hashes rest))
-          ∙ ap (λ done. done ++ block_hashes rest) (sym (pushed ∙ ap (λ h. leaves ++ h ∷ []) (same ∙ ap (tagged_hash Block) written)));
     }
 
 -- there is room for one block more
-room_more : (g : Geometry) (text : List ℕ) (before now : DraftState) (number : ℕ) (leaves : List (List ℕ)) (segment : List ℕ)
-    → Written g text before now number leaves → number < segment_count g → segment ≡ this g text number
+room_more : (g : Geometry) (text : List ℕ) (before now : DraftState) (number : ℕ) (segment : List ℕ)
+    → Written g text before now number → number < segment_count g → segment ≡ this g text number
     → length (joined (padded_blocks g before.number text)) ≡ share_data_size g → length before.bytes ≡ header_size (layout_of g) → before.geometry ≡ g
     → length now.bytes + length segment / g.needed ≤ (places_of now.geometry).extension_block
-room_more g text before now number leaves segment have below is all front same =
+room_more g text before now number segment have below is all front same =
     let i : ℕ = before.number in
     let block : List ℕ = padded_block g.needed i (this g text number) in
     let rest : List (List ℕ) = rest_of g i text (number + 1) in
@@ -122,55 +114,57 @@ put_block-requires-clause-buffer c =
 pub put_block-requires-clause-room : goal.put_block-requires-clause-room
 put_block-requires-clause-room c =
     let g : Geometry = c.args.self.now.geometry.now in
-    room_more g c.args.self.now.padded.now c.args.draft.now c.loop-number.draft c.loop-number.number c.loop-number.hashes.items c.segment.result.now c.loop-number.invariant
+    room_more g c.args.self.now.padded.now c.args.draft.now c.loop-number.draft c.loop-number.number c.segment.result.now c.loop-number.invariant
     (omega (arith, c.loop-number-test.true, c.of-segments.ensures.count))
     (c.segment.ensures ∙ λ p. take (c.of-segments.ensures.size p) (drop (c.loop-number.number * c.of-segments.ensures.size p) (c.of-segments.ensures.text p)))
     (length-padded_blocks g c.args.draft.now.number c.args.self.now.padded.now c.of-segments.ensures.valid c.args.self.now.fit.padded) c.requires.next c.requires.geometry
 
 pub loop-number-preserved : goal.loop-number-preserved
 loop-number-preserved c =
-    one_more c.args.self.now.geometry.now c.args.self.now.padded.now c.args.draft.now c.loop-number.draft c.put_block.new.draft c.loop-number.number c.loop-number.hashes.items
-    c.push.new.self.items c.segment.result.now c.in_ok-hash.hash c.loop-number.invariant (omega (arith, c.loop-number-test.true, c.of-segments.ensures.count))
+    one_more c.args.self.now.geometry.now c.args.self.now.padded.now c.args.draft.now c.loop-number.draft c.put_block.new.draft c.loop-number.number
+    c.segment.result.now c.loop-number.invariant (omega (arith, c.loop-number-test.true, c.of-segments.ensures.count))
     (c.segment.ensures ∙ λ p. take (c.of-segments.ensures.size p) (drop (c.loop-number.number * c.of-segments.ensures.size p) (c.of-segments.ensures.text p)))
-    c.in_ok-hash.ensures.block c.in_ok-hash.ensures.hash c.in_ok-push.ensures.items
-
-count : (c : goal.After-deref) → length c.deref.result.now ≡ segment_count c.args.self.now.geometry.now
-count c =
-    ap length c.deref.ensures.value
-    ∙ (done c.args.self.now.geometry.now c.args.self.now.padded.now c.args.draft.now c.loop-number.draft c.loop-number.number c.loop-number.hashes.items
-    c.of-segments.ensures.valid c.args.self.now.fit.padded c.requires.next c.loop-number.invariant (omega (arith, c.loop-number-test.false, c.of-segments.ensures.count))).count
-
-pub build_tree-requires-clause-some : goal.build_tree-requires-clause-some
-build_tree-requires-clause-some c = omega (arith, count c, c.of-segments.ensures.some, c.of-segments.ensures.count)
-
-pub build_tree-requires-clause-few : goal.build_tree-requires-clause-few
-build_tree-requires-clause-few c = omega (arith, count c, c.of-segments.ensures.few, c.of-segments.ensures.count)
+    c.in_ok-put_block.ensures
 
 pub returns-clause-blocks : goal.returns-clause-blocks
 returns-clause-blocks c =
     ok_map _ _ c.build_tree.result
     (λ tree is.
-    (done c.args.self.now.geometry.now c.args.self.now.padded.now c.args.draft.now c.loop-number.draft c.loop-number.number c.loop-number.hashes.items
+    (done c.args.self.now.geometry.now c.args.self.now.padded.now c.args.draft.now c.loop-number.draft c.loop-number.number
     c.of-segments.ensures.valid c.args.self.now.fit.padded c.requires.next c.loop-number.invariant (omega (arith, c.loop-number-test.false, c.of-segments.ensures.count))).draft) c.build_tree.ensures
 
 pub returns-clause-size : goal.returns-clause-size
 returns-clause-size c =
     ok_map _ _ c.build_tree.result
     (λ tree is.
-    (done c.args.self.now.geometry.now c.args.self.now.padded.now c.args.draft.now c.loop-number.draft c.loop-number.number c.loop-number.hashes.items
+    (done c.args.self.now.geometry.now c.args.self.now.padded.now c.args.draft.now c.loop-number.draft c.loop-number.number
     c.of-segments.ensures.valid c.args.self.now.fit.padded c.requires.next c.loop-number.invariant (omega (arith, c.loop-number-test.false, c.of-segments.ensures.count))).size) c.build_tree.ensures
+
+-- what stands behind a first part
+behind : (all before front rest : List ℕ) → before ≡ front → all ≡ front ++ rest
+    → take (length all - length before) (drop (length before) all) ≡ rest
+behind all before front rest same is =
+    let long : length all ≡ length front + length rest = ap length is ∙ length-append front rest in
+    let first : length before ≡ length front = ap length same in
+    (λ p. take (length all - length before) (drop (first p) (is p)))
+    ∙ ap (take (length all - length before)) (drop_at front rest (length front) refl)
+    ∙ take_all (length all - length before) rest (omega (arith, long, first))
 
 pub returns-clause-tree : goal.returns-clause-tree
 returns-clause-tree c =
     ok_map _ _ c.build_tree.result
     (λ tree is.
-    is ∙ c.deref.ensures.value ∙ (done c.args.self.now.geometry.now c.args.self.now.padded.now c.args.draft.now c.loop-number.draft c.loop-number.number c.loop-number.hashes.items
-    c.of-segments.ensures.valid c.args.self.now.fit.padded c.requires.next c.loop-number.invariant (omega (arith, c.loop-number-test.false, c.of-segments.ensures.count))).hashes) c.build_tree.ensures
-
-pub returns-clause-leaves : goal.returns-clause-leaves
-returns-clause-leaves c =
-    ok_map _ _ c.build_tree.result
-    (λ tree is.
-    ap length (is ∙ c.deref.ensures.value)
-    ∙ (done c.args.self.now.geometry.now c.args.self.now.padded.now c.args.draft.now c.loop-number.draft c.loop-number.number c.loop-number.hashes.items
-    c.of-segments.ensures.valid c.args.self.now.fit.padded c.requires.next c.loop-number.invariant (omega (arith, c.loop-number-test.false, c.of-segments.ensures.count))).count) c.build_tree.ensures
+    let g : Geometry = c.args.self.now.geometry.now in
+    let text : List ℕ = c.args.self.now.padded.now in
+    let draft : DraftState = c.args.draft.now in
+    let written = done g text draft c.loop-number.draft c.loop-number.number c.of-segments.ensures.valid c.args.self.now.fit.padded c.requires.next c.loop-number.invariant
+    (omega (arith, c.loop-number-test.false, c.of-segments.ensures.count)) in
+    let hashes : List (List ℕ) = c.tagged_pieces.new.hashes in
+    let blocks : List ℕ = joined (padded_blocks g draft.number text) in
+    let raw = behind c.bytes.result.now c.bytes-before.result.now draft.bytes blocks c.bytes-before.ensures (c.bytes.ensures ∙ written.bytes) in
+    let size : length c.loop-number.block ≡ block_size g = omega (arith, c.requires.block, c.loop-number.auto.block) in
+    let many : length hashes ≡ segment_count g = omega (arith, c.in_ok-hashes.ensures.len, c.of-segments.ensures.count) in
+    is ∙ c.deref.ensures.value ∙ take_at hashes _ c.in_ok-hashes.hashes.len (omega (arith, c.in_ok-hashes.ensures.len))
+    ∙ values_of_pieces (tagged_hash Block) (segment_count g) (length c.loop-number.block) _ hashes many (λ i below. c.tagged_pieces.ensures i (omega (arith, below)))
+    ∙ (λ p. map (tagged_hash Block) (pieces (segment_count g) (size p) (raw p)))
+    ∙ ap block_hashes (padded_blocks-again g draft.number text c.of-segments.ensures.valid c.args.self.now.fit.padded)) c.build_tree.ensures
