@@ -9,7 +9,7 @@ ghost use Rattle.upload_core.specs.declared.pieces.PieceFault.{PieceFault};
 
 use std::alloc::{AllocError, Global};
 use std::marker::Model;
-use tagged_hash::share_digest;
+use tagged_hash::{Tag, share_digest, tagged_eight};
 use wire::message::Digest;
 
 /// Why a piece of a share could not be had.
@@ -120,14 +120,37 @@ fn part_of(share: &[u8], offset: usize, len: usize) -> &[u8]
     &share[offset..][..len]
 }
 
-// The digest of each share.
+// The digest of each share. They have one length.
 fn digests_of(alloc: Global, shares: &[Vec<u8>]) -> Result<Vec<Digest>, AllocError>
+    requires { HaveOneLength (map (λ share. share.items) shares.now) }
     ensures { IfOk result
         (λ digests. digests.items ≡ map (λ share. share_digest share.items) shares.now) }
 {
     let mut digests = Vec::with_capacity(alloc, shares.len())?;
-    for share in shares {
-        digests.push(share_digest(share))?;
+    for group in 0..shares.len() / 8 {
+        digests.extend_from_slice(&eight_digests(shares, 8 * group))?;
+    }
+    for number in shares.len() / 8 * 8..shares.len() {
+        digests.push(share_digest(&shares[number]))?;
     }
     Ok(digests)
+}
+
+// The digests of eight shares, from number `first` on.
+fn eight_digests(shares: &[Vec<u8>], first: usize) -> [Digest; 8]
+    requires one_length { HaveOneLength (map (λ share. share.items) shares.now) }
+    requires within { first + 8 ≤ length shares.now }
+    ensures { result ≡ map (λ share. share_digest share.items) (take 8 (drop first shares.now)) }
+{
+    let messages = [
+        shares[first].as_slice(),
+        shares[first + 1].as_slice(),
+        shares[first + 2].as_slice(),
+        shares[first + 3].as_slice(),
+        shares[first + 4].as_slice(),
+        shares[first + 5].as_slice(),
+        shares[first + 6].as_slice(),
+        shares[first + 7].as_slice(),
+    ];
+    tagged_eight(Tag::WholeShare, &messages, messages[0].len())
 }

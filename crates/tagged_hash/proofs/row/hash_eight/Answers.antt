@@ -1,7 +1,6 @@
 use Rattle.std.proofs.Common.{◌≡◌, ◌+◌, ◌<◌, min, ℕ, List, [], ◌∷◌, length, get_or, ap, ◌∙◌, arith}
-use Rattle.sha2_lanes.proofs.WordLemmas.{by_lane}
 use Rattle.tagged_hash.specs.TaggedHash.{tagged_hash}
-use Rattle.tagged_hash.proofs.RowLemmas.{hash_at, length-piece}
+use Rattle.tagged_hash.proofs.RowLemmas.{by_lane, hash_at, length-piece}
 use Rattle.tagged_hash.proofs.row.hash_eight.Goals as goal
 
 pub tagged_eight-requires-clause-messages : goal.tagged_eight-requires-clause-messages

@@ -1,7 +1,11 @@
-use Rattle.std.proofs.Common.{◌∙◌, ap, map, sym}
+use Rattle.std.proofs.Common.{◌∙◌, ap, map, subst, sym}
 use Rattle.tagged_hash.specs.TaggedHash.{share_digest}
+use Rattle.upload_core.specs.Pieces.{HaveOneLength}
 use Rattle.upload_core.proofs.Goes.{if_ok, map_twice}
 use Rattle.upload_core.proofs.pieces.WholeShares.digests.Goals as goal
+
+pub digests_of-requires : goal.digests_of-requires
+digests_of-requires c = subst HaveOneLength (ap (map (λ share. share.items)) (sym c.deref.ensures.value)) c.self.invariant
 
 pub returns : goal.returns
 returns c =
