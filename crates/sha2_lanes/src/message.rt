@@ -12,8 +12,8 @@ use std::simd::prelude::*;
 // How many bytes a block has.
 const BLOCK_LEN: usize = 64;
 
-// Puts bytes, which stand in a text from byte `place` on, into the text's block from byte `start` on:
-// those that lie within the block.
+// Puts bytes, which stand in a text from byte `place` on, into the text's block from byte `start`
+// on: those that lie within the block.
 fn put(block: &mut [u8; 64], start: usize, place: usize, bytes: &[u8])
     requires start { start + 64 < 2 ^ 64 }
     requires place { place + length bytes.now < 2 ^ 64 }
