@@ -11,6 +11,7 @@ mod numbers;
 mod padding;
 mod partial;
 mod path;
+mod rows;
 mod taking;
 mod tree;
 

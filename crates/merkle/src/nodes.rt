@@ -1,10 +1,12 @@
 //! Whether hashes are the nodes of a tree.
 
-ghost use Rattle.std.specs.Prelude.{◌≡◌, ◌%◌, ◌^◌, ◌<◌, ◌≤◌, ◌↔◌, IsTrue, length};
+ghost use Rattle.std.specs.Prelude.{◌≡◌, ◌+◌, ◌*◌, ◌%◌, ◌^◌, ◌<◌, ◌≤◌, ◌↔◌, ℕ, IsTrue, [], length};
+ghost use Rattle.std.specs.Prelude.{slice_index_or};
 ghost use Rattle.merkle.specs.Nodes.{ArePairs, AreTreeNodes, IsPadded};
 ghost use Rattle.merkle.specs.Tree.{max_leaves, node_count};
 ghost use Rattle.tagged_hash.specs.TaggedHash.{empty_leaf_hash, node_hash};
 
+use crate::rows::parents_from;
 use tagged_hash::{empty_leaf, pair};
 
 /// Whether hashes are all nodes of a tree, row by row from the root, whose leaves are the first
@@ -24,8 +26,30 @@ fn are_pairs(nodes: &[[u8; 32]]) -> bool
     requires { length nodes.now % 2 ≡ 1 }
     ensures { IsTrue result ↔ ArePairs nodes.now }
 {
-    for i in 0..nodes.len() / 2 {
+    let inner = nodes.len() / 2;
+    for group in 0..inner / 8 {
+        if !are_eight_pairs(nodes, 8 * group) {
+            return false;
+        }
+    }
+    for i in inner / 8 * 8..inner {
         if !is_pair(&nodes[i], &nodes[2 * i + 1], &nodes[2 * i + 2]) {
+            return false;
+        }
+    }
+    true
+}
+
+// Whether each of eight nodes from this one on is the hash of its two children.
+fn are_eight_pairs(nodes: &[[u8; 32]], first: usize) -> bool
+    requires { 2 * first + 17 ≤ length nodes.now }
+    ensures { IsTrue result ↔ ((i : ℕ) → first ≤ i → i < first + 8
+        → slice_index_or nodes.now i [] ≡ node_hash
+        (slice_index_or nodes.now (2 * i + 1) []) (slice_index_or nodes.now (2 * i + 2) [])) }
+{
+    let parents = parents_from(nodes, first);
+    for k in 0..8 {
+        if nodes[first + k] != parents[k] {
             return false;
         }
     }

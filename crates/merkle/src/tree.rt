@@ -6,9 +6,11 @@ ghost use Rattle.std.specs.List.{range_with_len};
 ghost use Rattle.merkle.specs.Path.{LeadsBy, siblings_of};
 ghost use Rattle.merkle.specs.Tree.{height, leaves_among, max_leaves, needed_numbers, padded_to};
 ghost use Rattle.merkle.specs.Tree.{sibling_number, tree_nodes, tree_root};
+ghost use Rattle.tagged_hash.specs.TaggedHash.{node_hash};
 
 use crate::error::TreeError;
 use crate::numbers::{height, needed_number, sibling_number};
+use crate::rows::parents_from;
 use std::alloc::{AllocError, Global};
 use std::marker::Model;
 use tagged_hash::{empty_leaf, pair};
@@ -96,11 +98,32 @@ fn fill(nodes: &mut [[u8; 32]], leaves: &[[u8; 32]], width: usize)
 {
     pad(&mut nodes[width - 1..], leaves);
     let mut i = width - 1;
+    // The children of eight nodes stand behind them from node 7 on.
+    'rows: while i >= 15 {
+        i -= 8;
+        fill_eight(nodes, i);
+    }
     while i > 0 {
         i -= 1;
         let node = pair(&nodes[2 * i + 1], &nodes[2 * i + 2]);
         nodes[i] = node;
     }
+}
+
+// Fills eight nodes from this one on. Their children stand behind them.
+fn fill_eight(nodes: &mut [[u8; 32]], first: usize)
+    requires behind { 7 ≤ first }
+    requires inside { 2 * first + 17 ≤ length nodes.old }
+    ensures long { length nodes.new ≡ length nodes.old }
+    ensures made { (k : ℕ) → first ≤ k → k < first + 8 → slice_index_or nodes.new k [] ≡ node_hash
+        (slice_index_or nodes.old (2 * k + 1) []) (slice_index_or nodes.old (2 * k + 2) []) }
+    ensures before { (k : ℕ) → k < first
+        → slice_index_or nodes.new k [] ≡ slice_index_or nodes.old k [] }
+    ensures others { (k : ℕ) → first + 8 ≤ k
+        → slice_index_or nodes.new k [] ≡ slice_index_or nodes.old k [] }
+{
+    let parents = parents_from(nodes, first);
+    nodes[first..first + 8].copy_from_slice(&parents);
 }
 
 // Writes the leaves and, after them, the empty leaves of their places.
