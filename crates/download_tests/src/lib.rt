@@ -3,4 +3,8 @@
 #![tactic(auto)]
 
 #[cfg(test)]
+mod course;
+#[cfg(test)]
 mod download_core_tests;
+#[cfg(test)]
+mod lying_servers_tests;

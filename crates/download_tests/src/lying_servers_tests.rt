@@ -1,0 +1,257 @@
+//! Downloads from servers that hold wrong bytes: each wrong share is blamed for its own fault, at
+//! its own server, and the others give the file.
+
+use crate::course::{
+    Course, Held, answer, asks_twice, cap_of, course_of, damage, encoded, number_at, one_each,
+    text_of,
+};
+use cap_text::ReadCap;
+use download_core::Download;
+use download_core::status::DownloadStatus;
+use file_encoding::{Encoded, Params, encode_all};
+use share_verify::Check;
+use std::alloc::{AllocError, Global};
+use tagged_hash::{Tag, tagged};
+use ueb::{Expect, Ueb};
+use wire::message::NodeId;
+
+// The places in a header where it tells where sections begin.
+const CIPHERTEXT_TREE: usize = 20;
+
+const BLOCK_TREE: usize = 24;
+
+const SHARE_HASHES: usize = 28;
+
+const EXTENSION_BLOCK: usize = 32;
+
+const FILE_SIZE: usize = 30_000;
+
+// A download of the whole of the small file.
+fn whole(alloc: Global, encoded: &Encoded, held: &[Held]) -> Option<Course> {
+    let file = text_of(alloc, FILE_SIZE, 0).ok()?;
+    let range = (0, FILE_SIZE);
+    course_of(alloc, cap_of(encoded)?, &file, range, held, None)
+}
+
+// Whether the file came whole, and this share alone was blamed.
+fn blames_only(course: &Course, server: NodeId, share: u8, check: Check) -> bool {
+    let done = course.status == DownloadStatus::Done && course.bytes == FILE_SIZE;
+    done && course.parts == 8 && course.blamed.as_slice() == [(server, share, check)].as_slice()
+}
+
+// The sections of a share, how far behind its beginning a byte is changed, and the check that
+// fails. The numbers of the share hashes are of the layout.
+const DAMAGES: [(usize, usize, Check); 5] = [
+    (CIPHERTEXT_TREE, 32 * 8, Check::CiphertextTree),
+    (BLOCK_TREE, 32 * 8, Check::BlockTree),
+    (SHARE_HASHES, 0, Check::Layout),
+    (SHARE_HASHES, 2, Check::ShareHashes),
+    (EXTENSION_BLOCK, 20, Check::Ueb),
+];
+
+// Whether share 0 is blamed for the fault of its own section.
+fn is_blamed_for(alloc: Global, section: usize, behind: usize, check: Check) -> Option<bool> {
+    let encoded = encoded(alloc, FILE_SIZE, 0)?;
+    let mut held = one_each(alloc, &encoded)?;
+    damage(&mut held, 0, section, behind)?;
+    let course = whole(alloc, &encoded, &held)?;
+    Some(blames_only(&course, 0, 0, check) && !asks_twice(&course.reads))
+}
+
+#[test]
+fn each_section_has_its_check(rt: HostRuntime) {
+    for (section, behind, check) in &DAMAGES {
+        let blamed = is_blamed_for(rt.alloc(), *section, *behind, *check);
+        assert!(rt;
+            blamed == Some(true),
+            "section {section}, {behind}: {blamed:?}"
+        );
+    }
+}
+
+// A block that is changed: the first byte of the data is at place 36.
+fn is_block_blamed(alloc: Global) -> Option<bool> {
+    let encoded = encoded(alloc, FILE_SIZE, 0)?;
+    let mut held = one_each(alloc, &encoded)?;
+    *held.get_mut(1)?.bytes.get_mut(36)? ^= 1;
+    let course = whole(alloc, &encoded, &held)?;
+    Some(blames_only(&course, 1, 1, Check::Data))
+}
+
+// A server whose share is of another file of the same size, with an extension block of its own.
+fn is_other_file_blamed(alloc: Global) -> Option<bool> {
+    let encoded_file = encoded(alloc, FILE_SIZE, 0)?;
+    let other = encoded(alloc, FILE_SIZE, 1)?;
+    let mut held = one_each(alloc, &encoded_file)?;
+    let share = other.shares.get(2)?.as_slice();
+    held.get_mut(2)?.bytes = Vec::from_slice(alloc, share).ok()?;
+    let course = whole(alloc, &encoded_file, &held)?;
+    Some(blames_only(&course, 2, 2, Check::Ueb))
+}
+
+// A share whose extension block has the length 4,294,967,295: no byte behind that is asked for.
+fn is_long_block_blamed(alloc: Global) -> Option<bool> {
+    let encoded = encoded(alloc, FILE_SIZE, 0)?;
+    let mut held = one_each(alloc, &encoded)?;
+    let bytes = &mut held.get_mut(0)?.bytes;
+    let place = number_at(bytes, EXTENSION_BLOCK)?;
+    let end = place.checked_add(4)?;
+    for i in place..end {
+        *bytes.get_mut(i)? = 255;
+    }
+    let course = whole(alloc, &encoded, &held)?;
+    let mut within = true;
+    for read in &course.reads {
+        if read.server == 0 {
+            within = within && read.offset.saturating_add(read.length) <= end as u64;
+        }
+    }
+    Some(within && blames_only(&course, 0, 0, Check::Layout))
+}
+
+#[test]
+fn liars_are_blamed(rt: HostRuntime) {
+    assert!(rt; is_block_blamed(rt.alloc()) == Some(true));
+    assert!(rt; is_other_file_blamed(rt.alloc()) == Some(true));
+    assert!(rt; is_long_block_blamed(rt.alloc()) == Some(true));
+}
+
+// Of three numbers that are there, 0 is blamed at server 0 and good at server 5, and server 0 has 1
+// too: neither the server nor the number is given up.
+fn is_one_copy_blamed(alloc: Global) -> Option<bool> {
+    let encoded = encoded(alloc, FILE_SIZE, 0)?;
+    let mut held = Vec::new(alloc);
+    for (server, share) in [(0u16, 0u8), (0, 1), (5, 0), (6, 2)] {
+        let text = encoded.shares.get(usize::from(share))?.as_slice();
+        held.push(Held {
+            server,
+            share,
+            bytes: Vec::from_slice(alloc, text).ok()?,
+        })
+        .ok()?;
+    }
+    damage(&mut held, 0, SHARE_HASHES, 2)?;
+    let course = whole(alloc, &encoded, &held)?;
+    Some(blames_only(&course, 0, 0, Check::ShareHashes) && !asks_twice(&course.reads))
+}
+
+#[test]
+fn a_blamed_copy_costs_nothing_else(rt: HostRuntime) {
+    assert!(rt; is_one_copy_blamed(rt.alloc()) == Some(true));
+}
+
+// Of three shares that are there, the server of the last is silent after so many answers: what was
+// proved is handed out, and it is not enough for more.
+fn bytes_before_silence(alloc: Global, most: usize) -> Option<(bool, usize, usize)> {
+    let size = 300_000;
+    let encoded = encoded(alloc, size, 0)?;
+    let mut held = one_each(alloc, &encoded)?;
+    held.truncate(3);
+    let file = text_of(alloc, size, 0).ok()?;
+    let cap = cap_of(&encoded)?;
+    let course = course_of(alloc, cap, &file, (0, size), &held, Some((2, most)))?;
+    let few = course.status == DownloadStatus::NotEnoughShares;
+    Some((few, course.bytes, course.parts))
+}
+
+#[test]
+fn what_is_proved_is_handed_out_before_silence(rt: HostRuntime) {
+    // What it holds, three reads of its beginning, two of its trees, and one of its blocks: 32,768
+    // bytes, which are 23 blocks and a part of the next.
+    let before = bytes_before_silence(rt.alloc(), 7);
+    assert!(rt; before == Some((true, 94_254, 23)), "{before:?}");
+}
+
+// The bytes of the data section that are read for one byte of a file of two segments, of 131,073
+// bytes and of one.
+fn reads_of_one_byte(alloc: Global) -> Option<bool> {
+    let size = 131_074;
+    let file = text_of(alloc, size, 0).ok()?;
+    let params = Params::new(3, 1, 10, 131_072).ok()?;
+    let encoded = encode_all(alloc, &file, &[], &params).ok()?;
+    let held = one_each(alloc, &encoded)?;
+    let range = (131_073, 131_074);
+    let cap = cap_of(&encoded)?;
+    let course = course_of(alloc, cap, &file, range, &held, None)?;
+    let mut blocks: usize = 0;
+    for read in &course.reads {
+        if 36 <= read.offset && read.offset < 43_728 {
+            if read.offset != 43_727 || read.length != 1 {
+                return Some(false);
+            }
+            blocks = blocks.saturating_add(1);
+        }
+    }
+    Some(course.bytes == 1 && blocks == 3 && !asks_twice(&course.reads))
+}
+
+#[test]
+fn nothing_but_the_range_is_read(rt: HostRuntime) {
+    assert!(rt; reads_of_one_byte(rt.alloc()) == Some(true));
+}
+
+// A share of a file of 56 bytes at one of two, whose extension block is of two blocks that differ,
+// where each would have to be the segment.
+fn share_of_two(alloc: Global, number: usize, block: &[u8]) -> Result<Vec<u8>, AllocError> {
+    let hashes = block_hashes();
+    let mut share = Vec::new(alloc);
+    for place in [1u32, 56, 56, 36, 92, 124, 156, 188, 256] {
+        share.extend_from_slice(&place.to_be_bytes())?;
+    }
+    share.extend_from_slice(&[7 + (number % 2) as u8; 56])?;
+    share.extend_from_slice(&[0; 32])?;
+    share.extend_from_slice(&tagged(Tag::CiphertextSegment, &[7; 56]))?;
+    share.extend_from_slice(&hashes[number % 2])?;
+    for (node, hash) in [1u16, 2].iter().zip(hashes.iter()) {
+        share.extend_from_slice(&node.to_be_bytes())?;
+        share.extend_from_slice(hash)?;
+    }
+    share.extend_from_slice(&((block.len() % 5000) as u32).to_be_bytes())?;
+    share.extend_from_slice(block)?;
+    Ok(share)
+}
+
+fn block_hashes() -> [[u8; 32]; 2] {
+    [tagged(Tag::Block, &[7; 56]), tagged(Tag::Block, &[8; 56])]
+}
+
+// How a download ends of which the one server has share `number` of that file.
+fn end_of_no_code_word(alloc: Global, number: u8) -> Option<DownloadStatus> {
+    let hashes = block_hashes();
+    let root = tagged_hash::pair(&hashes[0], &hashes[1]);
+    let segment = tagged(Tag::CiphertextSegment, &[7; 56]);
+    let expect = Expect {
+        needed: 1,
+        total: 2,
+        size: 56,
+    };
+    let block = Ueb::new(&expect, 56, [1; 32], segment, root)
+        .write(alloc)
+        .ok()?;
+    let cap = ReadCap::new([9; 16], tagged(Tag::ExtensionBlock, &block), 1, 2, 56).ok()?;
+    let mut held = Vec::new(alloc);
+    held.push(Held {
+        server: 0,
+        share: number,
+        bytes: share_of_two(alloc, usize::from(number), &block).ok()?,
+    })
+    .ok()?;
+    let nodes: [NodeId; 1] = [0];
+    let mut download = Download::start(alloc, cap, 0, 56, &nodes, 7, 0).ok()?;
+    for _ in 0..100 {
+        if let Some((node, request)) = download.take_outgoing() {
+            let message = answer(alloc, &held, node, &request)?;
+            download.on_message(node, message, 0).ok()?;
+        }
+    }
+    if download.status() != DownloadStatus::Done && download.take_bytes().is_some() {
+        return None;
+    }
+    Some(download.status())
+}
+
+#[test]
+fn no_code_word_is_inconsistent(rt: HostRuntime) {
+    assert!(rt; end_of_no_code_word(rt.alloc(), 0) == Some(DownloadStatus::Done));
+    assert!(rt; end_of_no_code_word(rt.alloc(), 1) == Some(DownloadStatus::Inconsistent));
+}
