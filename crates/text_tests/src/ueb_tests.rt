@@ -17,35 +17,30 @@ const EXPECT: Expect = Expect {
 // Shares needed and in all, size, block: of files that were encoded by hashlib and a cipher in
 // Python.
 const BLOCKS: [(u16, u16, u64, &[u8]); 5] = [
-    // 305 bytes
     (
         1,
         1,
         56,
         b"codec_name:3:crs,codec_params:6:56-1-1,crypttext_hash:32:}\xd8\xb63\x80]\x13\xc8\xeb\xaf\x17R\x03\x040.\x9e\xf3\xc8\xbel\xf0\x9a\xe1\xca\xbc\xceh(\x0f\xe9\xe8,crypttext_root_hash:32:\xc2\x04\xcc\xf0-N*\xa6\xd3\xf4\x0d\xfa\xa0q\x11}ju\xd70\xad\x08\xf2\x8b\xeb\xc7\xde.6\xa7\x8f\xc4,needed_shares:1:1,num_segments:1:1,segment_size:2:56,share_root_hash:32:\xf0\xabOI\xf0\xc4\x80v*B\xe5\xa0\xe6E\x82\xbeC\xfc\xbfwQiK\x81\xe2R\xe4\xf7A*{\x15,size:2:56,tail_codec_params:6:56-1-1,total_shares:1:1,",
     ),
-    // 308 bytes
     (
         3,
         10,
         56,
         b"codec_name:3:crs,codec_params:7:57-3-10,crypttext_hash:32: \xb7\x94K\xe5\xf5\xf63\xebq\xa5F\xbd\xc6V&*\xcf\xb5u\x8c\x9b\xd7\xfa\xf6\xca]\xa9\x04$\xab\x1b,crypttext_root_hash:32:\x80 \xc3!\xc7\xd7CB\x97\x1aj\x85\x1e\xe2\x1a\x85\x0b\x88\xd0\xd9\x96\xf6\xae\xddk\xc1\xde\xf0\x1b\xa10>,needed_shares:1:3,num_segments:1:1,segment_size:2:57,share_root_hash:32:\xe7\xb6nS\x17\xb3eK\x1cu\x19?\x8d\xf9\x02\xdb\x22\xe6\x07\x5c9\x16>\xeb1\xf5\xe5R!\xd5\xee\xf6,size:2:56,tail_codec_params:7:57-3-10,total_shares:2:10,",
     ),
-    // 320 bytes
     (
         3,
         10,
         131074,
         b"codec_name:3:crs,codec_params:11:131073-3-10,crypttext_hash:32:Ie\xdd\x97A\xd3h\xf9\x12I\xfeYYg\x0cw\x16B\xff\xd8k\xf4[l(\xe2\xf2ico\xd8\xfa,crypttext_root_hash:32:\xd4\x98\x93\xf5\x8a\xdb4^\xb0\xe8_3u\xe7\xee\x1c\xb4\xb7\xecQ\xc4Qd\xa21E\x89i\xfdu\xe7v,needed_shares:1:3,num_segments:1:2,segment_size:6:131073,share_root_hash:32:\x04a\xba`\x95\xda!\xb0G0.\x06D\x0a\x1d\x5cl\xc3\xe5s\xe8\x9e!%N\x0d\xa6\xbf\xc7\xb8!G,size:6:131074,tail_codec_params:6:3-3-10,total_shares:2:10,",
     ),
-    // 314 bytes
     (
         2,
         5,
         30000,
         b"codec_name:3:crs,codec_params:8:4096-2-5,crypttext_hash:32:*\x17A\xc7\xdcv\x1b\xb9H\xad\x147\x0c\xf3\x10\xe4\xd0\x0f\xa4\xb1\xc9\xee)\xdc\x93\xdf\x1esgZ@,,crypttext_root_hash:32:\xd0\xfe\xcew^8\xee\x9a\xcf9\x83\x14>\xfd\xc4+~a\xb02\xeeN\xb0^\xf5\xda\xed\xf7O\x87F\xa4,needed_shares:1:2,num_segments:1:8,segment_size:4:4096,share_root_hash:32:\xfdU\x9c\x0c\xf2\xde\x13\x87\xafo\xdd+\xd3\x1c\xe8\x92{`\x84\xd8#\xd6\xf1+ZG\xda\xf4&@\xe8\xb0,size:5:30000,tail_codec_params:8:1328-2-5,total_shares:1:5,",
     ),
-    // 323 bytes
     (
         256,
         256,
