@@ -4,6 +4,7 @@ use cap_text::{Cap, ReadCap};
 use download_core::Download;
 use download_core::status::DownloadStatus;
 use file_encoding::{Encoded, Params, encode_all};
+use proved_parts::Evidence;
 use share_verify::Check;
 use std::alloc::{AllocError, Global};
 use wire::message::{Body, HeldList, HeldShare, Message, NodeId, ReadData};
@@ -34,8 +35,8 @@ pub(crate) struct Course {
     // The server, share and check of each blame.
     pub(crate) blamed: Vec<(NodeId, u8, Check)>,
     pub(crate) reads: Vec<Asked>,
-    // For how many segments it has proof.
-    pub(crate) parts: usize,
+    // What proves them.
+    pub(crate) evidence: Option<Evidence>,
 }
 
 const SERVERS: u16 = 10;
@@ -237,22 +238,29 @@ fn ended(
     for blame in download.blamed() {
         blamed.push((blame.server, blame.share, blame.check)).ok()?;
     }
-    let parts = match download.evidence(alloc).ok()? {
-        Some(evidence) => {
-            if !evidence.proves(&cap.to_verify()) {
-                return None;
-            }
-            evidence.parts.as_slice().len()
+    let evidence = download.evidence(alloc).ok()?;
+    if let Some(evidence) = &evidence {
+        if !evidence.proves(&cap.to_verify()) {
+            return None;
         }
-        None => 0,
-    };
+    }
     Some(Course {
         status: download.status(),
         bytes,
         blamed,
         reads,
-        parts,
+        evidence,
     })
+}
+
+impl Course {
+    // For how many segments it has proof.
+    pub(crate) fn parts(&self) -> usize {
+        match &self.evidence {
+            Some(evidence) => evidence.parts.as_slice().len(),
+            None => 0,
+        }
+    }
 }
 
 // Whether two requests ask for a byte of one share at one server.

@@ -9,6 +9,7 @@ use cap_text::ReadCap;
 use download_core::Download;
 use download_core::status::DownloadStatus;
 use file_encoding::{Encoded, Params, encode_all};
+use proved_parts::find_clash;
 use share_verify::Check;
 use std::alloc::{AllocError, Global};
 use tagged_hash::{Tag, tagged};
@@ -36,7 +37,7 @@ fn whole(alloc: Global, encoded: &Encoded, held: &[Held]) -> Option<Course> {
 // Whether the file came whole, and this share alone was blamed.
 fn blames_only(course: &Course, server: NodeId, share: u8, check: Check) -> bool {
     let done = course.status == DownloadStatus::Done && course.bytes == FILE_SIZE;
-    done && course.parts == 8 && course.blamed.as_slice() == [(server, share, check)].as_slice()
+    done && course.parts() == 8 && course.blamed.as_slice() == [(server, share, check)].as_slice()
 }
 
 // The sections of a share, how far behind its beginning a byte is changed, and the check that
@@ -151,7 +152,7 @@ fn bytes_before_silence(alloc: Global, most: usize) -> Option<(bool, usize, usiz
     let cap = cap_of(&encoded)?;
     let course = course_of(alloc, cap, &file, (0, size), &held, Some((2, most)))?;
     let few = course.status == DownloadStatus::NotEnoughShares;
-    Some((few, course.bytes, course.parts))
+    Some((few, course.bytes, course.parts()))
 }
 
 #[test]
@@ -160,6 +161,27 @@ fn what_is_proved_is_handed_out_before_silence(rt: HostRuntime) {
     // bytes, which are 23 blocks and a part of the next.
     let before = bytes_before_silence(rt.alloc(), 7);
     assert!(rt; before == Some((true, 94_254, 23)), "{before:?}");
+}
+
+// Whether downloads of one file from other shares have one segment for each number.
+fn downloads_agree(alloc: Global) -> Option<bool> {
+    let encoded = encoded(alloc, FILE_SIZE, 0)?;
+    let mut first = one_each(alloc, &encoded)?;
+    let mut last = one_each(alloc, &encoded)?;
+    first.truncate(3);
+    last.drain(..7);
+    let one = whole(alloc, &encoded, &first)?;
+    let other = whole(alloc, &encoded, &last)?;
+    if one.parts() != 8 || other.parts() != 8 {
+        return Some(false);
+    }
+    let clash = find_clash(alloc, one.evidence.as_ref()?, other.evidence.as_ref()?).ok()?;
+    Some(clash.is_none())
+}
+
+#[test]
+fn downloads_from_other_shares_agree(rt: HostRuntime) {
+    assert!(rt; downloads_agree(rt.alloc()) == Some(true));
 }
 
 // The bytes of the data section that are read for one byte of a file of two segments, of 131,073
