@@ -3,3 +3,4 @@ pub mod TreeLemmas
 pub mod HandoutLemmas
 pub mod DecodingLemmas
 pub mod LawLemmas
+pub mod AgreementLemmas

@@ -5,3 +5,4 @@ pub mod Handout
 pub mod Decoding
 pub mod NoCodeWord
 pub mod Laws
+pub mod Agreement

@@ -1,5 +1,6 @@
 //! Laws of segments. Each law is a contract; the calls do nothing.
 
+ghost use Rattle.download_segments.specs.Agreement.{PiecesAgree, PiecesAreOfTheFile};
 ghost use Rattle.download_segments.specs.Laws.{BlocksLead, GrowBySteps, NextSegmentsFollow};
 ghost use Rattle.download_segments.specs.Laws.{NoCodeWords, ProvedSegmentsStay, SegmentsAreUnique};
 
@@ -31,4 +32,14 @@ pub fn proved_segments_stay()
 /// A law: the segment behind one that is handed out is the next, where more is wanted.
 pub fn next_segments_follow()
     ensures { NextSegmentsFollow }
+{}
+
+/// A law: without a clash no place of a cap's file has two bytes in pieces of it, whoever sent them.
+pub fn pieces_agree()
+    ensures { PiecesAgree }
+{}
+
+/// A law: without a clash each byte of a piece is the one of the cap's file, where that is known.
+pub fn pieces_are_of_the_file()
+    ensures { PiecesAreOfTheFile }
 {}

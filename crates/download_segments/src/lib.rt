@@ -14,7 +14,7 @@ mod piece;
 pub use decoding::Decoding;
 pub use handout::Handout;
 pub use laws::{
-    blocks_lead, next_segments_follow, no_code_words, proved_segments_stay, segments_are_unique,
-    trees_grow,
+    blocks_lead, next_segments_follow, no_code_words, pieces_agree, pieces_are_of_the_file,
+    proved_segments_stay, segments_are_unique, trees_grow,
 };
 pub use piece::Piece;
