@@ -17,6 +17,7 @@ use ueb::{Expect, Ueb};
 use wire::message::NodeId;
 
 // The places in a header where it tells where sections begin.
+const BLOCKS: usize = 12;
 const CIPHERTEXT_TREE: usize = 20;
 
 const BLOCK_TREE: usize = 24;
@@ -115,6 +116,43 @@ fn liars_are_blamed(rt: HostRuntime) {
     assert!(rt; is_block_blamed(rt.alloc()) == Some(true));
     assert!(rt; is_other_file_blamed(rt.alloc()) == Some(true));
     assert!(rt; is_long_block_blamed(rt.alloc()) == Some(true));
+}
+
+// A share that ends too early, at this place: what is read there has another length than was asked.
+fn is_cut_blamed(alloc: Global, section: usize, behind: usize) -> Option<bool> {
+    let encoded = encoded(alloc, FILE_SIZE, 0)?;
+    let mut held = one_each(alloc, &encoded)?;
+    let bytes = &mut held.get_mut(0)?.bytes;
+    let end = number_at(bytes, section)?.checked_add(behind)?;
+    bytes.truncate(end);
+    let course = whole(alloc, &encoded, &held)?;
+    Some(blames_only(&course, 0, 0, Check::Layout))
+}
+
+// Where a share is cut: in its blocks, in each of its trees, and in its extension block.
+const CUTS: [(usize, usize); 11] = [
+    (BLOCKS, 0),
+    (BLOCKS, 1),
+    (BLOCKS, 9_999),
+    (CIPHERTEXT_TREE, 479),
+    (BLOCK_TREE, 300),
+    (SHARE_HASHES, 0),
+    (SHARE_HASHES, 100),
+    (EXTENSION_BLOCK, 0),
+    (EXTENSION_BLOCK, 3),
+    (EXTENSION_BLOCK, 4),
+    (EXTENSION_BLOCK, 300),
+];
+
+#[test]
+fn shares_that_end_early_are_blamed(rt: HostRuntime) {
+    for (section, behind) in &CUTS {
+        let blamed = is_cut_blamed(rt.alloc(), *section, *behind);
+        assert!(rt;
+            blamed == Some(true),
+            "section {section}, {behind}: {blamed:?}"
+        );
+    }
 }
 
 // Of three numbers that are there, 0 is blamed at server 0 and good at server 5, and server 0 has 1
