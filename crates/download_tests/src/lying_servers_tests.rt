@@ -18,6 +18,7 @@ use wire::message::NodeId;
 
 // The places in a header where it tells where sections begin.
 const BLOCKS: usize = 12;
+
 const CIPHERTEXT_TREE: usize = 20;
 
 const BLOCK_TREE: usize = 24;
@@ -109,6 +110,34 @@ fn is_long_block_blamed(alloc: Global) -> Option<bool> {
         }
     }
     Some(within && blames_only(&course, 0, 0, Check::Layout))
+}
+
+// A server that offers share 3 as the numbers 0, 1 and 2 too: each of these is blamed, 0 and 1 for
+// the numbers of the share hashes, 2, whose numbers are those of 3, for its block tree. The
+// shares of others give the file.
+fn is_other_number_blamed(alloc: Global) -> Option<bool> {
+    let encoded = encoded(alloc, FILE_SIZE, 0)?;
+    let mut held = one_each(alloc, &encoded)?;
+    let text = encoded.shares.get(3)?.as_slice();
+    for number in 0..3 {
+        let one = held.get_mut(number)?;
+        one.server = 3;
+        one.bytes = Vec::from_slice(alloc, text).ok()?;
+    }
+    let course = whole(alloc, &encoded, &held)?;
+    let done = course.status == DownloadStatus::Done && course.bytes == FILE_SIZE;
+    Some(done && course.blamed.as_slice() == OTHER_NUMBERS.as_slice())
+}
+
+const OTHER_NUMBERS: [(NodeId, u8, Check); 3] = [
+    (3, 0, Check::Layout),
+    (3, 1, Check::Layout),
+    (3, 2, Check::BlockTree),
+];
+
+#[test]
+fn a_share_counts_under_its_own_number(rt: HostRuntime) {
+    assert!(rt; is_other_number_blamed(rt.alloc()) == Some(true));
 }
 
 #[test]
