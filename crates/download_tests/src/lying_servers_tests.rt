@@ -236,6 +236,9 @@ fn downloads_agree(alloc: Global) -> Option<bool> {
     let mut first = one_each(alloc, &encoded)?;
     let mut last = one_each(alloc, &encoded)?;
     first.truncate(3);
+    if last.len() != 10 {
+        return None;
+    }
     last.drain(..7);
     let one = whole(alloc, &encoded, &first)?;
     let other = whole(alloc, &encoded, &last)?;
