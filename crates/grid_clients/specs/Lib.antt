@@ -1,3 +1,4 @@
 -- what public contracts rest on
 pub mod UploadCalls
 pub mod DownloadCalls
+pub mod CheckCalls

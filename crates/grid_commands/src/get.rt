@@ -4,7 +4,7 @@ ghost use Rattle.std.specs.Prelude.{◌≡◌, ◌≤◌, length};
 ghost use Rattle.grid_rules.specs.Range.{IsWithin};
 
 use crate::folders::is_grid;
-use crate::servers::{FolderGrid, SESSION, open_servers, standing_names};
+use crate::servers::{FolderGrid, SESSION, open_servers, standing_servers};
 use crate::words::GetWords;
 use crate::{Failure, print};
 use cap_text::{Cap, ReadCap};
@@ -61,23 +61,22 @@ where
     O: Write,
 {
     is_grid(rt, grid)?;
-    let names = standing_names(rt, grid)?;
-    let mut servers = open_servers(rt, grid, &names)?;
-    let download = begin_download(rt.alloc(), cap, range, names.len() as u16)?;
+    let standing = standing_servers(rt, grid)?;
+    let mut servers = open_servers(rt, grid, &standing)?;
+    let download = begin_download(rt.alloc(), cap, range, &standing)?;
     carry(&mut servers, download, &mut *out)?;
     print(out, &[])
 }
 
-// The download of a range of a file, from so many servers.
+// The download of a range of a file, from these servers.
 fn begin_download(
     alloc: Global,
     cap: ReadCap,
     range: &ByteRange,
-    servers: u16,
+    servers: &[NodeId],
 ) -> Result<Download, Fault> {
-    let nodes: Vec<NodeId> = (0..servers).collect(alloc)?;
     let (from, to) = (range.from, range.to);
-    Ok(Download::start(alloc, cap, from, to, &nodes, SESSION, 0)?)
+    Ok(Download::start(alloc, cap, from, to, servers, SESSION, 0)?)
 }
 
 // Carries a download to its end, and writes what it hands out.

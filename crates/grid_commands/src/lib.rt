@@ -1,10 +1,11 @@
 //! The commands of `grid`, which keeps files on a grid of servers that need not be trusted.
 //!
 //! `grid` takes the words of the command line and two writers, and gives the exit status. A `put` is
-//! an upload and a `get` a download, which `local_grid` carries on, and what is told stands in
-//! `grid_rules`; what stands here is which words there are, and where the servers' folders lie.
+//! an upload, a `get` a download, and a `check` a check, which `local_grid` carries on, and what is
+//! told stands in `grid_rules`; what stands here is which words there are, and where the servers' folders lie.
 #![tactic(auto)]
 
+mod check;
 mod files;
 mod folders;
 mod get;
@@ -22,7 +23,10 @@ use std::io;
 use std::rt::Files;
 use words::{Request, read_words};
 
-// The exit status of wrong words, and that of a failed file, writer or allocation.
+// The exit status of what is done, that of wrong words, and that of a failed file, writer or
+// allocation.
+const DONE: u8 = 0;
+
 const WRONG_WORDS: u8 = 2;
 
 const FAILED: u8 = 7;
@@ -52,8 +56,9 @@ impl From<Fault> for Failure {
 /// reads, so that a beginning of its range may stand on `out` where it ends with a fault.
 ///
 /// The exit status is 0 where it is done, 2 for wrong words, 3 for refused input, 4 for an unhappy
-/// upload, 5 for too few shares, 6 for inconsistent ones, and 7 for a file or folder, memory, or a
-/// fault of `out` or `err`, after which nothing more is written.
+/// upload, 5 for too few shares, also where a `check` finds too few good ones and prints so, 6 for
+/// inconsistent ones, and 7 for a file or folder, memory, or a fault of `out` or `err`, after which
+/// nothing more is written.
 pub fn grid<R, S, O, E>(rt: &R, words: &[S], out: &mut O, err: &mut E) -> u8
 where
     R: Files + AllocGlobal + Clone + Drop,
@@ -62,13 +67,13 @@ where
     E: io::Write,
 {
     match run(rt, words, out) {
-        Ok(()) => 0,
+        Ok(status) => status,
         Err(Failure::Writer) => FAILED,
         Err(Failure::Fault(fault)) => report(rt.alloc(), err, &fault),
         Err(Failure::Words(error)) => match error.kind() {
             ErrorKind::OutOfMemory => report(rt.alloc(), err, &Fault::OutOfMemory),
             _ if error.use_stderr() => show(rt.alloc(), err, &error, WRONG_WORDS),
-            _ => show(rt.alloc(), out, &error, 0),
+            _ => show(rt.alloc(), out, &error, DONE),
         },
     }
 }
@@ -85,8 +90,8 @@ pub fn refuse_words<E: io::Write>(alloc: Global, error: &io::Error, err: &mut E)
 const NOT_UTF8: &[u8] = b"error: invalid UTF-8 was detected in one or more arguments\n\n\
 For more information, try '--help'.\n";
 
-// Runs a command, and writes its result.
-fn run<R, S, O>(rt: &R, words: &[S], out: &mut O) -> Result<(), Failure>
+// Runs a command, writes its result, and gives the exit status.
+fn run<R, S, O>(rt: &R, words: &[S], out: &mut O) -> Result<u8, Failure>
 where
     R: Files + AllocGlobal + Clone + Drop,
     S: AsStr,
@@ -94,10 +99,16 @@ where
 {
     match read_words(rt.alloc(), words) {
         Err(error) => Err(Failure::Words(error)),
-        Ok(Request::Put(words)) => print(out, &put::put(rt, &words)?),
-        Ok(Request::Get(words)) => get::get(rt, &words, out),
-        Ok(Request::Describe(text)) => print(out, &describe(rt.alloc(), text)?),
+        Ok(Request::Put(words)) => done(print(out, &put::put(rt, &words)?)),
+        Ok(Request::Get(words)) => done(get::get(rt, &words, out)),
+        Ok(Request::Check(words)) => check::check(rt, &words, out),
+        Ok(Request::Describe(text)) => done(print(out, &describe(rt.alloc(), text)?)),
     }
+}
+
+// The exit status where the result is written.
+fn done(written: Result<(), Failure>) -> Result<u8, Failure> {
+    written.map(|()| DONE)
 }
 
 // Writes bytes of a result, and all that was written before them.

@@ -4,16 +4,18 @@ ghost use Rattle.std.specs.Prelude.{◌≤◌, ◌<◌, length, IfOk};
 
 use crate::files::{at_path, read_at_most};
 use crate::folders::{MAX_SERVERS, can_be_grid, make_grid};
-use crate::servers::{SESSION, open_servers, server_names};
+use crate::servers::{FolderGrid, SESSION, open_servers, server_names};
 use crate::words::PutWords;
 use cap_text::Cap;
 use file_encoding::Params;
 use file_upload::prepared::{FileUpload, PreparedUpload, prepare};
 use grid_clients::upload::UploadClient;
 use grid_rules::{Fault, reached_happiness, servers_of};
+use std::alloc::Global;
 use std::rt::Files;
 use upload_core::Upload;
 use upload_core::pieces::WholeShares;
+use wire::message::NodeId;
 
 /// The greatest convergence secret, in bytes.
 const MAX_SECRET_SIZE: usize = 64;
@@ -108,20 +110,30 @@ where
     R: Files + AllocGlobal + Clone + Drop,
     requires { servers ≤ MAX_SERVERS }
 {
-    let names = server_names(rt.alloc(), servers)?;
-    let upload = begin_upload(rt, &names, upload)?;
+    let upload = begin_upload(rt.alloc(), servers, upload)?;
     let mut client = UploadClient::new(upload);
-    open_servers(rt, grid, &names)?.run(&mut client)?;
+    open_first_servers(rt, grid, servers)?.run(&mut client)?;
     reached_happiness(client.status(), wanted)
 }
 
-fn begin_upload<R: AllocGlobal>(
-    rt: &R,
-    names: &[String],
+// So many servers, the first ones.
+fn open_first_servers<R>(rt: &R, grid: &str, servers: u16) -> Result<FolderGrid<R>, Fault>
+where
+    R: Files + AllocGlobal + Clone + Drop,
+{
+    let numbers: Vec<NodeId> = (0..servers).collect(rt.alloc())?;
+    open_servers(rt, grid, &numbers)
+}
+
+// The upload to the first servers.
+fn begin_upload(
+    alloc: Global,
+    servers: u16,
     upload: PreparedUpload,
 ) -> Result<Upload<WholeShares>, Fault>
-    requires { length names.now ≤ 256 }
+    requires { servers ≤ MAX_SERVERS }
 {
-    let infos = servers_of(rt.alloc(), names)?;
-    Ok(upload.start(rt.alloc(), &infos, SESSION, 0)?)
+    let names = server_names(alloc, servers)?;
+    let infos = servers_of(alloc, &names)?;
+    Ok(upload.start(alloc, &infos, SESSION, 0)?)
 }

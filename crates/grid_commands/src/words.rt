@@ -9,6 +9,7 @@ use std::convert::AsStr;
 pub(crate) enum Request<'a> {
     Put(PutWords<'a>),
     Get(GetWords<'a>),
+    Check(CheckWords<'a>),
     /// `grid cap CAP`, with the cap's text.
     Describe(&'a str),
 }
@@ -36,6 +37,13 @@ pub(crate) struct GetWords<'a> {
     pub to: Option<u64>,
 }
 
+/// `grid check CAP --grid DIR ..`.
+#[derive(Drop)]
+pub(crate) struct CheckWords<'a> {
+    pub cap: &'a str,
+    pub grid: &'a str,
+}
+
 /// Reads the words after the program's name. An `Err` holds `clap`'s text, of help too.
 pub(crate) fn read_words<'a, S: AsStr>(
     alloc: Global,
@@ -46,6 +54,7 @@ pub(crate) fn read_words<'a, S: AsStr>(
     Ok(match matches.subcommand() {
         Some(("put", put)) => Request::Put(put_words(put)),
         Some(("get", get)) => Request::Get(get_words(get)),
+        Some(("check", check)) => Request::Check(check_words(check)),
         // A command is required, and this is the only other one.
         Some((_, cap)) => Request::Describe(text_of(cap, "CAP")),
         None => Request::Describe(text_of(&matches, "CAP")),
@@ -67,6 +76,7 @@ encrypted, erasure-coded and checked.",
         .subcommand_required(true)
         .subcommand(put_command(alloc)?)?
         .subcommand(get_command(alloc)?)?
+        .subcommand(check_command(alloc)?)?
         .subcommand(cap_command(alloc)?)
 }
 
@@ -122,6 +132,17 @@ fn get_command<'a>(alloc: Global) -> Result<Command<'a>, AllocError> {
             "to",
             "The place behind the last byte [default: the file's size]",
         ))
+}
+
+fn check_command<'a>(alloc: Global) -> Result<Command<'a>, AllocError> {
+    Command::new(alloc, "check")
+        .about(
+            "Reads each share of a cap's file that a server offers, and prints a verdict on each \
+and on the file.",
+        )
+        .after_help(STATUSES)
+        .arg(required(alloc, "CAP", "The cap that `put` printed, or its verify cap"))?
+        .arg(grid_folder(alloc))
 }
 
 fn cap_command<'a>(alloc: Global) -> Result<Command<'a>, AllocError> {
@@ -190,6 +211,13 @@ fn get_words<'a>(matches: &ArgMatches<'a>) -> GetWords<'a> {
         grid: text_of(matches, "grid"),
         from: number_of(matches, "from"),
         to: matches.get_one::<u64>("to"),
+    }
+}
+
+fn check_words<'a>(matches: &ArgMatches<'a>) -> CheckWords<'a> {
+    CheckWords {
+        cap: text_of(matches, "CAP"),
+        grid: text_of(matches, "grid"),
     }
 }
 

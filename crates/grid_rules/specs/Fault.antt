@@ -14,7 +14,8 @@ use Rattle.grid_rules.specs.declared.fault.Fault.{Fault}
 use Rattle.grid_rules.specs.declared.fault.Fault.TheVariants.{OutOfMemory, BadParameters, Cap}
 use Rattle.grid_rules.specs.declared.fault.Fault.TheVariants.{TooLarge, TooManySegments, Unhappy}
 use Rattle.grid_rules.specs.declared.fault.Fault.TheVariants.{NotEnoughShares, Inconsistent, File}
-use Rattle.grid_rules.specs.declared.fault.Fault.TheVariants.{BadRange, NeedsReadCap, TurnLimit}
+use Rattle.grid_rules.specs.declared.fault.Fault.TheVariants.{BadRange, NeedsReadCap, Socket}
+use Rattle.grid_rules.specs.declared.fault.Fault.TheVariants.{TurnLimit}
 
 -- the number of a fault
 abbrev pub fault_number : Fault → ℕ
@@ -28,6 +29,7 @@ fault_number NotEnoughShares = 71
 fault_number Inconsistent = 72
 fault_number BadRange = 73
 fault_number (File _) = 90
+fault_number Socket = 91
 fault_number TurnLimit = 92
 fault_number NeedsReadCap = 94
 
@@ -43,6 +45,7 @@ fault_status NotEnoughShares = 5
 fault_status Inconsistent = 6
 fault_status BadRange = 3
 fault_status (File _) = 7
+fault_status Socket = 7
 fault_status TurnLimit = 7
 fault_status NeedsReadCap = 3
 

@@ -3,3 +3,5 @@ pub mod Fault
 pub mod CapLines
 pub mod Ending
 pub mod Range
+pub mod ReportLines
+pub mod ProgressLine

@@ -47,6 +47,9 @@ pub enum Fault {
     /// The file or the folder of this path could not be read or written.
     #[error("FileFault {0}")]
     File(String),
+    /// No socket could be made at which a server listens.
+    #[error("SocketFault")]
+    Socket,
     /// The servers did not come to an end within the turns that a command takes.
     #[error("TurnLimit")]
     TurnLimit,
@@ -71,13 +74,14 @@ impl Fault {
             Fault::Inconsistent => 72,
             Fault::BadRange => 73,
             Fault::File(_) => 90,
+            Fault::Socket => 91,
             Fault::TurnLimit => 92,
             Fault::NeedsReadCap => 94,
         }
     }
 
     /// The exit status: 3 for refused input, 4 for an unhappy upload, 5 for too few shares, 6 for
-    /// inconsistent ones, and 7 for memory, a file or a folder, and for too many turns.
+    /// inconsistent ones, and 7 for memory, a file, a folder or a socket, and for too many turns.
     pub fn status(&self) -> u8
         ensures { result ≡ fault_status self.now }
     {
@@ -91,7 +95,7 @@ impl Fault {
             Fault::Unhappy { .. } => 4,
             Fault::NotEnoughShares => 5,
             Fault::Inconsistent => 6,
-            Fault::OutOfMemory | Fault::File(_) | Fault::TurnLimit => 7,
+            Fault::OutOfMemory | Fault::File(_) | Fault::Socket | Fault::TurnLimit => 7,
         }
     }
 

@@ -4,12 +4,14 @@ ghost use Rattle.std.specs.Prelude.{◌≡◌, ◌≤◌, IfOk, length, map, nat
 ghost use Rattle.std.specs.List.{IsDistinct, range_with_len};
 ghost use Rattle.std.specs.String.{string_bytes};
 ghost use Rattle.sha1.specs.Sha1.{sha1};
+ghost use Rattle.grid_rules.specs.ReportLines.{server_name};
 ghost use Rattle.upload_core.specs.declared.status.ServerInfo.{ServerInfo};
 
 use placement::ServerId;
 use sha1::Sha1;
 use std::alloc::{AllocError, Global};
 use upload_core::status::ServerInfo;
+use wire::message::NodeId;
 
 /// The servers whose folders have these names: the one at place i is node i, and its id is the
 /// SHA-1 of its folder's name.
@@ -30,6 +32,14 @@ pub fn servers_of(alloc: Global, names: &[String]) -> Result<Vec<ServerInfo>, Al
         })?;
     }
     Ok(servers)
+}
+
+/// The name of a server's folder: its number has three digits.
+pub fn server_name(alloc: Global, server: NodeId) -> Result<String, AllocError>
+    ensures { IfOk result (λ name. string_bytes name ≡ server_name server) }
+{
+    let (hundreds, tens, ones) = (server / 100, server / 10 % 10, server % 10);
+    format!(in alloc; "server-{hundreds}{tens}{ones}")
 }
 
 fn server_id(name: &str) -> ServerId

@@ -1,4 +1,4 @@
-use Rattle.std.proofs.Common.{◌≡◌, ◌∙◌, ap, refl, arith}
+use Rattle.std.proofs.Common.{◌∙◌, ap, refl, arith}
 use Rattle.std.specs.String.{string_bytes}
 use Rattle.sha1.specs.Sha1.{sha1}
 use Rattle.upload_core.specs.declared.status.ServerInfo.{ServerInfo}

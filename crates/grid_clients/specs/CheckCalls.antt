@@ -1,0 +1,24 @@
+-- A check as a client of the loop.
+use Rattle.std.specs.Prelude.{◌≡◌, Bool, true, false}
+use Rattle.checker.specs.Moves.{Advances, TicksOn}
+use Rattle.checker.specs.Sending.{Takes}
+use Rattle.checker.specs.State.{CheckState}
+use Rattle.checker.specs.declared.status.CheckStatus.{CheckStatus}
+use Rattle.checker.specs.declared.status.CheckStatus.TheVariants.{Running, Done, Failed}
+use Rattle.local_grid.specs.Clients.{ClientCalls}
+
+-- A check is carried on while it runs.
+abbrev pub is_to_carry : CheckStatus → Bool
+is_to_carry Running = true
+is_to_carry Done = false
+is_to_carry Failed = false
+
+-- what the calls of a check do
+abbrev pub check_calls : ClientCalls CheckState
+check_calls = record {
+  runs = λ c. is_to_carry c.status;
+  takes = Takes;
+  hears = λ old from m now new. Advances from m now old new;
+  ticks = λ old now new. TicksOn now old new;
+  gives_up = λ old new. new.status ≡ Failed;
+}

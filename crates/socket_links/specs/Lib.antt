@@ -1,0 +1,6 @@
+-- what public contracts rest on
+pub mod Ends
+pub mod Carrying
+pub mod Links
+-- words of private clauses
+pub mod Framed

@@ -1,0 +1,101 @@
+//! Links over sockets, and beside them those in memory.
+
+ghost use Rattle.std.specs.Prelude.{◌≡◌, IfOk, IfSome, None, OnOk, Some};
+ghost use Rattle.wire.specs.Frames.{frame};
+ghost use Rattle.socket_links.specs.Carrying.{Carries};
+ghost use Rattle.socket_links.specs.Links.{IsCarried, IsCarriedOver};
+
+use crate::carrying::{CarryFault, carry};
+use crate::ends::Ends;
+use crate::reader::message_of;
+use local_grid::link::{Link, MemoryLink, Way};
+use std::alloc::{AllocError, Global};
+use std::marker::Model;
+use wire::message::Message;
+
+/// A link over both ends of a connection, until one of them fails, or something else than a frame
+/// comes: then both are closed, and it carries nothing any more.
+#[derive(Drop)]
+pub struct SocketLink<E: Ends> {
+    alloc: Global,
+    ends: Option<E>,
+}
+
+impl<E: Ends> Model for SocketLink<E> {
+    ghost use Rattle.std.specs.Prelude.{Option};
+
+    ghost Value = { Option E };
+
+    ghost view = { λ l. l.ends };
+}
+
+impl<E: Ends> SocketLink<E> {
+    /// A link over these ends, or one that carries nothing.
+    pub fn new(alloc: Global, ends: Option<E>) -> SocketLink<E>
+        ensures { result ≡ ends }
+    {
+        SocketLink { alloc, ends }
+    }
+}
+
+impl<E: Ends + Drop> Link for SocketLink<E> {
+    ghost carries = { λ link way m came after. IsCarried E.calls link way m came after };
+
+    fn carry(
+        &mut self,
+        way: Way,
+        message: &Message,
+        frame: &mut Vec<u8>,
+    ) -> Result<Option<Message>, AllocError> {
+        message.encode_to(frame)?;
+        let came = match &mut self.ends {
+            Some(ends) => carried(self.alloc, ends, way, frame)?,
+            None => None,
+        };
+        if came.is_none() {
+            self.ends = None;
+        }
+        Ok(came)
+    }
+}
+
+// What comes out where a frame goes a way. `None` where a call on an end failed, or no frame came.
+fn carried<E: Ends>(
+    alloc: Global,
+    ends: &mut E,
+    way: Way,
+    sent: &[u8],
+) -> Result<Option<Message>, AllocError>
+    ensures { IfOk result (λ o. IfSome o
+        (λ out. Carries E.calls way ends.old sent.now (frame out) ends.new)) }
+{
+    let mut came = Vec::with_capacity(alloc, sent.len())?;
+    match carry(ends, way, sent, &mut came) {
+        Ok(()) => message_of(alloc, &came),
+        Err(CarryFault::Socket) => Ok(None),
+        Err(CarryFault::OutOfMemory) => Err(AllocError),
+    }
+}
+
+/// A link in memory or over sockets.
+#[derive(Drop)]
+pub enum GridLink<E: Ends> {
+    Memory(MemoryLink),
+    Sockets(SocketLink<E>),
+}
+
+impl<E: Ends + Drop> Link for GridLink<E> {
+    ghost carries = { λ link way m came after. IsCarriedOver E.calls link way m came after };
+
+    fn carry(
+        &mut self,
+        way: Way,
+        message: &Message,
+        frame: &mut Vec<u8>,
+    ) -> Result<Option<Message>, AllocError> {
+        match self {
+            GridLink::Memory(link) => link.carry(way, message, frame),
+            GridLink::Sockets(link) => link.carry(way, message, frame),
+        }
+    }
+}
