@@ -7,6 +7,7 @@ use crate::damages::{Damage, damage};
 use grid_commands::grid;
 use std::alloc::AllocError;
 use std::{fs, io};
+use test_writers::Told;
 
 // The caps of the file of 56 bytes whose byte i is i, at 3 of 10.
 const CAP: &str = "URI:CHK:5ervuplwjtqf5caeknmrecgz54:\
@@ -38,12 +39,12 @@ fn remove(rt: &HostRuntime) -> io::Result<()> {
 struct Ended {
     status: u8,
     out: Vec<u8>,
-    err: Vec<u8>,
+    err: Told,
 }
 
 fn run(rt: &HostRuntime, line: &str) -> Result<Ended, AllocError> {
     let words: Vec<&str> = line.split(' ').collect(rt.alloc())?;
-    let (mut out, mut err) = (Vec::new(rt.alloc()), Vec::new(rt.alloc()));
+    let (mut out, mut err) = (Vec::new(rt.alloc()), Told::new(rt.alloc(), false));
     let status = grid(rt, words.as_slice(), &mut out, &mut err);
     Ok(Ended { status, out, err })
 }

@@ -14,8 +14,11 @@ use std::alloc::{Allocator, Global};
 use std::cell::Cell;
 use std::fs::{File, Metadata, OpenFile, OpenOptions};
 use std::io::{Read, Seek, SeekFrom, Write};
-use std::rt::Files;
+use std::net::{Net, SocketAddr, TcpListener, TcpStream};
+use std::rt::{Clock, Files};
+use std::time::Duration;
 use std::{io, str};
+use test_writers::Told;
 
 // The most bytes that one call reads or writes: a file of 56 bytes is read by two calls and its end
 // by a third.
@@ -153,6 +156,31 @@ impl<'a> Files for FailingFiles<'a> {
     }
 }
 
+// Sockets and the clock are the host's.
+impl<'a> Net for FailingFiles<'a> {
+    type Stream = TcpStream;
+
+    type Listener = TcpListener;
+
+    fn bind(&self, addr: SocketAddr) -> io::Result<TcpListener> {
+        self.rt.bind(addr)
+    }
+
+    fn connect(&self, addr: SocketAddr) -> io::Result<TcpStream> {
+        Net::connect(&self.rt, addr)
+    }
+}
+
+impl<'a> Clock for FailingFiles<'a> {
+    fn monotonic(&self) -> io::Result<Duration> {
+        self.rt.monotonic()
+    }
+
+    fn since_1970(&self) -> io::Result<Duration> {
+        self.rt.since_1970()
+    }
+}
+
 impl<'a> Read for FailingFile<'a> {
     fn read(&mut self, buf: &mut [u8]) -> io::Result<usize> {
         self.calls
@@ -264,9 +292,9 @@ fn ending_of(rt: &HostRuntime, calls: &Calls, left: u64, line: &str, whole: &[u8
     calls.left.set(left);
     let files = FailingFiles { rt: *rt, calls };
     let mut out = Vec::new(rt.alloc());
-    let mut err = Vec::new(rt.alloc());
+    let mut err = Told::new(rt.alloc(), false);
     let status = grid(&files, words.as_slice(), &mut out, &mut err);
-    told_ending(status, &out, &err, whole)
+    told_ending(status, &out, err.as_slice(), whole)
 }
 
 // How `put` of 56 zero bytes ends so.

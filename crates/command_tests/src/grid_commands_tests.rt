@@ -7,6 +7,7 @@
 use grid_commands::grid;
 use std::alloc::AllocError;
 use std::fs;
+use test_writers::Told;
 
 // The cap of 56 zero bytes, at one share of one.
 pub(crate) const ZEROS_CAP: &str =
@@ -131,7 +132,7 @@ pub(crate) fn is_there(rt: &HostRuntime, rest: &str, wanted: bool) -> bool {
 // Whether the words give this status, and write this to standard output and to standard error.
 pub(crate) fn ends(rt: &HostRuntime, words: &[&str], status: u8, out: &[u8], err: &[u8]) -> bool {
     let mut written = Vec::new(rt.alloc());
-    let mut told = Vec::new(rt.alloc());
+    let mut told = Told::new(rt.alloc(), false);
     let ended = grid(rt, words, &mut written, &mut told);
     ended == status && written.as_slice() == out && told.as_slice() == err
 }
@@ -319,7 +320,7 @@ fn first_line(bytes: &[u8]) -> &str {
 pub(crate) fn printed(rt: &HostRuntime, line: &str) -> Option<Vec<u8>> {
     let words = words_of(rt, line).ok()?;
     let mut out = Vec::new(rt.alloc());
-    let mut err = Vec::new(rt.alloc());
+    let mut err = Told::new(rt.alloc(), false);
     if grid(rt, words.as_slice(), &mut out, &mut err) == 0 {
         Some(out)
     } else {

@@ -9,6 +9,7 @@ use grid_commands::{grid, refuse_words};
 use std::alloc::AllocError;
 use std::rt::Files;
 use std::{fs, io};
+use test_writers::Told;
 
 // Whether a command with an empty path for its grid is refused, and says so.
 fn refuses_no_name(rt: &HostRuntime, words: &[&str]) -> bool {
@@ -148,10 +149,11 @@ fn wrong_words_are_usage(rt: HostRuntime) {
     for words in rows {
         assert!(rt; shows(&rt, words, 2));
     }
-    let helps: [&[&str]; 4] = [
+    let helps: [&[&str]; 5] = [
         &["grid", "--help"],
         &["grid", "put", "--help"],
         &["grid", "get", "--help"],
+        &["grid", "check", "--help"],
         &["grid", "cap", "--help"],
     ];
     for words in helps {
@@ -163,7 +165,8 @@ fn wrong_words_are_usage(rt: HostRuntime) {
 // for 0.
 fn shows(rt: &HostRuntime, words: &[&str], status: u8) -> bool {
     let mut out = Vec::new(rt.alloc());
-    let mut err = Vec::new(rt.alloc());
+    let mut err = Told::new(rt.alloc(), false);
     let ended = grid(rt, words, &mut out, &mut err);
-    ended == status && out.is_empty() == (status != 0) && err.is_empty() == (status == 0)
+    let is_silent = err.as_slice().is_empty();
+    ended == status && out.is_empty() == (status != 0) && is_silent == (status == 0)
 }

@@ -12,6 +12,7 @@ use grid_commands::grid;
 use std::alloc::AllocError;
 use std::{fs, io};
 use tagged_hash::{Tag, tagged};
+use test_writers::Told;
 use ueb::{Expect, Ueb};
 
 // A secret of 65 bytes, one more than may be.
@@ -420,17 +421,23 @@ impl io::Write for Short {
     }
 }
 
+impl io::IsTerminal for Short {
+    fn is_terminal(&self) -> bool {
+        false
+    }
+}
+
 // Whether the words give this status with a standard output, or a standard error, that takes so
 // many bytes, and write nothing to the other.
 fn ends_short(rt: &HostRuntime, words: &[&str], is_output: bool, left: usize, status: u8) -> bool {
-    let mut other = Vec::new(rt.alloc());
+    let mut other = Told::new(rt.alloc(), false);
     let mut short = Short { left };
     let ended = if is_output {
         grid(rt, words, &mut short, &mut other)
     } else {
         grid(rt, words, &mut other, &mut short)
     };
-    ended == status && other.is_empty()
+    ended == status && other.as_slice().is_empty()
 }
 
 // Words, whether they write to standard output or else to standard error, how many bytes at least,
@@ -460,12 +467,12 @@ fn gives_or_is_refused(rt: &HostRuntime, line: &str, wanted: &[u8]) -> bool {
     let (Ok(words), Ok(mut out), Ok(mut err)) = (
         words_of(rt, line),
         Vec::with_capacity(rt.alloc(), 1000),
-        Vec::with_capacity(rt.alloc(), 1000),
+        Told::with_capacity(rt.alloc(), 1000),
     ) else {
         return true;
     };
     match grid(rt, words.as_slice(), &mut out, &mut err) {
-        0 => out.as_slice() == wanted && err.is_empty(),
+        0 => out.as_slice() == wanted && err.as_slice().is_empty(),
         7 => out.is_empty() && err.as_slice() == b"grid: 1 OutOfMemory\n".as_slice(),
         _ => false,
     }

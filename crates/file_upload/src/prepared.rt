@@ -145,6 +145,13 @@ impl PreparedUpload {
         self.happy
     }
 
+    /// The bytes of each share.
+    pub fn share_length(&self) -> u64
+        ensures { result ≡ length_of self.now.shares }
+    {
+        self.goal.share_length().get()
+    }
+
     /// Begins the upload: each of the servers is asked, in the order of the file, which shares it
     /// holds. The servers are of distinct nodes.
     pub fn start(

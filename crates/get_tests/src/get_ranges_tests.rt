@@ -5,6 +5,7 @@
 use grid_commands::grid;
 use std::alloc::AllocError;
 use std::{fs, io};
+use test_writers::Told;
 
 // The caps of the files of 56 and of 131,074 bytes whose byte i is i modulo 251, at 3 of 10.
 pub(crate) const CAP_56: &str = "URI:CHK:5ervuplwjtqf5caeknmrecgz54:\
@@ -53,12 +54,12 @@ pub(crate) fn counted(rt: &HostRuntime, from: usize, to: usize) -> Result<Vec<u8
 pub(crate) struct Ended {
     pub status: u8,
     pub out: Vec<u8>,
-    pub err: Vec<u8>,
+    pub err: Told,
 }
 
 pub(crate) fn run(rt: &HostRuntime, line: &str) -> Result<Ended, AllocError> {
     let words: Vec<&str> = line.split(' ').collect(rt.alloc())?;
-    let (mut out, mut err) = (Vec::new(rt.alloc()), Vec::new(rt.alloc()));
+    let (mut out, mut err) = (Vec::new(rt.alloc()), Told::new(rt.alloc(), false));
     let status = grid(rt, words.as_slice(), &mut out, &mut err);
     Ok(Ended { status, out, err })
 }

@@ -6,6 +6,7 @@ use crate::get_ranges_tests::{
 use grid_commands::grid;
 use std::alloc::AllocError;
 use std::{fs, io};
+use test_writers::Told;
 
 const NOT_ENOUGH: &str = "grid: 71 NotEnoughShares\n";
 
@@ -190,10 +191,10 @@ fn fails_after(rt: &HostRuntime, left: usize) -> Result<bool, AllocError> {
     let words: Vec<&str> = line.as_str().split(' ').collect(rt.alloc())?;
     let taken = Vec::new(rt.alloc());
     let mut out = Short { left, taken };
-    let mut err = Vec::new(rt.alloc());
+    let mut err = Told::new(rt.alloc(), false);
     let status = grid(rt, words.as_slice(), &mut out, &mut err);
     let beginning = counted(rt, 0, left)?;
-    Ok(status == 7 && err.is_empty() && out.taken.as_slice() == beginning.as_slice())
+    Ok(status == 7 && err.as_slice().is_empty() && out.taken.as_slice() == beginning.as_slice())
 }
 
 #[test]

@@ -16,6 +16,16 @@ pub trait Watch {
     fn heard(&mut self, message: &Message);
 }
 
+impl<W: Watch> Watch for &mut W {
+    fn asked(&mut self, message: &Message) {
+        (**self).asked(message);
+    }
+
+    fn heard(&mut self, message: &Message) {
+        (**self).heard(message);
+    }
+}
+
 /// A client with what looks on.
 #[derive(Drop)]
 pub struct Watched<C: Client, W: Watch> {

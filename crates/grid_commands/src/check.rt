@@ -1,84 +1,95 @@
 //! `grid check`: a verdict on each share of a cap's file that the servers of a grid offer.
 
-use crate::folders::is_grid;
 use crate::get::read_cap;
-use crate::servers::{FolderGrid, SESSION, open_servers, standing_servers};
+use crate::progress::Progress;
 use crate::words::CheckWords;
 use crate::{DONE, Failure, print};
 use cap_text::{Cap, VerifyCap};
 use checker::Check;
 use checker::status::Report;
 use grid_clients::check::CheckClient;
-use grid_rules::{Fault, report_lines, report_status};
-use std::io::Write;
-use std::rt::Files;
+use grid_clients::watched::Watched;
+use grid_rules::{Fault, Work, report_lines, report_status};
+use grid_servers::{FolderGrid, SESSION, is_grid, open_servers, standing_servers};
+use std::alloc::Global;
+use std::io::{IsTerminal, Write};
+use std::net::Net;
+use std::rt::{Clock, Files};
 
 // What is told of a cap that holds its file.
 const LITERAL: &[u8] = b"literal\n";
 
 /// Writes what is found of the shares of a cap's file, and gives the exit status: that of too few
 /// shares where the file cannot be recovered. A cap that holds its file has no shares.
-pub(crate) fn check<R, O>(rt: &R, words: &CheckWords, out: &mut O) -> Result<u8, Failure>
+pub(crate) fn check<R, O, E>(
+    rt: &R,
+    words: &CheckWords,
+    out: &mut O,
+    progress: &mut Progress<'_, R, E>,
+) -> Result<u8, Failure>
 where
-    R: Files + AllocGlobal + Clone + Drop,
+    R: Files + Net + Clock + AllocGlobal + Clone + Drop,
     O: Write,
+    E: Write + IsTerminal,
 {
-    match read_cap(words.cap)? {
-        Cap::Chk(cap) => check_shares(rt, words.grid, cap.to_verify(), out),
-        Cap::Verify(cap) => check_shares(rt, words.grid, cap, out),
+    let cap = match read_cap(words.cap)? {
+        Cap::Chk(cap) => cap.to_verify(),
+        Cap::Verify(cap) => cap,
         Cap::Lit(_) => {
             print(out, LITERAL)?;
-            Ok(DONE)
+            return Ok(DONE);
         }
-    }
-}
-
-// Checks the shares that the servers of a grid offer.
-fn check_shares<R, O>(rt: &R, grid: &str, cap: VerifyCap, out: &mut O) -> Result<u8, Failure>
-where
-    R: Files + AllocGlobal + Clone + Drop,
-    O: Write,
-{
-    is_grid(rt, grid)?;
-    let report = find_shares(rt, grid, cap)?;
-    tell(rt, &report, out)
+    };
+    let found = find_shares(rt, words, cap, progress);
+    progress.clear();
+    tell(rt.alloc(), &found?, out)
 }
 
 // Writes a report, and gives its exit status.
-fn tell<R, O>(rt: &R, report: &Report, out: &mut O) -> Result<u8, Failure>
-where
-    R: AllocGlobal,
-    O: Write,
-{
-    let lines = match report_lines(rt.alloc(), report) {
-        Ok(lines) => lines,
-        Err(error) => return Err(Failure::Fault(Fault::from(error))),
-    };
-    print(out, lines.as_bytes())?;
+fn tell<O: Write>(alloc: Global, report: &Report, out: &mut O) -> Result<u8, Failure> {
+    print(out, lines_of(alloc, report)?.as_bytes())?;
     Ok(report_status(report))
 }
 
+fn lines_of(alloc: Global, report: &Report) -> Result<String, Fault> {
+    Ok(report_lines(alloc, report)?)
+}
+
 // What a check finds at the servers whose folders stand in a grid.
-fn find_shares<R>(rt: &R, grid: &str, cap: VerifyCap) -> Result<Report, Fault>
+fn find_shares<R, E>(
+    rt: &R,
+    words: &CheckWords,
+    cap: VerifyCap,
+    progress: &mut Progress<'_, R, E>,
+) -> Result<Report, Fault>
 where
-    R: Files + AllocGlobal + Clone + Drop,
+    R: Files + Net + Clock + AllocGlobal + Clone + Drop,
+    E: Write + IsTerminal,
 {
-    let standing = standing_servers(rt, grid)?;
-    let mut servers = open_servers(rt, grid, &standing)?;
-    let check = Check::start(rt.alloc(), cap, &standing, SESSION, 0)?;
-    carry(rt, &mut servers, check)
+    is_grid(rt, words.grid)?;
+    let standing = standing_servers(rt, words.grid)?;
+    let mut servers = open_servers(rt, words.grid, &standing, words.net)?;
+    match Check::start(rt.alloc(), cap, &standing, SESSION, 0) {
+        Ok(check) => carry(rt, &mut servers, check, progress),
+        Err(error) => Err(Fault::from(error)),
+    }
 }
 
 // Carries a check to its end, and gives what it found. One that has ended without a report found no
 // memory.
-fn carry<R>(rt: &R, servers: &mut FolderGrid<R>, check: Check) -> Result<Report, Fault>
+fn carry<R, E>(
+    rt: &R,
+    servers: &mut FolderGrid<R>,
+    check: Check,
+    progress: &mut Progress<'_, R, E>,
+) -> Result<Report, Fault>
 where
-    R: Files + AllocGlobal + Drop,
+    R: Files + Net + Clock + AllocGlobal + Drop,
+    E: Write + IsTerminal,
 {
-    let mut client = CheckClient::new(check);
+    progress.begin(Work::Read);
+    let mut client = Watched::new(CheckClient::new(check), progress);
     servers.run(&mut client)?;
-    match client.report(rt.alloc())? {
-        Some(report) => Ok(report),
-        None => Err(Fault::OutOfMemory),
-    }
+    let report = client.client().report(rt.alloc())?;
+    report.ok_or(Fault::OutOfMemory)
 }

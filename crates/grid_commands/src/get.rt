@@ -3,30 +3,40 @@
 ghost use Rattle.std.specs.Prelude.{◌≡◌, ◌≤◌, length};
 ghost use Rattle.grid_rules.specs.Range.{IsWithin};
 
-use crate::folders::is_grid;
-use crate::servers::{FolderGrid, SESSION, open_servers, standing_servers};
+use crate::progress::{Counted, Progress};
 use crate::words::GetWords;
 use crate::{Failure, print};
 use cap_text::{Cap, ReadCap};
 use download_core::Download;
 use grid_clients::download::DownloadClient;
-use grid_rules::{ByteRange, Fault, range_of, reached_range_end};
+use grid_rules::{ByteRange, Fault, Work, range_of, reached_range_end};
+use grid_servers::{FolderGrid, SESSION, is_grid, open_servers, standing_servers};
 use std::alloc::Global;
-use std::io::Write;
-use std::rt::Files;
+use std::io::{IsTerminal, Write};
+use std::net::Net;
+use std::rt::{Clock, Files};
 use wire::message::NodeId;
 
 /// Writes bytes of the file of a cap: from the cap itself where it holds the file, else from what
 /// the servers answer, each segment once it is proved.
-pub(crate) fn get<R, O>(rt: &R, words: &GetWords, out: &mut O) -> Result<(), Failure>
+pub(crate) fn get<R, O, E>(
+    rt: &R,
+    words: &GetWords,
+    out: &mut O,
+    progress: &mut Progress<'_, R, E>,
+) -> Result<(), Failure>
 where
-    R: Files + AllocGlobal + Clone + Drop,
+    R: Files + Net + Clock + AllocGlobal + Clone + Drop,
     O: Write,
+    E: Write + IsTerminal,
 {
     match read_cap(words.cap)? {
         Cap::Chk(cap) => {
             let range = range_of(words.from, words.to, cap.size())?;
-            download(rt, words.grid, cap, &range, out)
+            progress.begin(Work::Write(cap.needed(), range.to.saturating_sub(range.from)));
+            let (mut servers, download) = begin(rt, words, cap, &range)?;
+            carry(&mut servers, download, Counted::new(&mut *out, progress))?;
+            print(out, &[])
         }
         Cap::Verify(_) => Err(Failure::Fault(Fault::NeedsReadCap)),
         Cap::Lit(cap) => {
@@ -48,24 +58,23 @@ fn bytes_in<'a>(bytes: &'a [u8], range: &ByteRange) -> &'a [u8]
     &bytes[range.from as usize..range.to as usize]
 }
 
-// Writes a range of a file, from the servers whose folders stand in a grid.
-fn download<R, O>(
+// The servers whose folders stand in a grid, and the download of a range of a file from them.
+fn begin<R>(
     rt: &R,
-    grid: &str,
+    words: &GetWords,
     cap: ReadCap,
     range: &ByteRange,
-    out: &mut O,
-) -> Result<(), Failure>
+) -> Result<(FolderGrid<R>, Download), Fault>
 where
-    R: Files + AllocGlobal + Clone + Drop,
-    O: Write,
+    R: Files + Net + AllocGlobal + Clone + Drop,
 {
-    is_grid(rt, grid)?;
-    let standing = standing_servers(rt, grid)?;
-    let mut servers = open_servers(rt, grid, &standing)?;
-    let download = begin_download(rt.alloc(), cap, range, &standing)?;
-    carry(&mut servers, download, &mut *out)?;
-    print(out, &[])
+    is_grid(rt, words.grid)?;
+    let standing = standing_servers(rt, words.grid)?;
+    let servers = open_servers(rt, words.grid, &standing, words.net)?;
+    match begin_download(rt.alloc(), cap, range, &standing) {
+        Ok(download) => Ok((servers, download)),
+        Err(fault) => Err(fault),
+    }
 }
 
 // The download of a range of a file, from these servers.
@@ -82,7 +91,7 @@ fn begin_download(
 // Carries a download to its end, and writes what it hands out.
 fn carry<R, W>(servers: &mut FolderGrid<R>, download: Download, out: W) -> Result<(), Failure>
 where
-    R: Files + AllocGlobal + Drop,
+    R: Files + Net + AllocGlobal + Drop,
     W: Write + Drop,
 {
     let mut client = DownloadClient::new(download, out);

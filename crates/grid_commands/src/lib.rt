@@ -1,26 +1,26 @@
 //! The commands of `grid`, which keeps files on a grid of servers that need not be trusted.
 //!
-//! `grid` takes the words of the command line and two writers, and gives the exit status. A `put` is
-//! an upload, a `get` a download, and a `check` a check, which `local_grid` carries on, and what is
-//! told stands in `grid_rules`; what stands here is which words there are, and where the servers' folders lie.
+//! `grid` takes the words of the command line and two writers, and gives the exit status. A `put`
+//! is an upload, a `get` a download, and a `check` a check, which `local_grid` carries on, and what
+//! is told stands in `grid_rules`; what stands here is which words there are.
 #![tactic(auto)]
 
 mod check;
-mod files;
-mod folders;
 mod get;
+mod progress;
 mod put;
-mod servers;
 mod words;
 
 ghost use Rattle.std.specs.Prelude.{◌≡◌};
 
 use clap::error::ErrorKind;
 use grid_rules::{Fault, cap_lines};
+use progress::Progress;
 use std::alloc::Global;
 use std::convert::AsStr;
-use std::io;
-use std::rt::Files;
+use std::io::{self, IsTerminal};
+use std::net::Net;
+use std::rt::{Clock, Files};
 use words::{Request, read_words};
 
 // The exit status of what is done, that of wrong words, and that of a failed file, writer or
@@ -53,20 +53,25 @@ impl From<Fault> for Failure {
 
 /// Runs the command that `words` asks for, of which the first is the program's name. Its result
 /// goes to `out`, and a fault, as one line with its number and name, to `err`. A `get` writes as it
-/// reads, so that a beginning of its range may stand on `out` where it ends with a fault.
+/// reads, so that a beginning of its range may stand on `out` where it ends with a fault. Where
+/// `err` is a terminal, a command that takes more than a second tells there how far it is, and
+/// clears that line before it ends.
 ///
 /// The exit status is 0 where it is done, 2 for wrong words, 3 for refused input, 4 for an unhappy
 /// upload, 5 for too few shares, also where a `check` finds too few good ones and prints so, 6 for
-/// inconsistent ones, and 7 for a file or folder, memory, or a fault of `out` or `err`, after which
-/// nothing more is written.
+/// inconsistent ones, and 7 for a file, a folder, a socket or memory, or a fault of `out` or `err`,
+/// after which nothing more is written.
 pub fn grid<R, S, O, E>(rt: &R, words: &[S], out: &mut O, err: &mut E) -> u8
 where
-    R: Files + AllocGlobal + Clone + Drop,
+    R: Files + Net + Clock + AllocGlobal + Clone + Drop,
     S: AsStr,
     O: io::Write,
-    E: io::Write,
+    E: io::Write + IsTerminal,
 {
-    match run(rt, words, out) {
+    let mut progress = Progress::new(rt, &mut *err);
+    let ended = run(rt, words, out, &mut progress);
+    progress.clear();
+    match ended {
         Ok(status) => status,
         Err(Failure::Writer) => FAILED,
         Err(Failure::Fault(fault)) => report(rt.alloc(), err, &fault),
@@ -91,17 +96,23 @@ const NOT_UTF8: &[u8] = b"error: invalid UTF-8 was detected in one or more argum
 For more information, try '--help'.\n";
 
 // Runs a command, writes its result, and gives the exit status.
-fn run<R, S, O>(rt: &R, words: &[S], out: &mut O) -> Result<u8, Failure>
+fn run<R, S, O, E>(
+    rt: &R,
+    words: &[S],
+    out: &mut O,
+    progress: &mut Progress<'_, R, E>,
+) -> Result<u8, Failure>
 where
-    R: Files + AllocGlobal + Clone + Drop,
+    R: Files + Net + Clock + AllocGlobal + Clone + Drop,
     S: AsStr,
     O: io::Write,
+    E: io::Write + IsTerminal,
 {
     match read_words(rt.alloc(), words) {
         Err(error) => Err(Failure::Words(error)),
-        Ok(Request::Put(words)) => done(print(out, &put::put(rt, &words)?)),
-        Ok(Request::Get(words)) => done(get::get(rt, &words, out)),
-        Ok(Request::Check(words)) => check::check(rt, &words, out),
+        Ok(Request::Put(words)) => done(print(out, &put::put(rt, &words, progress)?)),
+        Ok(Request::Get(words)) => done(get::get(rt, &words, out, progress)),
+        Ok(Request::Check(words)) => check::check(rt, &words, out, progress),
         Ok(Request::Describe(text)) => done(print(out, &describe(rt.alloc(), text)?)),
     }
 }

@@ -2,17 +2,20 @@
 
 ghost use Rattle.std.specs.Prelude.{◌≤◌, ◌<◌, length, IfOk};
 
-use crate::files::{at_path, read_at_most};
-use crate::folders::{MAX_SERVERS, can_be_grid, make_grid};
-use crate::servers::{FolderGrid, SESSION, open_servers, server_names};
+use crate::progress::Progress;
 use crate::words::PutWords;
-use cap_text::Cap;
+use cap_text::{Cap, LitCap, ReadCap};
 use file_encoding::Params;
 use file_upload::prepared::{FileUpload, PreparedUpload, prepare};
 use grid_clients::upload::UploadClient;
-use grid_rules::{Fault, reached_happiness, servers_of};
+use grid_clients::watched::Watched;
+use grid_rules::{Fault, Work, reached_happiness, servers_of};
+use grid_servers::{FolderGrid, MAX_SERVERS, SESSION, at_path, can_be_grid, make_grid};
+use grid_servers::{open_servers, read_at_most, server_names};
 use std::alloc::Global;
-use std::rt::Files;
+use std::io::{IsTerminal, Write};
+use std::net::Net;
+use std::rt::{Clock, Files};
 use upload_core::Upload;
 use upload_core::pieces::WholeShares;
 use wire::message::NodeId;
@@ -28,22 +31,30 @@ const MAX_LITERAL_SIZE: usize = 55;
 
 /// Stores a file, and gives the lines with its cap and its happiness. The cap of a small file holds
 /// it, and no server is needed.
-pub(crate) fn put<R>(rt: &R, words: &PutWords) -> Result<Vec<u8>, Fault>
+pub(crate) fn put<R, E>(
+    rt: &R,
+    words: &PutWords,
+    progress: &mut Progress<'_, R, E>,
+) -> Result<Vec<u8>, Fault>
 where
-    R: Files + AllocGlobal + Clone + Drop,
+    R: Files + Net + Clock + AllocGlobal + Clone + Drop,
+    E: Write + IsTerminal,
 {
     let params = Params::new(words.needed, words.happy, words.total, words.max_segment)?;
     let servers = server_count(words.servers)?;
     if words.secret.len() > MAX_SECRET_SIZE {
         return Err(Fault::BadParameters);
     }
-    match prepare_file(rt, words, &params)? {
-        FileUpload::Shares(upload) => place_shares(rt, words.grid, servers, upload),
-        FileUpload::Literal(cap) => {
-            let cap = Cap::Lit(cap);
-            Ok(format!(in rt.alloc(); "{cap}\n")?.into_bytes())
-        }
+    match prepare_file(rt, words, &params, progress)? {
+        FileUpload::Shares(upload) => place_shares(rt, words, servers, upload, progress),
+        FileUpload::Literal(cap) => literal_line(rt.alloc(), cap),
     }
+}
+
+// The line of a cap that holds its file.
+fn literal_line(alloc: Global, cap: LitCap) -> Result<Vec<u8>, Fault> {
+    let cap = Cap::Lit(cap);
+    Ok(format!(in alloc; "{cap}\n")?.into_bytes())
 }
 
 // The number of servers, which is 1 to 256.
@@ -58,9 +69,15 @@ fn server_count(servers: u64) -> Result<u16, Fault>
 
 // Reads the file and encodes it. Its bytes are let go before the shares are placed. A fault of the
 // file comes first, then one of the grid's folder, which a small file does not need.
-fn prepare_file<R>(rt: &R, words: &PutWords, params: &Params) -> Result<FileUpload, Fault>
+fn prepare_file<R, E>(
+    rt: &R,
+    words: &PutWords,
+    params: &Params,
+    progress: &mut Progress<'_, R, E>,
+) -> Result<FileUpload, Fault>
 where
-    R: Files + AllocGlobal + Clone + Drop,
+    R: Files + Clock + AllocGlobal + Clone + Drop,
+    E: Write + IsTerminal,
     requires { length words.now.secret.now ≤ 64 }
 {
     let alloc = rt.alloc();
@@ -75,54 +92,70 @@ where
     let Some(file) = file else {
         return Err(Fault::TooLarge);
     };
+    progress.encode(file.len() as u64);
     Ok(prepare(alloc, &file, words.secret.as_bytes(), params)?)
 }
 
 // Places the shares on the servers, and gives the lines with the cap and the happiness, where it is
 // as great as was wanted.
-fn place_shares<R>(
+fn place_shares<R, E>(
     rt: &R,
-    grid: &str,
+    words: &PutWords,
     servers: u16,
     upload: PreparedUpload,
+    progress: &mut Progress<'_, R, E>,
 ) -> Result<Vec<u8>, Fault>
 where
-    R: Files + AllocGlobal + Clone + Drop,
+    R: Files + Net + Clock + AllocGlobal + Clone + Drop,
+    E: Write + IsTerminal,
     requires { servers ≤ MAX_SERVERS }
 {
-    make_grid(rt, grid)?;
-    let alloc = rt.alloc();
-    let cap = format!(in alloc; "{}\n", upload.cap())?;
-    let wanted = upload.happy();
-    let happiness = run_upload(rt, grid, servers, upload, wanted)?;
-    Ok(format!(in alloc; "{cap}happiness {happiness}\n")?.into_bytes())
+    make_grid(rt, words.grid)?;
+    let cap = *upload.cap();
+    progress.begin(Work::Place(cap.total(), share_bytes(&upload)));
+    let happiness = run_upload(rt, words, servers, upload, progress)?;
+    progress.clear();
+    put_lines(rt.alloc(), &cap, happiness)
+}
+
+// The bytes of all shares together.
+fn share_bytes(upload: &PreparedUpload) -> u64 {
+    let total = u64::from(upload.cap().total());
+    upload.share_length().saturating_mul(total)
+}
+
+// The lines of a file that was put.
+fn put_lines(alloc: Global, cap: &ReadCap, happiness: usize) -> Result<Vec<u8>, Fault> {
+    Ok(format!(in alloc; "{cap}\nhappiness {happiness}\n")?.into_bytes())
 }
 
 // Carries the upload to its end, and gives the happiness that it reached.
-fn run_upload<R>(
+fn run_upload<R, E>(
     rt: &R,
-    grid: &str,
+    words: &PutWords,
     servers: u16,
     upload: PreparedUpload,
-    wanted: u16,
+    progress: &mut Progress<'_, R, E>,
 ) -> Result<usize, Fault>
 where
-    R: Files + AllocGlobal + Clone + Drop,
+    R: Files + Net + Clock + AllocGlobal + Clone + Drop,
+    E: Write + IsTerminal,
     requires { servers ≤ MAX_SERVERS }
 {
+    let wanted = upload.happy();
     let upload = begin_upload(rt.alloc(), servers, upload)?;
-    let mut client = UploadClient::new(upload);
-    open_first_servers(rt, grid, servers)?.run(&mut client)?;
-    reached_happiness(client.status(), wanted)
+    let mut client = Watched::new(UploadClient::new(upload), progress);
+    open_first_servers(rt, words, servers)?.run(&mut client)?;
+    reached_happiness(client.client().status(), wanted)
 }
 
 // So many servers, the first ones.
-fn open_first_servers<R>(rt: &R, grid: &str, servers: u16) -> Result<FolderGrid<R>, Fault>
+fn open_first_servers<R>(rt: &R, words: &PutWords, servers: u16) -> Result<FolderGrid<R>, Fault>
 where
-    R: Files + AllocGlobal + Clone + Drop,
+    R: Files + Net + AllocGlobal + Clone + Drop,
 {
     let numbers: Vec<NodeId> = (0..servers).collect(rt.alloc())?;
-    open_servers(rt, grid, &numbers)
+    open_servers(rt, words.grid, &numbers, words.net)
 }
 
 // The upload to the first servers.

@@ -1,6 +1,6 @@
 //! The words of the command line, read by `clap`.
 
-use clap::{Arg, ArgMatches, Command, Error, value_parser};
+use clap::{Arg, ArgAction, ArgMatches, Command, Error, value_parser};
 use std::alloc::{AllocError, Global};
 use std::convert::AsStr;
 
@@ -25,6 +25,7 @@ pub(crate) struct PutWords<'a> {
     pub total: u64,
     pub max_segment: u64,
     pub servers: u64,
+    pub net: bool,
 }
 
 /// `grid get CAP --grid DIR ..`: places as the user wrote them. Without `to` the range ends with
@@ -35,6 +36,7 @@ pub(crate) struct GetWords<'a> {
     pub grid: &'a str,
     pub from: u64,
     pub to: Option<u64>,
+    pub net: bool,
 }
 
 /// `grid check CAP --grid DIR ..`.
@@ -42,6 +44,7 @@ pub(crate) struct GetWords<'a> {
 pub(crate) struct CheckWords<'a> {
     pub cap: &'a str,
     pub grid: &'a str,
+    pub net: bool,
 }
 
 /// Reads the words after the program's name. An `Err` holds `clap`'s text, of help too.
@@ -82,7 +85,8 @@ encrypted, erasure-coded and checked.",
 
 const STATUSES: &str =
     "Exit status: 0 done, 2 wrong words, 3 refused input, 4 unhappy, 5 not enough shares, \
-6 inconsistent, 7 file or memory. A refusal is one line on standard error, with its number and name.";
+6 inconsistent, 7 file, socket or memory. A refusal is one line on standard error, with its number \
+and name.";
 
 fn put_command<'a>(alloc: Global) -> Result<Command<'a>, AllocError> {
     let mut command = Command::new(alloc, "put")
@@ -96,7 +100,7 @@ shares of their own.",
     for &(name, default, help) in &NUMBERS {
         command = command.arg(number(alloc, name, default, help))?;
     }
-    command.arg(secret(alloc))
+    command.arg(secret(alloc))?.arg(net(alloc))
 }
 
 // The numbers of `put`: name, default, and what it is.
@@ -131,7 +135,8 @@ fn get_command<'a>(alloc: Global) -> Result<Command<'a>, AllocError> {
             alloc,
             "to",
             "The place behind the last byte [default: the file's size]",
-        ))
+        ))?
+        .arg(net(alloc))
 }
 
 fn check_command<'a>(alloc: Global) -> Result<Command<'a>, AllocError> {
@@ -142,7 +147,8 @@ and on the file.",
         )
         .after_help(STATUSES)
         .arg(required(alloc, "CAP", "The cap that `put` printed, or its verify cap"))?
-        .arg(grid_folder(alloc))
+        .arg(grid_folder(alloc))?
+        .arg(net(alloc))
 }
 
 fn cap_command<'a>(alloc: Global) -> Result<Command<'a>, AllocError> {
@@ -165,6 +171,13 @@ fn grid_folder<'a>(alloc: Global) -> Arg<'a> {
         .value_name("DIR")
         .required(true)
         .help("The folder of the grid, which holds a folder for each server")
+}
+
+fn net<'a>(alloc: Global) -> Arg<'a> {
+    Arg::new(alloc, "net")
+        .long("net")
+        .action(ArgAction::SetTrue)
+        .help("Ask the servers over sockets of this machine")
 }
 
 fn secret<'a>(alloc: Global) -> Arg<'a> {
@@ -202,6 +215,7 @@ fn put_words<'a>(matches: &ArgMatches<'a>) -> PutWords<'a> {
         total: number_of(matches, "n"),
         max_segment: number_of(matches, "segment"),
         servers: number_of(matches, "servers"),
+        net: matches.get_flag("net"),
     }
 }
 
@@ -211,6 +225,7 @@ fn get_words<'a>(matches: &ArgMatches<'a>) -> GetWords<'a> {
         grid: text_of(matches, "grid"),
         from: number_of(matches, "from"),
         to: matches.get_one::<u64>("to"),
+        net: matches.get_flag("net"),
     }
 }
 
@@ -218,6 +233,7 @@ fn check_words<'a>(matches: &ArgMatches<'a>) -> CheckWords<'a> {
     CheckWords {
         cap: text_of(matches, "CAP"),
         grid: text_of(matches, "grid"),
+        net: matches.get_flag("net"),
     }
 }
 

@@ -12,8 +12,8 @@ use share_reading::Verdict;
 use share_verify::Check;
 use std::alloc::{AllocError, Global};
 
-/// The lines of a report: one for each share that was offered, by server and then by number, and one
-/// for the file.
+/// The lines of a report: one for each share that was offered, by server and then by number, and
+/// one for the file.
 pub fn report_lines(alloc: Global, report: &Report) -> Result<String, AllocError>
     ensures { IfOk result (λ lines. string_bytes lines ≡ report_lines report.now) }
 {

@@ -1,8 +1,9 @@
 //! What the commands of `grid` tell and decide, apart from the files that they work on.
 //!
 //! Each fault has a number, an exit status and a text; a cap is told in lines, and so is a check; a
-//! grid's folders have names, by which its servers are ordered; an upload's end is its happiness or a
-//! fault, and that of a download nothing or a fault; and a range is one of the file or refused.
+//! grid's folders have names, by which its servers are ordered; an upload's end is its happiness or
+//! a fault, and that of a download nothing or a fault; a range is one of the file or refused; and
+//! how far a command is stands in one line.
 #![tactic(auto)]
 
 mod checking;

@@ -9,7 +9,7 @@ use std::rt::Files;
 
 /// The bytes of a file, where there are at most `limit`, and none where there are more. No more
 /// than that and one byte is read, and memory is asked for once, by the file's length.
-pub(crate) fn read_at_most<R: Files + AllocGlobal>(
+pub fn read_at_most<R: Files + AllocGlobal>(
     rt: &R,
     path: &str,
     limit: u64,
@@ -38,7 +38,7 @@ fn read_to_limit<F: Read + Drop>(
 }
 
 /// The result of a call on a path, with a fault that names the path.
-pub(crate) fn at_path<T>(alloc: Global, outcome: io::Result<T>, path: &str) -> Result<T, Fault> {
+pub fn at_path<T>(alloc: Global, outcome: io::Result<T>, path: &str) -> Result<T, Fault> {
     match outcome {
         Ok(value) => Ok(value),
         Err(error) => Err(Fault::of_path(alloc, &error, path)),

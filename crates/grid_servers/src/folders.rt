@@ -7,10 +7,10 @@ use std::rt::Files;
 use std::{fs, io};
 
 /// The greatest number of server folders.
-pub(crate) const MAX_SERVERS: u16 = 256;
+pub const MAX_SERVERS: u16 = 256;
 
 /// Refuses a grid's folder that is not there.
-pub(crate) fn is_grid<R: Files + AllocGlobal + Clone + Drop>(
+pub fn is_grid<R: Files + AllocGlobal + Clone + Drop>(
     rt: &R,
     grid: &str,
 ) -> Result<(), Fault> {
@@ -22,7 +22,7 @@ pub(crate) fn is_grid<R: Files + AllocGlobal + Clone + Drop>(
 
 /// Refuses what can be no grid's folder: a path without a name, and one at which there is something
 /// else. A folder that is not there can be made.
-pub(crate) fn can_be_grid<R: Files + AllocGlobal>(rt: &R, grid: &str) -> Result<(), Fault> {
+pub fn can_be_grid<R: Files + AllocGlobal>(rt: &R, grid: &str) -> Result<(), Fault> {
     let alloc = rt.alloc();
     at_path(alloc, named(grid), grid)?;
     let outcome = match fs::metadata(rt, grid) {
@@ -43,6 +43,6 @@ fn named(path: &str) -> io::Result<()> {
 }
 
 /// Makes the folder of a grid where it is not there.
-pub(crate) fn make_grid<R: Files + AllocGlobal>(rt: &R, grid: &str) -> Result<(), Fault> {
+pub fn make_grid<R: Files + AllocGlobal>(rt: &R, grid: &str) -> Result<(), Fault> {
     at_path(rt.alloc(), fs::create_dir_all(rt, grid), grid)
 }

@@ -5,15 +5,17 @@ ghost use Rattle.std.specs.List.{IsDistinct};
 
 use crate::files::if_there;
 use crate::folders::MAX_SERVERS;
-use grid_rules::{Fault, server_name};
+use grid_rules::{Fault, is_memory, server_name};
 use local_grid::grid::LocalGrid;
 use local_grid::link::MemoryLink;
 use local_grid::node::Node;
 use server_core::server::Server;
 use share_store::error::StoreError;
 use share_store::folder::FolderStore;
+use socket_links::{GridLink, SocketLink, SocketPair, connect, listen};
 use std::alloc::{AllocError, Global};
 use std::fs;
+use std::net::Net;
 use std::rt::Files;
 use wire::message::NodeId;
 
@@ -21,13 +23,16 @@ use wire::message::NodeId;
 const CAPACITY: u64 = 1 << 42;
 
 /// The session of a command's one operation.
-pub(crate) const SESSION: u64 = 1;
+pub const SESSION: u64 = 1;
+
+/// A link to a server, in memory or over sockets.
+type ServerLink<R> = GridLink<SocketPair<<R as Net>::Stream>>;
 
 /// The servers of a grid in this process.
-pub(crate) type FolderGrid<R> = LocalGrid<FolderStore<R>, MemoryLink>;
+pub type FolderGrid<R> = LocalGrid<FolderStore<R>, ServerLink<R>>;
 
 /// The names of the folders of the first servers.
-pub(crate) fn server_names(alloc: Global, servers: u16) -> Result<Vec<String>, Fault>
+pub fn server_names(alloc: Global, servers: u16) -> Result<Vec<String>, Fault>
     requires { servers ≤ MAX_SERVERS }
     ensures { IfOk result (λ names. length names.items ≡ servers) }
 {
@@ -39,7 +44,7 @@ pub(crate) fn server_names(alloc: Global, servers: u16) -> Result<Vec<String>, F
 }
 
 /// The numbers of the servers whose folders stand in a grid, rising.
-pub(crate) fn standing_servers<R>(rt: &R, grid: &str) -> Result<Vec<NodeId>, Fault>
+pub fn standing_servers<R>(rt: &R, grid: &str) -> Result<Vec<NodeId>, Fault>
 where
     R: Files + AllocGlobal,
     ensures { IfOk result (λ servers. IsDistinct nat_eq servers.items) }
@@ -62,22 +67,55 @@ fn is_standing<R: Files + AllocGlobal>(rt: &R, grid: &str, name: &str) -> Result
     Ok(found.is_some_and(|file| file.is_dir()))
 }
 
-/// These servers over their folders of a grid, which are made where they are not there.
-pub(crate) fn open_servers<R>(
+/// These servers over their folders of a grid, which are made where they are not there. They are
+/// asked in memory or over sockets; one to which no connection is made is silent.
+pub fn open_servers<R>(
     rt: &R,
     grid: &str,
     servers: &[NodeId],
+    over_sockets: bool,
 ) -> Result<FolderGrid<R>, Fault>
 where
-    R: Files + AllocGlobal + Clone + Drop,
+    R: Files + Net + AllocGlobal + Clone + Drop,
 {
     let alloc = rt.alloc();
+    let links = open_links(rt, servers.len(), over_sockets)?;
     let mut nodes = Vec::with_capacity(alloc, servers.len())?;
-    for server in servers {
+    for (server, link) in servers.iter().zip(links) {
         leave_out(&mut nodes, *server)?;
-        nodes.push(open_server(rt, grid, *server)?)?;
+        nodes.push(open_server(rt, grid, *server, link)?)?;
     }
     Ok(LocalGrid::new(alloc, nodes))
+}
+
+// So many links.
+fn open_links<R>(rt: &R, count: usize, over_sockets: bool) -> Result<Vec<ServerLink<R>>, Fault>
+where
+    R: Net + AllocGlobal,
+{
+    let mut links = Vec::with_capacity(rt.alloc(), count)?;
+    for _ in 0..count {
+        let link = if over_sockets {
+            GridLink::Sockets(open_sockets(rt)?)
+        } else {
+            GridLink::Memory(MemoryLink::new(rt.alloc()))
+        };
+        links.push(link)?;
+    }
+    Ok(links)
+}
+
+// A link over sockets, with a listener of its own, which is closed once its client is in. Where no
+// connection is made the link carries nothing.
+fn open_sockets<R>(rt: &R) -> Result<SocketLink<SocketPair<R::Stream>>, Fault>
+where
+    R: Net + AllocGlobal,
+{
+    match listen(rt) {
+        Ok(listener) => Ok(SocketLink::new(rt.alloc(), connect(rt, &listener).ok())),
+        Err(error) if is_memory(&error) => Err(Fault::OutOfMemory),
+        Err(_) => Err(Fault::Socket),
+    }
 }
 
 // No node stands at the numbers below this one that are left.
@@ -93,9 +131,10 @@ fn open_server<R>(
     rt: &R,
     grid: &str,
     server: NodeId,
-) -> Result<Option<Node<FolderStore<R>, MemoryLink>>, Fault>
+    link: ServerLink<R>,
+) -> Result<Option<Node<FolderStore<R>, ServerLink<R>>>, Fault>
 where
-    R: Files + AllocGlobal + Clone + Drop,
+    R: Files + Net + AllocGlobal + Clone + Drop,
 {
     let alloc = rt.alloc();
     let name = server_name(alloc, server)?;
@@ -104,7 +143,7 @@ where
         Ok(store) => {
             let readonly = is_readonly(rt, folder.as_str())?;
             let server = Server::start(alloc, store, CAPACITY, readonly);
-            Ok(Some(Node::new(server, MemoryLink::new(alloc))))
+            Ok(Some(Node::new(server, link)))
         }
         Err(StoreError::StoreFault) => Ok(None),
         Err(StoreError::OutOfMemory) => Err(Fault::OutOfMemory),

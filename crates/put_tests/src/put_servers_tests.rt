@@ -6,6 +6,7 @@ use grid_commands::grid;
 use std::alloc::AllocError;
 use std::rt::Files;
 use std::{fs, io};
+use test_writers::Told;
 
 // The cap of the file of 56 bytes whose byte i is i, at 3 of 10.
 const CAP: &str = "URI:CHK:5ervuplwjtqf5caeknmrecgz54:\
@@ -65,7 +66,7 @@ fn line_gives(rt: &HostRuntime, line: &str, status: u8, out: &[u8], err: &[u8]) 
         return false;
     };
     let mut written = Vec::new(rt.alloc());
-    let mut told = Vec::new(rt.alloc());
+    let mut told = Told::new(rt.alloc(), false);
     let ended = grid(rt, words.as_slice(), &mut written, &mut told);
     ended == status && written.as_slice() == out && told.as_slice() == err
 }

@@ -1,9 +1,5 @@
-use Rattle.std.proofs.Common.{◌<◌, All, nat_eq}
-use Rattle.std.specs.List.{IsDistinct}
-use Rattle.grid_commands.proofs.servers.standing_servers.Given as goal
+use Rattle.grid_servers.proofs.Rising.{AreBelow}
+use Rattle.grid_servers.proofs.servers.standing_servers.Given as goal
 
 abbrev pub invariant-loop-server : goal.invariant-loop-server
-invariant-loop-server g l = record {
-  distinct : IsDistinct nat_eq l.servers.items;
-  below : All (λ n. n < l.server-counter) l.servers.items;
-}
+invariant-loop-server g l = AreBelow l.servers.items l.server

@@ -1,0 +1,92 @@
+//! `put`, `get` and `check` where the sockets of one server of ten do not do as they should: that
+//! server is silent from then on, and the others go on.
+
+use crate::host::{Odd, Plan};
+use crate::runs::{CAP_131074, begin, counted, of_cap, put, remove};
+use std::alloc::AllocError;
+use std::io;
+
+// What is odd, and how happy an upload is then.
+const ODDS: [(Odd, u16); 7] = [
+    (Odd::Nothing, 10),
+    (Odd::Stranger, 10),
+    (Odd::NoConnection, 9),
+    (Odd::Garbage, 9),
+    (Odd::TooLong, 9),
+    (Odd::Half, 9),
+    (Odd::More, 9),
+];
+
+// The lines of a file that was put with this happiness.
+fn put_lines(rt: &HostRuntime, happiness: u16) -> Result<String, AllocError> {
+    format!(in rt.alloc(); "{CAP_131074}\nhappiness {happiness}\n")
+}
+
+// Whether a `put` over such sockets has this happiness, and a `get` and a `check` then end well.
+fn is_happy(rt: &HostRuntime, odd: Odd, happiness: u16) -> io::Result<bool> {
+    begin(rt, 131_074)?;
+    let told = put(rt, &Plan::new(odd), " --happy 7 --net")?;
+    let lines = put_lines(rt, happiness)?;
+    let got = of_cap(rt, &Plan::new(odd), ("get", CAP_131074, " --net"))?;
+    let file = counted(rt, 131_074)?;
+    let checked = of_cap(rt, &Plan::new(odd), ("check", CAP_131074, " --net"))?;
+    Ok(told.is(0, lines.as_bytes(), "")
+        && got.is(0, file.as_slice(), "")
+        && checked.status == 0
+        && checked.err.as_slice().is_empty())
+}
+
+#[test]
+fn odd_sockets(rt: HostRuntime) {
+    for &(odd, happiness) in &ODDS {
+        let outcome = is_happy(&rt, odd, happiness);
+        assert!(rt; matches!(outcome, Ok(true)), "{happiness}");
+    }
+    assert!(rt; remove(&rt).is_ok());
+}
+
+// How many calls on the server's end go well before it is closed: in the middle of what it is asked
+// first, of a share's pieces, and of its last answers. An upload of this file makes some thirty
+// calls on it.
+const CLOSES: [u64; 12] = [0, 1, 2, 3, 4, 5, 9, 14, 17, 20, 25, 30];
+
+// Whether a `put` of which one socket is closed so is still happy, with nine servers or ten.
+fn outlives_a_close(rt: &HostRuntime, left: u64) -> io::Result<bool> {
+    begin(rt, 131_074)?;
+    let plan = Plan::new(Odd::Closes(left));
+    let told = put(rt, &plan, " --happy 7 --net")?;
+    let (nine, ten) = (put_lines(rt, 9)?, put_lines(rt, 10)?);
+    let is_whole = plan.calls.get() <= left;
+    Ok(told.is(0, nine.as_bytes(), "") || is_whole && told.is(0, ten.as_bytes(), ""))
+}
+
+// A socket that is closed in mid-upload.
+#[test]
+fn a_socket_is_closed(rt: HostRuntime) {
+    for left in CLOSES {
+        let outcome = outlives_a_close(&rt, left);
+        assert!(rt; matches!(outcome, Ok(true)), "{left}");
+    }
+    assert!(rt; remove(&rt).is_ok());
+}
+
+const SOCKET_FAULT: &str = "grid: 91 SocketFault\n";
+
+// Whether each command tells that no listener can be made.
+fn tells_no_listener(rt: &HostRuntime) -> io::Result<bool> {
+    begin(rt, 131_074)?;
+    let refused = put(rt, &Plan::new(Odd::NoListener), " --net")?;
+    let is_put = put(rt, &Plan::new(Odd::Nothing), "")?.status == 0;
+    let got = of_cap(rt, &Plan::new(Odd::NoListener), ("get", CAP_131074, " --net"))?;
+    let checked = of_cap(rt, &Plan::new(Odd::NoListener), ("check", CAP_131074, " --net"))?;
+    Ok(is_put
+        && refused.is(7, b"", SOCKET_FAULT)
+        && got.is(7, b"", SOCKET_FAULT)
+        && checked.is(7, b"", SOCKET_FAULT))
+}
+
+#[test]
+fn no_listener(rt: HostRuntime) {
+    let outcome = tells_no_listener(&rt);
+    assert!(rt; matches!(outcome, Ok(true)) && remove(&rt).is_ok());
+}

@@ -1,0 +1,113 @@
+//! The line on standard error that tells how far a command is.
+
+use crate::host::{Odd, OddHost, Plan};
+use crate::runs::{CAP_131074, Ended, begin, path, remove, run};
+use std::alloc::AllocError;
+use std::io;
+
+// Back to the line's beginning, and the line is cleared.
+const CLEAR: &str = "\r\x1b[K";
+
+// Runs a command where each look at the clock takes so many milliseconds, where standard error is a
+// terminal or not.
+fn run_slowly(
+    rt: &HostRuntime,
+    line: &str,
+    step: u64,
+    is_terminal: bool,
+) -> Result<Ended, AllocError> {
+    let mut plan = Plan::new(Odd::Nothing);
+    plan.step = step;
+    run(&OddHost { rt: *rt, plan: &plan }, line, is_terminal)
+}
+
+fn put_line(rt: &HostRuntime) -> Result<String, AllocError> {
+    let root = path(rt, "")?;
+    format!(in rt.alloc(); "grid put {root}/file --grid {root}/grid")
+}
+
+fn cap_line(rt: &HostRuntime, command: &str, cap: &str) -> Result<String, AllocError> {
+    let root = path(rt, "")?;
+    format!(in rt.alloc(); "grid {command} {cap} --grid {root}/grid")
+}
+
+// Whether what was told are lines that begin so, each below 80 columns, the last of them cleared.
+fn are_lines(told: &[u8], beginning: &str) -> bool {
+    let Ok(text) = str::from_utf8(told) else {
+        return false;
+    };
+    let mut count: u64 = 0;
+    for (place, line) in text.split(CLEAR).enumerate() {
+        if place != 0 && !line.is_empty() {
+            count = count.saturating_add(1);
+            if !line.starts_with(beginning) || 80 <= line.len() {
+                return false;
+            }
+        }
+    }
+    text.starts_with(CLEAR) && text.ends_with(CLEAR) && 1 < count
+}
+
+// Whether the command tells lines that begin so on a terminal where it takes long, and nothing
+// where it does not or where there is no terminal; and the same result.
+fn tells_lines(rt: &HostRuntime, line: &str, beginning: &str) -> Result<bool, AllocError> {
+    let quick = run_slowly(rt, line, 1, true)?;
+    let unseen = run_slowly(rt, line, 200, false)?;
+    let slow = run_slowly(rt, line, 200, true)?;
+    Ok(quick.equals(&unseen)
+        && quick.status == 0
+        && quick.err.as_slice().is_empty()
+        && slow.status == 0
+        && slow.out.as_slice() == quick.out.as_slice()
+        && are_lines(slow.err.as_slice(), beginning))
+}
+
+// A second `put` asks and hears too little to take long: each starts with a grid of its own.
+fn put_tells(rt: &HostRuntime) -> io::Result<bool> {
+    begin(rt, 131_074)?;
+    let line = put_line(rt)?;
+    let slow = run_slowly(rt, line.as_str(), 200, true)?;
+    begin(rt, 131_074)?;
+    let quick = run_slowly(rt, line.as_str(), 1, true)?;
+    Ok(slow.status == 0
+        && are_lines(slow.err.as_slice(), "put: ")
+        && quick.err.as_slice().is_empty()
+        && slow.out.as_slice() == quick.out.as_slice())
+}
+
+// The file of two segments is written by two calls, which a slow clock tells of both.
+fn others_tell(rt: &HostRuntime) -> io::Result<bool> {
+    let checked = tells_lines(rt, cap_line(rt, "check", CAP_131074)?.as_str(), "check: ")?;
+    let got = run_slowly(rt, cap_line(rt, "get", CAP_131074)?.as_str(), 1000, true)?;
+    Ok(checked
+        && got.status == 0
+        && got.out.len() == 131_074
+        && are_lines(got.err.as_slice(), "get: 3 shares, "))
+}
+
+#[test]
+fn long_commands_tell_how_far_they_are(rt: HostRuntime) {
+    let outcome = put_tells(&rt);
+    assert!(rt; matches!(outcome, Ok(true)));
+    let outcome = others_tell(&rt);
+    assert!(rt; matches!(outcome, Ok(true)) && remove(&rt).is_ok());
+}
+
+// Whether a fault's line begins on a line that is cleared.
+fn clears_before_a_fault(rt: &HostRuntime) -> io::Result<bool> {
+    begin(rt, 131_074)?;
+    let root = path(rt, "")?;
+    let line = format!(in rt.alloc(); "grid put {root}/file --grid {root}/grid --servers 6")?;
+    let told = run_slowly(rt, line.as_str(), 200, true)?;
+    let fault = "\r\x1b[Kgrid: 70 Unhappy reached 6 wanted 7\n";
+    Ok(told.status == 4
+        && told.out.is_empty()
+        && told.err.as_slice().ends_with(fault.as_bytes())
+        && told.err.as_slice().starts_with(b"\r\x1b[Kput: "))
+}
+
+#[test]
+fn a_fault_stands_on_a_cleared_line(rt: HostRuntime) {
+    let outcome = clears_before_a_fault(&rt);
+    assert!(rt; matches!(outcome, Ok(true)) && remove(&rt).is_ok());
+}
