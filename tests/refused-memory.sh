@@ -9,7 +9,7 @@
 # takes a few minutes, and needs a C compiler `cc` and glibc. No proof speaks of what is seen here: that
 # the programs as they were built tell each such failure.
 #
-# A file of 56 bytes is put and got at 1 of 1 and at 3 of 10. Once as it is; then the first call fails,
+# A file of 56 bytes is put, got and checked at 1 of 1 and at 3 of 10. Once as it is; then the first call fails,
 # then the second alone, and so on to a run that makes no such call any more:
 #   memory  malloc, calloc, realloc, reallocarray, memalign, aligned_alloc, posix_memalign: the run ends
 #           with status 7 and the line `grid: 1 OutOfMemory` on standard error, and nothing on standard
@@ -32,7 +32,7 @@
 here=$(cd "$(dirname "$0")/.." && pwd) || exit 2
 program=${1:-$here/crates/grid_main/out/grid_main}
 test_crates='base_tests text_tests reading_tests tree_tests layout_tests file_tests protocol_tests store_tests
-loop_tests upload_tests command_tests put_tests'
+loop_tests upload_tests command_tests put_tests check_command_tests'
 
 # Whether a crate's built tests are missing, or older than a source.
 are_tests_old() {
@@ -128,7 +128,8 @@ count() {
     [ $at -gt 1 ] || { echo "no call was seen to fail: is the program linked to its C library at run time?"; differed=$((differed + 1)); }
 }
 
-# Makes each call of kind $1 of a command fail in turn; $2 is `put` or `get`, $3 shares are needed of $4.
+# Makes each call of kind $1 of a command fail in turn; $2 is `put`, `get` or `check`, $3 shares are
+# needed of $4.
 each() {
     kind=$1 command=$2 needed=$3 total=$4
     at=1 told=0 wrong=0
@@ -137,7 +138,7 @@ each() {
             rm -rf grid
             run "$kind" $at "$program" put file --grid grid --k "$needed" --happy "$needed" --n "$total" --servers "$total"
         else
-            run "$kind" $at "$program" get "$cap" --grid held
+            run "$kind" $at "$program" "$command" "$cap" --grid held
         fi
         if ! is_right "$kind" "$needed" "$total" || { [ "$command" = put ] && ! is_whole; }; then
             wrong=$((wrong + 1))
@@ -193,6 +194,15 @@ for numbers in '1 1' '3 10'; do
     mv err plain.err
     each memory get "$needed" "$total"
     each files get "$needed" "$total"
+    run none 0 "$program" check "$cap" --grid held
+    if [ $status != 0 ] || [ "$(tail -n 1 out)" != "healthy yes recoverable yes happiness $total" ]; then
+        echo "check $needed of $total does not end well without a fault: status $status"
+        differed=$((differed + 1))
+        continue
+    fi
+    mv out plain.out
+    mv err plain.err
+    each memory check "$needed" "$total"
 done
 
 for crate in $test_crates; do

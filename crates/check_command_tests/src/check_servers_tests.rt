@@ -3,7 +3,7 @@
 //! The caps, and which server has which share, were computed by programs that share no code with
 //! these crates.
 
-use crate::damages::{Damage, damage};
+use crate::damages::{Damage, spoil};
 use grid_commands::grid;
 use std::alloc::AllocError;
 use std::{fs, io};
@@ -42,8 +42,18 @@ struct Ended {
     err: Told,
 }
 
+fn words_of<'a>(rt: &HostRuntime, line: &'a str) -> Result<Vec<&'a str>, AllocError> {
+    line.split(' ').collect(rt.alloc())
+}
+
+// `check` of a cap, from the grid of this process's folder.
+fn check_line(rt: &HostRuntime, cap: &str) -> Result<String, AllocError> {
+    let grid = path(rt, "/grid")?;
+    format!(in rt.alloc(); "grid check {cap} --grid {grid}")
+}
+
 fn run(rt: &HostRuntime, line: &str) -> Result<Ended, AllocError> {
-    let words: Vec<&str> = line.split(' ').collect(rt.alloc())?;
+    let words = words_of(rt, line)?;
     let (mut out, mut err) = (Vec::new(rt.alloc()), Told::new(rt.alloc(), false));
     let status = grid(rt, words.as_slice(), &mut out, &mut err);
     Ok(Ended { status, out, err })
@@ -70,7 +80,7 @@ fn damage_each(rt: &HostRuntime, servers: &[u16], what: Damage) -> io::Result<()
     let grid = path(rt, "/grid")?;
     for server in servers {
         let folder = format!(in rt.alloc(); "{grid}/server-{server:03}")?;
-        damage(rt, folder.as_str(), what)?;
+        spoil(rt, folder.as_str(), what)?;
     }
     Ok(())
 }
@@ -108,8 +118,7 @@ fn check_gives(
     out: &str,
     err: &str,
 ) -> Result<bool, AllocError> {
-    let grid = path(rt, "/grid")?;
-    let line = format!(in rt.alloc(); "grid check {cap} --grid {grid}")?;
+    let line = check_line(rt, cap)?;
     let ended = run(rt, line.as_str())?;
     Ok(ended.status == status
         && ended.out.as_slice() == out.as_bytes()
@@ -163,14 +172,15 @@ fn shares_are_counted(rt: HostRuntime) {
     assert!(rt; remove(&rt).is_ok());
 }
 
-// The first byte of each section, by its place in a share, and what is told of it.
+// A byte of the header and of each section, by its place in a share, and what is told of it. The
+// block tree has one node here, its root, of which the share hashes tell.
 const SECTIONS: [(usize, &str); 9] = [
     (0, "corrupt layout"),
     (7, "corrupt layout"),
     (36, "corrupt data"),
     (55, "corrupt unused"),
     (87, "corrupt ciphertext-tree"),
-    (119, "corrupt block-tree"),
+    (119, "corrupt share-hashes"),
     (151, "corrupt layout"),
     (153, "corrupt share-hashes"),
     (325, "corrupt ueb"),
@@ -252,6 +262,33 @@ fn refuses_no_grid(rt: &HostRuntime) -> io::Result<bool> {
 #[test]
 fn a_grid_that_is_not_there(rt: HostRuntime) {
     assert!(rt; matches!(refuses_no_grid(&rt), Ok(true)));
+}
+
+// Whether `check` tells so, or that memory was refused and nothing else. Its writers have their
+// room before.
+fn tells_or_is_refused(rt: &HostRuntime, line: &str, wanted: &str) -> bool {
+    let (Ok(words), Ok(mut out), Ok(mut err)) = (
+        words_of(rt, line),
+        Vec::with_capacity(rt.alloc(), 1000),
+        Told::with_capacity(rt.alloc(), 1000),
+    ) else {
+        return true;
+    };
+    match grid(rt, words.as_slice(), &mut out, &mut err) {
+        0 => out.as_slice() == wanted.as_bytes() && err.as_slice().is_empty(),
+        7 => out.is_empty() && err.as_slice() == b"grid: 1 OutOfMemory\n".as_slice(),
+        _ => false,
+    }
+}
+
+#[test]
+fn refused_memory_in_check(rt: HostRuntime) {
+    if matches!(puts(&rt), Ok(true)) {
+        if let (Ok(line), Ok(told)) = (check_line(&rt, CAP), lines(&rt, &[], "", ALL_GOOD)) {
+            assert!(rt; tells_or_is_refused(&rt, line.as_str(), told.as_str()));
+        }
+    }
+    let _is_removed = remove(&rt);
 }
 
 // Whether a server whose folder has another number is told by that.

@@ -34,7 +34,7 @@ const SECOND_HEADER: [u8; 68] = [
 ];
 
 // Does this to the share in a server's folder, which has no other file.
-pub(crate) fn damage(rt: &HostRuntime, folder: &str, damage: Damage) -> io::Result<()> {
+pub(crate) fn spoil(rt: &HostRuntime, folder: &str, damage: Damage) -> io::Result<()> {
     let file = only_file(rt, folder)?;
     match damage {
         Damage::Gone => fs::remove_dir_all(rt, folder),

@@ -10,8 +10,10 @@ use file_upload::prepared::{FileUpload, PreparedUpload, prepare};
 use grid_clients::upload::UploadClient;
 use grid_clients::watched::Watched;
 use grid_rules::{Fault, Work, reached_happiness, servers_of};
-use grid_servers::{FolderGrid, MAX_SERVERS, SESSION, at_path, can_be_grid, make_grid};
-use grid_servers::{open_servers, read_at_most, server_names};
+use grid_servers::{
+    FolderGrid, MAX_SERVERS, SESSION, at_path, can_be_grid, make_grid, open_servers, read_at_most,
+    server_names,
+};
 use std::alloc::Global;
 use std::io::{IsTerminal, Write};
 use std::net::Net;

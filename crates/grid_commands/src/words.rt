@@ -146,7 +146,11 @@ fn check_command<'a>(alloc: Global) -> Result<Command<'a>, AllocError> {
 and on the file.",
         )
         .after_help(STATUSES)
-        .arg(required(alloc, "CAP", "The cap that `put` printed, or its verify cap"))?
+        .arg(required(
+            alloc,
+            "CAP",
+            "The cap that `put` printed, or its verify cap",
+        ))?
         .arg(grid_folder(alloc))?
         .arg(net(alloc))
 }

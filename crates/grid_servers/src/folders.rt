@@ -10,10 +10,7 @@ use std::{fs, io};
 pub const MAX_SERVERS: u16 = 256;
 
 /// Refuses a grid's folder that is not there.
-pub fn is_grid<R: Files + AllocGlobal + Clone + Drop>(
-    rt: &R,
-    grid: &str,
-) -> Result<(), Fault> {
+pub fn is_grid<R: Files + AllocGlobal + Clone + Drop>(rt: &R, grid: &str) -> Result<(), Fault> {
     let alloc = rt.alloc();
     at_path(alloc, named(grid), grid)?;
     at_path(alloc, fs::read_dir(rt, grid), grid)?;

@@ -288,7 +288,8 @@ impl<'a> OpenStream for OddStream<'a> {
     }
 
     fn set_read_timeout(&self, _dur: Option<Duration>) -> io::Result<()> {
-        self.stream.set_read_timeout(Some(Duration::from_millis(200)))
+        self.stream
+            .set_read_timeout(Some(Duration::from_millis(200)))
     }
 
     fn set_write_timeout(&self, dur: Option<Duration>) -> io::Result<()> {

@@ -82,7 +82,10 @@ fn all_read_alike(rt: &HostRuntime) -> bool {
 fn goes_round(rt: &HostRuntime) -> io::Result<bool> {
     let plan = Plan::new(Odd::Nothing);
     begin(rt, 131_074)?;
-    let is_put = put(rt, &plan, " --net")?.out.as_slice().ends_with(b"\nhappiness 10\n");
+    let is_put = put(rt, &plan, " --net")?
+        .out
+        .as_slice()
+        .ends_with(b"\nhappiness 10\n");
     let file = counted(rt, 131_074)?;
     let told = of_cap(rt, &plan, ("get", CAP_131074, " --net"))?;
     Ok(is_put && told.is(0, file.as_slice(), "") && all_read_alike(rt))
@@ -101,7 +104,11 @@ fn reads_as_servers_go(rt: &HostRuntime) -> io::Result<bool> {
     if !goes_round(rt)? {
         return Ok(false);
     }
-    for servers in [[1, 4, 8].as_slice(), [0, 2, 3, 5, 6].as_slice(), [7, 9].as_slice()] {
+    for servers in [
+        [1, 4, 8].as_slice(),
+        [0, 2, 3, 5, 6].as_slice(),
+        [7, 9].as_slice(),
+    ] {
         remove_servers(rt, servers)?;
         if !all_read_alike(rt) {
             return Ok(false);

@@ -30,10 +30,12 @@ fn is_happy(rt: &HostRuntime, odd: Odd, happiness: u16) -> io::Result<bool> {
     let got = of_cap(rt, &Plan::new(odd), ("get", CAP_131074, " --net"))?;
     let file = counted(rt, 131_074)?;
     let checked = of_cap(rt, &Plan::new(odd), ("check", CAP_131074, " --net"))?;
-    Ok(told.is(0, lines.as_bytes(), "")
-        && got.is(0, file.as_slice(), "")
-        && checked.status == 0
-        && checked.err.as_slice().is_empty())
+    Ok(
+        told.is(0, lines.as_bytes(), "")
+            && got.is(0, file.as_slice(), "")
+            && checked.status == 0
+            && checked.err.as_slice().is_empty(),
+    )
 }
 
 #[test]
@@ -77,12 +79,22 @@ fn tells_no_listener(rt: &HostRuntime) -> io::Result<bool> {
     begin(rt, 131_074)?;
     let refused = put(rt, &Plan::new(Odd::NoListener), " --net")?;
     let is_put = put(rt, &Plan::new(Odd::Nothing), "")?.status == 0;
-    let got = of_cap(rt, &Plan::new(Odd::NoListener), ("get", CAP_131074, " --net"))?;
-    let checked = of_cap(rt, &Plan::new(Odd::NoListener), ("check", CAP_131074, " --net"))?;
-    Ok(is_put
-        && refused.is(7, b"", SOCKET_FAULT)
-        && got.is(7, b"", SOCKET_FAULT)
-        && checked.is(7, b"", SOCKET_FAULT))
+    let got = of_cap(
+        rt,
+        &Plan::new(Odd::NoListener),
+        ("get", CAP_131074, " --net"),
+    )?;
+    let checked = of_cap(
+        rt,
+        &Plan::new(Odd::NoListener),
+        ("check", CAP_131074, " --net"),
+    )?;
+    Ok(
+        is_put
+            && refused.is(7, b"", SOCKET_FAULT)
+            && got.is(7, b"", SOCKET_FAULT)
+            && checked.is(7, b"", SOCKET_FAULT),
+    )
 }
 
 #[test]

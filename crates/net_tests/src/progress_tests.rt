@@ -18,7 +18,14 @@ fn run_slowly(
 ) -> Result<Ended, AllocError> {
     let mut plan = Plan::new(Odd::Nothing);
     plan.step = step;
-    run(&OddHost { rt: *rt, plan: &plan }, line, is_terminal)
+    run(
+        &OddHost {
+            rt: *rt,
+            plan: &plan,
+        },
+        line,
+        is_terminal,
+    )
 }
 
 fn put_line(rt: &HostRuntime) -> Result<String, AllocError> {
@@ -54,12 +61,14 @@ fn tells_lines(rt: &HostRuntime, line: &str, beginning: &str) -> Result<bool, Al
     let quick = run_slowly(rt, line, 1, true)?;
     let unseen = run_slowly(rt, line, 200, false)?;
     let slow = run_slowly(rt, line, 200, true)?;
-    Ok(quick.equals(&unseen)
-        && quick.status == 0
-        && quick.err.as_slice().is_empty()
-        && slow.status == 0
-        && slow.out.as_slice() == quick.out.as_slice()
-        && are_lines(slow.err.as_slice(), beginning))
+    Ok(
+        quick.equals(&unseen)
+            && quick.status == 0
+            && quick.err.as_slice().is_empty()
+            && slow.status == 0
+            && slow.out.as_slice() == quick.out.as_slice()
+            && are_lines(slow.err.as_slice(), beginning),
+    )
 }
 
 // A second `put` asks and hears too little to take long: each starts with a grid of its own.
@@ -69,20 +78,24 @@ fn put_tells(rt: &HostRuntime) -> io::Result<bool> {
     let slow = run_slowly(rt, line.as_str(), 200, true)?;
     begin(rt, 131_074)?;
     let quick = run_slowly(rt, line.as_str(), 1, true)?;
-    Ok(slow.status == 0
-        && are_lines(slow.err.as_slice(), "put: ")
-        && quick.err.as_slice().is_empty()
-        && slow.out.as_slice() == quick.out.as_slice())
+    Ok(
+        slow.status == 0
+            && are_lines(slow.err.as_slice(), "put: ")
+            && quick.err.as_slice().is_empty()
+            && slow.out.as_slice() == quick.out.as_slice(),
+    )
 }
 
 // The file of two segments is written by two calls, which a slow clock tells of both.
 fn others_tell(rt: &HostRuntime) -> io::Result<bool> {
     let checked = tells_lines(rt, cap_line(rt, "check", CAP_131074)?.as_str(), "check: ")?;
     let got = run_slowly(rt, cap_line(rt, "get", CAP_131074)?.as_str(), 1000, true)?;
-    Ok(checked
-        && got.status == 0
-        && got.out.len() == 131_074
-        && are_lines(got.err.as_slice(), "get: 3 shares, "))
+    Ok(
+        checked
+            && got.status == 0
+            && got.out.len() == 131_074
+            && are_lines(got.err.as_slice(), "get: 3 shares, "),
+    )
 }
 
 #[test]
@@ -100,10 +113,12 @@ fn clears_before_a_fault(rt: &HostRuntime) -> io::Result<bool> {
     let line = format!(in rt.alloc(); "grid put {root}/file --grid {root}/grid --servers 6")?;
     let told = run_slowly(rt, line.as_str(), 200, true)?;
     let fault = "\r\x1b[Kgrid: 70 Unhappy reached 6 wanted 7\n";
-    Ok(told.status == 4
-        && told.out.is_empty()
-        && told.err.as_slice().ends_with(fault.as_bytes())
-        && told.err.as_slice().starts_with(b"\r\x1b[Kput: "))
+    Ok(
+        told.status == 4
+            && told.out.is_empty()
+            && told.err.as_slice().ends_with(fault.as_bytes())
+            && told.err.as_slice().starts_with(b"\r\x1b[Kput: "),
+    )
 }
 
 #[test]

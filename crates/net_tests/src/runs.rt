@@ -60,9 +60,7 @@ pub(crate) struct Ended {
 
 impl Ended {
     pub(crate) fn is(&self, status: u8, out: &[u8], err: &str) -> bool {
-        self.status == status
-            && self.out.as_slice() == out
-            && self.err.as_slice() == err.as_bytes()
+        self.status == status && self.out.as_slice() == out && self.err.as_slice() == err.as_bytes()
     }
 
     pub(crate) fn equals(&self, other: &Ended) -> bool {
@@ -73,11 +71,7 @@ impl Ended {
 }
 
 // Runs the words of a line on a host, where standard error is a terminal or not.
-pub(crate) fn run(
-    host: &OddHost<'_>,
-    line: &str,
-    is_terminal: bool,
-) -> Result<Ended, AllocError> {
+pub(crate) fn run(host: &OddHost<'_>, line: &str, is_terminal: bool) -> Result<Ended, AllocError> {
     let alloc = host.rt.alloc();
     let words: Vec<&str> = line.split(' ').collect(alloc)?;
     let (mut out, mut err) = (Vec::new(alloc), Told::new(alloc, is_terminal));
