@@ -215,7 +215,7 @@ fn is_usage(rt: &HostRuntime, options: &str) -> bool {
         Err(error) => Err(error),
     };
     match ended {
-        Ok(ended) => ended.status == 2 && ended.out.is_empty() && !ended.err.is_empty(),
+        Ok(ended) => ended.status == 2 && ended.out.is_empty() && !ended.err.as_slice().is_empty(),
         Err(_) => false,
     }
 }

@@ -28,6 +28,9 @@ pub const SESSION: u64 = 1;
 /// A link to a server, in memory or over sockets.
 type ServerLink<R> = GridLink<SocketPair<<R as Net>::Stream>>;
 
+/// A server over its folder, with its link.
+type ServerNode<R> = Node<FolderStore<R>, ServerLink<R>>;
+
 /// The servers of a grid in this process.
 pub type FolderGrid<R> = LocalGrid<FolderStore<R>, ServerLink<R>>;
 
@@ -78,14 +81,27 @@ pub fn open_servers<R>(
 where
     R: Files + Net + AllocGlobal + Clone + Drop,
 {
-    let alloc = rt.alloc();
     let links = open_links(rt, servers.len(), over_sockets)?;
-    let mut nodes = Vec::with_capacity(alloc, servers.len())?;
+    let nodes = open_nodes(rt, grid, servers, links)?;
+    Ok(LocalGrid::new(rt.alloc(), nodes))
+}
+
+// The servers with these links, each at its number.
+fn open_nodes<R>(
+    rt: &R,
+    grid: &str,
+    servers: &[NodeId],
+    links: Vec<ServerLink<R>>,
+) -> Result<Vec<Option<ServerNode<R>>>, Fault>
+where
+    R: Files + Net + AllocGlobal + Clone + Drop,
+{
+    let mut nodes = Vec::new(rt.alloc());
     for (server, link) in servers.iter().zip(links) {
         leave_out(&mut nodes, *server)?;
         nodes.push(open_server(rt, grid, *server, link)?)?;
     }
-    Ok(LocalGrid::new(alloc, nodes))
+    Ok(nodes)
 }
 
 // So many links.
@@ -132,7 +148,7 @@ fn open_server<R>(
     grid: &str,
     server: NodeId,
     link: ServerLink<R>,
-) -> Result<Option<Node<FolderStore<R>, ServerLink<R>>>, Fault>
+) -> Result<Option<ServerNode<R>>, Fault>
 where
     R: Files + Net + AllocGlobal + Clone + Drop,
 {
