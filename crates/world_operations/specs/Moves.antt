@@ -1,0 +1,132 @@
+-- What the calls of an operation do, whatever its machine is.
+use Rattle.std.specs.Prelude.{◌≡◌, ◌≢◌, ℕ, List, [], ◌∷◌, ◌++◌, Option, Some, None, length}
+use Rattle.wire.specs.declared.message.Message.{Message}
+use Rattle.wire.specs.Frames.{IsMessage, spelling}
+use Rattle.file_upload.specs.Prepared.{goal_of, prepared_of}
+use Rattle.upload_core.specs.declared.pieces.PieceFault.{PieceFault}
+use Rattle.upload_core.specs.declared.status.ServerInfo.{ServerInfo}
+use Rattle.upload_core.specs.declared.status.UploadStatus.TheVariants as uploads
+use Rattle.upload_core.specs.Pieces.{piece_of}
+use Rattle.upload_core.specs.Moves as upload
+use Rattle.upload_core.specs.Sending as upload_sends
+use Rattle.download_core.specs.declared.status.Piece.{Piece}
+use Rattle.download_core.specs.Moves as download
+use Rattle.download_core.specs.Sending as download_sends
+use Rattle.checker.specs.Moves as check
+use Rattle.checker.specs.Sending as check_sends
+use Rattle.world_operations.specs.declared.job.Job.{Job}
+use Rattle.world_operations.specs.declared.job.Job.TheVariants as jobs
+use Rattle.world_operations.specs.declared.message.Sent.{Sent}
+use Rattle.world_operations.specs.declared.operation.Operation.{Operation}
+use Rattle.world_operations.specs.declared.task.Task.{Task}
+use Rattle.world_operations.specs.declared.task.Task.TheVariants.{Uploading, Downloading}
+use Rattle.world_operations.specs.declared.task.Task.TheVariants.{Checking, Gone}
+
+-- what whole shares give of a share, and that they always do
+abbrev pub gives : List (List ℕ) → ℕ → ℕ → List ℕ → List (List ℕ) → Type 0
+gives shares share offset bytes after =
+    (bytes ≡ piece_of shares share offset (length bytes)) × (after ≡ shares)
+
+abbrev pub never_fails : List (List ℕ) → ℕ → ℕ → ℕ → PieceFault → List (List ℕ) → Type 0
+never_fails shares share offset len fault after = ⊥
+
+-- a task begins as its job says, with all of these servers
+abbrev pub Begins : Job → List ServerInfo → List ℕ → ℕ → ℕ → Task → Type 0
+Begins (jobs.Upload file secret p) servers nodes session now (Uploading u) =
+    upload.Begins (goal_of (prepared_of file secret p)) p.happy servers session now u.course
+    × (u.pieces ≡ (prepared_of file secret p).shares)
+Begins (jobs.Download cap from to) servers nodes session now (Downloading d) =
+    download.Begins cap from to nodes session now d
+Begins (jobs.Check cap) servers nodes session now (Checking c) =
+    check.Begins cap nodes session now c
+Begins job servers nodes session now task = ⊥
+
+-- An upload goes on only while it runs: once it ended nothing is outstanding.
+pub record UploadAdvances (from : ℕ) (m : Message) (now : ℕ)
+    (old new : upload_sends.Uploading (List (List ℕ))) : Type 0 where
+  pub pieces : new.pieces ≡ old.pieces
+  pub running : old.course.status ≡ uploads.Running
+      → upload.Advances from m now old.course new.course
+  pub ended : old.course.status ≢ uploads.Running → new ≡ old
+
+pub record UploadTicks (now : ℕ) (old new : upload_sends.Uploading (List (List ℕ))) : Type 0 where
+  pub pieces : new.pieces ≡ old.pieces
+  pub running : old.course.status ≡ uploads.Running → upload.TicksOn now old.course new.course
+  pub ended : old.course.status ≢ uploads.Running → new ≡ old
+
+-- a message, a tick, a message that is taken, and a piece that is taken
+abbrev pub Advances : ℕ → Message → ℕ → Task → Task → Type 0
+Advances from m now (Uploading old) (Uploading new) = UploadAdvances from m now old new
+Advances from m now (Downloading old) (Downloading new) = download.Advances from m now old new
+Advances from m now (Checking old) (Checking new) = check.Advances from m now old new
+Advances from m now (Gone number) new = new ≡ Gone number
+Advances from m now old new = ⊥
+
+abbrev pub TicksOn : ℕ → Task → Task → Type 0
+TicksOn now (Uploading old) (Uploading new) = UploadTicks now old new
+TicksOn now (Downloading old) (Downloading new) = download.TicksOn now old new
+TicksOn now (Checking old) (Checking new) = check.TicksOn now old new
+TicksOn now (Gone number) new = new ≡ Gone number
+TicksOn now old new = ⊥
+
+abbrev pub Takes : Task → Option (ℕ × Message) → Task → Type 0
+Takes (Uploading old) frame (Uploading new) = upload_sends.Takes gives never_fails old frame new
+Takes (Downloading old) frame (Downloading new) = download_sends.Takes old frame new
+Takes (Checking old) frame (Checking new) = check_sends.Takes old frame new
+Takes (Gone number) frame new = (frame ≡ None) × (new ≡ Gone number)
+Takes old frame new = ⊥
+
+-- only a download hands pieces out
+abbrev pub TakesPiece : Task → Option Piece → Task → Type 0
+TakesPiece (Downloading old) piece (Downloading new) = download.TakesPiece old piece new
+TakesPiece (Uploading u) piece new = (piece ≡ None) × (new ≡ Uploading u)
+TakesPiece (Checking c) piece new = (piece ≡ None) × (new ≡ Checking c)
+TakesPiece (Gone number) piece new = (piece ≡ None) × (new ≡ Gone number)
+TakesPiece (Downloading old) piece new = ⊥
+
+-- a message that a node sends
+abbrev pub sent_to : ℕ → ℕ → Message → Sent
+sent_to from to m = record { from = from; to = to; body = spelling m }
+
+-- All pieces that there are are taken, in order.
+abbrev pub HandsOut : Task → List Piece → Task → Type 0
+HandsOut old [] new = TakesPiece old None new
+HandsOut old (p ∷ ps) new = (mid : Task) × TakesPiece old (Some p) mid × HandsOut mid ps new
+
+-- All that there is to send is sent, in order. Each message can be spelled.
+abbrev pub SendsAll : ℕ → Task → List Sent → Task → Type 0
+SendsAll node old [] new = Takes old None new
+SendsAll node old (x ∷ xs) new = (to : ℕ) × (m : Message) × (mid : Task)
+    × Takes old (Some (to, m)) mid × IsMessage m × (x ≡ sent_to node to m)
+    × SendsAll node mid xs new
+
+-- what was made is handed out, and what is to be sent is sent
+pub record Flushes (node : ℕ) (old : Task) (pieces : List Piece) (sent : List Sent) (new : Task)
+    : Type 0 where
+  pub handed : Task
+  pub hands : HandsOut old pieces handed
+  pub sends : SendsAll node handed sent new
+
+-- the same operation with another machine, which handed these pieces out
+abbrev pub gone_on : Operation → Task → List Piece → Operation
+gone_on op task pieces = record op { task = task; given = op.given ++ pieces }
+
+-- a message comes to an operation
+pub record OperationGets (from : ℕ) (m : Message) (now : ℕ) (op : Operation) (sent : List Sent)
+    (new : Operation) : Type 0 where
+  pub mid : Task
+  pub last : Task
+  pub pieces : List Piece
+  pub advances : Advances from m now op.task mid
+  pub flushes : Flushes op.node mid pieces sent last
+  pub is : new ≡ gone_on op last pieces
+
+-- an operation ticks
+pub record OperationTicks (now : ℕ) (op : Operation) (sent : List Sent) (new : Operation)
+    : Type 0 where
+  pub mid : Task
+  pub last : Task
+  pub pieces : List Piece
+  pub ticks : TicksOn now op.task mid
+  pub flushes : Flushes op.node mid pieces sent last
+  pub is : new ≡ gone_on op last pieces

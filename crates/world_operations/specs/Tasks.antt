@@ -1,0 +1,56 @@
+-- What the kinds of operation have in common.
+use Rattle.std.specs.Prelude.{◌≡◌, ◌≢◌, ℕ, List, [], ⊤}
+use Rattle.cap_text.specs.Cap.{verify_cap_of}
+use Rattle.request_record.specs.Asking.{fresh}
+use Rattle.request_record.specs.Record.{RequestsState}
+use Rattle.placement.specs.Matching.{Pair}
+use Rattle.upload_core.specs.declared.status.UploadStatus.TheVariants as uploads
+use Rattle.upload_core.specs.Right as upload
+use Rattle.download_core.specs.declared.status.DownloadStatus.TheVariants as downloads
+use Rattle.download_core.specs.Right as download
+use Rattle.checker.specs.declared.status.CheckStatus.TheVariants as checks
+use Rattle.checker.specs.Right as check
+use Rattle.world_operations.specs.declared.task.Task.{Task}
+use Rattle.world_operations.specs.declared.task.Task.TheVariants.{Uploading, Downloading}
+use Rattle.world_operations.specs.declared.task.Task.TheVariants.{Checking, Gone}
+
+-- the record of what it asked; of one that is gone only its number is left
+abbrev pub requests_of : Task → RequestsState
+requests_of (Uploading u) = u.course.requests
+requests_of (Downloading d) = d.requests
+requests_of (Checking c) = c.requests
+requests_of (Gone number) = fresh number 0
+
+-- the storage index that it is about
+abbrev pub index_of : Task → List ℕ
+index_of (Uploading u) = u.course.goal.cap.storage_index
+index_of (Downloading d) = (verify_cap_of d.cap).storage_index
+index_of (Checking c) = c.cap.storage_index
+index_of (Gone number) = []
+
+abbrev pub IsRunningTask : Task → Type 0
+IsRunningTask (Uploading u) = u.course.status ≡ uploads.Running
+IsRunningTask (Downloading d) = d.status ≡ downloads.Running
+IsRunningTask (Checking c) = c.status ≡ checks.Running
+IsRunningTask (Gone number) = ⊥
+
+-- what each machine's calls ensure of it
+abbrev pub IsRightTask : Task → Type 0
+IsRightTask (Uploading u) = upload.IsRight u.course
+IsRightTask (Downloading d) = download.IsRight d
+IsRightTask (Checking c) = check.IsRight c
+IsRightTask (Gone number) = ⊤
+
+-- it is an upload that answered Happy with these pairs
+abbrev pub IsHappyTask : Task → List Pair → Type 0
+IsHappyTask (Uploading u) pairs = u.course.status ≡ uploads.Happy pairs
+IsHappyTask (Downloading d) pairs = ⊥
+IsHappyTask (Checking c) pairs = ⊥
+IsHappyTask (Gone number) pairs = ⊥
+
+-- A call of it may find no memory. One of an upload that ended is not made.
+abbrev pub MayFail : Task → Type 0
+MayFail (Uploading u) = u.course.status ≡ uploads.Running
+MayFail (Downloading d) = ⊤
+MayFail (Checking c) = ⊤
+MayFail (Gone number) = ⊥

@@ -1,0 +1,44 @@
+//! What an operation is started for.
+
+ghost use Rattle.std.specs.Prelude.{◌≡◌, IfOk};
+
+use cap_text::{ReadCap, VerifyCap};
+use file_encoding::Params;
+use proved_parts::Bytes;
+use std::alloc::{AllocError, Global};
+use std::marker::Model;
+
+/// What an operation is started for.
+#[derive(Drop)]
+pub enum Job {
+    /// The upload of a file: its bytes, the convergence secret and the parameters.
+    Upload(Bytes, Bytes, Params),
+    /// The download of a cap's file, from one place to before another.
+    Download(ReadCap, u64, u64),
+    /// The check of a cap's shares.
+    Check(VerifyCap),
+}
+
+impl Job {
+    /// The same job once more.
+    pub fn copied(&self, alloc: Global) -> Result<Job, AllocError>
+        ensures { IfOk result (λ job. job ≡ self.now) }
+    {
+        match self {
+            Job::Upload(file, secret, params) => Ok(Job::Upload(
+                copied(alloc, file)?,
+                copied(alloc, secret)?,
+                *params,
+            )),
+            Job::Download(cap, from, to) => Ok(Job::Download(*cap, *from, *to)),
+            Job::Check(cap) => Ok(Job::Check(*cap)),
+        }
+    }
+}
+
+// The same bytes once more.
+fn copied(alloc: Global, bytes: &Bytes) -> Result<Bytes, AllocError>
+    ensures { IfOk result (λ same. same ≡ bytes.now) }
+{
+    Ok(Bytes::from_vec(Vec::from_slice(alloc, bytes.as_slice())?))
+}

@@ -1,0 +1,255 @@
+//! The machine of an operation.
+
+ghost use Rattle.std.specs.Prelude.{◌≡◌, ◌↔◌, ℕ, List, IfOk, IsErrOf, IsTrue, None, OnErr, OnOk};
+ghost use Rattle.std.specs.Prelude.{map, nat_eq};
+ghost use Rattle.std.specs.List.{IsDistinct};
+ghost use Rattle.upload_core.specs.declared.status.ServerInfo.{ServerInfo};
+ghost use Rattle.upload_core.specs.declared.status.UploadStatus.TheVariants as uploads;
+ghost use Rattle.world_operations.specs.declared.job.Job.TheVariants as jobs;
+ghost use Rattle.world_operations.specs.Jobs.{MayStart};
+ghost use Rattle.world_operations.specs.Moves.{Advances, Begins, Takes, TakesPiece, TicksOn};
+ghost use Rattle.world_operations.specs.Moves.{UploadAdvances, UploadTicks};
+ghost use Rattle.world_operations.specs.Tasks.{IsRightTask, MayFail};
+
+use crate::job::Job;
+use cap_text::{ReadCap, VerifyCap};
+use checker::Check;
+use download_core::Download;
+use download_core::status::{DownloadError, Piece};
+use file_encoding::{EncodeError, Params};
+use file_upload::prepared::{FileUpload, prepare};
+use std::alloc::{AllocError, Global};
+use ueb::MIN_FILE_SIZE;
+use upload_core::Upload;
+use upload_core::pieces::WholeShares;
+use upload_core::status::{ServerInfo, UploadStatus};
+use wire::message::{Message, NodeId};
+
+/// Why an operation is not started.
+#[derive(Clone, Copy, PartialEq, Eq)]
+pub enum StartError {
+    /// There was not enough memory.
+    OutOfMemory,
+    /// The job is none that may be started.
+    Refused,
+}
+
+/// The machine of an operation, whichever it is.
+#[derive(Drop)]
+pub enum Task {
+    Uploading(Upload<WholeShares>),
+    Downloading(Download),
+    Checking(Check),
+    /// A call found no memory, which leaves nothing to be said of the machine: only the operation's
+    /// number is left.
+    Gone(u64),
+}
+
+impl Task {
+    /// Begins a job, with all of these servers, which are of distinct nodes. `nodes` are the same
+    /// servers by their nodes.
+    pub fn begin(
+        alloc: Global,
+        job: &Job,
+        servers: &[ServerInfo],
+        nodes: &[NodeId],
+        session: u64,
+        now: u64,
+    ) -> Result<Task, StartError>
+        requires servers { IsDistinct nat_eq (map (λ (s : ServerInfo). s.node) servers.now) }
+        requires nodes { IsDistinct nat_eq nodes.now }
+        ensures begins { IfOk result (Begins job.now servers.now nodes.now session now) }
+        ensures may { IfOk result (λ _. MayStart job.now) }
+        ensures refused { IsErrOf result StartError.Refused → MayStart job.now → ⊥ }
+    {
+        match job {
+            Job::Upload(file, secret, params) => begin_upload(
+                alloc,
+                file.as_slice(),
+                secret.as_slice(),
+                params,
+                servers,
+                session,
+                now,
+            ),
+            Job::Download(cap, from, to) => {
+                begin_download(alloc, *cap, *from, *to, nodes, session, now)
+            }
+            Job::Check(cap) => begin_check(alloc, *cap, nodes, session, now),
+        }
+    }
+
+    /// Takes a message from a node over, at a second.
+    pub fn on_message(&mut self, from: NodeId, message: Message, now: u64) -> Result<(), AllocError>
+        ensures ok { OnOk result (Advances from message now self.old self.new) }
+        ensures err { OnErr result (MayFail self.old) }
+    {
+        match self {
+            Task::Uploading(upload) => answer_upload(upload, from, &message, now),
+            Task::Downloading(download) => download.on_message(from, message, now),
+            Task::Checking(check) => check.on_message(from, message, now),
+            Task::Gone(_) => Ok(()),
+        }
+    }
+
+    /// Takes note of a second.
+    pub fn tick(&mut self, now: u64) -> Result<(), AllocError>
+        ensures ok { OnOk result (TicksOn now self.old self.new) }
+        ensures err { OnErr result (MayFail self.old) }
+    {
+        match self {
+            Task::Uploading(upload) => tick_upload(upload, now),
+            Task::Downloading(download) => download.tick(now),
+            Task::Checking(check) => check.tick(now),
+            Task::Gone(_) => Ok(()),
+        }
+    }
+
+    /// Takes the next message to send, and the node that it is for.
+    pub fn take_outgoing(&mut self, alloc: Global) -> Result<Option<(NodeId, Message)>, AllocError>
+        ensures ok { IfOk result (λ taken. Takes self.old taken self.new) }
+        ensures err { OnErr result (self.new ≡ self.old) }
+    {
+        match self {
+            Task::Uploading(upload) => upload.take_outgoing(alloc),
+            Task::Downloading(download) => Ok(download.take_outgoing()),
+            Task::Checking(check) => Ok(check.take_outgoing()),
+            Task::Gone(_) => Ok(None),
+        }
+    }
+
+    /// Takes the next piece of a download's file.
+    pub fn take_piece(&mut self) -> Option<Piece>
+        ensures { TakesPiece self.old result self.new }
+    {
+        match self {
+            Task::Downloading(download) => download.take_bytes(),
+            Task::Uploading(_) | Task::Checking(_) | Task::Gone(_) => None,
+        }
+    }
+
+    /// A law: its machine is right.
+    pub fn is_right(&self)
+        ensures { IsRightTask self.now }
+    {
+        match self {
+            Task::Uploading(upload) => {
+                let _ = upload.status();
+            }
+            Task::Downloading(download) => {
+                let _ = download.status();
+            }
+            Task::Checking(check) => {
+                let _ = check.status();
+            }
+            Task::Gone(_) => {}
+        }
+    }
+}
+
+// Begins an upload.
+fn begin_upload(
+    alloc: Global,
+    file: &[u8],
+    secret: &[u8],
+    params: &Params,
+    servers: &[ServerInfo],
+    session: u64,
+    now: u64,
+) -> Result<Task, StartError>
+    requires { IsDistinct nat_eq (map (λ (s : ServerInfo). s.node) servers.now) }
+    ensures begins { (nodes : List ℕ) → IfOk result
+        (Begins (jobs.Upload file.now secret.now params.now) servers.now nodes session now) }
+    ensures may { IfOk result (λ _. MayStart (jobs.Upload file.now secret.now params.now)) }
+    ensures refused { IsErrOf result StartError.Refused
+        → MayStart (jobs.Upload file.now secret.now params.now) → ⊥ }
+{
+    if (file.len() as u64) < MIN_FILE_SIZE || secret.len() > 64 {
+        return Err(StartError::Refused);
+    }
+    match prepare(alloc, file, secret, params) {
+        Ok(FileUpload::Shares(prepared)) => match prepared.start(alloc, servers, session, now) {
+            Ok(upload) => Ok(Task::Uploading(upload)),
+            Err(_) => Err(StartError::OutOfMemory),
+        },
+        Ok(FileUpload::Literal(_)) => Err(StartError::Refused),
+        Err(EncodeError::OutOfMemory) => Err(StartError::OutOfMemory),
+        Err(_) => Err(StartError::Refused),
+    }
+}
+
+// Begins a download.
+fn begin_download(
+    alloc: Global,
+    cap: ReadCap,
+    from: u64,
+    to: u64,
+    nodes: &[NodeId],
+    session: u64,
+    now: u64,
+) -> Result<Task, StartError>
+    ensures begins { (servers : List ServerInfo) → IfOk result
+        (Begins (jobs.Download cap from to) servers nodes.now session now) }
+    ensures may { IfOk result (λ _. MayStart (jobs.Download cap from to)) }
+    ensures refused { IsErrOf result StartError.Refused
+        → MayStart (jobs.Download cap from to) → ⊥ }
+{
+    match Download::start(alloc, cap, from, to, nodes, session, now) {
+        Ok(download) => Ok(Task::Downloading(download)),
+        Err(DownloadError::OutOfMemory) => Err(StartError::OutOfMemory),
+        Err(DownloadError::BadRange) => Err(StartError::Refused),
+    }
+}
+
+// Begins a check.
+fn begin_check(
+    alloc: Global,
+    cap: VerifyCap,
+    nodes: &[NodeId],
+    session: u64,
+    now: u64,
+) -> Result<Task, StartError>
+    requires { IsDistinct nat_eq nodes.now }
+    ensures begins { (servers : List ServerInfo) → IfOk result
+        (Begins (jobs.Check cap) servers nodes.now session now) }
+    ensures refused { IsErrOf result StartError.Refused → ⊥ }
+{
+    match Check::start(alloc, cap, nodes, session, now) {
+        Ok(check) => Ok(Task::Checking(check)),
+        Err(_) => Err(StartError::OutOfMemory),
+    }
+}
+
+// Does it still run?
+fn is_running(upload: &Upload<WholeShares>) -> bool
+    ensures { IsTrue result ↔ (upload.now.course.status ≡ uploads.Running) }
+{
+    matches!(upload.status(), UploadStatus::Running)
+}
+
+// A message comes to an upload, which takes it while it runs.
+fn answer_upload(
+    upload: &mut Upload<WholeShares>,
+    from: NodeId,
+    message: &Message,
+    now: u64,
+) -> Result<(), AllocError>
+    ensures ok { OnOk result (UploadAdvances from message.now now upload.old upload.new) }
+    ensures err { OnErr result (upload.old.course.status ≡ uploads.Running) }
+{
+    if !is_running(upload) {
+        return Ok(());
+    }
+    upload.on_message(from, message, now)
+}
+
+// An upload takes note of a second while it runs.
+fn tick_upload(upload: &mut Upload<WholeShares>, now: u64) -> Result<(), AllocError>
+    ensures ok { OnOk result (UploadTicks now upload.old upload.new) }
+    ensures err { OnErr result (upload.old.course.status ≡ uploads.Running) }
+{
+    if !is_running(upload) {
+        return Ok(());
+    }
+    upload.tick(now)
+}
