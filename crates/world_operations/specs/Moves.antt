@@ -1,5 +1,6 @@
 -- What the calls of an operation do, whatever its machine is.
-use Rattle.std.specs.Prelude.{◌≡◌, ◌≢◌, ℕ, List, [], ◌∷◌, ◌++◌, Option, Some, None, length}
+use Rattle.std.specs.Prelude.{◌≡◌, ◌≢◌, ℕ, Bool, true, false, List, [], ◌∷◌, ◌++◌, length}
+use Rattle.std.specs.Prelude.{Option, Some, None}
 use Rattle.wire.specs.declared.message.Message.{Message}
 use Rattle.wire.specs.Frames.{IsMessage, spelling}
 use Rattle.file_upload.specs.Prepared.{goal_of, prepared_of}
@@ -88,45 +89,56 @@ TakesPiece (Downloading old) piece new = ⊥
 abbrev pub sent_to : ℕ → ℕ → Message → Sent
 sent_to from to m = record { from = from; to = to; body = spelling m }
 
--- All pieces that there are are taken, in order.
+-- these pieces are taken, in order
+abbrev pub HandsSome : Task → List Piece → Task → Type 0
+HandsSome old [] new = new ≡ old
+HandsSome old (p ∷ ps) new = (mid : Task) × TakesPiece old (Some p) mid × HandsSome mid ps new
+
+-- and then there is none
 abbrev pub HandsOut : Task → List Piece → Task → Type 0
-HandsOut old [] new = TakesPiece old None new
-HandsOut old (p ∷ ps) new = (mid : Task) × TakesPiece old (Some p) mid × HandsOut mid ps new
+HandsOut old pieces new = (last : Task) × HandsSome old pieces last × TakesPiece last None new
 
--- All that there is to send is sent, in order. Each message can be spelled.
+-- the next piece is taken, if there is one, which `more` says
+abbrev pub HandsOne : Task → List Piece → Bool → Task → List Piece → Type 0
+HandsOne old before false new after = TakesPiece old None new × (after ≡ before)
+HandsOne old before true new after =
+    (p : Piece) × TakesPiece old (Some p) new × (after ≡ before ++ p ∷ [])
+
+-- These messages are sent, in order. Each can be spelled.
+abbrev pub Sends : ℕ → Task → List Sent → Task → Type 0
+Sends node old [] new = new ≡ old
+Sends node old (x ∷ xs) new = (to : ℕ) × (m : Message) × (mid : Task)
+    × Takes old (Some (to, m)) mid × IsMessage m × (x ≡ sent_to node to m) × Sends node mid xs new
+
+-- and then there is none to send
 abbrev pub SendsAll : ℕ → Task → List Sent → Task → Type 0
-SendsAll node old [] new = Takes old None new
-SendsAll node old (x ∷ xs) new = (to : ℕ) × (m : Message) × (mid : Task)
-    × Takes old (Some (to, m)) mid × IsMessage m × (x ≡ sent_to node to m)
-    × SendsAll node mid xs new
+SendsAll node old sent new = (last : Task) × Sends node old sent last × Takes last None new
 
--- what was made is handed out, and what is to be sent is sent
-pub record Flushes (node : ℕ) (old : Task) (pieces : List Piece) (sent : List Sent) (new : Task)
-    : Type 0 where
+-- the next message is sent, if there is one, which `more` says
+abbrev pub SendsOne : ℕ → Task → List Sent → Bool → Task → List Sent → Type 0
+SendsOne node old before false new after = Takes old None new × (after ≡ before)
+SendsOne node old before true new after = (to : ℕ) × (m : Message) × Takes old (Some (to, m)) new
+    × IsMessage m × (after ≡ before ++ sent_to node to m ∷ [])
+
+-- What an operation's machine made is handed out, and then what it has to send is sent.
+pub record IsFlushed (old : Operation) (sent : List Sent) (new : Operation) : Type 0 where
+  pub pieces : List Piece
   pub handed : Task
-  pub hands : HandsOut old pieces handed
-  pub sends : SendsAll node handed sent new
-
--- the same operation with another machine, which handed these pieces out
-abbrev pub gone_on : Operation → Task → List Piece → Operation
-gone_on op task pieces = record op { task = task; given = op.given ++ pieces }
+  pub last : Task
+  pub hands : HandsOut old.task pieces handed
+  pub sends : SendsAll old.node handed sent last
+  pub is : new ≡ record old { task = last; given = old.given ++ pieces }
 
 -- a message comes to an operation
-pub record OperationGets (from : ℕ) (m : Message) (now : ℕ) (op : Operation) (sent : List Sent)
+pub record OperationGets (from : ℕ) (m : Message) (now : ℕ) (old : Operation) (sent : List Sent)
     (new : Operation) : Type 0 where
   pub mid : Task
-  pub last : Task
-  pub pieces : List Piece
-  pub advances : Advances from m now op.task mid
-  pub flushes : Flushes op.node mid pieces sent last
-  pub is : new ≡ gone_on op last pieces
+  pub advances : Advances from m now old.task mid
+  pub flushed : IsFlushed (record old { task = mid }) sent new
 
 -- an operation ticks
-pub record OperationTicks (now : ℕ) (op : Operation) (sent : List Sent) (new : Operation)
+pub record OperationTicks (now : ℕ) (old : Operation) (sent : List Sent) (new : Operation)
     : Type 0 where
   pub mid : Task
-  pub last : Task
-  pub pieces : List Piece
-  pub ticks : TicksOn now op.task mid
-  pub flushes : Flushes op.node mid pieces sent last
-  pub is : new ≡ gone_on op last pieces
+  pub ticks : TicksOn now old.task mid
+  pub flushed : IsFlushed (record old { task = mid }) sent new

@@ -1,7 +1,12 @@
 //! Messages that were sent.
 
+ghost use Rattle.std.specs.Prelude.{◌≡◌, ◌++◌, ◌∷◌, [], IfOk, OnErr, OnOk};
+ghost use Rattle.wire.specs.Frames.{IsMessage};
+ghost use Rattle.world_operations.specs.Moves.{sent_to};
+
 use proved_parts::Bytes;
-use wire::message::NodeId;
+use std::alloc::{AllocError, Global};
+use wire::message::{Message, NodeId};
 
 /// A message that was sent, with its true sender and receiver.
 #[derive(Drop)]
@@ -12,4 +17,27 @@ pub struct Sent {
     pub to: NodeId,
     /// The body of a frame, as `wire::decode` reads it.
     pub body: Bytes,
+}
+
+/// What is sent where a node sends this message.
+pub fn spell(
+    alloc: Global,
+    from: NodeId,
+    to: NodeId,
+    message: &Message,
+) -> Result<Sent, AllocError>
+    ensures value { IfOk result (λ sent. sent ≡ sent_to from to message.now) }
+    ensures right { IsMessage message.now }
+{
+    let body = Bytes::from_vec(message.encode_body(alloc)?);
+    Ok(Sent { from, to, body })
+}
+
+/// One more message that was sent.
+pub fn push_sent(all: &mut Vec<Sent>, sent: Sent) -> Result<(), AllocError>
+    ensures ok { OnOk result (all.new.items ≡ all.old.items ++ sent ∷ []) }
+    ensures err { OnErr result (all.new.items ≡ all.old.items) }
+{
+    all.push(sent)?;
+    Ok(())
 }

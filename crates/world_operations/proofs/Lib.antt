@@ -1,0 +1,4 @@
+pub mod Places
+pub mod Records
+pub mod TaskMoves
+pub mod Sending

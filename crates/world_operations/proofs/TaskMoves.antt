@@ -1,0 +1,407 @@
+-- How a machine goes on: what it is for stays, its record goes on, and each frame that it sends is of one of its requests.
+use Rattle.std.proofs.Common.{◌≡◌, ◌≢◌, ℕ, ◌+◌, List, [], ◌∷◌, ◌++◌, true, Option, Some, None, Contains, refl, sym, subst, ap, ◌∙◌, inl, inr, ◌⊎◌}
+use Rattle.std.specs.Prelude.{drop, slice_get}
+use Rattle.std.proofs.lemmas.List.{append_assoc}
+use Rattle.std.proofs.lemmas.List.Elements.{Contains-append_cases}
+use Rattle.cap_text.specs.Cap.{ReadCapValue, VerifyCapValue, verify_cap_of}
+use Rattle.placement.specs.Matching.{Pair}
+use Rattle.wire.specs.declared.message.Body.{Body}
+use Rattle.wire.specs.declared.message.Body.TheVariants.{Ask, Allocate, Write, Close, Abort, Read}
+use Rattle.wire.specs.declared.message.Message.{Message}
+use Rattle.wire.specs.Frames.{IsBodyOf, IsMessage, spelling}
+use Rattle.request_record.specs.declared.requests.Asked.{Asked}
+use Rattle.request_record.specs.declared.requests.Asked.TheVariants.{Holdings, Allocation, Writing, Closing, Reading, Aborting}
+use Rattle.request_record.specs.declared.requests.Request.{Request}
+use Rattle.request_record.specs.Asking.{Spells, after_message, after_tick, begun, fresh, asks_of, lost_by_tick, message_at}
+use Rattle.request_record.specs.Record.{RequestsState, asked_all, counts_at}
+use Rattle.server_core.specs.Sound.{is_request}
+use Rattle.upload_core.specs.declared.status.UploadStatus.{UploadStatus}
+use Rattle.upload_core.specs.declared.status.UploadStatus.TheVariants as uploads
+use Rattle.upload_core.specs.State.{Goal, UploadState, with_record}
+use Rattle.upload_core.specs.Moves as upload
+use Rattle.upload_core.specs.Rounds.{transfers_of}
+use Rattle.upload_core.specs.Sending as upload_sends
+use Rattle.download_core.specs.State.{DownloadState}
+use Rattle.download_core.specs.declared.status.Piece.{Piece}
+use Rattle.download_core.specs.Moves as download
+use Rattle.download_core.specs.Sending as download_sends
+use Rattle.checker.specs.State.{CheckState}
+use Rattle.checker.specs.Moves as check
+use Rattle.checker.specs.Sending as check_sends
+use Rattle.world_operations.specs.declared.job.Job.{Job}
+use Rattle.world_operations.specs.declared.job.Job.TheVariants as jobs
+use Rattle.world_operations.specs.declared.message.Sent.{Sent}
+use Rattle.world_operations.specs.declared.task.Task.{Task}
+use Rattle.world_operations.specs.declared.task.Task.TheVariants.{Uploading, Downloading, Checking, Gone}
+use Rattle.world_operations.specs.Tasks.{IsHappyTask, MayFail, index_of, requests_of}
+use Rattle.world_operations.specs.Jobs.{IsFor, MayStart}
+use Rattle.world_operations.specs.Moves.{Advances, Begins, Takes, TakesPiece, TicksOn, UploadAdvances, UploadTicks, gives, never_fails, sent_to}
+use Rattle.world_operations.specs.Follow.{Follows, GoesOn, IsFrameOf, IsRequestBy, IsSaid, Nothing, Said, SendsSome}
+use Rattle.world_operations.proofs.Places.{append_none, member_cases, member_none}
+use Rattle.world_operations.proofs.Records.{follows_asks, follows_itself, follows_message, follows_on, follows_same, follows_tick}
+
+pub goes_on : (New : Said) (a b c : Task) → GoesOn New a b → GoesOn Nothing b c → GoesOn New a c
+goes_on New a b c f g = record {
+  follows = follows_on New (requests_of a) (requests_of b) (requests_of c) f.follows g.follows;
+  index = g.index ∙ f.index;
+  is_for = λ e h. g.is_for e (f.is_for e h);
+  happy = λ pairs h. g.happy pairs (f.happy pairs h);
+}
+
+pub goes_nowhere : (New : Said) (a : Task) → GoesOn New a a
+goes_nowhere New a = record { follows = follows_itself New (requests_of a); index = refl; is_for = λ e h. h; happy = λ pairs h. h }
+
+pub same_goes : (New : Said) (a b : Task) → b ≡ a → GoesOn New a b
+same_goes New a b e = subst (GoesOn New a) (sym e) (goes_nowhere New a)
+
+-- more is asked
+asks_more : (New : Said) (old r : RequestsState) (asks : List (ℕ × Asked)) → Follows New old r → Follows New old (asked_all asks r)
+asks_more New old r asks f = follows_on New old r (asked_all asks r) f (follows_asks asks r)
+
+-- ---- uploads
+
+abbrev State : Type 0
+State = upload_sends.Uploading (List (List ℕ))
+
+record SameUpload (u v : UploadState) : Type 0 where
+  pub goal : v.goal ≡ u.goal
+  pub wanted : v.wanted ≡ u.wanted
+  pub happy : (pairs : List Pair) → u.status ≡ uploads.Happy pairs → v.status ≡ uploads.Happy pairs
+
+upload_goes : (New : Said) (u v : State) → SameUpload u.course v.course → Follows New u.course.requests v.course.requests → GoesOn New (Uploading u) (Uploading v)
+upload_goes New u v same f = record { follows = f; index = ap (λ (g : Goal). g.cap.storage_index) same.goal; is_for = kept; happy = same.happy }
+  where
+    kept : (e : Job) → IsFor e (Uploading u) → IsFor e (Uploading v)
+    kept (jobs.Upload file secret p) h = (same.goal ∙ h.0, same.wanted ∙ h.1, h.2)
+    kept (jobs.Download cap from to) h = absurd h
+    kept (jobs.Check cap) h = absurd h
+
+-- the moves of an upload that runs
+record Runs (New : Said) (u v : UploadState) : Type 0 where
+  pub goal : v.goal ≡ u.goal
+  pub wanted : v.wanted ≡ u.wanted
+  pub follows : Follows New u.requests v.requests
+
+recorded : (New : Said) (u v : UploadState) (r : RequestsState) → v ≡ with_record u r → Follows New u.requests r → Runs New u v
+recorded New u v r is f = subst (Runs New u) (sym is) record { goal = refl; wanted = refl; follows = f }
+
+placed : (New : Said) (u v : UploadState) (r : RequestsState) → Follows New u.requests r → upload.GoesOn u r v → Runs New u v
+placed New u v r f (upload.waits not_settled is) = recorded New u v r is f
+placed New u v r f (upload.places p settled place placing some is) =
+    subst (Runs New u) (sym is) record { goal = refl; wanted = refl; follows = asks_more New u.requests r (transfers_of u.goal p) f }
+placed New u v r f (upload.ends status settled over ends is) = subst (Runs New u) (sym is) record { goal = refl; wanted = refl; follows = f }
+
+answered : (New : Said) (u v : UploadState) (o : Option ℕ) (r : RequestsState) → Follows New u.requests r → upload.AdvancesAt o r u v → Runs New u v
+answered New u v None r f a = recorded New u v r a f
+answered New u v (Some place) r f a =
+    let asks : List (ℕ × Asked) = upload.follow_ups_at u.goal (slice_get r.entries place) in
+    placed New u v (asked_all asks r) (asks_more New u.requests r asks f) a
+
+lost : (New : Said) (u v : UploadState) (places : List ℕ) (r : RequestsState) → Follows New u.requests r → upload.TicksWith places r u v → Runs New u v
+lost New u v [] r f a = recorded New u v r a f
+lost New u v (q ∷ qs) r f a =
+    let asks : List (ℕ × Asked) = upload.all_follow_ups u.goal r.entries (q ∷ qs) in
+    placed New u v (asked_all asks r) (asks_more New u.requests r asks f) a
+
+-- does an upload run?
+runs : (s : UploadStatus) → (s ≡ uploads.Running) ⊎ (s ≢ uploads.Running)
+runs uploads.Running = inl refl
+runs (uploads.Happy pairs) = inr (λ e. absurd cc)
+runs (uploads.Unhappy reached blocking) = inr (λ e. absurd cc)
+runs (uploads.Failed fault) = inr (λ e. absurd cc)
+
+runs_not_happy : (s : UploadStatus) (pairs : List Pair) → s ≡ uploads.Running → s ≡ uploads.Happy pairs → ⊥
+runs_not_happy s pairs e f = clash (sym e ∙ f) where
+  clash : uploads.Running ≡ uploads.Happy pairs → ⊥
+  clash g = cc
+
+running_goes : (New : Said) (u v : State) → u.course.status ≡ uploads.Running → Runs New u.course v.course → GoesOn New (Uploading u) (Uploading v)
+running_goes New u v e r =
+    upload_goes New u v record { goal = r.goal; wanted = r.wanted; happy = λ pairs h. absurd (runs_not_happy u.course.status pairs e h) } r.follows
+
+upload_advances : (from now : ℕ) (m : Message) (u v : State) → UploadAdvances from m now u v → GoesOn (IsSaid from m u.course.requests.session) (Uploading u) (Uploading v)
+upload_advances from now m u v a =
+    let New : Said = IsSaid from m u.course.requests.session in
+    elim (runs u.course.status) [
+      | inl e ↦ running_goes New u v e
+          (answered New u.course v.course (counts_at from m u.course.requests) (after_message from m now u.course.requests) (follows_message from now m u.course.requests) ((a.running e).running e))
+      | inr e ↦ same_goes New (Uploading u) (Uploading v) (ap Uploading (a.ended e))
+    ]
+
+upload_ticks : (now : ℕ) (u v : State) → UploadTicks now u v → GoesOn Nothing (Uploading u) (Uploading v)
+upload_ticks now u v a = elim (runs u.course.status) [
+  | inl e ↦ running_goes Nothing u v e
+      (lost Nothing u.course v.course (lost_by_tick now u.course.requests) (after_tick now u.course.requests) (follows_tick now u.course.requests) ((a.running e).running e))
+  | inr e ↦ same_goes Nothing (Uploading u) (Uploading v) (ap Uploading (a.ended e))
+]
+
+never : (u v : List (List ℕ)) (asked : Asked) (fault : _) → upload_sends.Faults never_fails u asked fault v → ⊥
+never u v Holdings fault f = f
+never u v (Allocation share len) fault f = f
+never u v (Writing share offset len) fault f = f
+never u v (Closing share) fault f = f
+never u v (Reading share offset len) fault f = f
+never u v (Aborting share) fault f = f
+
+upload_takes : (u v : State) (f : Option (ℕ × Message)) → upload_sends.Takes gives never_fails u f v → GoesOn Nothing (Uploading u) (Uploading v)
+upload_takes u v f (upload_sends.nothing first none is) = same_goes Nothing (Uploading u) (Uploading v) (ap Uploading is)
+upload_takes u v f (upload_sends.ceases place server asked fault first there faults none is) = absurd (never u.pieces v.pieces asked fault faults)
+upload_takes u v f (upload_sends.sends place server asked body first there tells some is) =
+    upload_goes Nothing u v
+    record {
+      goal = ap (λ (x : UploadState). x.goal) is;
+      wanted = ap (λ (x : UploadState). x.wanted) is;
+      happy = λ pairs h. ap (λ (x : UploadState). x.status) is ∙ h;
+    }
+    (follows_same Nothing u.course.requests v.course.requests (ap (λ (x : UploadState). x.requests.session) is) (ap (λ (x : UploadState). x.requests.entries) is))
+
+-- ---- downloads and checks
+
+asks_follow : (New : Said) (old r new : RequestsState) (asks : List (ℕ × Asked)) → Follows New old r → new ≡ asked_all asks r → Follows New old new
+asks_follow New old r new asks f is = subst (Follows New old) (sym is) (asks_more New old r asks f)
+
+download_goes : (New : Said) (d e : DownloadState) → e.cap ≡ d.cap → (e.from ≡ d.from) × (e.to ≡ d.to) → Follows New d.requests e.requests → GoesOn New (Downloading d) (Downloading e)
+download_goes New d e same range f = record { follows = f; index = ap (λ (c : ReadCapValue). (verify_cap_of c).storage_index) same; is_for = kept; happy = λ pairs h. h }
+  where
+    kept : (x : Job) → IsFor x (Downloading d) → IsFor x (Downloading e)
+    kept (jobs.Upload file secret p) h = absurd h
+    kept (jobs.Download cap from to) h = (same ∙ h.0, range.0 ∙ h.1, range.1 ∙ h.2)
+    kept (jobs.Check cap) h = absurd h
+
+download_moves : (New : Said) (d e : DownloadState) (r : RequestsState) → Follows New d.requests r → download.GoesOn r d e → GoesOn New (Downloading d) (Downloading e)
+download_moves New d e r f a = download_goes New d e a.same.cap a.same.range (asks_follow New d.requests r e.requests a.asks f a.requests)
+
+download_same : (d e : DownloadState) → e.cap ≡ d.cap → (e.from ≡ d.from) × (e.to ≡ d.to) → e.requests.session ≡ d.requests.session → e.requests.entries ≡ d.requests.entries
+    → GoesOn Nothing (Downloading d) (Downloading e)
+download_same d e cap range session entries = download_goes Nothing d e cap range (follows_same Nothing d.requests e.requests session entries)
+
+download_takes : (d e : DownloadState) (f : Option (ℕ × Message)) → download_sends.Takes d f e → GoesOn Nothing (Downloading d) (Downloading e)
+download_takes d e None t = same_goes Nothing (Downloading d) (Downloading e) (ap Downloading t.1)
+download_takes d e (Some f) t = (let is = t.3 in
+    download_same d e (ap (λ (x : DownloadState). x.cap) is) (ap (λ (x : DownloadState). x.from) is, ap (λ (x : DownloadState). x.to) is)
+    (ap (λ (x : DownloadState). x.requests.session) is) (ap (λ (x : DownloadState). x.requests.entries) is))
+
+download_hands : (d e : DownloadState) (p : Option Piece) → download.TakesPiece d p e → GoesOn Nothing (Downloading d) (Downloading e)
+download_hands d e None t = same_goes Nothing (Downloading d) (Downloading e) (ap Downloading t.1)
+download_hands d e (Some p) t = (let is = t.1 in
+    download_same d e (ap (λ (x : DownloadState). x.cap) is) (ap (λ (x : DownloadState). x.from) is, ap (λ (x : DownloadState). x.to) is)
+    (ap (λ (x : DownloadState). x.requests.session) is) (ap (λ (x : DownloadState). x.requests.entries) is))
+
+check_goes : (New : Said) (c e : CheckState) → e.cap ≡ c.cap → Follows New c.requests e.requests → GoesOn New (Checking c) (Checking e)
+check_goes New c e same f = record { follows = f; index = ap (λ (cap : VerifyCapValue). cap.storage_index) same; is_for = kept; happy = λ pairs h. h }
+  where
+    kept : (x : Job) → IsFor x (Checking c) → IsFor x (Checking e)
+    kept (jobs.Upload file secret p) h = absurd h
+    kept (jobs.Download cap from to) h = absurd h
+    kept (jobs.Check cap) h = same ∙ h
+
+check_moves : (New : Said) (c e : CheckState) (r : RequestsState) → Follows New c.requests r → check.GoesOn r c e → GoesOn New (Checking c) (Checking e)
+check_moves New c e r f a = check_goes New c e a.cap (asks_follow New c.requests r e.requests a.asks f a.requests)
+
+check_takes : (c e : CheckState) (f : Option (ℕ × Message)) → check_sends.Takes c f e → GoesOn Nothing (Checking c) (Checking e)
+check_takes c e None t = same_goes Nothing (Checking c) (Checking e) (ap Checking t.1)
+check_takes c e (Some f) t = (let is = t.3 in
+    check_goes Nothing c e (ap (λ (x : CheckState). x.cap) is)
+    (follows_same Nothing c.requests e.requests (ap (λ (x : CheckState). x.requests.session) is) (ap (λ (x : CheckState). x.requests.entries) is)))
+
+-- ---- machines of any kind
+
+pub advanced : (from now : ℕ) (m : Message) (old new : Task) → Advances from m now old new → GoesOn (IsSaid from m (requests_of old).session) old new
+advanced from now m (Uploading u) (Uploading v) a = upload_advances from now m u v a
+advanced from now m (Downloading d) (Downloading e) a = download_moves (IsSaid from m d.requests.session) d e (after_message from m now d.requests) (follows_message from now m d.requests) a
+advanced from now m (Checking c) (Checking e) a = check_moves (IsSaid from m c.requests.session) c e (after_message from m now c.requests) (follows_message from now m c.requests) a
+advanced from now m (Gone number) new a = same_goes (IsSaid from m number) (Gone number) new a
+advanced from now m (Uploading u) (Downloading e) a = absurd a
+advanced from now m (Uploading u) (Checking e) a = absurd a
+advanced from now m (Uploading u) (Gone n) a = absurd a
+advanced from now m (Downloading d) (Uploading e) a = absurd a
+advanced from now m (Downloading d) (Checking e) a = absurd a
+advanced from now m (Downloading d) (Gone n) a = absurd a
+advanced from now m (Checking c) (Uploading e) a = absurd a
+advanced from now m (Checking c) (Downloading e) a = absurd a
+advanced from now m (Checking c) (Gone n) a = absurd a
+
+pub ticked_on : (now : ℕ) (old new : Task) → TicksOn now old new → GoesOn Nothing old new
+ticked_on now (Uploading u) (Uploading v) a = upload_ticks now u v a
+ticked_on now (Downloading d) (Downloading e) a = download_moves Nothing d e (after_tick now d.requests) (follows_tick now d.requests) a
+ticked_on now (Checking c) (Checking e) a = check_moves Nothing c e (after_tick now c.requests) (follows_tick now c.requests) a
+ticked_on now (Gone number) new a = same_goes Nothing (Gone number) new a
+ticked_on now (Uploading u) (Downloading e) a = absurd a
+ticked_on now (Uploading u) (Checking e) a = absurd a
+ticked_on now (Uploading u) (Gone n) a = absurd a
+ticked_on now (Downloading d) (Uploading e) a = absurd a
+ticked_on now (Downloading d) (Checking e) a = absurd a
+ticked_on now (Downloading d) (Gone n) a = absurd a
+ticked_on now (Checking c) (Uploading e) a = absurd a
+ticked_on now (Checking c) (Downloading e) a = absurd a
+ticked_on now (Checking c) (Gone n) a = absurd a
+
+pub taken : (old new : Task) (f : Option (ℕ × Message)) → Takes old f new → GoesOn Nothing old new
+taken (Uploading u) (Uploading v) f t = upload_takes u v f t
+taken (Downloading d) (Downloading e) f t = download_takes d e f t
+taken (Checking c) (Checking e) f t = check_takes c e f t
+taken (Gone number) new f t = same_goes Nothing (Gone number) new t.1
+taken (Uploading u) (Downloading e) f t = absurd t
+taken (Uploading u) (Checking e) f t = absurd t
+taken (Uploading u) (Gone n) f t = absurd t
+taken (Downloading d) (Uploading e) f t = absurd t
+taken (Downloading d) (Checking e) f t = absurd t
+taken (Downloading d) (Gone n) f t = absurd t
+taken (Checking c) (Uploading e) f t = absurd t
+taken (Checking c) (Downloading e) f t = absurd t
+taken (Checking c) (Gone n) f t = absurd t
+
+pub handed : (old new : Task) (p : Option Piece) → TakesPiece old p new → GoesOn Nothing old new
+handed (Downloading d) (Downloading e) p t = download_hands d e p t
+handed (Uploading u) new p t = same_goes Nothing (Uploading u) new t.1
+handed (Checking c) new p t = same_goes Nothing (Checking c) new t.1
+handed (Gone number) new p t = same_goes Nothing (Gone number) new t.1
+handed (Downloading d) (Uploading e) p t = absurd t
+handed (Downloading d) (Checking e) p t = absurd t
+handed (Downloading d) (Gone n) p t = absurd t
+
+-- one that may fail is no Happy upload
+pub fails_unhappy : (t : Task) → MayFail t → (pairs : List Pair) → IsHappyTask t pairs → ⊥
+fails_unhappy (Uploading u) may pairs h = runs_not_happy u.course.status pairs may h
+fails_unhappy (Downloading d) may pairs h = h
+fails_unhappy (Checking c) may pairs h = h
+fails_unhappy (Gone number) may pairs h = h
+
+-- ---- frames
+
+-- a body that asks is a request
+pub asks : (index : List ℕ) (asked : Asked) (body : Body) → Spells index asked body → is_request body ≡ true
+asks index Holdings (Ask i) s = refl
+asks index (Allocation n len) (Allocate id l) s = refl
+asks index (Writing n offset len) (Write id o bytes) s = refl
+asks index (Closing n) (Close id) s = refl
+asks index (Reading n offset len) (Read id o l) s = refl
+asks index (Aborting n) (Abort id) s = refl
+asks index _ _ s = absurd s
+
+pub request_on : (New : Said) (old new : Task) (x : Sent) (m : Message) → GoesOn New old new → IsRequestBy old x m → IsRequestBy new x m
+request_on New old new x m g r =
+    let s = g.follows.keeps r.place r.request r.entry in record {
+      place = r.place;
+      request = s.request;
+      entry = s.at;
+      number = r.number;
+      server = r.server ∙ sym s.server;
+      spelled =
+          subst (λ (a : Asked). Spells (index_of new) a m.body) (sym s.asked)
+          (subst (λ (i : List ℕ). Spells i r.request.asked m.body) (sym g.index) r.spelled);
+    }
+
+pub frame_on : (New : Said) (old new : Task) (node : ℕ) (x : Sent) → GoesOn New old new → IsFrameOf old node x → IsFrameOf new node x
+frame_on New old new node x g f = record {
+  message = f.message;
+  body = f.body;
+  from = f.from;
+  session = f.session ∙ sym g.follows.session_is;
+  request = request_on New old new x f.message g f.request;
+  asks = f.asks;
+}
+
+tells_spells : (index : List ℕ) (old new : List (List ℕ)) (asked : Asked) (body : Body) → upload_sends.Tells gives index old asked body new → Spells index asked body
+tells_spells index old new Holdings body t = t.0
+tells_spells index old new (Allocation share len) body t = t.0
+tells_spells index old new (Writing share offset len) body t = subst (Spells index (Writing share offset len)) (sym t.3) (refl, refl, t.2)
+tells_spells index old new (Closing share) body t = t.0
+tells_spells index old new (Reading share offset len) body t = t.0
+tells_spells index old new (Aborting share) body t = t.0
+
+same_pair : (a b : ℕ × Message) → Some a ≡ Some b → a ≡ b
+same_pair a b e = cc
+
+-- the message of a request at a place
+framed : (t : Task) (node to place : ℕ) (m : Message) (request : Request) (body : Body) → slice_get (requests_of t).entries place ≡ Some request → to ≡ request.server
+    → Spells (index_of t) request.asked body → m ≡ message_at place body (requests_of t) → IsMessage m → IsFrameOf t node (sent_to node to m)
+framed t node to place m request body entry server spelled is spoken =
+    let spells : Spells (index_of t) request.asked m.body = subst (λ (x : Message). Spells (index_of t) request.asked x.body) (sym is) spelled in record {
+      message = m;
+      body = (spoken, refl);
+      from = refl;
+      session = ap (λ (x : Message). x.session) is;
+      request = record { place = place; request = request; entry = entry; number = ap (λ (x : Message). x.number) is; server = server; spelled = spells };
+      asks = asks (index_of t) request.asked m.body spells;
+    }
+
+upload_framed : (u v : State) (node to : ℕ) (m : Message) → upload_sends.Takes gives never_fails u (Some (to, m)) v → IsMessage m → IsFrameOf (Uploading u) node (sent_to node to m)
+upload_framed u v node to m (upload_sends.nothing first none is) spoken = absurd cc
+upload_framed u v node to m (upload_sends.ceases place server asked fault first there faults none is) spoken = absurd cc
+upload_framed u v node to m (upload_sends.sends place server asked body first there tells some is) spoken =
+    let pair : (to, m) ≡ (server, message_at place body u.course.requests) = same_pair (to, m) (server, message_at place body u.course.requests) some in
+    let index : List ℕ = u.course.goal.cap.storage_index in
+    let spelled : Spells index there.0.asked body = subst (λ (a : Asked). Spells index a body) (sym there.3) (tells_spells index u.pieces v.pieces asked body tells) in
+    framed (Uploading u) node to place m there.0 body there.1 (ap (λ (p : ℕ × Message). p.0) pair ∙ sym there.2) spelled (ap (λ (p : ℕ × Message). p.1) pair) spoken
+
+pub frame_taken : (old new : Task) (node to : ℕ) (m : Message) → Takes old (Some (to, m)) new → IsMessage m → IsFrameOf old node (sent_to node to m)
+frame_taken (Uploading u) (Uploading v) node to m t spoken = upload_framed u v node to m t spoken
+frame_taken (Downloading d) (Downloading e) node to m t spoken =
+    (let f = t.2 in framed (Downloading d) node to t.0 m f.request f.body f.there f.server f.spelled f.message spoken)
+frame_taken (Checking c) (Checking e) node to m t spoken =
+    (let f = t.2 in framed (Checking c) node to t.0 m f.request f.body f.there f.server f.spelled f.message spoken)
+frame_taken (Gone number) new node to m t spoken = absurd cc
+frame_taken (Uploading u) (Downloading e) node to m t spoken = absurd t
+frame_taken (Uploading u) (Checking e) node to m t spoken = absurd t
+frame_taken (Uploading u) (Gone n) node to m t spoken = absurd t
+frame_taken (Downloading d) (Uploading e) node to m t spoken = absurd t
+frame_taken (Downloading d) (Checking e) node to m t spoken = absurd t
+frame_taken (Downloading d) (Gone n) node to m t spoken = absurd t
+frame_taken (Checking c) (Uploading e) node to m t spoken = absurd t
+frame_taken (Checking c) (Downloading e) node to m t spoken = absurd t
+frame_taken (Checking c) (Gone n) node to m t spoken = absurd t
+
+-- ---- sending
+
+-- a machine goes on, and sends nothing
+pub sends_none : (New : Said) (node : ℕ) (old new : Task) (sent : List Sent) → GoesOn New old new → SendsSome New node old new sent sent
+sends_none New node old new sent g = record { goes = g; more = []; appended = sym (append_none sent); frames = λ x c. absurd (member_none x c) }
+
+pub sends_on : (New : Said) (node : ℕ) (a b c : Task) (before mid after : List Sent) → SendsSome New node a b before mid → SendsSome Nothing node b c mid after → SendsSome New node a c before after
+sends_on New node a b c before mid after f g = record {
+  goes = goes_on New a b c f.goes g.goes;
+  more = f.more ++ g.more;
+  appended = g.appended ∙ ap (λ (l : List Sent). l ++ g.more) f.appended ∙ append_assoc before f.more g.more;
+  frames = λ x k. elim (Contains-append_cases f.more g.more x k) [ inl h ↦ frame_on Nothing b c node x g.goes (f.frames x h) | inr h ↦ g.frames x h ];
+}
+
+-- one message is sent
+pub sends_one : (node to : ℕ) (m : Message) (old new : Task) (sent : List Sent) → Takes old (Some (to, m)) new → IsMessage m
+    → SendsSome Nothing node old new sent (sent ++ sent_to node to m ∷ [])
+sends_one node to m old new sent t spoken = record {
+  goes = taken old new (Some (to, m)) t;
+  more = sent_to node to m ∷ [];
+  appended = refl;
+  frames = λ x k. elim (member_cases (sent_to node to m) x [] k) [
+    | inl e ↦ subst (IsFrameOf new node) e (frame_on Nothing old new node (sent_to node to m) (taken old new (Some (to, m)) t) (frame_taken old new node to m t spoken))
+    | inr h ↦ absurd (member_none x h)
+  ];
+}
+
+-- ---- beginnings
+
+begun_follows : (servers : List ℕ) (session now : ℕ) (r : RequestsState) → r ≡ begun servers session now → Follows Nothing (fresh session now) r
+begun_follows servers session now r is = subst (Follows Nothing (fresh session now)) (sym is) (follows_asks (asks_of servers) (fresh session now))
+
+-- a machine that has just begun: its record is new
+pub record IsNewTask (session : ℕ) (job : Job) (task : Task) : Type 0 where
+  pub is_for : IsFor job task
+  pub clock : ℕ
+  pub follows : Follows Nothing (fresh session clock) (requests_of task)
+
+pub new_task : (servers : List _) (nodes : List ℕ) (session now : ℕ) (job : Job) (task : Task) → MayStart job → Begins job servers nodes session now task → IsNewTask session job task
+new_task servers nodes session now (jobs.Upload file secret p) (Uploading u) may b =
+    let c = b.0 in
+    let first : UploadState = upload.initial _ p.happy u.course.servers session now in
+    let goes = placed Nothing first u.course (begun u.course.servers session now) (follows_itself Nothing (begun u.course.servers session now)) c.goes in
+    record {
+      is_for = (c.goal_is, c.wanted, may);
+      clock = now;
+      follows = follows_on Nothing (fresh session now) (begun u.course.servers session now) u.course.requests (begun_follows u.course.servers session now (begun u.course.servers session now) refl) goes.follows;
+    }
+new_task servers nodes session now (jobs.Download cap from to) (Downloading d) may b =
+    record { is_for = (b.of_cap, b.range.0, b.range.1); clock = now; follows = begun_follows (download.asked_servers from to nodes) session now d.requests b.asks }
+new_task servers nodes session now (jobs.Check cap) (Checking c) may b =
+    record { is_for = b.of_cap; clock = now; follows = begun_follows nodes session now c.requests b.asks }
+new_task servers nodes session now _ _ may b = absurd b
