@@ -1,0 +1,165 @@
+-- The headline: what holds of every world, however its nodes lie and whatever comes in which order.
+use Rattle.std.specs.Prelude.{◌≡◌, ℕ, ◌+◌, ◌<◌, ◌≤◌, List, [], ◌++◌, Some, length, map, slice_get}
+use Rattle.std.specs.Prelude.{slice_index_or, Contains}
+use Rattle.std.specs.List.{flat_map}
+use Rattle.std.specs.Map.{values_of}
+use Rattle.tagged_hash.specs.Clash.{HasNoClash}
+use Rattle.tagged_hash.specs.TaggedHash.{tagged_input}
+use Rattle.tagged_hash.specs.declared.tag.Tag.TheVariants.{WholeShare}
+use Rattle.cap_text.specs.Cap.{ReadCapValue}
+use Rattle.wire.specs.declared.message.Message.{Message}
+use Rattle.wire.specs.Frames.{IsBodyOf}
+use Rattle.request_record.specs.declared.requests.Request.{Request}
+use Rattle.share_store.specs.Memory.{MemoryState}
+use Rattle.share_store.specs.Shelf.{closed_at}
+use Rattle.share_store.specs.declared.shelf.ClosedShare.{ClosedShare}
+use Rattle.server_core.specs.Machine.{Machine}
+use Rattle.placement.specs.Matching.{IsMatching, Pair}
+use Rattle.file_encoding.specs.Inputs.{encoding_inputs}
+use Rattle.file_encoding.specs.Params.{UploadParameters, parameters_of}
+use Rattle.file_upload.specs.Prepared.{goal_of, prepared_of}
+use Rattle.upload_core.specs.declared.status.UploadStatus.TheVariants.{Happy}
+use Rattle.upload_core.specs.Acknowledged.{acked_answer, acked_pairs}
+use Rattle.upload_core.specs.Sending as upload_sends
+use Rattle.upload_core.specs.State.{Goal}
+use Rattle.download_core.specs.declared.status.Piece.{Piece}
+use Rattle.world_operations.specs.declared.job.Job.{Job}
+use Rattle.world_operations.specs.declared.job.Job.TheVariants.{Upload, Download}
+use Rattle.world_operations.specs.declared.message.Sent.{Sent}
+use Rattle.world_operations.specs.declared.operation.Operation.{Operation}
+use Rattle.world_operations.specs.declared.task.Task.TheVariants.{Uploading}
+use Rattle.world.specs.State.{WorldState}
+
+-- ---- what was hashed
+
+abbrev pub started_inputs : Job → List (List ℕ)
+started_inputs (Upload file secret p) = encoding_inputs file secret (parameters_of p)
+started_inputs job = []
+
+abbrev pub closed_inputs : Machine MemoryState → List (List ℕ)
+closed_inputs m =
+    map (λ (c : ClosedShare). tagged_input WholeShare c.bytes) (values_of m.store.shelf.closed)
+
+-- for the files whose uploads were started, and of the shares that are closed at honest servers
+abbrev pub hashed : WorldState → List (List ℕ)
+hashed w =
+    flat_map (λ (op : Operation). started_inputs op.job) w.operations
+    ++ flat_map closed_inputs w.servers
+
+-- ---- what was answered
+
+-- a download of a cap handed this byte out for this place
+pub record IsGiven (w : WorldState) (cap : ReadCapValue) (place byte : ℕ) : Type 0 where
+  pub number : ℕ
+  pub operation : Operation
+  pub from : ℕ
+  pub to : ℕ
+  pub piece : Piece
+  pub offset : ℕ
+  pub at : slice_get w.operations number ≡ Some operation
+  pub job : operation.job ≡ Download cap from to
+  pub handed_out : Contains operation.given piece
+  pub place_is : place ≡ piece.place + offset
+  pub byte_is : slice_get piece.bytes offset ≡ Some byte
+
+-- this operation is an upload of a file
+pub record IsUploadOf (w : WorldState) (number : ℕ) (file secret : List ℕ) (p : UploadParameters)
+    (operation : Operation) (upload : upload_sends.Uploading (List (List ℕ))) : Type 0 where
+  pub at : slice_get w.operations number ≡ Some operation
+  pub job : operation.job ≡ Upload file secret p
+  pub task : operation.task ≡ Uploading upload
+
+-- an upload of a file answered Happy with these pairs
+pub record IsUploaded (w : WorldState) (file secret : List ℕ) (p : UploadParameters)
+    (pairs : List Pair) : Type 0 where
+  pub number : ℕ
+  pub operation : Operation
+  pub upload : upload_sends.Uploading (List (List ℕ))
+  pub upload_of : IsUploadOf w number file secret p operation upload
+  pub status : upload.course.status ≡ Happy pairs
+
+-- what is to be placed of a file
+abbrev pub goal : List ℕ → List ℕ → UploadParameters → Goal
+goal file secret p = goal_of (prepared_of file secret p)
+
+-- An answer that acknowledges a pair to an upload of this file was sent, whether it was delivered or
+-- not.
+pub record IsAcknowledgement (w : WorldState) (file secret : List ℕ) (p : UploadParameters)
+    (pair : Pair) : Type 0 where
+  pub frame : Sent
+  pub answer : Message
+  pub operation : Operation
+  pub upload : upload_sends.Uploading (List (List ℕ))
+  pub place : ℕ
+  pub request : Request
+  pub was_sent : Contains w.sent frame
+  pub spelled : IsBodyOf answer frame.body
+  pub upload_of : IsUploadOf w answer.session file secret p operation upload
+  pub entry : slice_get upload.course.requests.entries place ≡ Some request
+  pub number : answer.number ≡ place + 1
+  pub from : frame.from ≡ request.server
+  pub to : frame.to ≡ operation.node
+  pub acknowledges : Contains
+      (acked_answer (goal file secret p) request.server request.asked answer.body) pair
+
+-- at a server the closed bytes of a share are exactly these
+pub record Keeps (w : WorldState) (server : ℕ) (index : List ℕ) (share : ℕ) (bytes : List ℕ)
+    : Type 0 where
+  pub machine : Machine MemoryState
+  pub closed : ClosedShare
+  pub at : slice_get w.servers server ≡ Some machine
+  pub found : closed_at (record { index = index; share = share }) machine.store.shelf.closed
+      ≡ Some closed
+  pub bytes_are : closed.bytes ≡ bytes
+
+-- the pair's server, where it is honest, keeps the file's share
+abbrev pub KeepsShare : WorldState → List ℕ → List ℕ → UploadParameters → Pair → Type 0
+KeepsShare w file secret p pair = pair.0 < length w.servers
+    → Keeps w pair.0 (goal file secret p).cap.storage_index pair.1
+    (slice_index_or (prepared_of file secret p).shares pair.1 [])
+
+-- ---- the claims
+
+-- An upload that answers Happy names acknowledged pairs, no server and no share twice, as many as
+-- were wanted.
+pub record IsMatched (file secret : List ℕ) (p : UploadParameters) (entries : List Request)
+    (pairs : List Pair) : Type 0 where
+  pub matching : IsMatching (acked_pairs (goal file secret p) entries) pairs
+  pub enough : p.happy ≤ length pairs
+
+abbrev pub HappyIsMatched : WorldState → Type 0
+HappyIsMatched w =
+    (file secret : List ℕ) (p : UploadParameters) (pairs : List Pair)
+    → (up : IsUploaded w file secret p pairs)
+    → IsMatched file secret p up.upload.course.requests.entries pairs
+
+-- And every honest server among them keeps exactly its share.
+abbrev pub HonestKeep : WorldState → Type 0
+HonestKeep w =
+    (file secret : List ℕ) (p : UploadParameters) (pairs : List Pair) (pair : Pair)
+    → IsUploaded w file secret p pairs → Contains pairs pair → KeepsShare w file secret p pair
+
+-- Which it does from the moment on at which its acknowledgement was sent.
+abbrev pub AcknowledgedKeep : WorldState → Type 0
+AcknowledgedKeep w =
+    (file secret : List ℕ) (p : UploadParameters) (pair : Pair)
+    → IsAcknowledgement w file secret p pair → KeepsShare w file secret p pair
+
+-- The headline, of one world. It holds of every world: each is made by `new`, and changed by events
+-- alone.
+pub record IsTrusted (w : WorldState) : Type 0 where
+  pub happy_is_matched : HappyIsMatched w
+  pub honest_keep : HasNoClash (hashed w) → HonestKeep w
+  pub acknowledged_keep : HasNoClash (hashed w) → AcknowledgedKeep w
+
+-- What was answered stays: a later world has every byte that was handed out, every upload that
+-- answered Happy, every share that was closed, and all that was sent.
+pub record IsLater (old new : WorldState) : Type 0 where
+  pub given : (cap : ReadCapValue) (place byte : ℕ) → IsGiven old cap place byte
+      → IsGiven new cap place byte
+  pub uploaded : (file secret : List ℕ) (p : UploadParameters) (pairs : List Pair)
+      → IsUploaded old file secret p pairs → IsUploaded new file secret p pairs
+  pub kept : (server : ℕ) (index : List ℕ) (share : ℕ) (bytes : List ℕ)
+      → Keeps old server index share bytes → Keeps new server index share bytes
+  pub more : List Sent
+  pub sent : new.sent ≡ old.sent ++ more

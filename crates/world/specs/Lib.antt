@@ -1,0 +1,7 @@
+-- what public contracts rest on
+pub mod State
+pub mod Step
+pub mod Admitted
+pub mod Headline
+-- what holds of every world, and carries the headline
+pub mod Consistent

@@ -1,0 +1,40 @@
+//! Events, and why one is refused.
+
+use proved_parts::Bytes;
+use wire::message::NodeId;
+use world_operations::job::Job;
+
+/// One atomic step of one actor. Nodes are named by their numbers, messages and operations by their
+/// places.
+#[derive(Drop)]
+pub enum Event {
+    /// An honest node starts an operation.
+    Start(NodeId, Job),
+    /// A message that was sent comes to its receiver, again too.
+    Deliver(usize),
+    /// A liar sends these bytes to a node.
+    Forge(NodeId, NodeId, Bytes),
+    /// A liar sends what it likes, or nothing.
+    Turn(NodeId),
+    /// So many seconds pass.
+    Pass(u64),
+    /// An honest node's clock ticks.
+    Tick(NodeId),
+    /// An honest node forgets its open buckets and its running operations.
+    Restart(NodeId),
+    /// An honest node's store fails at the next call that can fail.
+    FailStore(NodeId),
+    /// A running operation ends as one that found no memory.
+    Refuse(usize),
+}
+
+/// Why an event is refused.
+#[derive(Clone, Copy, Debug, PartialEq, Eq)]
+pub enum WorldError {
+    /// There was not enough memory. The world is stopped.
+    OutOfMemory,
+    /// The event names what is not there, or cannot be. The world is as it was.
+    BadEvent,
+    /// The world was stopped before.
+    Stopped,
+}
