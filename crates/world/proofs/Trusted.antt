@@ -1,0 +1,9 @@
+-- The headline follows from what holds of every world.
+use Rattle.world.specs.State.{WorldState}
+use Rattle.world.specs.Consistent.{IsConsistent}
+use Rattle.world.specs.Headline.{IsTrusted}
+use Rattle.world.proofs.Happy.{happy_is_matched}
+use Rattle.world.proofs.Keep.{acknowledged_keep, honest_keep}
+
+pub trusted : (w : WorldState) → IsConsistent w → IsTrusted w
+trusted w c = record { happy_is_matched = happy_is_matched w c; honest_keep = honest_keep w c; acknowledged_keep = acknowledged_keep w c }
