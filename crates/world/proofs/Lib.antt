@@ -4,3 +4,6 @@ pub mod Told
 pub mod Hashed
 pub mod Keep
 pub mod Trusted
+pub mod Changes
+pub mod Later
+pub mod Preserving

@@ -17,6 +17,7 @@ use Rattle.world_operations.specs.declared.task.Task.TheVariants.{Gone}
 use Rattle.world_operations.specs.Follow.{IsRequestBy, IsSaid}
 use Rattle.world_operations.specs.Jobs.{IsFor}
 use Rattle.world_operations.specs.Tasks.{IsRightTask, requests_of}
+use Rattle.world.specs.Headline.{IsLater}
 use Rattle.world.specs.State.{WorldState, shelved}
 
 -- an answer of an honest server belongs to a request that was sent to it, and what it tells is so
@@ -79,3 +80,7 @@ pub record AreConsistent (servers : List (Machine MemoryState)) (operations : Li
 
 abbrev pub IsConsistent : WorldState → Type 0
 IsConsistent w = AreConsistent w.servers w.operations w.sent
+
+-- what each change of a world does: it stays consistent, and what was answered stays
+abbrev pub Preserves : WorldState → WorldState → Type 0
+Preserves old new = IsConsistent old → IsConsistent new × IsLater old new

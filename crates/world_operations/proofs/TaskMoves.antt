@@ -46,10 +46,11 @@ goes_on New a b c f g = record {
   index = g.index ∙ f.index;
   is_for = λ e h. g.is_for e (f.is_for e h);
   happy = λ pairs h. g.happy pairs (f.happy pairs h);
+  gone = λ number e. g.gone number (f.gone number e);
 }
 
 pub goes_nowhere : (New : Said) (a : Task) → GoesOn New a a
-goes_nowhere New a = record { follows = follows_itself New (requests_of a); index = refl; is_for = λ e h. h; happy = λ pairs h. h }
+goes_nowhere New a = record { follows = follows_itself New (requests_of a); index = refl; is_for = λ e h. h; happy = λ pairs h. h; gone = λ number e. e }
 
 pub same_goes : (New : Said) (a b : Task) → b ≡ a → GoesOn New a b
 same_goes New a b e = subst (GoesOn New a) (sym e) (goes_nowhere New a)
@@ -69,7 +70,7 @@ record SameUpload (u v : UploadState) : Type 0 where
   pub happy : (pairs : List Pair) → u.status ≡ uploads.Happy pairs → v.status ≡ uploads.Happy pairs
 
 upload_goes : (New : Said) (u v : State) → SameUpload u.course v.course → Follows New u.course.requests v.course.requests → GoesOn New (Uploading u) (Uploading v)
-upload_goes New u v same f = record { follows = f; index = ap (λ (g : Goal). g.cap.storage_index) same.goal; is_for = kept; happy = same.happy }
+upload_goes New u v same f = record { follows = f; index = ap (λ (g : Goal). g.cap.storage_index) same.goal; is_for = kept; happy = same.happy; gone = λ number e. absurd cc }
   where
     kept : (e : Job) → IsFor e (Uploading u) → IsFor e (Uploading v)
     kept (jobs.Upload file secret p) h = (same.goal ∙ h.0, same.wanted ∙ h.1, h.2)
@@ -161,7 +162,7 @@ asks_follow : (New : Said) (old r new : RequestsState) (asks : List (ℕ × Aske
 asks_follow New old r new asks f is = subst (Follows New old) (sym is) (asks_more New old r asks f)
 
 download_goes : (New : Said) (d e : DownloadState) → e.cap ≡ d.cap → (e.from ≡ d.from) × (e.to ≡ d.to) → Follows New d.requests e.requests → GoesOn New (Downloading d) (Downloading e)
-download_goes New d e same range f = record { follows = f; index = ap (λ (c : ReadCapValue). (verify_cap_of c).storage_index) same; is_for = kept; happy = λ pairs h. h }
+download_goes New d e same range f = record { follows = f; index = ap (λ (c : ReadCapValue). (verify_cap_of c).storage_index) same; is_for = kept; happy = λ pairs h. h; gone = λ number e. absurd cc }
   where
     kept : (x : Job) → IsFor x (Downloading d) → IsFor x (Downloading e)
     kept (jobs.Upload file secret p) h = absurd h
@@ -188,7 +189,7 @@ download_hands d e (Some p) t = (let is = t.1 in
     (ap (λ (x : DownloadState). x.requests.session) is) (ap (λ (x : DownloadState). x.requests.entries) is))
 
 check_goes : (New : Said) (c e : CheckState) → e.cap ≡ c.cap → Follows New c.requests e.requests → GoesOn New (Checking c) (Checking e)
-check_goes New c e same f = record { follows = f; index = ap (λ (cap : VerifyCapValue). cap.storage_index) same; is_for = kept; happy = λ pairs h. h }
+check_goes New c e same f = record { follows = f; index = ap (λ (cap : VerifyCapValue). cap.storage_index) same; is_for = kept; happy = λ pairs h. h; gone = λ number e. absurd cc }
   where
     kept : (x : Job) → IsFor x (Checking c) → IsFor x (Checking e)
     kept (jobs.Upload file secret p) h = absurd h

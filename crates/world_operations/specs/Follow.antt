@@ -63,11 +63,13 @@ pub record Follows (New : Said) (old new : RequestsState) : Type 0 where
       → WasAnswered old.entries place s said ⊎ New place s.server s.asked said
 
 -- A machine goes on: it is for the same, its record follows, and an upload that is Happy stays so.
+-- One that is gone stays gone.
 pub record GoesOn (New : Said) (old new : Task) : Type 0 where
   pub follows : Follows New (requests_of old) (requests_of new)
   pub index : index_of new ≡ index_of old
   pub is_for : (job : Job) → IsFor job old → IsFor job new
   pub happy : (pairs : List Pair) → IsHappyTask old pairs → IsHappyTask new pairs
+  pub gone : (number : ℕ) → old ≡ Gone number → new ≡ Gone number
 
 -- a message is a request of this machine, by its number
 pub record IsRequestBy (task : Task) (x : Sent) (m : Message) : Type 0 where

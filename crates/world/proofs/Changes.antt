@@ -1,0 +1,397 @@
+-- What holds of a world goes on holding: where a server goes on, where more is sent, and where operations go on, begin, are forgotten or
+-- fail.
+use Rattle.std.proofs.Common.{◌≡◌, ℕ, ◌<◌, ◌≤◌, zero, suc, List, [], ◌∷◌, ◌++◌, Bool, true, false, length, map, Option, Some, None, Contains, refl, sym, subst, ap, ◌∙◌, inl, inr, ◌⊎◌, arith}
+use Rattle.std.specs.Prelude.{◌==◌, ◌&&◌, slice_get, slice_set, option_map, if◌then◌else◌}
+use Rattle.std.proofs.lemmas.List.{append_assoc, length-append}
+use Rattle.std.proofs.lemmas.List.Elements.{All-weaker, Contains-append_left, Contains-push_cases}
+use Rattle.std.proofs.lemmas.Option.{slice_get-map}
+use Rattle.wire.specs.declared.message.Body.{Body}
+use Rattle.wire.specs.declared.message.Body.TheVariants.{Ask, Allocate, Write, Close, Read, Have, Already, Closed, Data}
+use Rattle.wire.specs.declared.message.HeldShare.{HeldShare}
+use Rattle.wire.specs.declared.message.Message.{Message}
+use Rattle.wire.specs.declared.message.ShareId.{ShareId}
+use Rattle.wire.specs.Frames.{IsBodyOf, IsMessage}
+use Rattle.wire.proofs.StreamLaws.{spelled_alike}
+use Rattle.request_record.specs.declared.requests.Asked.{Asked}
+use Rattle.request_record.specs.declared.requests.Request.{Request}
+use Rattle.request_record.specs.Record.{fits}
+use Rattle.share_store.specs.Memory.{MemoryState}
+use Rattle.share_store.specs.Shelf.{Shelf, digest_at}
+use Rattle.share_store.specs.declared.shelf.ClosedShare.{ClosedShare}
+use Rattle.server_core.specs.Machine.{Machine}
+use Rattle.server_core.specs.Sound.{ClosedStay, IsAnswer, IsSound, Tells, is_request}
+use Rattle.world_operations.specs.declared.job.Job.{Job}
+use Rattle.world_operations.specs.declared.job.Job.TheVariants.{Upload, Download, Check}
+use Rattle.world_operations.specs.declared.message.Sent.{Sent}
+use Rattle.world_operations.specs.declared.operation.Life.{Life}
+use Rattle.world_operations.specs.declared.operation.Life.TheVariants.{Forgotten, Live, Refused}
+use Rattle.world_operations.specs.declared.operation.Operation.{Operation}
+use Rattle.world_operations.specs.declared.task.Task.{Task}
+use Rattle.world_operations.specs.declared.task.Task.TheVariants.{Gone}
+use Rattle.world_operations.specs.Follow.{GoesOn, IsFrameOf, IsLostTask, IsSaid, IsSameOperation, Moves, Nothing, Said, SendsSome}
+use Rattle.world_operations.specs.Jobs.{IsFor}
+use Rattle.world_operations.specs.Moves.{sent_to}
+use Rattle.world_operations.specs.Tasks.{IsRightTask, requests_of}
+use Rattle.world_operations.proofs.Places.{append_none, get_push, get_push_old, get_set, get_set_back, get_set_same, length_set, member_here, member_there, push_last, same_some}
+use Rattle.world_operations.proofs.TaskMoves.{IsNewTask, request_on}
+use Rattle.world.specs.State.{shelved}
+use Rattle.world.specs.Step.{forgotten_by, is_live_at, new_operation, with_life}
+use Rattle.world.specs.Consistent.{AreConsistent, CameFrom, IsFine, IsJustified, IsRecorded, IsRequestOf}
+use Rattle.world.specs.Consistent.{asked, gone}
+use Rattle.world.proofs.Acked.{closed_by}
+
+-- ---- a server goes on
+
+-- what is told of closed shares goes on being so
+digest_stays : (old new : Shelf) (id : ShareId) (digest : List ℕ) → ClosedStay old new → digest_at id old.closed ≡ Some digest → digest_at id new.closed ≡ Some digest
+digest_stays old new id digest stays e =
+    let c = closed_by id old digest e in
+    ap (option_map (λ (s : ClosedShare). s.digest)) (stays id c.share c.found) ∙ ap Some c.digest_is
+
+tells_on : (old new : Shelf) (request said : Body) → ClosedStay old new → Tells old request said → Tells new request said
+tells_on old new (Ask index) (Have readonly held) stays t =
+    All-weaker (λ (h : HeldShare). digest_at (record { index = index; share = h.share }) old.closed ≡ Some h.digest)
+    (λ (h : HeldShare). digest_at (record { index = index; share = h.share }) new.closed ≡ Some h.digest)
+    (λ h e. digest_stays old new (record { index = index; share = h.share }) h.digest stays e) held t
+tells_on old new (Allocate id len) (Already digest) stays t = digest_stays old new id digest stays t
+tells_on old new (Write id offset bytes) (Already digest) stays t = digest_stays old new id digest stays t
+tells_on old new (Close id) (Closed digest) stays t = digest_stays old new id digest stays t
+tells_on old new (Read id offset len) (Data bytes) stays t = (t.0, stays id t.0 t.1, t.2)
+tells_on old new _ _ stays t = tt
+
+justified_on : (old new : Machine MemoryState) (sent : List Sent) (x : Sent) (answer : Message) → ClosedStay old.store.shelf new.store.shelf
+    → IsJustified old sent x answer → IsJustified new sent x answer
+justified_on old new sent x answer stays j = record {
+  frame = j.frame;
+  request = j.request;
+  was_sent = j.was_sent;
+  spelled = j.spelled;
+  from = j.from;
+  to = j.to;
+  answers = record {
+    session = j.answers.session;
+    number = j.answers.number;
+    asked = j.answers.asked;
+    kind = j.answers.kind;
+    tells = tells_on old.store.shelf new.store.shelf j.request.body answer.body stays j.answers.tells;
+  };
+}
+
+pub server_changed : (servers : List (Machine MemoryState)) (operations : List Operation) (sent : List Sent) (node : ℕ) (old new : Machine MemoryState)
+    → slice_get servers node ≡ Some old → ClosedStay old.store.shelf new.store.shelf → IsSound (shelved new)
+    → AreConsistent servers operations sent → AreConsistent (slice_set servers node new) operations sent
+server_changed servers operations sent node old new at stays is_sound c = record {
+  sound = λ j m e. elim (get_set servers node j m new e) [
+    | inl h ↦ subst (λ (n : Machine MemoryState). IsSound (shelved n)) (sym h.1) is_sound
+    | inr h ↦ c.sound j m h
+  ];
+  justified = λ x m answer k e spelled kind. elim (get_set servers node x.from m new e) [
+    | inl h ↦ subst (λ (n : Machine MemoryState). IsJustified n sent x answer) (sym h.1)
+        (justified_on old new sent x answer stays (c.justified x old answer k (ap (slice_get servers) h.0 ∙ at) spelled kind))
+    | inr h ↦ c.justified x m answer k h spelled kind
+  ];
+  recorded = λ x m k honest spelled kind. c.recorded x m k (subst (λ (n : ℕ). x.from < n) (length_set servers node new) honest) spelled kind;
+  fine = λ i op e. subst (λ (n : ℕ). IsFine n sent i op) (sym (length_set servers node new)) (c.fine i op e);
+}
+
+-- ---- more is sent
+
+-- a message that is sent: an answer that is justified, or a request that is recorded
+pub record IsFounded (servers : List (Machine MemoryState)) (operations : List Operation) (sent : List Sent) (y : Sent) : Type 0 where
+  pub justified : (m : Machine MemoryState) (answer : Message) → slice_get servers y.from ≡ Some m → IsBodyOf answer y.body → is_request answer.body ≡ false → IsJustified m sent y answer
+  pub recorded : (m : Message) → y.from < length servers → IsBodyOf m y.body → is_request m.body ≡ true → IsRecorded operations y m
+
+justified_more : (m : Machine MemoryState) (sent more : List Sent) (x : Sent) (answer : Message) → IsJustified m sent x answer → IsJustified m (sent ++ more) x answer
+justified_more m sent more x answer j = record {
+  frame = j.frame;
+  request = j.request;
+  was_sent = Contains-append_left sent more j.frame j.was_sent;
+  spelled = j.spelled;
+  from = j.from;
+  to = j.to;
+  answers = j.answers;
+}
+
+came_more : (sent more : List Sent) (session node place server : ℕ) (asks : Asked) (said : Body) → CameFrom sent session node place server asks said → CameFrom (sent ++ more) session node place server asks said
+came_more sent more session node place server asks said a =
+    record { frame = a.frame; answer = a.answer; was_sent = Contains-append_left sent more a.frame a.was_sent; spelled = a.spelled; to = a.to; says = a.says }
+
+pub fine_more : (honest : ℕ) (sent more : List Sent) (i : ℕ) (op : Operation) → IsFine honest sent i op → IsFine honest (sent ++ more) i op
+fine_more honest sent more i op f = record {
+  node = f.node;
+  started = f.started;
+  session = f.session;
+  before = omega (arith, f.before, length-append sent more);
+  answers = λ place r said e o. came_more sent more i op.node place r.server r.asked said (f.answers place r said e o);
+  right = f.right;
+}
+
+pub sent_more : (servers : List (Machine MemoryState)) (operations : List Operation) (sent : List Sent) (y : Sent) → IsFounded servers operations sent y
+    → AreConsistent servers operations sent → AreConsistent servers operations (sent ++ y ∷ [])
+sent_more servers operations sent y founded c = record {
+  sound = c.sound;
+  justified = λ x m answer k e spelled kind. elim (Contains-push_cases sent y x k) [
+    | inl h ↦ justified_more m sent (y ∷ []) x answer (c.justified x m answer h e spelled kind)
+    | inr h ↦ justified_more m sent (y ∷ []) x answer (subst (λ (z : Sent). IsJustified m sent z answer) h
+        (founded.justified m answer (subst (λ (z : Sent). slice_get servers z.from ≡ Some m) (sym h) e) (subst (λ (z : Sent). IsBodyOf answer z.body) (sym h) spelled) kind))
+  ];
+  recorded = λ x m k honest spelled kind. elim (Contains-push_cases sent y x k) [
+    | inl h ↦ c.recorded x m h honest spelled kind
+    | inr h ↦ subst (λ (z : Sent). IsRecorded operations z m) h
+        (founded.recorded m (subst (λ (z : Sent). z.from < length servers) (sym h) honest) (subst (λ (z : Sent). IsBodyOf m z.body) (sym h) spelled) kind)
+  ];
+  fine = λ i op e. fine_more (length servers) sent (y ∷ []) i op (c.fine i op e);
+}
+
+pub same_sent : (servers : List (Machine MemoryState)) (operations : List Operation) (sent : List Sent) → AreConsistent servers operations sent → AreConsistent servers operations (sent ++ [])
+same_sent servers operations sent c = subst (AreConsistent servers operations) (sym (append_none sent)) c
+
+all_sent : (servers : List (Machine MemoryState)) (operations : List Operation) (sent more : List Sent) → ((s : List Sent) (x : Sent) → Contains more x → IsFounded servers operations s x)
+    → AreConsistent servers operations sent → AreConsistent servers operations (sent ++ more)
+all_sent servers operations sent [] each c = same_sent servers operations sent c
+all_sent servers operations sent (y ∷ ys) each c =
+    subst (AreConsistent servers operations) (append_assoc sent (y ∷ []) ys)
+    (all_sent servers operations (sent ++ y ∷ []) ys (λ s x k. each s x (member_there y x ys k))
+    (sent_more servers operations sent y (each sent y (member_here y ys)) c))
+
+-- an answer that is sent is justified
+pub answered : (servers : List (Machine MemoryState)) (operations : List Operation) (sent : List Sent) (x : Sent) (m said : Message) (after : Machine MemoryState)
+    → slice_get servers x.to ≡ Some after → Contains sent x → IsBodyOf m x.body → IsMessage said → IsAnswer (shelved after).store m said
+    → IsFounded servers operations sent (sent_to x.to x.from said)
+answered servers operations sent x m said after at there spelled spoken answers = record {
+  justified = λ n a e s kind.
+      let same : said ≡ a = spelled_alike said a spoken s.0 s.1 in
+      let server : after ≡ n = same_some after n (sym at ∙ e) in
+      subst (λ (k : Machine MemoryState). IsJustified k sent (sent_to x.to x.from said) a) server record {
+        frame = x;
+        request = m;
+        was_sent = there;
+        spelled = spelled;
+        from = refl;
+        to = refl;
+        answers = subst (IsAnswer (shelved after).store m) same answers;
+      };
+  recorded = λ n honest s kind.
+      let same : said ≡ n = spelled_alike said n spoken s.0 s.1 in
+      let never : is_request n.body ≡ false = ap (λ (k : Message). is_request k.body) (sym same) ∙ answers.kind in
+      absurd cc;
+}
+
+-- what a liar sends is nobody's answer and nobody's request
+pub said_by_liar : (servers : List (Machine MemoryState)) (operations : List Operation) (sent : List Sent) (x : Sent) → length servers ≤ x.from
+    → ((m : Machine MemoryState) → slice_get servers x.from ≡ Some m → x.from < length servers) → IsFounded servers operations sent x
+said_by_liar servers operations sent x liar within = record {
+  justified = λ m a at spelled kind. absurd (omega (arith, within m at, liar));
+  recorded = λ m honest spelled kind. absurd (omega (arith, honest, liar));
+}
+
+-- ---- an operation goes on
+
+-- requests stay recorded, each of an operation that stands where it stood
+abbrev pub AllKeep : List Operation → List Operation → Type 0
+AllKeep old new = (i : ℕ) (op : Operation) → slice_get old i ≡ Some op
+    → (next : Operation) × (slice_get new i ≡ Some next) × ((x : Sent) (m : Message) → IsRequestOf op x m → IsRequestOf next x m)
+
+recorded_on : (old new : List Operation) (x : Sent) (m : Message) → AllKeep old new → IsRecorded old x m → IsRecorded new x m
+recorded_on old new x m k r = (let next = k m.session r.operation r.at in record { operation = next.0; at = next.1; request = next.2 x m r.request })
+
+pub operations_change : (servers : List (Machine MemoryState)) (old new : List Operation) (sent : List Sent) → AllKeep old new
+    → ((i : ℕ) (op : Operation) → slice_get new i ≡ Some op → IsFine (length servers) sent i op) → AreConsistent servers old sent → AreConsistent servers new sent
+operations_change servers old new sent k fine c = record {
+  sound = c.sound;
+  justified = c.justified;
+  recorded = λ x m there honest spelled kind. recorded_on old new x m k (c.recorded x m there honest spelled kind);
+  fine = fine;
+}
+
+one_keeps : (operations : List Operation) (number : ℕ) (old new : Operation) → slice_get operations number ≡ Some old → ((x : Sent) (m : Message) → IsRequestOf old x m → IsRequestOf new x m)
+    → AllKeep operations (slice_set operations number new)
+one_keeps operations number old new at keeps i op e = elim (get_set_back operations number i op new e) [
+  | inl h ↦ (let same : old ≡ op = same_some old op (sym at ∙ ap (slice_get operations) (sym h.0) ∙ e) in
+      (new, h.1, λ x m r. keeps x m (subst (λ (o : Operation). IsRequestOf o x m) (sym same) r)))
+  | inr h ↦ (op, h, λ x m r. r)
+]
+
+-- one operation changes, and stays fine
+pub one_changes : (servers : List (Machine MemoryState)) (operations : List Operation) (sent : List Sent) (number : ℕ) (old new : Operation) → slice_get operations number ≡ Some old
+    → ((x : Sent) (m : Message) → IsRequestOf old x m → IsRequestOf new x m) → IsFine (length servers) sent number new
+    → AreConsistent servers operations sent → AreConsistent servers (slice_set operations number new) sent
+one_changes servers operations sent number old new at keeps fine c =
+    operations_change servers operations (slice_set operations number new) sent (one_keeps operations number old new at keeps)
+    (λ j o e. elim (get_set operations number j o new e) [
+      | inl h ↦ subst (λ (n : ℕ). IsFine (length servers) sent n o) (sym h.0) (subst (IsFine (length servers) sent number) (sym h.1) fine)
+      | inr h ↦ c.fine j o h
+    ]) c
+
+request_moves : (New : Said) (old new : Operation) (x : Sent) (m : Message) → new.node ≡ old.node → GoesOn New old.task new.task → IsRequestOf old x m → IsRequestOf new x m
+request_moves New old new x m node g (gone number is) = gone number (g.gone number is)
+request_moves New old new x m node g (asked from r) = asked (node ∙ from) (request_on New old.task new.task x m g r)
+
+came_of : (sent : List Sent) (i node place : ℕ) (r s : Request) (said : Body) → r.server ≡ s.server → r.asked ≡ s.asked → CameFrom sent i node place r.server r.asked said
+    → CameFrom sent i node place s.server s.asked said
+came_of sent i node place r s said server asks a =
+    subst (λ (q : Asked). CameFrom sent i node place s.server q said) asks (subst (λ (n : ℕ). CameFrom sent i node place n r.asked said) server a)
+
+-- where its machine goes on it stays fine
+fine_on : (New : Said) (honest : ℕ) (sent : List Sent) (i : ℕ) (old new : Operation) → IsSameOperation old new → GoesOn New old.task new.task
+    → ((place server : ℕ) (asks : Asked) (said : Body) → New place server asks said → CameFrom sent i old.node place server asks said) → IsRightTask new.task
+    → IsFine honest sent i old → IsFine honest sent i new
+fine_on New honest sent i old new same g came right f = record {
+  node = subst (λ (n : ℕ). n < honest) (sym same.node) f.node;
+  started = subst (λ (j : Job). IsFor j new.task) (sym same.job) (g.is_for old.job f.started);
+  session = g.follows.session_is ∙ f.session;
+  before = subst (λ (n : ℕ). n ≤ length sent) (sym same.sent_before) f.before;
+  answers = λ place s said e o. subst (λ (n : ℕ). CameFrom sent i n place s.server s.asked said) (sym same.node) (elim (g.follows.answers place s said e o) [
+    | inl w ↦ came_of sent i old.node place w.request s said w.server w.asked (f.answers place w.request said w.at w.answered)
+    | inr n ↦ came place s.server s.asked said n
+  ]);
+  right = right;
+}
+
+for_gone : (job : Job) (number : ℕ) → IsFor job (Gone number)
+for_gone (Upload file secret p) number = tt
+for_gone (Download cap from to) number = tt
+for_gone (Check cap) number = tt
+
+-- where it is gone nothing is left to be said
+fine_gone : (honest : ℕ) (sent : List Sent) (i : ℕ) (old new : Operation) → IsSameOperation old new → new.task ≡ Gone i → IsRightTask new.task → IsFine honest sent i old → IsFine honest sent i new
+fine_gone honest sent i old new same is right f = record {
+  node = subst (λ (n : ℕ). n < honest) (sym same.node) f.node;
+  started = subst (IsFor new.job) (sym is) (for_gone new.job i);
+  session = ap (λ (t : Task). (requests_of t).session) is;
+  before = subst (λ (n : ℕ). n ≤ length sent) (sym same.sent_before) f.before;
+  answers = λ place r said e o. absurd (nothing place r (ap (λ (t : Task). slice_get (requests_of t).entries place) (sym is) ∙ e));
+  right = right;
+} where
+  nothing : (place : ℕ) (r : Request) → None ≡ Some r → ⊥
+  nothing place r e = cc
+
+-- a frame of an operation's request is recorded, and is no answer
+founded : (servers : List (Machine MemoryState)) (operations : List Operation) (sent : List Sent) (i : ℕ) (op : Operation) (node : ℕ) (x : Sent)
+    → slice_get operations i ≡ Some op → op.node ≡ node → (requests_of op.task).session ≡ i → IsFrameOf op.task node x → IsFounded servers operations sent x
+founded servers operations sent i op node x at own session f = record {
+  justified = λ m a e s kind.
+      let same : f.message ≡ a = spelled_alike f.message a f.body.0 s.0 (sym f.body.1 ∙ s.1) in
+      let yes : is_request a.body ≡ true = ap (λ (k : Message). is_request k.body) (sym same) ∙ f.asks in
+      absurd cc;
+  recorded = λ m honest s kind.
+      let same : f.message ≡ m = spelled_alike f.message m f.body.0 s.0 (sym f.body.1 ∙ s.1) in
+      subst (IsRecorded operations x) same record {
+        operation = op;
+        at = ap (slice_get operations) (f.session ∙ session) ∙ at;
+        request = asked (own ∙ sym f.from) f.request;
+      };
+}
+
+-- what every call of an operation does keeps the world consistent
+pub operation_moves : (New : Said) (servers : List (Machine MemoryState)) (operations : List Operation) (sent after : List Sent) (i : ℕ) (old new : Operation) → slice_get operations i ≡ Some old
+    → Moves New i old new sent after → ((place server : ℕ) (asks : Asked) (said : Body) → New place server asks said → CameFrom sent i old.node place server asks said) → IsRightTask new.task
+    → AreConsistent servers operations sent → AreConsistent servers (slice_set operations i new) after
+operation_moves New servers operations sent after i old new at moves came right c = by moves.task where
+  fine : IsFine (length servers) sent i old
+  fine = c.fine i old at
+
+  goes : SendsSome New old.node old.task new.task sent after → AreConsistent servers (slice_set operations i new) after
+  goes s =
+      let here : slice_get (slice_set operations i new) i ≡ Some new = get_set_same operations i old new at in
+      let stays : IsFine (length servers) sent i new = fine_on New (length servers) sent i old new moves.same s.goes came right fine in
+      let changed : AreConsistent servers (slice_set operations i new) sent =
+      one_changes servers operations sent i old new at (λ x m r. request_moves New old new x m moves.same.node s.goes r) stays c in
+      subst (AreConsistent servers (slice_set operations i new)) (sym s.appended)
+      (all_sent servers (slice_set operations i new) sent s.more
+      (λ t y k. founded servers (slice_set operations i new) t i new old.node y here moves.same.node stays.session (s.frames y k)) changed)
+
+  lost : IsLostTask i old.task new.task sent after → AreConsistent servers (slice_set operations i new) after
+  lost l =
+      let stays : IsFine (length servers) sent i new = fine_gone (length servers) sent i old new moves.same l.gone right fine in
+      subst (AreConsistent servers (slice_set operations i new)) (sym l.nothing)
+      (one_changes servers operations sent i old new at (λ x m r. gone i l.gone) stays c)
+
+  by : SendsSome New old.node old.task new.task sent after ⊎ IsLostTask i old.task new.task sent after → AreConsistent servers (slice_set operations i new) after
+  by (inl s) = goes s
+  by (inr l) = lost l
+
+-- ---- an operation begins
+
+push_keeps : (operations : List Operation) (new : Operation) → AllKeep operations (operations ++ new ∷ [])
+push_keeps operations new i op e = (op, get_push_old operations i op new e, λ x m r. r)
+
+pub operation_begins : (servers : List (Machine MemoryState)) (operations : List Operation) (sent : List Sent) (node : ℕ) (job : Job) (task : Task) → node < length servers
+    → IsNewTask (length operations) job task → IsRightTask task → AreConsistent servers operations sent
+    → AreConsistent servers (operations ++ new_operation node job (length sent) task ∷ []) sent
+operation_begins servers operations sent node job task honest begins right c =
+    let op : Operation = new_operation node job (length sent) task in
+    let fine : IsFine (length servers) sent (length operations) op = record {
+      node = honest;
+      started = begins.is_for;
+      session = begins.follows.session_is;
+      before = omega arith;
+      answers = λ place r said e o. elim (begins.follows.answers place r said e o) [
+        | inl w ↦ (let none : None ≡ Some w.request = w.at in absurd cc)
+        | inr n ↦ absurd n
+      ];
+      right = right;
+    } in
+    operations_change servers operations (operations ++ op ∷ []) sent (push_keeps operations op)
+    (λ j o e. elim (get_push operations j o op e) [
+      | inl h ↦ c.fine j o h
+      | inr h ↦ subst (λ (n : ℕ). IsFine (length servers) sent n o) (sym h.0) (subst (IsFine (length servers) sent (length operations)) (sym h.1) fine)
+    ]) c
+
+-- ---- operations are forgotten, or fail
+
+-- the same operations, but for what became of them
+pub record HaveOtherLives (old new : List Operation) : Type 0 where
+  pub back : (i : ℕ) (op : Operation) → slice_get new i ≡ Some op → (was : Operation) × (fate : Life) × (slice_get old i ≡ Some was) × (op ≡ with_life fate was)
+  pub on : (i : ℕ) (op : Operation) → slice_get old i ≡ Some op → (fate : Life) × (slice_get new i ≡ Some (with_life fate op))
+
+fine_with : (honest : ℕ) (sent : List Sent) (i : ℕ) (op : Operation) (fate : Life) → IsFine honest sent i op → IsFine honest sent i (with_life fate op)
+fine_with honest sent i op fate f = record { node = f.node; started = f.started; session = f.session; before = f.before; answers = f.answers; right = f.right }
+
+request_with : (op : Operation) (fate : Life) (x : Sent) (m : Message) → IsRequestOf op x m → IsRequestOf (with_life fate op) x m
+request_with op fate x m (gone number is) = gone number is
+request_with op fate x m (asked from r) = asked from r
+
+pub lives_changed : (servers : List (Machine MemoryState)) (old new : List Operation) (sent : List Sent) → HaveOtherLives old new
+    → AreConsistent servers old sent → AreConsistent servers new sent
+lives_changed servers old new sent h c =
+    operations_change servers old new sent (λ i op e. let f = h.on i op e in (with_life f.0 op, f.1, request_with op f.0))
+    (λ i op e. let was = h.back i op e in subst (IsFine (length servers) sent i) (sym was.3) (fine_with (length servers) sent i was.0 was.1 (c.fine i was.0 was.2))) c
+
+own_life : (op : Operation) → op ≡ with_life op.life op
+own_life op = refl
+
+pub one_life : (operations : List Operation) (number : ℕ) (op : Operation) (fate : Life) → slice_get operations number ≡ Some op
+    → HaveOtherLives operations (slice_set operations number (with_life fate op))
+one_life operations number op fate at = record {
+  back = λ i new e. elim (get_set operations number i new (with_life fate op) e) [
+    | inl h ↦ (op, fate, ap (slice_get operations) h.0 ∙ at, h.1)
+    | inr h ↦ (new, new.life, h, own_life new)
+  ];
+  on = λ i old e. elim (get_set_back operations number i old (with_life fate op) e) [
+    | inl h ↦ (let same : op ≡ old = same_some op old (sym at ∙ ap (slice_get operations) (sym h.0) ∙ e) in
+        (fate, h.1 ∙ ap (λ (o : Operation). Some (with_life fate o)) same))
+    | inr h ↦ (old.life, h ∙ ap Some (own_life old))
+  ];
+}
+
+forgot : (node : ℕ) (op : Operation) → (fate : Life) × (forgotten_by node op ≡ with_life fate op)
+forgot node op = choose (is_live_at node op) where
+  choose : (b : Bool) → (fate : Life) × ((if b then with_life Forgotten op else op) ≡ with_life fate op)
+  choose true = (Forgotten, refl)
+  choose false = (op.life, own_life op)
+
+some_map : {A B : Type 0} (f : A → B) (o : Option A) (y : B) → option_map f o ≡ Some y → (x : A) × (o ≡ Some x) × (y ≡ f x)
+some_map f None y e = absurd cc
+some_map f (Some x) y e = (x, refl, same_some y (f x) (sym e))
+
+pub all_forgotten : (node : ℕ) (operations : List Operation) → HaveOtherLives operations (map (forgotten_by node) operations)
+all_forgotten node operations = record {
+  back = λ i new e.
+      let was = some_map (forgotten_by node) (slice_get operations i) new (sym (slice_get-map (forgotten_by node) operations i) ∙ e) in
+      let fate = forgot node was.0 in
+      (was.0, fate.0, was.1, was.2 ∙ fate.1);
+  on = λ i old e.
+      let fate = forgot node old in
+      (fate.0, slice_get-map (forgotten_by node) operations i ∙ ap (option_map (forgotten_by node)) e ∙ ap Some fate.1);
+}

@@ -1,0 +1,148 @@
+-- What was answered stays, whatever comes.
+use Rattle.std.proofs.Common.{◌≡◌, ℕ, List, [], ◌∷◌, ◌++◌, length, map, Option, Some, None, Contains, refl, sym, subst, ap, ◌∙◌, inl, inr, ◌⊎◌}
+use Rattle.std.specs.Prelude.{slice_get, slice_set}
+use Rattle.std.proofs.lemmas.List.{append_assoc}
+use Rattle.std.proofs.lemmas.List.Elements.{Contains-append_left}
+use Rattle.placement.specs.Matching.{Pair}
+use Rattle.share_store.specs.Memory.{MemoryState}
+use Rattle.server_core.specs.Machine.{Machine}
+use Rattle.server_core.specs.Sound.{ClosedStay}
+use Rattle.upload_core.specs.declared.status.UploadStatus.TheVariants.{Happy}
+use Rattle.download_core.specs.declared.status.Piece.{Piece}
+use Rattle.world_operations.specs.declared.message.Sent.{Sent}
+use Rattle.world_operations.specs.declared.operation.Operation.{Operation}
+use Rattle.world_operations.specs.declared.task.Task.{Task}
+use Rattle.world_operations.specs.declared.task.Task.TheVariants.{Uploading, Downloading, Checking, Gone}
+use Rattle.world_operations.specs.Follow.{IsLostTask, Moves, Said, SendsSome}
+use Rattle.world_operations.specs.Tasks.{IsHappyTask}
+use Rattle.world_operations.proofs.Places.{append_none, get_push_old, get_set_back, same_some}
+use Rattle.world.specs.State.{WorldState}
+use Rattle.world.specs.Step.{with_life}
+use Rattle.world.specs.Headline.{IsLater}
+use Rattle.world.proofs.Changes.{HaveOtherLives}
+use Rattle.world.proofs.Happy.{Up}
+
+-- ---- operations
+
+-- what was handed out stays, and a Happy upload stays Happy
+pub record GrowsAs (old new : Operation) : Type 0 where
+  pub job : new.job ≡ old.job
+  pub happy : (pairs : List Pair) → IsHappyTask old.task pairs → IsHappyTask new.task pairs
+  pub pieces : List Piece
+  pub given : new.given ≡ old.given ++ pieces
+
+abbrev pub AllGrow : List Operation → List Operation → Type 0
+AllGrow old new = (i : ℕ) (op : Operation) → slice_get old i ≡ Some op → (next : Operation) × (slice_get new i ≡ Some next) × GrowsAs op next
+
+same_operation : (op : Operation) → GrowsAs op op
+same_operation op = record { job = refl; happy = λ pairs h. h; pieces = []; given = sym (append_none op.given) }
+
+pub none_grow : (operations : List Operation) → AllGrow operations operations
+none_grow operations i op at = (op, at, same_operation op)
+
+pub one_grows : (operations : List Operation) (number : ℕ) (old new : Operation) → slice_get operations number ≡ Some old → GrowsAs old new → AllGrow operations (slice_set operations number new)
+one_grows operations number old new at g i op e = elim (get_set_back operations number i op new e) [
+  | inl h ↦ (let same : old ≡ op = same_some old op (sym at ∙ ap (slice_get operations) (sym h.0) ∙ e) in
+      (new, h.1, subst (λ (o : Operation). GrowsAs o new) same g))
+  | inr h ↦ (op, h, same_operation op)
+]
+
+pub lives_grow : (old new : List Operation) → HaveOtherLives old new → AllGrow old new
+lives_grow old new h i op e = (let f = h.on i op e in (with_life f.0 op, f.1, record { job = refl; happy = λ pairs k. k; pieces = []; given = sym (append_none op.given) }))
+
+pub one_more : (operations : List Operation) (new : Operation) → AllGrow operations (operations ++ new ∷ [])
+one_more operations new i op e = (op, get_push_old operations i op new e, same_operation op)
+
+pub moves_grow : (New : Said) (number : ℕ) (old new : Operation) (before after : List Sent) → Moves New number old new before after → GrowsAs old new
+moves_grow New number old new before after m = record { job = m.same.job; happy = λ pairs h. by m.task pairs h; pieces = m.same.pieces; given = m.same.given } where
+  by : SendsSome New old.node old.task new.task before after ⊎ IsLostTask number old.task new.task before after → (pairs : List Pair) → IsHappyTask old.task pairs → IsHappyTask new.task pairs
+  by (inl s) pairs h = s.goes.happy pairs h
+  by (inr l) pairs h = absurd (l.unhappy pairs h)
+
+pub moves_send : (New : Said) (number : ℕ) (old new : Operation) (before after : List Sent) → Moves New number old new before after → (more : List Sent) × (after ≡ before ++ more)
+moves_send New number old new before after m = by m.task where
+  by : SendsSome New old.node old.task new.task before after ⊎ IsLostTask number old.task new.task before after → (more : List Sent) × (after ≡ before ++ more)
+  by (inl s) = (s.more, s.appended)
+  by (inr l) = ([], l.nothing ∙ sym (append_none before))
+
+-- ---- servers
+
+abbrev pub AllStay : List (Machine MemoryState) → List (Machine MemoryState) → Type 0
+AllStay old new = (node : ℕ) (m : Machine MemoryState) → slice_get old node ≡ Some m → (n : Machine MemoryState) × (slice_get new node ≡ Some n) × ClosedStay m.store.shelf n.store.shelf
+
+pub none_change : (servers : List (Machine MemoryState)) → AllStay servers servers
+none_change servers node m at = (m, at, λ id c e. e)
+
+pub one_stays : (servers : List (Machine MemoryState)) (node : ℕ) (old new : Machine MemoryState) → slice_get servers node ≡ Some old → ClosedStay old.store.shelf new.store.shelf
+    → AllStay servers (slice_set servers node new)
+one_stays servers node old new at stays j m e = elim (get_set_back servers node j m new e) [
+  | inl h ↦ (let same : old ≡ m = same_some old m (sym at ∙ ap (slice_get servers) (sym h.0) ∙ e) in
+      (new, h.1, subst (λ (x : Machine MemoryState). ClosedStay x.store.shelf new.store.shelf) same stays))
+  | inr h ↦ (m, h, λ id c f. f)
+]
+
+-- ---- worlds
+
+record IsHappyUpload (t : Task) (pairs : List Pair) : Type 0 where
+  pub upload : Up
+  pub task : t ≡ Uploading upload
+  pub status : upload.course.status ≡ Happy pairs
+
+happy_upload : (t : Task) (pairs : List Pair) → IsHappyTask t pairs → IsHappyUpload t pairs
+happy_upload (Uploading u) pairs h = record { upload = u; task = refl; status = h }
+happy_upload (Downloading d) pairs h = absurd h
+happy_upload (Checking c) pairs h = absurd h
+happy_upload (Gone number) pairs h = absurd h
+
+pub later_from : (old new : WorldState) → AllStay old.servers new.servers → AllGrow old.operations new.operations → ((more : List Sent) × (new.sent ≡ old.sent ++ more)) → IsLater old new
+later_from old new servers operations sent = record {
+  given = λ cap place byte g.
+      let f = operations g.number g.operation g.at in record {
+        number = g.number;
+        operation = f.0;
+        from = g.from;
+        to = g.to;
+        piece = g.piece;
+        offset = g.offset;
+        at = f.1;
+        job = f.2.job ∙ g.job;
+        handed_out = subst (λ (l : List Piece). Contains l g.piece) (sym f.2.given) (Contains-append_left g.operation.given f.2.pieces g.piece g.handed_out);
+        place_is = g.place_is;
+        byte_is = g.byte_is;
+      };
+  uploaded = λ file secret p pairs up.
+      let f = operations up.number up.operation up.upload_of.at in
+      let happy : IsHappyTask up.operation.task pairs = subst (λ (t : Task). IsHappyTask t pairs) (sym up.upload_of.task) up.status in
+      let t = happy_upload f.0.task pairs (f.2.happy pairs happy) in record {
+        number = up.number;
+        operation = f.0;
+        upload = t.upload;
+        upload_of = record { at = f.1; job = f.2.job ∙ up.upload_of.job; task = t.task };
+        status = t.status;
+      };
+  kept = λ server index share bytes k.
+      let f = servers server k.machine k.at in record {
+        machine = f.0;
+        closed = k.closed;
+        at = f.1;
+        found = f.2 (record { index = index; share = share }) k.closed k.found;
+        bytes_are = k.bytes_are;
+      };
+  more = sent.0;
+  sent = sent.1;
+}
+
+pub no_more : (sent : List Sent) → (more : List Sent) × (sent ≡ sent ++ more)
+no_more sent = ([], sym (append_none sent))
+
+pub same_world : (w : WorldState) → IsLater w w
+same_world w = later_from w w (none_change w.servers) (none_grow w.operations) (no_more w.sent)
+
+pub later_still : (a b c : WorldState) → IsLater a b → IsLater b c → IsLater a c
+later_still a b c f g = record {
+  given = λ cap place byte x. g.given cap place byte (f.given cap place byte x);
+  uploaded = λ file secret p pairs x. g.uploaded file secret p pairs (f.uploaded file secret p pairs x);
+  kept = λ server index share bytes x. g.kept server index share bytes (f.kept server index share bytes x);
+  more = f.more ++ g.more;
+  sent = g.sent ∙ ap (λ (l : List Sent). l ++ g.more) f.sent ∙ append_assoc a.sent f.more g.more;
+}
