@@ -2,11 +2,11 @@
 
 ghost use Rattle.std.specs.Prelude.{◌≡◌, IfOk};
 
+use crate::message::copied;
 use cap_text::{ReadCap, VerifyCap};
 use file_encoding::Params;
 use proved_parts::Bytes;
 use std::alloc::{AllocError, Global};
-use std::marker::Model;
 
 /// What an operation is started for.
 #[derive(Drop)]
@@ -34,11 +34,4 @@ impl Job {
             Job::Check(cap) => Ok(Job::Check(*cap)),
         }
     }
-}
-
-// The same bytes once more.
-fn copied(alloc: Global, bytes: &Bytes) -> Result<Bytes, AllocError>
-    ensures { IfOk result (λ same. same ≡ bytes.now) }
-{
-    Ok(Bytes::from_vec(Vec::from_slice(alloc, bytes.as_slice())?))
 }

@@ -19,6 +19,26 @@ pub struct Sent {
     pub body: Bytes,
 }
 
+impl Sent {
+    /// The same message once more.
+    pub fn copied(&self, alloc: Global) -> Result<Sent, AllocError>
+        ensures { IfOk result (λ sent. sent ≡ self.now) }
+    {
+        Ok(Sent {
+            from: self.from,
+            to: self.to,
+            body: copied(alloc, &self.body)?,
+        })
+    }
+}
+
+/// The same bytes once more.
+pub fn copied(alloc: Global, bytes: &Bytes) -> Result<Bytes, AllocError>
+    ensures { IfOk result (λ same. same ≡ bytes.now) }
+{
+    Ok(Bytes::from_vec(Vec::from_slice(alloc, bytes.as_slice())?))
+}
+
 /// What is sent where a node sends this message.
 pub fn spell(
     alloc: Global,

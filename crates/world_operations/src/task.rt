@@ -9,13 +9,14 @@ ghost use Rattle.world_operations.specs.declared.job.Job.TheVariants as jobs;
 ghost use Rattle.world_operations.specs.Jobs.{MayStart};
 ghost use Rattle.world_operations.specs.Moves.{Advances, Begins, Takes, TakesPiece, TicksOn};
 ghost use Rattle.world_operations.specs.Moves.{UploadAdvances, UploadTicks};
-ghost use Rattle.world_operations.specs.Tasks.{IsRightTask, MayFail};
+ghost use Rattle.world_operations.specs.Tasks.{IsRightTask, IsRunningTask, MayFail};
 
 use crate::job::Job;
 use cap_text::{ReadCap, VerifyCap};
 use checker::Check;
+use checker::status::CheckStatus;
 use download_core::Download;
-use download_core::status::{DownloadError, Piece};
+use download_core::status::{DownloadError, DownloadStatus, Piece};
 use file_encoding::{EncodeError, Params};
 use file_upload::prepared::{FileUpload, prepare};
 use std::alloc::{AllocError, Global};
@@ -125,6 +126,18 @@ impl Task {
         match self {
             Task::Downloading(download) => download.take_bytes(),
             Task::Uploading(_) | Task::Checking(_) | Task::Gone(_) => None,
+        }
+    }
+
+    /// Does it still run?
+    pub fn is_running(&self) -> bool
+        ensures { IsTrue result ↔ IsRunningTask self.now }
+    {
+        match self {
+            Task::Uploading(upload) => is_running(upload),
+            Task::Downloading(download) => download.status() == DownloadStatus::Running,
+            Task::Checking(check) => check.status() == CheckStatus::Running,
+            Task::Gone(_) => false,
         }
     }
 
