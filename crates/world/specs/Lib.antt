@@ -5,3 +5,5 @@ pub mod Admitted
 pub mod Headline
 -- what holds of every world, and carries the headline
 pub mod Consistent
+-- words of private clauses
+pub mod Parts

@@ -8,4 +8,5 @@
 
 pub mod event;
 pub mod liar;
+mod parts;
 mod scene;

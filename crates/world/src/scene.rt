@@ -1,11 +1,37 @@
 //! The state of a world, and how each kind of event changes it.
 
+ghost use Rattle.std.specs.Prelude.{◌≡◌, ◌<◌, ◌≤◌, ◌++◌, ◌∷◌, [], IfOk, IsErrOf, OnErr, OnOk, Some};
+ghost use Rattle.std.specs.Prelude.{Contains, length, map, nat_eq, slice_get, true, false};
+ghost use Rattle.std.specs.List.{IsDistinct};
+ghost use Rattle.wire.specs.Frames.{IsBodyOf};
+ghost use Rattle.server_core.specs.Sound.{is_request};
+ghost use Rattle.upload_core.specs.declared.status.ServerInfo.{ServerInfo};
+ghost use Rattle.world_operations.specs.declared.message.Sent.{Sent};
+ghost use Rattle.world_operations.specs.Jobs.{MayStart};
+ghost use Rattle.world_operations.specs.Moves.{Begins};
+ghost use Rattle.world_operations.specs.Tasks.{IsRightTask};
+ghost use Rattle.world.specs.Consistent.{Preserves};
+ghost use Rattle.world.specs.State.{nodes_of, servers_of, state_of};
+ghost use Rattle.world.specs.Step.{Delivers, RestartsAt, ServerGets, Starts, TaskGets, TicksAt};
+ghost use Rattle.world.specs.Step.{failing, later_by, with_heard, with_sent};
+
 use crate::liar::Heard;
+use crate::parts::{
+    answer_at, fail_server, flush_at, forget_all, is_live_at, is_request, push_operation,
+    restart_server, serve_at, set_life, tick_at, tick_server,
+};
+use proved_parts::Bytes;
+use server_core::error::ServerFault;
 use server_core::server::Server;
 use share_store::memory::MemoryStore;
-use std::alloc::Global;
-use world_operations::message::Sent;
-use world_operations::operation::Operation;
+use std::alloc::{AllocError, Global};
+use wire::decoding::decode;
+use wire::error::WireError;
+use wire::message::{Message, NodeId};
+use world_operations::job::Job;
+use world_operations::message::{Sent, copied, push_sent, spell};
+use world_operations::operation::{Life, Operation};
+use world_operations::task::{StartError, Task};
 
 /// Honest nodes 0, 1, .. have servers; liars come after them, each with what it heard.
 #[derive(Drop)]
@@ -16,4 +42,43 @@ pub(crate) struct Scene {
     pub(crate) operations: Vec<Operation>,
     pub(crate) sent: Vec<Sent>,
     pub(crate) clock: u64,
+}
+
+impl Scene {
+    // A request comes to a server, whose answer is sent.
+    fn serve(&mut self, from: NodeId, to: NodeId, message: &Message) -> Result<(), AllocError>
+        requires { to < length self.old.servers.items }
+        ensures ok { OnOk result ((x : Sent) → x.from ≡ from → x.to ≡ to
+            → ServerGets (state_of self.old) x message.now (state_of self.new)) }
+        ensures keeps { (x : Sent) → x.from ≡ from → x.to ≡ to → Contains self.old.sent.items x
+            → IsBodyOf message.now x.body → Preserves (state_of self.old) (state_of self.new) }
+    {
+        match serve_at(&mut self.servers, usize::from(to), from, message, self.clock) {
+            Ok(Some(answer)) => push_sent(&mut self.sent, spell(self.alloc, to, from, &answer)?),
+            Ok(None) | Err(ServerFault::StoreFault) => Ok(()),
+            Err(ServerFault::OutOfMemory) => Err(AllocError),
+        }
+    }
+
+    // An answer comes to the operation of its session, if that is a live one of its receiver.
+    fn answer(&mut self, from: NodeId, to: NodeId, message: Message) -> Result<(), AllocError>
+        ensures ok { OnOk result ((x : Sent) → x.from ≡ from → x.to ≡ to
+            → TaskGets (state_of self.old) x message (state_of self.new)) }
+        ensures keeps { (x : Sent) → x.from ≡ from → x.to ≡ to → Contains self.old.sent.items x
+            → IsBodyOf message x.body → Preserves (state_of self.old) (state_of self.new) }
+    {
+        let place = message.session as usize;
+        if place >= self.operations.len() || !is_live_at(&self.operations[place], to) {
+            return Ok(());
+        }
+        answer_at(
+            self.alloc,
+            &mut self.operations,
+            place,
+            from,
+            message,
+            self.clock,
+            &mut self.sent,
+        )
+    }
 }

@@ -161,3 +161,10 @@ moves_by New number old new mid before after goes same some = record {
   same = record { node = same.node; job = same.job; sent_before = same.sent_before; life = same.life; pieces = same.pieces; given = same.given };
   task = inl (sends_on New old.node old.task mid new.task before before after (sends_none New old.node old.task mid before goes) some);
 }
+
+-- it stays as it is
+pub moves_nowhere : (New : Said) (number : ℕ) (op : Operation) (sent : List Sent) → Moves New number op op sent sent
+moves_nowhere New number op sent = record {
+  same = record { node = refl; job = refl; sent_before = refl; life = refl; pieces = []; given = sym (append_none op.given) };
+  task = inl (sends_none New op.node op.task op.task sent (goes_nowhere New op.task));
+}

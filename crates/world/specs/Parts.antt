@@ -1,0 +1,53 @@
+-- How the parts of a world change: one server, or one operation, at its place.
+use Rattle.std.specs.Prelude.{◌≡◌, ℕ, List, ◌++◌, Some, slice_get, slice_set}
+use Rattle.wire.specs.declared.message.Message.{Message}
+use Rattle.share_store.specs.Memory.{MemoryState, memory_calls}
+use Rattle.server_core.specs.Machine.{Machine, Outcome, Serves}
+use Rattle.world_operations.specs.declared.message.Sent.{Sent}
+use Rattle.world_operations.specs.declared.operation.Operation.{Operation}
+use Rattle.world_operations.specs.Follow.{IsSaid, Moves, Nothing, Said}
+use Rattle.world_operations.specs.Moves.{IsFlushed, OperationGets}
+use Rattle.world_operations.specs.Tasks.{IsRightTask, requests_of}
+use Rattle.world.specs.Step.{TicksOrStays}
+
+-- the server at a place becomes another, by a relation
+pub record ServerBecomes (R : Machine MemoryState → Machine MemoryState → Type 0)
+    (old : List (Machine MemoryState)) (place : ℕ) (new : List (Machine MemoryState)) : Type 0 where
+  pub before : Machine MemoryState
+  pub after : Machine MemoryState
+  pub at : slice_get old place ≡ Some before
+  pub becomes : R before after
+  pub is : new ≡ slice_set old place after
+
+abbrev pub ServesBy : ℕ → Message → ℕ → Outcome → Machine MemoryState → Machine MemoryState
+    → Type 0
+ServesBy from m now outcome before after = Serves memory_calls before from m now outcome after
+
+-- The operation at a place becomes another, by a relation that says what is sent.
+pub record OperationBecomes (R : Operation → List Sent → Operation → Type 0)
+    (old : List Operation) (place : ℕ) (before : List Sent) (new : List Operation)
+    (after : List Sent) : Type 0 where
+  pub op : Operation
+  pub next : Operation
+  pub more : List Sent
+  pub at : slice_get old place ≡ Some op
+  pub becomes : R op more next
+  pub is : new ≡ slice_set old place next
+  pub appended : after ≡ before ++ more
+
+-- The operation at a place goes on, whatever came of the call, and its machine is right.
+pub record OperationMoves (New : Operation → Said) (old : List Operation) (place : ℕ)
+    (before : List Sent) (new : List Operation) (after : List Sent) : Type 0 where
+  pub op : Operation
+  pub next : Operation
+  pub at : slice_get old place ≡ Some op
+  pub moves : Moves (New op) place op next before after
+  pub right : IsRightTask next.task
+  pub is : new ≡ slice_set old place next
+
+-- by a message, and by nothing new
+abbrev pub SaidBy : ℕ → Message → Operation → Said
+SaidBy from m op = IsSaid from m (requests_of op.task).session
+
+abbrev pub NothingNew : Operation → Said
+NothingNew op = Nothing

@@ -1,0 +1,207 @@
+//! The parts of a world: a server, or an operation, at its place.
+
+ghost use Rattle.std.specs.Prelude.{◌≡◌, ◌<◌, ◌++◌, ◌∷◌, [], List, Some, OnErr, OnOk, map};
+ghost use Rattle.std.specs.Prelude.{slice_get, slice_set, vec_len};
+ghost use Rattle.server_core.specs.Machine.{RestartsTo, Ticks};
+ghost use Rattle.server_core.specs.Sound.{is_request};
+ghost use Rattle.share_store.specs.Memory.{memory_calls};
+ghost use Rattle.world_operations.specs.Follow.{Moves, Nothing};
+ghost use Rattle.world_operations.specs.Moves.{IsFlushed, OperationGets};
+ghost use Rattle.world_operations.specs.declared.message.Sent.{Sent};
+ghost use Rattle.world_operations.specs.declared.operation.Operation.{Operation};
+ghost use Rattle.world.specs.Parts.{NothingNew, OperationBecomes, OperationMoves, SaidBy};
+ghost use Rattle.world.specs.Parts.{ServerBecomes, ServesBy};
+ghost use Rattle.world.specs.Step.{TicksOrStays, failing, forgotten_by, is_live_at, with_life};
+
+use server_core::error::ServerFault;
+use server_core::server::Server;
+use share_store::memory::MemoryStore;
+use std::alloc::{AllocError, Global};
+use wire::message::{Body, Message, NodeId};
+use world_operations::message::Sent;
+use world_operations::operation::{Life, Operation};
+
+/// Is it a message that a server answers?
+pub(crate) fn is_request(body: &Body) -> bool
+    ensures { result ≡ is_request body.now }
+{
+    matches!(
+        body,
+        Body::Ask(_)
+            | Body::Allocate(_, _)
+            | Body::Write(_, _, _)
+            | Body::Close(_)
+            | Body::Abort(_)
+            | Body::Read(_, _, _)
+    )
+}
+
+/// The server at a place answers a message.
+pub(crate) fn serve_at(
+    servers: &mut Vec<Server<MemoryStore>>,
+    place: usize,
+    from: NodeId,
+    message: &Message,
+    now: u64,
+) -> Result<Option<Message>, ServerFault>
+    requires { place < vec_len servers.old }
+    ensures { ServerBecomes (ServesBy from message.now now result) servers.old.items place
+        servers.new.items }
+{
+    servers[place].on_message(from, message, now)
+}
+
+/// The server at a place takes note of a second.
+pub(crate) fn tick_server(servers: &mut Vec<Server<MemoryStore>>, place: usize, now: u64)
+    requires { place < vec_len servers.old }
+    ensures { ServerBecomes (λ before after. Ticks before now after) servers.old.items place
+        servers.new.items }
+{
+    servers[place].tick(now);
+}
+
+/// The server at a place forgets its open buckets.
+pub(crate) fn restart_server(servers: &mut Vec<Server<MemoryStore>>, place: usize)
+    requires { place < vec_len servers.old }
+    ensures { ServerBecomes (RestartsTo memory_calls.restart_gives) servers.old.items place
+        servers.new.items }
+{
+    servers[place].restart();
+}
+
+/// The store of the server at a place fails at its next call that can fail.
+pub(crate) fn fail_server(servers: &mut Vec<Server<MemoryStore>>, place: usize)
+    requires { place < vec_len servers.old }
+    ensures { ServerBecomes (λ before after. after ≡ failing before) servers.old.items place
+        servers.new.items }
+{
+    servers[place].fail_store();
+}
+
+/// Is it a live operation of this node?
+pub(crate) fn is_live_at(operation: &Operation, node: NodeId) -> bool
+    ensures { result ≡ is_live_at node operation.now }
+{
+    operation.node == node && operation.life == Life::Live
+}
+
+/// The operation at a place takes a message over.
+pub(crate) fn answer_at(
+    alloc: Global,
+    operations: &mut Vec<Operation>,
+    place: usize,
+    from: NodeId,
+    message: Message,
+    now: u64,
+    sent: &mut Vec<Sent>,
+) -> Result<(), AllocError>
+    requires { place < vec_len operations.old }
+    ensures ok { OnOk result (OperationBecomes (λ op more next. OperationGets from message now op
+        more next) operations.old.items place sent.old.items operations.new.items sent.new.items) }
+    ensures some { OperationMoves (SaidBy from message) operations.old.items place sent.old.items
+        operations.new.items sent.new.items }
+{
+    let operation = &mut operations[place];
+    let outcome = operation.on_message(alloc, place as u64, from, message, now, sent);
+    operation.is_right();
+    outcome
+}
+
+/// The operation at a place hands out what its machine made, and sends what it has to send.
+pub(crate) fn flush_at(
+    alloc: Global,
+    operations: &mut Vec<Operation>,
+    place: usize,
+    sent: &mut Vec<Sent>,
+) -> Result<(), AllocError>
+    requires { place < vec_len operations.old }
+    ensures ok { OnOk result (OperationBecomes IsFlushed operations.old.items place sent.old.items
+        operations.new.items sent.new.items) }
+    ensures some { OperationMoves NothingNew operations.old.items place sent.old.items
+        operations.new.items sent.new.items }
+{
+    let operation = &mut operations[place];
+    let outcome = operation.flush(alloc, sent);
+    operation.is_right();
+    outcome
+}
+
+// An operation takes note of a second, if it is a live one of this node.
+fn tick_one(
+    alloc: Global,
+    operation: &mut Operation,
+    number: u64,
+    node: NodeId,
+    now: u64,
+    sent: &mut Vec<Sent>,
+) -> Result<(), AllocError>
+    ensures ok { OnOk result ((more : List Sent) × (sent.new.items ≡ sent.old.items ++ more)
+        × TicksOrStays node now operation.old more operation.new) }
+    ensures some { Moves Nothing number operation.old operation.new sent.old.items
+        sent.new.items }
+{
+    if !is_live_at(operation, node) {
+        return Ok(());
+    }
+    operation.tick(alloc, number, now, sent)
+}
+
+/// The operation at a place takes note of a second, if it is a live one of this node.
+pub(crate) fn tick_at(
+    alloc: Global,
+    operations: &mut Vec<Operation>,
+    place: usize,
+    node: NodeId,
+    now: u64,
+    sent: &mut Vec<Sent>,
+) -> Result<(), AllocError>
+    requires { place < vec_len operations.old }
+    ensures ok { OnOk result (OperationBecomes (TicksOrStays node now) operations.old.items place
+        sent.old.items operations.new.items sent.new.items) }
+    ensures some { OperationMoves NothingNew operations.old.items place sent.old.items
+        operations.new.items sent.new.items }
+{
+    let operation = &mut operations[place];
+    let outcome = tick_one(alloc, operation, place as u64, node, now, sent);
+    operation.is_right();
+    outcome
+}
+
+/// One more operation.
+pub(crate) fn push_operation(
+    operations: &mut Vec<Operation>,
+    operation: Operation,
+) -> Result<(), AllocError>
+    ensures ok { OnOk result (operations.new.items ≡ operations.old.items ++ operation ∷ []) }
+    ensures err { OnErr result (operations.new.items ≡ operations.old.items) }
+{
+    operations.push(operation)?;
+    Ok(())
+}
+
+/// This is what became of the operation at a place.
+pub(crate) fn set_life(operations: &mut Vec<Operation>, place: usize, life: Life)
+    requires { place < vec_len operations.old }
+    ensures { (op : Operation) → slice_get operations.old.items place ≡ Some op
+        → operations.new.items ≡ slice_set operations.old.items place (with_life life op) }
+{
+    operations[place].life = life;
+}
+
+// An operation is forgotten, if it is a live one of this node.
+fn forget_one(operation: &mut Operation, node: NodeId)
+    ensures { operation.new ≡ forgotten_by node operation.old }
+{
+    if is_live_at(operation, node) {
+        operation.life = Life::Forgotten;
+    }
+}
+
+/// The live operations of a node are forgotten.
+pub(crate) fn forget_all(operations: &mut Vec<Operation>, node: NodeId)
+    ensures { operations.new.items ≡ map (forgotten_by node) operations.old.items }
+{
+    for operation in operations.iter_mut() {
+        forget_one(operation, node);
+    }
+}
