@@ -7,3 +7,4 @@ pub mod Trusted
 pub mod Changes
 pub mod Later
 pub mod Preserving
+pub mod Moving

@@ -8,5 +8,6 @@
 
 pub mod event;
 pub mod liar;
+mod nodes;
 mod parts;
 mod scene;

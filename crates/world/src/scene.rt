@@ -1,7 +1,8 @@
 //! The state of a world, and how each kind of event changes it.
 
 ghost use Rattle.std.specs.Prelude.{◌≡◌, ◌<◌, ◌≤◌, ◌++◌, ◌∷◌, [], IfOk, IsErrOf, OnErr, OnOk, Some};
-ghost use Rattle.std.specs.Prelude.{Contains, length, map, nat_eq, slice_get, true, false};
+ghost use Rattle.std.specs.Prelude.{Contains, List, length, map, nat_eq, slice_get, slice_set};
+ghost use Rattle.std.specs.Prelude.{true, false, vec_len};
 ghost use Rattle.std.specs.List.{IsDistinct};
 ghost use Rattle.wire.specs.Frames.{IsBodyOf};
 ghost use Rattle.server_core.specs.Sound.{is_request};
@@ -81,4 +82,62 @@ impl Scene {
             &mut self.sent,
         )
     }
+
+    // A message comes to its receiver's server, or to one of its operations.
+    fn take(&mut self, from: NodeId, to: NodeId, message: Message) -> Result<(), AllocError>
+        requires { to < length self.old.servers.items }
+        ensures ok { OnOk result ((x : Sent) → x.from ≡ from → x.to ≡ to
+            → IsBodyOf message x.body → Delivers (state_of self.old) x (state_of self.new)) }
+        ensures keeps { (x : Sent) → x.from ≡ from → x.to ≡ to → Contains self.old.sent.items x
+            → IsBodyOf message x.body → Preserves (state_of self.old) (state_of self.new) }
+    {
+        if is_request(&message.body) {
+            return self.serve(from, to, &message);
+        }
+        self.answer(from, to, message)
+    }
+
+    // A liar hears the message at a place, if there is such a liar.
+    fn hear(&mut self, place: usize, liar: usize) -> Result<(), AllocError>
+        requires { place < length self.old.sent.items }
+        ensures ok { OnOk result ((x : Sent) → slice_get self.old.sent.items place ≡ Some x
+            → state_of self.new ≡ with_heard (state_of self.old) liar x
+            (slice_get self.old.heard.items liar)) }
+        ensures keeps { Preserves (state_of self.old) (state_of self.new) }
+    {
+        if liar >= self.heard.len() {
+            return Ok(());
+        }
+        let sent = self.sent[place].copied(self.alloc)?;
+        hear_at(&mut self.heard, liar, sent)
+    }
+
+    /// The message at a place comes to its receiver, again too.
+    pub(crate) fn deliver(&mut self, place: usize) -> Result<(), AllocError>
+        requires { place < length self.old.sent.items }
+        ensures ok { OnOk result ((x : Sent) → slice_get self.old.sent.items place ≡ Some x
+            → Delivers (state_of self.old) x (state_of self.new)) }
+        ensures keeps { Preserves (state_of self.old) (state_of self.new) }
+    {
+        let sent = &self.sent[place];
+        let (from, to) = (sent.from, sent.to);
+        if usize::from(to) >= self.servers.len() {
+            let liar = usize::from(to) - self.servers.len();
+            return self.hear(place, liar);
+        }
+        match decode(self.alloc, self.sent[place].body.as_slice()) {
+            Ok(message) => self.take(from, to, message),
+            Err(WireError::OutOfMemory) => Err(AllocError),
+            Err(_) => Ok(()),
+        }
+    }
+}
+
+// The liar at a place hears a message.
+fn hear_at(heard: &mut Vec<Heard>, place: usize, sent: Sent) -> Result<(), AllocError>
+    requires { place < vec_len heard.old }
+    ensures { OnOk result ((h : List Sent) → slice_get heard.old.items place ≡ Some h
+        → heard.new.items ≡ slice_set heard.old.items place (h ++ sent ∷ [])) }
+{
+    heard[place].push(sent)
 }
