@@ -139,20 +139,20 @@ OperationsTick node now (op ∷ ops) sent (next ∷ rest) =
     × OperationsTick node now ops others rest
 OperationsTick node now ops sent rest = ⊥
 
+-- the operations of a node tick
+pub record HaveTicked (old : WorldState) (node : ℕ) (new : WorldState) : Type 0 where
+  pub operations : List Operation
+  pub more : List Sent
+  pub tasks : OperationsTick node old.clock old.operations more operations
+  pub is : new ≡ record old { operations = operations; sent = old.sent ++ more }
+
 -- a node's server and its operations tick
 pub record TicksAt (old : WorldState) (node : ℕ) (new : WorldState) : Type 0 where
   pub before : Machine MemoryState
   pub after : Machine MemoryState
-  pub operations : List Operation
-  pub more : List Sent
   pub at : slice_get old.servers node ≡ Some before
   pub server : Ticks before old.clock after
-  pub tasks : OperationsTick node old.clock old.operations more operations
-  pub is : new ≡ record old {
-    servers = slice_set old.servers node after;
-    operations = operations;
-    sent = old.sent ++ more;
-  }
+  pub tasks : HaveTicked (record old { servers = slice_set old.servers node after }) node new
 
 -- a restart of a node forgets its live operations
 abbrev pub forgotten_by : ℕ → Operation → Operation
@@ -197,10 +197,10 @@ Step old (Tick node) new = TicksAt old node new
 Step old (Restart node) new = RestartsAt old node new
 Step old (FailStore node) new =
     (m : Machine MemoryState) × (slice_get old.servers node ≡ Some m)
-    × (new ≡ with_server old node (failing m) [])
+    × (new ≡ record old { servers = slice_set old.servers node (failing m) })
 Step old (Refuse number) new =
-    (op : Operation) × (slice_get old.operations number ≡ Some op)
-    × (new ≡ with_operation old number (with_life Refused op) [])
+    (op : Operation) × (slice_get old.operations number ≡ Some op) × (new
+    ≡ record old { operations = slice_set old.operations number (with_life Refused op) })
 
 -- events in order, each taken
 abbrev pub Steps : WorldState → List Event → WorldState → Type 0

@@ -3,7 +3,6 @@
 ghost use Rattle.std.specs.Prelude.{◌≡◌, ◌≤◌, IfOk, decimal, map, nat_eq};
 ghost use Rattle.std.specs.List.{IsDistinct, range_with_len};
 ghost use Rattle.sha1.specs.Sha1.{sha1};
-ghost use Rattle.upload_core.specs.declared.status.ServerInfo.{ServerInfo};
 ghost use Rattle.world.specs.State.{server_of};
 
 use placement::ServerId;
@@ -28,9 +27,7 @@ pub(crate) fn nodes_up_to(alloc: Global, count: usize) -> Result<Vec<NodeId>, Al
 
 /// The servers of these nodes: a node's id is the SHA-1 of its number in decimal.
 pub(crate) fn servers_at(alloc: Global, nodes: &[NodeId]) -> Result<Vec<ServerInfo>, AllocError>
-    ensures servers { IfOk result (λ servers. servers.items ≡ map server_of nodes.now) }
-    ensures nodes { IfOk result (λ servers. map (λ (s : ServerInfo). s.node) servers.items
-        ≡ nodes.now) }
+    ensures { IfOk result (λ servers. servers.items ≡ map server_of nodes.now) }
 {
     nodes.iter().map(|node| server_of(*node)).collect(alloc)
 }

@@ -1,7 +1,10 @@
 //! The parts of a world: a server, or an operation, at its place.
 
 ghost use Rattle.std.specs.Prelude.{◌≡◌, ◌<◌, ◌++◌, ◌∷◌, [], List, Some, OnErr, OnOk, map};
+ghost use Rattle.std.specs.Prelude.{IfNone, IfOk, IfSome};
 ghost use Rattle.std.specs.Prelude.{slice_get, slice_set, vec_len};
+ghost use Rattle.wire.specs.declared.message.Message.{Message};
+ghost use Rattle.wire.specs.Frames.{IsBodyOf};
 ghost use Rattle.server_core.specs.Machine.{RestartsTo, Ticks};
 ghost use Rattle.server_core.specs.Sound.{is_request};
 ghost use Rattle.share_store.specs.Memory.{memory_calls};
@@ -17,6 +20,8 @@ use server_core::error::ServerFault;
 use server_core::server::Server;
 use share_store::memory::MemoryStore;
 use std::alloc::{AllocError, Global};
+use wire::decoding::decode;
+use wire::error::WireError;
 use wire::message::{Body, Message, NodeId};
 use world_operations::message::Sent;
 use world_operations::operation::{Life, Operation};
@@ -34,6 +39,21 @@ pub(crate) fn is_request(body: &Body) -> bool
             | Body::Abort(_)
             | Body::Read(_, _, _)
     )
+}
+
+/// The message of a body, or none where the bytes are no body.
+pub(crate) fn read_body(alloc: Global, body: &[u8]) -> Result<Option<Message>, AllocError>
+    ensures some { IfOk result (λ read. IfSome read (λ m. IsBodyOf m body.now)) }
+    ensures none { IfOk result
+        (λ read. IfNone read ((m : Message) → IsBodyOf m body.now → ⊥)) }
+{
+    match decode(alloc, body) {
+        Ok(message) => Ok(Some(message)),
+        Err(WireError::BadLength) => Ok(None),
+        Err(WireError::BadKind) => Ok(None),
+        Err(WireError::BadFields) => Ok(None),
+        Err(WireError::OutOfMemory) => Err(AllocError),
+    }
 }
 
 /// The server at a place answers a message.

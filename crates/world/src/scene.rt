@@ -1,36 +1,34 @@
 //! The state of a world, and how each kind of event changes it.
 
-ghost use Rattle.std.specs.Prelude.{◌≡◌, ◌<◌, ◌≤◌, ◌++◌, ◌∷◌, [], IfOk, IsErrOf, OnErr, OnOk, Some};
+ghost use Rattle.std.specs.Prelude.{◌≡◌, ◌↔◌, ◌+◌, ◌<◌, ◌≤◌, ◌++◌, ◌∷◌, [], IfOk, IsErrOf, OnOk, Some};
 ghost use Rattle.std.specs.Prelude.{Contains, List, length, map, nat_eq, slice_get, slice_set};
-ghost use Rattle.std.specs.Prelude.{true, false, vec_len};
-ghost use Rattle.std.specs.List.{IsDistinct};
+ghost use Rattle.std.specs.Prelude.{IsTrue, vec_len};
 ghost use Rattle.wire.specs.Frames.{IsBodyOf};
-ghost use Rattle.server_core.specs.Sound.{is_request};
-ghost use Rattle.upload_core.specs.declared.status.ServerInfo.{ServerInfo};
 ghost use Rattle.world_operations.specs.declared.message.Sent.{Sent};
+ghost use Rattle.world_operations.specs.declared.operation.Operation.{Operation};
 ghost use Rattle.world_operations.specs.Jobs.{MayStart};
 ghost use Rattle.world_operations.specs.Moves.{Begins};
 ghost use Rattle.world_operations.specs.Tasks.{IsRightTask};
 ghost use Rattle.world.specs.Consistent.{Preserves};
 ghost use Rattle.world.specs.State.{nodes_of, servers_of, state_of};
-ghost use Rattle.world.specs.Step.{Delivers, RestartsAt, ServerGets, Starts, TaskGets, TicksAt};
-ghost use Rattle.world.specs.Step.{failing, later_by, with_heard, with_sent};
+ghost use Rattle.world.specs.declared.event.Event.TheVariants.{FailStore, Refuse};
+ghost use Rattle.world.specs.Step.{Delivers, HaveTicked, IsRunning, RestartsAt, ServerGets};
+ghost use Rattle.world.specs.Step.{Starts, Step, TaskGets, TicksAt, later_by, with_heard, with_sent};
 
 use crate::liar::Heard;
+use crate::nodes::{nodes_up_to, servers_at};
 use crate::parts::{
     answer_at, fail_server, flush_at, forget_all, is_live_at, is_request, push_operation,
-    restart_server, serve_at, set_life, tick_at, tick_server,
+    read_body, restart_server, serve_at, set_life, tick_at, tick_server,
 };
 use proved_parts::Bytes;
 use server_core::error::ServerFault;
 use server_core::server::Server;
 use share_store::memory::MemoryStore;
 use std::alloc::{AllocError, Global};
-use wire::decoding::decode;
-use wire::error::WireError;
 use wire::message::{Message, NodeId};
 use world_operations::job::Job;
-use world_operations::message::{Sent, copied, push_sent, spell};
+use world_operations::message::{Sent, push_sent, spell};
 use world_operations::operation::{Life, Operation};
 use world_operations::task::{StartError, Task};
 
@@ -125,11 +123,144 @@ impl Scene {
             let liar = usize::from(to) - self.servers.len();
             return self.hear(place, liar);
         }
-        match decode(self.alloc, self.sent[place].body.as_slice()) {
-            Ok(message) => self.take(from, to, message),
-            Err(WireError::OutOfMemory) => Err(AllocError),
-            Err(_) => Ok(()),
+        match read_body(self.alloc, self.sent[place].body.as_slice())? {
+            Some(message) => self.take(from, to, message),
+            None => Ok(()),
         }
+    }
+
+    // The machine of an operation that begins.
+    fn begin(&self, job: &Job) -> Result<Task, StartError>
+        requires { length self.now.servers.items + length self.now.heard.items ≤ 256 }
+        ensures begins { IfOk result (Begins job.now (servers_of (state_of self.now))
+            (nodes_of (state_of self.now)) (length self.now.operations.items) self.now.clock) }
+        ensures may { IfOk result (λ _. MayStart job.now) }
+        ensures refused { IsErrOf result StartError.Refused → MayStart job.now → ⊥ }
+        ensures right { IfOk result IsRightTask }
+    {
+        let number = self.operations.len() as u64;
+        let nodes = nodes_up_to(self.alloc, self.servers.len() + self.heard.len())?;
+        let servers = servers_at(self.alloc, &nodes)?;
+        let task = Task::begin(self.alloc, job, &servers, &nodes, number, self.clock)?;
+        task.is_right();
+        Ok(task)
+    }
+
+    // An operation begins with this machine, and sends what it has to send.
+    fn open(&mut self, node: NodeId, job: &Job, task: Task) -> Result<(), AllocError>
+        requires honest { node < length self.old.servers.items }
+        requires begins { Begins job.now (servers_of (state_of self.old))
+            (nodes_of (state_of self.old)) (length self.old.operations.items) self.old.clock task }
+        requires may { MayStart job.now }
+        requires right { IsRightTask task }
+        ensures ok { OnOk result (Starts (state_of self.old) node job.now (state_of self.new)) }
+        ensures keeps { Preserves (state_of self.old) (state_of self.new) }
+    {
+        let number = self.operations.len();
+        let job = job.copied(self.alloc)?;
+        let operation = Operation::new(self.alloc, node, job, self.sent.len(), task);
+        push_operation(&mut self.operations, operation)?;
+        flush_at(self.alloc, &mut self.operations, number, &mut self.sent)
+    }
+
+    /// An honest node starts an operation, unless the job is none that may be started.
+    pub(crate) fn start(&mut self, node: NodeId, job: &Job) -> Result<(), StartError>
+        requires few { length self.old.servers.items + length self.old.heard.items ≤ 256 }
+        requires honest { node < length self.old.servers.items }
+        ensures may { OnOk result (MayStart job.now) }
+        ensures ok { OnOk result (Starts (state_of self.old) node job.now (state_of self.new)) }
+        ensures refused { IsErrOf result StartError.Refused
+            → (state_of self.new ≡ state_of self.old) × (MayStart job.now → ⊥) }
+        ensures keeps { Preserves (state_of self.old) (state_of self.new) }
+    {
+        let task = self.begin(job)?;
+        self.open(node, job, task)?;
+        Ok(())
+    }
+
+    // The operations of a node tick.
+    fn tick_operations(&mut self, node: NodeId) -> Result<(), AllocError>
+        ensures ok { OnOk result (HaveTicked (state_of self.old) node (state_of self.new)) }
+        ensures keeps { Preserves (state_of self.old) (state_of self.new) }
+    {
+        for number in 0..self.operations.len() {
+            tick_at(
+                self.alloc,
+                &mut self.operations,
+                number,
+                node,
+                self.clock,
+                &mut self.sent,
+            )?;
+        }
+        Ok(())
+    }
+
+    /// An honest node's clock ticks.
+    pub(crate) fn tick(&mut self, node: NodeId) -> Result<(), AllocError>
+        requires { node < length self.old.servers.items }
+        ensures ok { OnOk result (TicksAt (state_of self.old) node (state_of self.new)) }
+        ensures keeps { Preserves (state_of self.old) (state_of self.new) }
+    {
+        tick_server(&mut self.servers, usize::from(node), self.clock);
+        self.tick_operations(node)
+    }
+
+    /// An honest node forgets its open buckets and its live operations.
+    pub(crate) fn restart(&mut self, node: NodeId)
+        requires { node < length self.old.servers.items }
+        ensures step { RestartsAt (state_of self.old) node (state_of self.new) }
+        ensures keeps { Preserves (state_of self.old) (state_of self.new) }
+    {
+        restart_server(&mut self.servers, usize::from(node));
+        forget_all(&mut self.operations, node);
+    }
+
+    /// An honest node's store fails at its next call that can fail.
+    pub(crate) fn fail_store(&mut self, node: NodeId)
+        requires { node < length self.old.servers.items }
+        ensures step { Step (state_of self.old) (FailStore node) (state_of self.new) }
+        ensures keeps { Preserves (state_of self.old) (state_of self.new) }
+    {
+        fail_server(&mut self.servers, usize::from(node));
+    }
+
+    /// Does the operation at a place run?
+    pub(crate) fn is_running(&self, number: usize) -> bool
+        ensures { IsTrue result ↔ ((op : Operation)
+            × (slice_get self.now.operations.items number ≡ Some op) × IsRunning op) }
+    {
+        match self.operations.get(number) {
+            Some(operation) => operation.life == Life::Live && operation.task.is_running(),
+            None => false,
+        }
+    }
+
+    /// The operation at a place ends as one that found no memory.
+    pub(crate) fn refuse(&mut self, number: usize)
+        requires { number < length self.old.operations.items }
+        ensures step { Step (state_of self.old) (Refuse number) (state_of self.new) }
+        ensures keeps { Preserves (state_of self.old) (state_of self.new) }
+    {
+        set_life(&mut self.operations, number, Life::Refused);
+    }
+
+    /// So many seconds pass.
+    pub(crate) fn pass(&mut self, seconds: u64)
+        ensures step { state_of self.new ≡ later_by seconds (state_of self.old) }
+        ensures keeps { Preserves (state_of self.old) (state_of self.new) }
+    {
+        self.clock = self.clock.saturating_add(seconds);
+    }
+
+    /// A liar sends these bytes.
+    pub(crate) fn say(&mut self, from: NodeId, to: NodeId, body: Bytes) -> Result<(), AllocError>
+        requires { length self.old.servers.items ≤ from }
+        ensures ok { OnOk result
+            (state_of self.new ≡ with_sent (state_of self.old) from to body) }
+        ensures keeps { Preserves (state_of self.old) (state_of self.new) }
+    {
+        push_sent(&mut self.sent, Sent { from, to, body })
     }
 }
 

@@ -6,6 +6,7 @@ ghost use Rattle.std.specs.List.{IsDistinct};
 ghost use Rattle.upload_core.specs.declared.status.ServerInfo.{ServerInfo};
 ghost use Rattle.upload_core.specs.declared.status.UploadStatus.TheVariants as uploads;
 ghost use Rattle.world_operations.specs.declared.job.Job.TheVariants as jobs;
+ghost use Rattle.world_operations.specs.declared.task.StartError.{StartError};
 ghost use Rattle.world_operations.specs.Jobs.{MayStart};
 ghost use Rattle.world_operations.specs.Moves.{Advances, Begins, Takes, TakesPiece, TicksOn};
 ghost use Rattle.world_operations.specs.Moves.{UploadAdvances, UploadTicks};
@@ -33,6 +34,14 @@ pub enum StartError {
     OutOfMemory,
     /// The job is none that may be started.
     Refused,
+}
+
+impl From<AllocError> for StartError {
+    ghost from_gives = { λ alloc e. e ≡ StartError.OutOfMemory };
+
+    fn from(_: AllocError) -> StartError {
+        StartError::OutOfMemory
+    }
 }
 
 /// The machine of an operation, whichever it is.
