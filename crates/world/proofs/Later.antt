@@ -94,8 +94,9 @@ happy_upload (Downloading d) pairs h = absurd h
 happy_upload (Checking c) pairs h = absurd h
 happy_upload (Gone number) pairs h = absurd h
 
-pub later_from : (old new : WorldState) → AllStay old.servers new.servers → AllGrow old.operations new.operations → ((more : List Sent) × (new.sent ≡ old.sent ++ more)) → IsLater old new
-later_from old new servers operations sent = record {
+pub later_from : (old new : WorldState) → AllStay old.servers new.servers → AllGrow old.operations new.operations → ((more : List Sent) × (new.sent ≡ old.sent ++ more))
+    → (length new.servers ≡ length old.servers) × (length new.heard ≡ length old.heard) → IsLater old new
+later_from old new servers operations sent nodes = record {
   given = λ cap place byte g.
       let f = operations g.number g.operation g.at in record {
         number = g.number;
@@ -130,13 +131,15 @@ later_from old new servers operations sent = record {
       };
   more = sent.0;
   sent = sent.1;
+  honest = nodes.0;
+  liars = nodes.1;
 }
 
 pub no_more : (sent : List Sent) → (more : List Sent) × (sent ≡ sent ++ more)
 no_more sent = ([], sym (append_none sent))
 
 pub same_world : (w : WorldState) → IsLater w w
-same_world w = later_from w w (none_change w.servers) (none_grow w.operations) (no_more w.sent)
+same_world w = later_from w w (none_change w.servers) (none_grow w.operations) (no_more w.sent) (refl, refl)
 
 pub later_still : (a b c : WorldState) → IsLater a b → IsLater b c → IsLater a c
 later_still a b c f g = record {
@@ -145,4 +148,6 @@ later_still a b c f g = record {
   kept = λ server index share bytes x. g.kept server index share bytes (f.kept server index share bytes x);
   more = f.more ++ g.more;
   sent = g.sent ∙ ap (λ (l : List Sent). l ++ g.more) f.sent ∙ append_assoc a.sent f.more g.more;
+  honest = g.honest ∙ f.honest;
+  liars = g.liars ∙ f.liars;
 }

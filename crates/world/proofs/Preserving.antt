@@ -22,7 +22,7 @@ use Rattle.world_operations.specs.declared.task.Task.{Task}
 use Rattle.world_operations.specs.Follow.{IsSaid, Moves, Nothing, Said}
 use Rattle.world_operations.specs.Moves.{sent_to}
 use Rattle.world_operations.specs.Tasks.{IsRightTask, requests_of}
-use Rattle.world_operations.proofs.Places.{get_set_same, member_none, same_some}
+use Rattle.world_operations.proofs.Places.{get_set_same, length_set, member_none, same_some}
 use Rattle.world_operations.proofs.TaskMoves.{IsNewTask}
 use Rattle.world.specs.State.{WorldState, new_server, new_world, shelved}
 use Rattle.world.specs.Step.{IsSpoken, answer_to, new_operation, with_heard}
@@ -41,13 +41,13 @@ pub preserves_on : (a b c : WorldState) → Preserves a b → Preserves b c → 
 preserves_on a b c f g h = (let first = f h in let second = g first.0 in (second.0, later_still a b c first.1 second.1))
 
 -- the same world at another time, or where liars heard something else
-pub preserves_quiet : (old new : WorldState) → new.servers ≡ old.servers → new.operations ≡ old.operations → new.sent ≡ old.sent → Preserves old new
-preserves_quiet old new servers operations sent c =
+pub preserves_quiet : (old new : WorldState) → new.servers ≡ old.servers → new.operations ≡ old.operations → new.sent ≡ old.sent → length new.heard ≡ length old.heard → Preserves old new
+preserves_quiet old new servers operations sent heard c =
     let same : WorldState = record new { servers = old.servers; operations = old.operations; sent = old.sent } in
     let e : same ≡ new =
     ap (λ (s : List (Machine MemoryState)). record new { servers = s; operations = old.operations; sent = old.sent }) (sym servers)
     ∙ ap (λ (o : List Operation). record new { operations = o; sent = old.sent }) (sym operations) ∙ ap (λ (s : List Sent). record new { sent = s }) (sym sent) in
-    subst (λ (w : WorldState). IsConsistent w × IsLater old w) e (c, later_from old same (none_change old.servers) (none_grow old.operations) (no_more old.sent))
+    subst (λ (w : WorldState). IsConsistent w × IsLater old w) e (c, later_from old same (none_change old.servers) (none_grow old.operations) (no_more old.sent) (refl, heard))
 
 -- ---- servers
 
@@ -80,7 +80,7 @@ server_goes : (w : WorldState) (node : ℕ) (before after : Server) → slice_ge
     → IsConsistent w → IsConsistent (record w { servers = slice_set w.servers node after }) × IsLater w (record w { servers = slice_set w.servers node after })
 server_goes w node before after at is_sound stays c = (
   server_changed w.servers w.operations w.sent node before after at stays is_sound c,
-  later_from w (record w { servers = slice_set w.servers node after }) (one_stays w.servers node before after at stays) (none_grow w.operations) (no_more w.sent),
+  later_from w (record w { servers = slice_set w.servers node after }) (one_stays w.servers node before after at stays) (none_grow w.operations) (no_more w.sent) (length_set w.servers node after, refl),
 )
 
 pub preserves_served : (w : WorldState) (node from now : ℕ) (m : Message) (outcome : Outcome) (before after : Server) → slice_get w.servers node ≡ Some before → Serves memory_calls before from m now outcome after
@@ -94,15 +94,15 @@ answer_sent : (w : WorldState) (x : Sent) (m : Message) (after : Server) (outcom
     → Preserves w (record w { sent = w.sent ++ answer_to x outcome })
 answer_sent w x m after (Ok (Some said)) at there spelled spoken answers c = (
   sent_more w.servers w.operations w.sent (sent_to x.to x.from said) (answered w.servers w.operations w.sent x m said after at there spelled spoken answers) c,
-  later_from w (record w { sent = w.sent ++ sent_to x.to x.from said ∷ [] }) (none_change w.servers) (none_grow w.operations) (sent_to x.to x.from said ∷ [], refl),
+  later_from w (record w { sent = w.sent ++ sent_to x.to x.from said ∷ [] }) (none_change w.servers) (none_grow w.operations) (sent_to x.to x.from said ∷ [], refl) (refl, refl),
 )
 answer_sent w x m after (Ok None) at there spelled spoken answers c = (
   same_sent w.servers w.operations w.sent c,
-  later_from w (record w { sent = w.sent ++ [] }) (none_change w.servers) (none_grow w.operations) ([], refl),
+  later_from w (record w { sent = w.sent ++ [] }) (none_change w.servers) (none_grow w.operations) ([], refl) (refl, refl),
 )
 answer_sent w x m after (Err e) at there spelled spoken answers c = (
   same_sent w.servers w.operations w.sent c,
-  later_from w (record w { sent = w.sent ++ [] }) (none_change w.servers) (none_grow w.operations) ([], refl),
+  later_from w (record w { sent = w.sent ++ [] }) (none_change w.servers) (none_grow w.operations) ([], refl) (refl, refl),
 )
 
 -- a request comes to a server, and its answer is sent
@@ -140,7 +140,7 @@ pub preserves_said : (w : WorldState) (from to : ℕ) (body : List ℕ) → leng
 preserves_said w from to body liar c = (
   sent_more w.servers w.operations w.sent (record { from = from; to = to; body = body })
       (said_by_liar w.servers w.operations w.sent (record { from = from; to = to; body = body }) liar (λ m at. slice_get_within w.servers from m at)) c,
-  later_from w (record w { sent = w.sent ++ record { from = from; to = to; body = body } ∷ [] }) (none_change w.servers) (none_grow w.operations) (record { from = from; to = to; body = body } ∷ [], refl),
+  later_from w (record w { sent = w.sent ++ record { from = from; to = to; body = body } ∷ [] }) (none_change w.servers) (none_grow w.operations) (record { from = from; to = to; body = body } ∷ [], refl) (refl, refl),
 )
 
 -- ---- operations
@@ -151,7 +151,7 @@ operation_goes : (New : Said) (w : WorldState) (i : ℕ) (old new : Operation) (
 operation_goes New w i old new after at moves came right c = (
   operation_moves New w.servers w.operations w.sent after i old new at moves came right c,
   later_from w (record w { operations = slice_set w.operations i new; sent = after }) (none_change w.servers)
-      (one_grows w.operations i old new at (moves_grow New i old new w.sent after moves)) (moves_send New i old new w.sent after moves),
+      (one_grows w.operations i old new at (moves_grow New i old new w.sent after moves)) (moves_send New i old new w.sent after moves) (refl, refl),
 )
 
 -- an answer comes to the operation of its session
@@ -180,11 +180,11 @@ pub preserves_begun : (w : WorldState) (node : ℕ) (job : Job) (task : Task) �
 preserves_begun w node job task honest begins right c = (
   operation_begins w.servers w.operations w.sent node job task honest begins right c,
   later_from w (record w { operations = w.operations ++ new_operation node job (length w.sent) task ∷ [] }) (none_change w.servers)
-      (one_more w.operations (new_operation node job (length w.sent) task)) (no_more w.sent),
+      (one_more w.operations (new_operation node job (length w.sent) task)) (no_more w.sent) (refl, refl),
 )
 
 pub preserves_lives : (w : WorldState) (new : List Operation) → HaveOtherLives w.operations new → Preserves w (record w { operations = new })
-preserves_lives w new h c = (lives_changed w.servers w.operations new w.sent h c, later_from w (record w { operations = new }) (none_change w.servers) (lives_grow w.operations new h) (no_more w.sent))
+preserves_lives w new h c = (lives_changed w.servers w.operations new w.sent h c, later_from w (record w { operations = new }) (none_change w.servers) (lives_grow w.operations new h) (no_more w.sent) (refl, refl))
 
 -- ---- a new world
 

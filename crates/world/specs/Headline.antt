@@ -153,7 +153,7 @@ pub record IsTrusted (w : WorldState) : Type 0 where
   pub acknowledged_keep : HasNoClash (hashed w) → AcknowledgedKeep w
 
 -- What was answered stays: a later world has every byte that was handed out, every upload that
--- answered Happy, every share that was closed, and all that was sent.
+-- answered Happy, every share that was closed, and all that was sent, and its nodes are the same.
 pub record IsLater (old new : WorldState) : Type 0 where
   pub given : (cap : ReadCapValue) (place byte : ℕ) → IsGiven old cap place byte
       → IsGiven new cap place byte
@@ -163,3 +163,5 @@ pub record IsLater (old new : WorldState) : Type 0 where
       → Keeps old server index share bytes → Keeps new server index share bytes
   pub more : List Sent
   pub sent : new.sent ≡ old.sent ++ more
+  pub honest : length new.servers ≡ length old.servers
+  pub liars : length new.heard ≡ length old.heard

@@ -7,3 +7,4 @@ pub mod Headline
 pub mod Consistent
 -- words of private clauses
 pub mod Parts
+pub mod Taking

@@ -11,3 +11,4 @@ pub mod liar;
 mod nodes;
 mod parts;
 mod scene;
+mod taking;

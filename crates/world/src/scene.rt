@@ -267,8 +267,9 @@ impl Scene {
 // The liar at a place hears a message.
 fn hear_at(heard: &mut Vec<Heard>, place: usize, sent: Sent) -> Result<(), AllocError>
     requires { place < vec_len heard.old }
-    ensures { OnOk result ((h : List Sent) → slice_get heard.old.items place ≡ Some h
+    ensures ok { OnOk result ((h : List Sent) → slice_get heard.old.items place ≡ Some h
         → heard.new.items ≡ slice_set heard.old.items place (h ++ sent ∷ [])) }
+    ensures len { length heard.new.items ≡ length heard.old.items }
 {
     heard[place].push(sent)
 }
