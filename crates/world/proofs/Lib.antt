@@ -8,3 +8,4 @@ pub mod Changes
 pub mod Later
 pub mod Preserving
 pub mod Moving
+pub mod Worlds

@@ -1,6 +1,6 @@
 -- What holds of every world, and carries the headline: servers are sound, what honest nodes sent is
 -- so, and what was counted was sent.
-use Rattle.std.specs.Prelude.{◌≡◌, ℕ, ◌<◌, ◌≤◌, List, length, true, false, Some, slice_get}
+use Rattle.std.specs.Prelude.{◌≡◌, ℕ, ◌+◌, ◌<◌, ◌≤◌, List, length, true, false, Some, slice_get}
 use Rattle.std.specs.Prelude.{Contains}
 use Rattle.wire.specs.declared.message.Body.{Body}
 use Rattle.wire.specs.declared.message.Message.{Message}
@@ -84,3 +84,8 @@ IsConsistent w = AreConsistent w.servers w.operations w.sent
 -- what each change of a world does: it stays consistent, and what was answered stays
 abbrev pub Preserves : WorldState → WorldState → Type 0
 Preserves old new = IsConsistent old → IsConsistent new × IsLater old new
+
+-- what is kept of each world
+pub record IsKept (w : WorldState) : Type 0 where
+  pub consistent : IsConsistent w
+  pub few : length w.servers + length w.heard ≤ 256

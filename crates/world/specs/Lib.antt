@@ -2,9 +2,9 @@
 pub mod State
 pub mod Step
 pub mod Admitted
+pub mod Taking
 pub mod Headline
 -- what holds of every world, and carries the headline
 pub mod Consistent
 -- words of private clauses
 pub mod Parts
-pub mod Taking

@@ -12,3 +12,6 @@ mod nodes;
 mod parts;
 mod scene;
 mod taking;
+mod world;
+
+pub use world::World;

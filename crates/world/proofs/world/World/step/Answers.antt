@@ -1,0 +1,20 @@
+use Rattle.std.proofs.Common.{subst}
+use Rattle.world.specs.Headline.{IsTrusted}
+use Rattle.world.specs.State.{WorldValue, state_of}
+use Rattle.world.proofs.Worlds.{kept_later, kept_trusted}
+use Rattle.world.proofs.world.World.step.Goals as goal
+
+pub returns-then-self-clause-trusted : goal.returns-then-self-clause-trusted
+returns-then-self-clause-trusted g c = subst (λ (w : WorldValue). IsTrusted w.state) c.self.view_is (kept_trusted (state_of c.self.inside.scene) c.self.invariant)
+
+pub returns-in-Ok-clause-trusted : goal.returns-in-Ok-clause-trusted
+returns-in-Ok-clause-trusted g c =
+    kept_trusted (state_of c.take_event.new.self) (kept_later (state_of c.self.inside.scene) (state_of c.take_event.new.self) c.take_event.ensures.keeps c.self.invariant).0
+
+pub returns-in-Err-Refused-clause-trusted : goal.returns-in-Err-Refused-clause-trusted
+returns-in-Err-Refused-clause-trusted g c =
+    kept_trusted (state_of c.take_event.new.self) (kept_later (state_of c.self.inside.scene) (state_of c.take_event.new.self) c.take_event.ensures.keeps c.self.invariant).0
+
+pub returns-in-Err-OutOfMemory-clause-trusted : goal.returns-in-Err-OutOfMemory-clause-trusted
+returns-in-Err-OutOfMemory-clause-trusted g c =
+    kept_trusted (state_of c.take_event.new.self) (kept_later (state_of c.self.inside.scene) (state_of c.take_event.new.self) c.take_event.ensures.keeps c.self.invariant).0

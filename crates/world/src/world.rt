@@ -1,0 +1,155 @@
+//! A world: its nodes, and what its events make of it.
+
+ghost use Rattle.std.specs.Prelude.{◌≡◌, ◌+◌, ◌<◌, ◌≤◌, [], IfErr, IfOk, false, length, replicate};
+ghost use Rattle.std.specs.Prelude.{vec_len};
+ghost use Rattle.world.specs.Headline.{IsLater, IsTrusted};
+ghost use Rattle.world.specs.State.{new_server, new_world};
+ghost use Rattle.world.specs.Taking.{IsRun, StepGives};
+
+use crate::event::{Event, WorldError};
+use crate::liar::{Heard, Liar};
+use crate::scene::Scene;
+use server_core::server::Server;
+use share_store::memory::MemoryStore;
+use std::alloc::{AllocError, Global};
+use std::marker::Model;
+use world_operations::message::Sent;
+use world_operations::operation::Operation;
+use world_operations::task::StartError;
+
+/// The bytes that a server takes at most.
+const CAPACITY: u64 = 1 << 40;
+
+/// A world of honest nodes and of liars. Whatever its events are, and whatever its calls answered:
+/// the headline holds of it (`IsTrusted`), and what was answered before stays (`IsLater`).
+#[derive(Drop)]
+pub struct World {
+    scene: Scene,
+    liars: Vec<Box<dyn Liar>>,
+    stopped: bool,
+}
+
+impl Model for World {
+    ghost use Rattle.world.specs.Consistent.{IsKept};
+    ghost use Rattle.world.specs.State.{WorldValue, state_of};
+
+    ghost Value = { WorldValue };
+
+    ghost view = { λ w. record { state = state_of w.scene; stopped = w.stopped } };
+
+    ghost invariant = { λ w. IsKept (state_of w.scene) };
+}
+
+// A server with an empty store.
+fn empty_server(alloc: Global) -> Server<MemoryStore>
+    ensures { result ≡ new_server }
+{
+    Server::start(alloc, MemoryStore::new(alloc), CAPACITY, false)
+}
+
+// So many servers with empty stores.
+fn new_servers(alloc: Global, count: usize) -> Result<Vec<Server<MemoryStore>>, AllocError>
+    ensures { IfOk result (λ servers. servers.items ≡ replicate count new_server) }
+{
+    let mut servers = Vec::with_capacity(alloc, count)?;
+    for _ in 0..count {
+        servers.push(empty_server(alloc))?;
+    }
+    Ok(servers)
+}
+
+// So many liars heard nothing.
+fn new_heard(alloc: Global, count: usize) -> Result<Vec<Heard>, AllocError>
+    ensures { IfOk result (λ heard. heard.items ≡ replicate count []) }
+{
+    let mut heard = Vec::with_capacity(alloc, count)?;
+    for _ in 0..count {
+        heard.push(Heard::new(alloc))?;
+    }
+    Ok(heard)
+}
+
+impl World {
+    /// So many honest nodes with empty stores, from number 0 on, and then these liars. There is one
+    /// honest node at least, and there are at most 256 nodes.
+    pub fn new(
+        alloc: Global,
+        honest: u16,
+        liars: Vec<Box<dyn Liar>>,
+    ) -> Result<World, AllocError>
+        requires some { 0 < honest }
+        requires few { honest + vec_len liars ≤ 256 }
+        ensures value { IfOk result (λ world. world
+            ≡ record { state = new_world honest (vec_len liars); stopped = false }) }
+        ensures trusted { IfOk result (λ world. IsTrusted world.state) }
+    {
+        let scene = Scene {
+            alloc,
+            servers: new_servers(alloc, usize::from(honest))?,
+            heard: new_heard(alloc, liars.len())?,
+            operations: Vec::new(alloc),
+            sent: Vec::new(alloc),
+            clock: 0,
+        };
+        Ok(World {
+            scene,
+            liars,
+            stopped: false,
+        })
+    }
+
+    /// Takes one event.
+    pub fn step(&mut self, event: &Event) -> Result<(), WorldError>
+        ensures gives { StepGives self.old event.now result self.new }
+        ensures later { IsLater self.old.state self.new.state }
+        ensures trusted { IsTrusted self.new.state }
+    {
+        if self.stopped {
+            return Err(WorldError::Stopped);
+        }
+        match self.scene.take_event(&mut self.liars, event) {
+            Ok(()) => Ok(()),
+            Err(StartError::Refused) => Err(WorldError::BadEvent),
+            Err(StartError::OutOfMemory) => {
+                self.stopped = true;
+                Err(WorldError::OutOfMemory)
+            }
+        }
+    }
+
+    /// Takes events in order, up to the first that is refused, and says how many were taken.
+    pub fn run(&mut self, events: &[Event]) -> (usize, Result<(), WorldError>)
+        ensures run { IsRun self.old events.now result.0 result.1 self.new }
+        ensures later { IsLater self.old.state self.new.state }
+        ensures trusted { IsTrusted self.new.state }
+    {
+        self.is_trusted();
+        for taken in 0..events.len() {
+            if let Err(error) = self.step(&events[taken]) {
+                return (taken, Err(error));
+            }
+        }
+        (events.len(), Ok(()))
+    }
+
+    /// A law: the headline holds of every world.
+    pub fn is_trusted(&self)
+        ensures { IsTrusted self.now.state }
+    {
+        let _ = self.stopped;
+    }
+
+    /// All operations, by number: what became of each, and what it handed out.
+    pub fn operations(&self) -> &[Operation]
+        ensures { result.now ≡ self.now.state.operations }
+    {
+        self.scene.operations.as_slice()
+    }
+
+    /// All messages that were ever sent, in order.
+    pub fn sent(&self) -> &[Sent]
+        ensures { result.now ≡ self.now.state.sent }
+    {
+        self.scene.sent.as_slice()
+    }
+}
