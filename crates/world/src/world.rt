@@ -125,8 +125,9 @@ impl World {
     {
         self.is_trusted();
         for taken in 0..events.len() {
-            if let Err(error) = self.step(&events[taken]) {
-                return (taken, Err(error));
+            match self.step(&events[taken]) {
+                Ok(()) => {}
+                Err(error) => return (taken, Err(error)),
             }
         }
         (events.len(), Ok(()))
@@ -136,7 +137,7 @@ impl World {
     pub fn is_trusted(&self)
         ensures { IsTrusted self.now.state }
     {
-        let _ = self.stopped;
+        let _stopped = self.stopped;
     }
 
     /// All operations, by number: what became of each, and what it handed out.
