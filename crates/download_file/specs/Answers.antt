@@ -1,0 +1,82 @@
+-- What the answers in a record say of a file that is read.
+use Rattle.std.specs.Prelude.{◌≡◌, ℕ, ◌<◌, ◌≤◌, List, [], map, length, Option, Some, None}
+use Rattle.std.specs.Prelude.{slice_get, slice_index_or, Contains}
+use Rattle.std.specs.List.{flat_map}
+use Rattle.wire.specs.declared.message.Body.{Body}
+use Rattle.wire.specs.declared.message.Body.TheVariants.{Data}
+use Rattle.request_record.specs.declared.requests.Outcome.{Outcome}
+use Rattle.request_record.specs.declared.requests.Outcome.TheVariants.{Answered}
+use Rattle.request_record.specs.declared.requests.Request.{Request}
+use Rattle.proved_parts.specs.Decoding.{DecodesBlocks}
+use Rattle.download_plan.specs.Plan.{length_of}
+use Rattle.download_plan.specs.declared.part.Part.TheVariants as parts
+use Rattle.download_source.specs.Blocks.{IsHeld, block_places, joined_block}
+use Rattle.download_source.specs.Source.{SourceState}
+use Rattle.download_segments.specs.Decoding.{blocks_in}
+use Rattle.download_segments.specs.State.{ProvesSegment}
+use Rattle.download_file.specs.State.{FileState, GroupState, IsReader, ReaderState}
+
+-- the answer to the request at a place is these bytes
+pub record AnsweredWith (entries : List Request) (place : ℕ) (bytes : List ℕ) : Type 0 where
+  pub request : Request
+  pub there : slice_get entries place ≡ Some request
+  pub answer : request.outcome ≡ Answered (Data bytes)
+
+-- bytes of this length are
+abbrev pub IsAnswered : List Request → ℕ → ℕ → Type 0
+IsAnswered entries place len =
+    (bytes : List ℕ) × AnsweredWith entries place bytes × (length bytes ≡ len)
+
+-- the bytes that are the answer to the request at a place
+abbrev pub bytes_in : Outcome → List ℕ
+bytes_in (Answered (Data bytes)) = bytes
+bytes_in outcome = []
+
+abbrev pub bytes_of : Option Request → List ℕ
+bytes_of None = []
+bytes_of (Some request) = bytes_in request.outcome
+
+abbrev pub answer_at : List Request → ℕ → List ℕ
+answer_at entries place = bytes_of (slice_get entries place)
+
+-- the block of a segment, of the answers that its source holds
+abbrev pub block_of : List Request → SourceState → ℕ → List ℕ
+block_of entries s number =
+    joined_block s.geometry s.first number (map (answer_at entries) (block_places s number))
+
+abbrev pub block_in : List Request → ℕ → Option ReaderState → List ℕ
+block_in entries number None = []
+block_in entries number (Some r) = block_of entries r.source number
+
+-- the blocks of a segment that the readers at these places hold, one after another
+abbrev pub blocks_of : List Request → List ReaderState → ℕ → List ℕ → List ℕ
+blocks_of entries readers number places =
+    flat_map (λ place. block_in entries number (slice_get readers place)) places
+
+-- each piece of the data that the source holds is an answer of its length
+abbrev pub HoldsAnswers : List Request → SourceState → Type 0
+HoldsAnswers entries s = (k : ℕ) → k < length s.held
+    → IsAnswered entries (slice_index_or s.held k 0) (length_of s.geometry s.first s.end (parts.Data k))
+
+-- the blocks of a segment that the readers of a group hold decode to what is proved
+pub record IsMade (entries : List Request) (f : FileState) (group : GroupState) (number : ℕ)
+    : Type 0 where
+  pub held : (place : ℕ) (r : ReaderState) → Contains group.readers place → IsReader f place r
+      → IsHeld r.source number
+  pub segment : List ℕ
+  pub decodes : DecodesBlocks f.handout.geometry group.decoding.numbers
+      (blocks_in f.handout.geometry number (blocks_of entries f.readers number group.readers))
+      number segment
+  pub proved : ProvesSegment f.handout number segment
+
+-- the readers hold answers of this record, and each segment of a group was made of them
+pub record IsRead (entries : List Request) (f : FileState) : Type 0 where
+  pub held : (place : ℕ) (r : ReaderState) → IsReader f place r → HoldsAnswers entries r.source
+  pub made : (group : GroupState) (number : ℕ) → Contains f.groups group → group.first ≤ number
+      → number < group.end → IsMade entries f group number
+
+-- what was answered stays
+abbrev pub KeepsAnswers : List Request → List Request → Type 0
+KeepsAnswers old new = (place : ℕ) (request : Request) (body : Body)
+    → slice_get old place ≡ Some request → request.outcome ≡ Answered body
+    → slice_get new place ≡ Some request

@@ -1,0 +1,9 @@
+-- what public contracts rest on
+pub mod State
+pub mod Answers
+pub mod Right
+pub mod Asked
+pub mod Taking
+pub mod Making
+pub mod Changes
+pub mod Laws

@@ -1,0 +1,48 @@
+-- What becomes of the next segment of a file.
+use Rattle.std.specs.Prelude.{◌≡◌, ◌⊎◌, ℕ, ◌<◌, List, length, Some}
+use Rattle.request_record.specs.declared.requests.Request.{Request}
+use Rattle.share_layout.specs.Pieces.{block_length}
+use Rattle.merkle.specs.Partial.{PartialState}
+use Rattle.download_trees.specs.Trees.{RefutesBlock}
+use Rattle.download_source.specs.Blocks.{IsHeld}
+use Rattle.download_segments.specs.Handout.{handed_out, next_segment}
+use Rattle.download_segments.specs.State.{ProvesSegment}
+use Rattle.download_file.specs.State.{FileState, IsComplete, IsLive, IsReader, ReaderState}
+use Rattle.download_file.specs.State.{first_waiting}
+use Rattle.download_file.specs.Answers.{block_of}
+use Rattle.download_file.specs.Asked.{IsAskedUp}
+
+-- something waits of a reader that is read
+pub record SomeWaits (f : FileState) : Type 0 where
+  pub reader : ℕ
+  pub live : IsLive f reader
+  pub place : ℕ
+  pub first : first_waiting f reader ≡ Some place
+
+-- Why no segment is made now: none is wanted, or too few shares are read, or, where all that is
+-- wanted of these for the next segment is asked, something waits of one of them.
+abbrev pub CanNotGoOn : FileState → Type 0
+CanNotGoOn f = IsComplete f ⊎ (length f.live < f.handout.geometry.needed)
+    ⊎ (((reader : ℕ) → IsLive f reader → IsAskedUp f reader) → SomeWaits f)
+
+-- the block of the next segment, of the answers that a reader holds, is not the one whose hash the
+-- reader's block tree tells
+pub record RefutesReader (entries : List Request) (f : FileState) (reader : ℕ) : Type 0 where
+  pub live : IsLive f reader
+  pub r : ReaderState
+  pub there : IsReader f reader r
+  pub number : ℕ
+  pub next : next_segment f.handout ≡ Some number
+  pub held : IsHeld r.source number
+  pub tree : PartialState
+  pub is : r.source.tree ≡ Some tree
+  pub long : length (block_of entries r.source number) ≡ block_length f.handout.geometry number
+  pub refuted : RefutesBlock tree number (block_of entries r.source number)
+
+-- a piece is made of the next segment, which is proved
+pub record MakesNext (old new : FileState) : Type 0 where
+  pub number : ℕ
+  pub segment : List ℕ
+  pub next : next_segment old.handout ≡ Some number
+  pub proved : ProvesSegment old.handout number segment
+  pub handed : new.handout ≡ handed_out old.handout segment

@@ -1,0 +1,95 @@
+-- What holds of each file that is read.
+use Rattle.std.specs.Prelude.{◌≡◌, ◌≢◌, ℕ, ◌+◌, ◌-◌, ◌/◌, ◌<◌, ◌≤◌, List, [], ◌∷◌, length, map}
+use Rattle.std.specs.Prelude.{Some, IfSome, All, unwrap_or, slice_get}
+use Rattle.download_plan.specs.Plan.{IsNodePiece}
+use Rattle.download_plan.specs.Range.{IsRange}
+use Rattle.download_plan.specs.declared.part.NodePiece.{NodePiece}
+use Rattle.download_plan.specs.declared.part.Part.TheVariants.{CiphertextTree}
+use Rattle.download_trees.specs.Trees.{IsBlockRoot}
+use Rattle.download_source.specs.Asking.{IsAsked, IsReadOf}
+use Rattle.download_source.specs.Cursors.{LeadOn, cursor_at}
+use Rattle.download_source.specs.Laws.{KnowsPiece}
+use Rattle.download_source.specs.Source.{IsSource}
+use Rattle.download_segments.specs.Decoding.{IsDecoding}
+use Rattle.download_segments.specs.Handout.{next_segment}
+use Rattle.download_segments.specs.State.{IsHandout}
+use Rattle.download_file.specs.State.{FileState, GroupState, IsLive, IsReader, ReaderState}
+use Rattle.download_file.specs.State.{giver, waiting_parts}
+
+-- It reads one share of this file, by the plan of the download, from a segment on that is not
+-- behind the next. The root of its block tree is the one that the share tree tells.
+pub record IsReaderOf (f : FileState) (r : ReaderState) : Type 0 where
+  pub source : IsSource r.source
+  pub geometry : r.source.geometry ≡ f.handout.geometry
+  pub start : r.source.start ≡ f.first
+  pub end : r.source.end ≡ f.end
+  pub begun : (number : ℕ) → next_segment f.handout ≡ Some number → r.source.first ≤ number
+  pub share : r.share < f.handout.geometry.total
+  pub root : IfSome r.source.tree (λ tree. IsBlockRoot f.handout.ueb.share_root_hash
+      f.handout.ueb.total_shares r.share tree.root)
+
+-- they rise, the first of them at this place or behind it
+abbrev pub RiseFrom : ℕ → List ℕ → Type 0
+RiseFrom low [] = Unit {0}
+RiseFrom low (place ∷ places) = (low ≤ place) × RiseFrom (place + 1) places
+
+-- The readers that are read: at most as many as are needed, and of different shares. The parts that
+-- wait of each lead from what was taken of it to what was asked.
+pub record AreLive (f : FileState) : Type 0 where
+  pub rise : RiseFrom 0 f.live
+  pub there : All (λ place. place < length f.readers) f.live
+  pub few : length f.live ≤ f.handout.geometry.needed
+  pub different : (i j : ℕ) (r s : ReaderState) → IsLive f i → IsLive f j → i < j
+      → IsReader f i r → IsReader f j s → r.share ≢ s.share
+  pub waits : (place : ℕ) (r : ReaderState) → IsLive f place → IsReader f place r
+      → LeadOn r.source.taken (waiting_parts r.waiting) r.source.asked
+  pub reads : (place : ℕ) (r : ReaderState) → IsLive f place → IsReader f place r
+      → All (λ w. IsReadOf r.source w.wanted) r.waiting
+
+-- The ciphertext tree is read of the giver, from the pieces on that were taken already. Those are
+-- known. A reader behind the giver was never asked for any of it.
+pub record GivesTree (f : FileState) : Type 0 where
+  pub levels : length f.taken ≡ 3
+  pub pieces : (p : NodePiece) → p.index < cursor_at f.taken p.level
+      → IsNodePiece f.handout.geometry f.first f.end p
+  pub known : (p : NodePiece) → p.index < cursor_at f.taken p.level
+      → KnowsPiece f.handout.geometry f.first f.end f.handout.trees.ciphertext p
+  pub at_giver : (place : ℕ) (r : ReaderState) → giver f ≡ Some place → IsReader f place r
+      → r.source.taken.ciphertext_tree ≡ f.taken
+  pub behind : (place behind : ℕ) (r : ReaderState) (p : NodePiece) → giver f ≡ Some place
+      → place < behind → IsReader f behind r → ¬ IsAsked r.source (CiphertextTree p)
+
+-- the number behind that of the last segment that was made
+abbrev pub made_end : FileState → ℕ
+made_end f = unwrap_or (next_segment f.handout) f.end
+
+-- the groups follow one another, from a segment to before another
+abbrev pub AreConsecutive : ℕ → List GroupState → ℕ → Type 0
+AreConsecutive from [] end = from ≡ end
+AreConsecutive from (group ∷ groups) end =
+    (group.first ≡ from) × (group.first ≤ group.end) × AreConsecutive group.end groups end
+
+-- the shares of these readers have these numbers
+abbrev pub HaveNumbers : FileState → List ℕ → List ℕ → Type 0
+HaveNumbers f [] numbers = numbers ≡ []
+HaveNumbers f (place ∷ places) [] = ⊥
+HaveNumbers f (place ∷ places) (n ∷ ns) =
+    ((r : ReaderState) × IsReader f place r × (r.share ≡ n)) × HaveNumbers f places ns
+
+-- a group of this file
+pub record IsGroup (f : FileState) (group : GroupState) : Type 0 where
+  pub geometry : group.decoding.geometry ≡ f.handout.geometry
+  pub decoding : IsDecoding group.decoding
+  pub numbers : HaveNumbers f group.readers group.decoding.numbers
+
+pub record IsFile (f : FileState) : Type 0 where
+  pub handout : IsHandout f.handout
+  pub range : IsRange f.handout.geometry f.first f.end
+  pub last : f.end ≡ (f.handout.to - 1) / f.handout.geometry.segment_size + 1
+  pub next : (number : ℕ) → next_segment f.handout ≡ Some number
+      → (f.first ≤ number) × (number < f.end)
+  pub readers : (place : ℕ) (r : ReaderState) → IsReader f place r → IsReaderOf f r
+  pub live : AreLive f
+  pub ciphertext : GivesTree f
+  pub groups : All (IsGroup f) f.groups
+  pub in_order : AreConsecutive f.first f.groups (made_end f)

@@ -1,0 +1,98 @@
+-- What is read of a file whose extension block is accepted.
+use Rattle.std.specs.Prelude.{◌≡◌, ◌≢◌, ℕ, ◌+◌, ◌-◌, ◌/◌, List, [], ◌∷◌, ◌++◌, map}
+use Rattle.std.specs.Prelude.{Option, Some, None, slice_get, filter, not, ◌==◌, Contains}
+use Rattle.ueb.specs.Shape.{Contents}
+use Rattle.share_layout.specs.Geometry.{Geometry}
+use Rattle.download_plan.specs.declared.part.Part.{Part}
+use Rattle.download_source.specs.Source.{SourceState}
+use Rattle.download_source.specs.declared.wanted.Wanted.{Wanted}
+use Rattle.download_segments.specs.Decoding.{DecodingState}
+use Rattle.download_segments.specs.State.{HandoutState, starting_handout}
+use Rattle.download_file.specs.declared.reader.Waiting.{Waiting}
+
+-- A share that is read. What waits are the parts that were asked of it and not taken yet, in order,
+-- each with the place of the request that asked it.
+pub record ReaderState : Type 0 where
+  pub share : ℕ
+  pub source : SourceState
+  pub waiting : List Waiting
+
+-- the segments `first` to before `end` were made of the blocks of these readers, in this order
+pub record GroupState : Type 0 where
+  pub first : ℕ
+  pub end : ℕ
+  pub readers : List ℕ
+  pub decoding : DecodingState
+
+-- The segments `first` to before `end` are wanted. `taken`: how many pieces of each level of the
+-- ciphertext tree were taken. `readers`: all readers, in the order in which they were begun.
+-- `live`: the places of those that are read. `groups`: what the segments were made of, in order.
+pub record FileState : Type 0 where
+  pub handout : HandoutState
+  pub first : ℕ
+  pub end : ℕ
+  pub taken : List ℕ
+  pub readers : List ReaderState
+  pub live : List ℕ
+  pub groups : List GroupState
+
+-- the bytes from a place up to another are wanted, and nothing is read yet
+abbrev pub new_file : List ℕ → Contents → Geometry → ℕ → ℕ → FileState
+new_file key u g from to = record {
+  handout = starting_handout key u g from to;
+  first = from / g.segment_size;
+  end = (to - 1) / g.segment_size + 1;
+  taken = 0 ∷ 0 ∷ 0 ∷ [];
+  readers = [];
+  live = [];
+  groups = [];
+}
+
+-- all that is wanted was made
+abbrev pub IsComplete : FileState → Type 0
+IsComplete f = f.handout.reached ≡ f.handout.to
+
+-- the reader at a place
+abbrev pub IsReader : FileState → ℕ → ReaderState → Type 0
+IsReader f place r = slice_get f.readers place ≡ Some r
+
+-- it is read
+abbrev pub IsLive : FileState → ℕ → Type 0
+IsLive f place = Contains f.live place
+
+-- The giver of the ciphertext tree is the oldest reader that is read.
+abbrev pub giver : FileState → Option ℕ
+giver f = slice_get f.live 0
+
+-- the numbers of the shares, in the readers' order
+abbrev pub shares : FileState → List ℕ
+shares f = map (λ r. r.share) f.readers
+
+-- what waits of a reader
+abbrev pub waiting_in : Option ReaderState → List Waiting
+waiting_in None = []
+waiting_in (Some r) = r.waiting
+
+abbrev pub waiting_at : FileState → ℕ → List Waiting
+waiting_at f reader = waiting_in (slice_get f.readers reader)
+
+abbrev pub first_place : List Waiting → Option ℕ
+first_place [] = None
+first_place (w ∷ ws) = Some w.place
+
+-- the place of the answer that is taken next of a reader
+abbrev pub first_waiting : FileState → ℕ → Option ℕ
+first_waiting f reader = first_place (waiting_at f reader)
+
+-- the parts that wait
+abbrev pub waiting_parts : List Waiting → List Part
+waiting_parts waiting = map (λ w. w.wanted.part) waiting
+
+-- parts that are asked by one request after another, the first at this place
+abbrev pub placed : ℕ → List Wanted → List Waiting
+placed place [] = []
+placed place (w ∷ ws) = record { place = place; wanted = w } ∷ placed (place + 1) ws
+
+-- these readers without one
+abbrev pub without : ℕ → List ℕ → List ℕ
+without reader readers = filter (λ (r : ℕ). not (r == reader)) readers

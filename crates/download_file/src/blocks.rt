@@ -1,0 +1,100 @@
+//! The blocks of a segment, of the answers in the record.
+
+ghost use Rattle.std.specs.Prelude.{◌≡◌, ◌<◌, ◌++◌, ◌*◌, IfOk, OnOk, List, ℕ, All, length};
+ghost use Rattle.share_layout.specs.Pieces.{block_length};
+ghost use Rattle.download_source.specs.Blocks.{IsHeld};
+ghost use Rattle.download_file.specs.Answers.{answer_at, block_of, blocks_of};
+
+use crate::reader::Reader;
+use download_source::Source;
+use request_record::requests::{Outcome, Requests};
+use std::alloc::{AllocError, Global};
+use wire::message::Body;
+
+// The bytes that are the answer to the request at a place, and none where they are not.
+fn answer_at(requests: &Requests, place: usize) -> &[u8]
+    ensures { result.now ≡ answer_at requests.now.entries place }
+{
+    match requests.entries().get(place) {
+        Some(request) => match &request.outcome {
+            Outcome::Answered(Body::Data(bytes)) => bytes.as_slice(),
+            _ => &[],
+        },
+        None => &[],
+    }
+}
+
+/// The blocks of a segment that the readers at these places hold, one after another, each of this
+/// length.
+pub(crate) fn join_blocks(
+    alloc: Global,
+    requests: &Requests,
+    readers: &[Reader],
+    places: &[usize],
+    number: u32,
+    length: u32,
+) -> Result<Vec<u8>, AllocError>
+    ensures { IfOk result (λ joined.
+        joined.items ≡ blocks_of requests.now.entries readers.now number places.now) }
+{
+    let room = places.len().saturating_mul(length as usize);
+    let mut joined = Vec::with_capacity(alloc, room)?;
+    for place in places {
+        push_block(requests, readers[*place].source(), number, length, &mut joined)?;
+    }
+    Ok(joined)
+}
+
+// Adds the block of a segment, which has this length.
+fn push_block(
+    requests: &Requests,
+    source: &Source,
+    number: u32,
+    length: u32,
+    joined: &mut Vec<u8>,
+) -> Result<(), AllocError>
+    ensures { OnOk result (joined.new.items
+        ≡ joined.old.items ++ block_of requests.now.entries source.now number) }
+{
+    let mut skipped = source.block_offset(number) as usize;
+    let mut left = length as usize;
+    for place in source.block_places(number) {
+        let bytes = answer_at(requests, *place);
+        let from = skipped.min(bytes.len());
+        let upto = bytes.len().min(from.saturating_add(left));
+        joined.extend_from_slice(&bytes[from..upto])?;
+        left -= upto - from;
+        skipped -= from;
+    }
+    Ok(())
+}
+
+/// The first of the readers at these places whose block of a segment is not the one that its block
+/// tree tells. The blocks stand one after another, each of this length.
+pub(crate) fn find_wrong(
+    readers: &[Reader],
+    places: &[usize],
+    number: u32,
+    joined: &[u8],
+    length: u32,
+) -> Option<usize> {
+    let mut rest = joined;
+    for place in places {
+        let (block, others) = rest.split_at(length as usize);
+        if !readers[*place].source().proves(number, block) {
+            return Some(*place);
+        }
+        rest = others;
+    }
+    None
+}
+
+/// Whether each of the readers at these places has the block of a segment, and knows its hash.
+pub(crate) fn are_ready(readers: &[Reader], places: &[usize], number: u32) -> bool {
+    for place in places {
+        if !readers[*place].source().is_ready(number) {
+            return false;
+        }
+    }
+    true
+}

@@ -1,0 +1,493 @@
+//! The file of a download whose extension block is accepted.
+
+ghost use Rattle.std.specs.Prelude.{◌≡◌, ◌≢◌, ℕ, ◌+◌, ◌-◌, ◌/◌, ◌<◌, ◌≤◌, ◌++◌, ◌∷◌, ◌↔◌, [], List};
+ghost use Rattle.std.specs.Prelude.{All, Contains, Err, IfOk, IfSome, IsSome, IsTrue, Ok, OnErr};
+ghost use Rattle.std.specs.Prelude.{OnOk, Some, drop, length, map, slice_get};
+ghost use Rattle.std.specs.List.{range_with_len};
+ghost use Rattle.request_record.specs.declared.requests.Request.{Request};
+ghost use Rattle.share_layout.specs.Geometry.{segment_count};
+ghost use Rattle.share_verify.specs.CapBlock.{geometry_by};
+ghost use Rattle.proved_parts.specs.Parts.{IsSegmentBy};
+ghost use Rattle.download_segments.specs.Handout.{TakesPiece, next_segment};
+ghost use Rattle.download_segments.specs.NoCodeWord.{IsNoCodeWord};
+ghost use Rattle.download_file.specs.Answers.{AnsweredWith, IsRead};
+ghost use Rattle.download_file.specs.Asked.{AsksNoMore, AsksParts, IsAskedUp};
+ghost use Rattle.download_file.specs.Changes.{HandsNothing, IsSameFile, OthersWait, StaysAskedUp};
+ghost use Rattle.download_file.specs.Changes.{StaysRead};
+ghost use Rattle.download_file.specs.Making.{CanNotGoOn, MakesNext, RefutesReader};
+ghost use Rattle.download_file.specs.Right.{IsFile, made_end};
+ghost use Rattle.download_file.specs.State.{IsComplete, IsLive, IsReader, ReaderState};
+ghost use Rattle.download_file.specs.State.{first_waiting, giver, new_file, placed, shares};
+ghost use Rattle.download_file.specs.State.{waiting_at, without};
+ghost use Rattle.download_file.specs.Taking.{IsRefused};
+
+use crate::blocks::{are_ready, find_wrong, join_blocks};
+use crate::evidence::evidence_of;
+use crate::group::Group;
+use crate::reader::Reader;
+use download_plan::{NodePiece, Part, Plan};
+use download_segments::{Decoding, Handout, Piece};
+use download_source::Wanted;
+use download_trees::TreeFault;
+use proved_parts::EvidencePart;
+use request_record::requests::Requests;
+use share_layout::Geometry;
+use share_verify::Check;
+use std::alloc::{AllocError, Global};
+use std::collections::VecDeque;
+use std::marker::Model;
+use ueb::Ueb;
+
+/// How many bytes of segments are asked ahead.
+const WINDOW: u32 = 4_194_304;
+
+/// What became of the next segment.
+#[derive(Clone, Copy, PartialEq, Eq)]
+pub enum Made {
+    /// It is not made now.
+    Waits,
+    /// A piece of it is ready.
+    Ready,
+    /// The block of the reader at this place is not the one that its block tree tells.
+    Wrong(usize),
+    /// Its blocks were right, and it is not the segment whose hash is known: the file is no code
+    /// word.
+    Inconsistent,
+}
+
+/// A file whose extension block is accepted: the shares of it that are read, and the segments that
+/// are made of their blocks.
+#[derive(Drop)]
+pub struct File {
+    alloc: Global,
+    handout: Handout,
+    plan: Plan,
+    // How many pieces of each level of the ciphertext tree were taken.
+    taken: [u32; 3],
+    readers: Vec<Reader>,
+    live: Vec<usize>,
+    groups: Vec<Group>,
+}
+
+impl Model for File {
+    ghost use Rattle.std.specs.Prelude.{◌≡◌};
+    ghost use Rattle.download_file.specs.Right.{IsFile};
+    ghost use Rattle.download_file.specs.State.{FileState};
+
+    ghost Value = { FileState };
+
+    ghost view = { λ f. record {
+      handout = f.handout;
+      first = f.plan.first;
+      end = f.plan.end;
+      taken = f.taken;
+      readers = f.readers.items;
+      live = f.live.items;
+      groups = f.groups.items;
+    } };
+
+    ghost invariant = { λ f.
+        IsFile (record {
+          handout = f.handout;
+          first = f.plan.first;
+          end = f.plan.end;
+          taken = f.taken;
+          readers = f.readers.items;
+          live = f.live.items;
+          groups = f.groups.items;
+        })
+        × (f.plan.geometry ≡ f.handout.geometry) };
+}
+
+impl File {
+    /// The bytes from the place `from` up to `to` of a file are wanted. The key decrypts them.
+    /// Nothing is read yet.
+    pub fn new(
+        alloc: Global,
+        key: &[u8; 16],
+        ueb: &Ueb,
+        geometry: &Geometry,
+        from: u64,
+        to: u64,
+    ) -> Result<File, AllocError>
+        requires geometry { geometry.now ≡ geometry_by ueb.now }
+        requires some { from < to }
+        requires inside { to ≤ geometry.now.size }
+        ensures file { IfOk result (λ file. file ≡ new_file key.now ueb.now geometry.now from to) }
+        ensures reads { IfOk result (λ file. (entries : List Request) → IsRead entries file) }
+        ensures right { IfOk result IsFile }
+    {
+        Ok(File {
+            alloc,
+            handout: Handout::new(alloc, key, ueb, geometry, from, to)?,
+            plan: plan_of(geometry, from, to),
+            taken: [0; 3],
+            readers: Vec::new(alloc),
+            live: Vec::new(alloc),
+            groups: Vec::new(alloc),
+        })
+    }
+
+    /// The geometry of the file.
+    pub fn geometry(&self) -> &Geometry
+        ensures value { result.now ≡ self.now.handout.geometry }
+        ensures right { IsFile self.now }
+    {
+        &self.plan.geometry
+    }
+
+    /// Whether all that is wanted was made.
+    pub fn is_complete(&self) -> bool
+        ensures complete { IsTrue result ↔ IsComplete self.now }
+        ensures right { IsFile self.now }
+    {
+        self.handout.is_complete()
+    }
+
+    /// The places of the readers that are read, rising.
+    pub fn live(&self) -> &[usize]
+        ensures value { result.now ≡ self.now.live }
+        ensures right { IsFile self.now }
+    {
+        self.live.as_slice()
+    }
+
+    /// A share is read from the next segment on. Gives the place of its reader.
+    pub fn begin(&mut self, share: u8) -> Result<usize, AllocError>
+        requires more { ¬ IsComplete self.old }
+        requires there { share < self.old.handout.geometry.total }
+        requires unread { (reader : ℕ) → (r : ReaderState) → IsLive self.old reader
+            → IsReader self.old reader r → r.share ≢ share }
+        requires few { length self.old.live < self.old.handout.geometry.needed }
+        ensures place { IfOk result (λ reader. reader ≡ length self.old.readers) }
+        ensures shares { OnOk result (shares self.new ≡ shares self.old ++ share ∷ []) }
+        ensures live { OnOk result (self.new.live ≡ self.old.live ++ length self.old.readers ∷ []) }
+        ensures waiting { (reader : ℕ) → waiting_at self.new reader ≡ waiting_at self.old reader }
+        ensures asked { AsksNoMore self.old self.new }
+        ensures asked_up { (reader : ℕ) → IsLive self.old reader
+            → StaysAskedUp self.old self.new reader }
+        ensures reads { StaysRead self.old self.new }
+        // Nothing else changes.
+        ensures handout { self.new.handout ≡ self.old.handout }
+        ensures same { IsSameFile self.old self.new }
+        ensures unchanged { OnErr result (self.new ≡ self.old) }
+        ensures right { IsFile self.new }
+    {
+        let Some(next) = self.handout.next() else {
+            unreachable!();
+        };
+        let reader = self.readers.len();
+        let mut begun = Reader::new(self.alloc, &self.plan, next, share);
+        if self.live.is_empty() {
+            begun.give(&self.taken);
+        }
+        self.readers.reserve(1)?;
+        self.live.push(reader)?;
+        self.readers.push_reserved(begun);
+        Ok(reader)
+    }
+
+    /// A reader is read no more, for ever. What it was asked and has not answered does not wait any
+    /// more. What was taken of it stays.
+    pub fn end(&mut self, reader: usize)
+        requires live { IsLive self.old reader }
+        ensures live { self.new.live ≡ without reader self.old.live }
+        ensures shares { shares self.new ≡ shares self.old }
+        ensures none { waiting_at self.new reader ≡ [] }
+        ensures others { OthersWait self.old reader self.new }
+        ensures asked { AsksNoMore self.old self.new }
+        // Another giver of the ciphertext tree is to be asked for what was not taken.
+        ensures asked_up { giver self.old ≢ Some reader → (other : ℕ) → other ≢ reader
+            → StaysAskedUp self.old self.new other }
+        ensures reads { StaysRead self.old self.new }
+        // Nothing else changes.
+        ensures handout { self.new.handout ≡ self.old.handout }
+        ensures same { IsSameFile self.old self.new }
+        ensures right { IsFile self.new }
+    {
+        end_reader(&mut self.readers, &mut self.live, &self.taken, reader);
+    }
+
+    /// What a reader that is read is to be asked now, one part after another: the first by the
+    /// request at this place, and each other by the request behind. It waits from now on.
+    /// Where memory is refused the reader is read no more.
+    pub fn wanted(&mut self, reader: usize, place: usize) -> Result<Vec<Wanted>, AllocError>
+        requires live { IsLive self.old reader }
+        ensures asks { IfOk result (λ wanted.
+            AsksParts self.old reader wanted.items self.new) }
+        ensures waits { IfOk result (λ wanted. waiting_at self.new reader
+            ≡ waiting_at self.old reader ++ placed place wanted.items) }
+        // All that is wanted for the next segment is asked.
+        ensures asked_up { OnOk result (IsAskedUp self.new reader) }
+        ensures others_asked_up { OnOk result ((other : ℕ)
+            → StaysAskedUp self.old self.new other) }
+        ensures live { OnOk result (self.new.live ≡ self.old.live) }
+        ensures shares { shares self.new ≡ shares self.old }
+        ensures others { OthersWait self.old reader self.new }
+        ensures reads { StaysRead self.old self.new }
+        // Nothing else changes.
+        ensures handout { self.new.handout ≡ self.old.handout }
+        ensures same { IsSameFile self.old self.new }
+        ensures right { IsFile self.new }
+    {
+        let Some(next) = self.handout.next() else {
+            return Ok(Vec::new(self.alloc));
+        };
+        let last = last_asked(&self.plan, next);
+        let gives = self.live.first() == Some(&reader);
+        match self.readers[reader].ask(self.alloc, gives, last, place) {
+            Ok(wanted) => Ok(wanted),
+            Err(error) => {
+                end_reader(&mut self.readers, &mut self.live, &self.taken, reader);
+                Err(error)
+            }
+        }
+    }
+
+    /// The place of the request whose answer is taken next of a reader. `None` where nothing waits.
+    pub fn first_waiting(&self, reader: usize) -> Option<usize>
+        ensures value { result ≡ first_waiting self.now reader }
+        ensures right { IsFile self.now }
+    {
+        let first = self.readers.get(reader)?.first()?;
+        Some(first.place)
+    }
+
+    /// Takes the answer to the first request that waits of a reader. The answer is refused with the
+    /// check that it does not pass; then nothing changes.
+    pub fn take(&mut self, reader: usize, bytes: &[u8]) -> Result<(), TreeFault>
+        requires live { IsLive self.old reader }
+        requires waits { IsSome (first_waiting self.old reader) }
+        ensures taken { OnOk result
+            (waiting_at self.new reader ≡ drop 1 (waiting_at self.old reader)) }
+        // When it is refused.
+        ensures refused { (check : Check) → result ≡ Err (TreeFault.Check check)
+            → IsRefused self.old reader bytes.now check }
+        ensures unchanged { OnErr result (self.new ≡ self.old) }
+        ensures live { self.new.live ≡ self.old.live }
+        ensures shares { shares self.new ≡ shares self.old }
+        ensures others { OthersWait self.old reader self.new }
+        ensures asked { AsksNoMore self.old self.new }
+        ensures asked_up { (other : ℕ) → StaysAskedUp self.old self.new other }
+        ensures reads { (entries : List Request) → (place : ℕ) → IsRead entries self.old
+            → first_waiting self.old reader ≡ Some place → AnsweredWith entries place bytes.now
+            → IsRead entries self.new }
+        // Nothing else changes.
+        ensures handout { HandsNothing self.old self.new }
+        ensures same { IsSameFile self.old self.new }
+        ensures right { IsFile self.new }
+    {
+        let Some(first) = self.readers[reader].first() else {
+            unreachable!();
+        };
+        if bytes.len() != first.wanted.read.length as usize {
+            return Err(TreeFault::Check(Check::Layout));
+        }
+        match first.wanted.part {
+            Part::ShareHashes => self.take_share_hashes(reader, bytes),
+            Part::BlockTree(piece) => self.readers[reader].take_nodes(self.alloc, &piece, bytes),
+            Part::CiphertextTree(piece) => self.take_ciphertext(reader, &piece, bytes),
+            Part::Data(_) => self.take_data(reader, first.place),
+        }
+    }
+
+    // Takes the share hashes.
+    fn take_share_hashes(&mut self, reader: usize, bytes: &[u8]) -> Result<(), TreeFault> {
+        let share = u16::from(self.readers[reader].share());
+        let tree = self.handout.take_share_hashes(share, bytes)?;
+        self.readers[reader].take_tree(tree);
+        Ok(())
+    }
+
+    // Takes a piece of the ciphertext tree.
+    fn take_ciphertext(
+        &mut self,
+        reader: usize,
+        piece: &NodePiece,
+        bytes: &[u8],
+    ) -> Result<(), TreeFault> {
+        let nodes = self.plan.nodes(piece);
+        self.handout.take_nodes(&nodes, bytes)?;
+        self.readers[reader].take_ciphertext(piece);
+        self.taken[piece.level as usize] = piece.index + 1;
+        Ok(())
+    }
+
+    // Takes a piece of the data, which is the answer at this place.
+    fn take_data(&mut self, reader: usize, place: usize) -> Result<(), TreeFault> {
+        self.readers[reader].take_data(place)?;
+        Ok(())
+    }
+
+    /// Makes a piece of the next segment, where all its blocks were taken and are right. The record
+    /// is the one that the answers that were taken are in.
+    pub fn make_next(&mut self, requests: &Requests) -> Result<Made, AllocError>
+        requires reads { IsRead requests.now.entries self.old }
+        ensures ready { result ≡ Ok Made.Ready → MakesNext self.old self.new }
+        ensures wrong { (reader : ℕ) → result ≡ Ok (Made.Wrong reader)
+            → RefutesReader requests.now.entries self.old reader }
+        ensures inconsistent { result ≡ Ok Made.Inconsistent
+            → IsNoCodeWord self.old.handout.ueb }
+        ensures waits { result ≡ Ok Made.Waits → CanNotGoOn self.old }
+        // Only where it is ready is anything handed out.
+        ensures same_handout { result ≢ Ok Made.Ready → self.new.handout ≡ self.old.handout }
+        ensures asked_up { result ≢ Ok Made.Ready → (reader : ℕ)
+            → StaysAskedUp self.old self.new reader }
+        ensures reads { IsRead requests.now.entries self.new }
+        // Nothing else changes.
+        ensures live { self.new.live ≡ self.old.live }
+        ensures readers { self.new.readers ≡ self.old.readers }
+        ensures asked { AsksNoMore self.old self.new }
+        ensures same { IsSameFile self.old self.new }
+        ensures right { IsFile self.new }
+    {
+        let Some(number) = self.handout.next() else {
+            return Ok(Made::Waits);
+        };
+        if self.live.len() != usize::from(self.plan.geometry.needed())
+            || !self.handout.knows(number)
+            || !are_ready(&self.readers, &self.live, number)
+        {
+            return Ok(Made::Waits);
+        }
+        let length = self.plan.geometry.block_length(number);
+        let joined = join_blocks(
+            self.alloc,
+            requests,
+            &self.readers,
+            &self.live,
+            number,
+            length,
+        )?;
+        if let Some(wrong) = find_wrong(&self.readers, &self.live, number, &joined, length) {
+            return Ok(Made::Wrong(wrong));
+        }
+        self.decode_next(number, &joined)
+    }
+
+    // Makes a piece of the next segment, of its blocks, one after another.
+    fn decode_next(&mut self, number: u32, joined: &[u8]) -> Result<Made, AllocError> {
+        begin_group(
+            self.alloc,
+            &mut self.groups,
+            &self.plan.geometry,
+            &self.readers,
+            &self.live,
+            number,
+        )?;
+        let last = self.groups.len() - 1;
+        let segment = self.groups[last].decoding.decode(self.alloc, number, joined)?;
+        if self.handout.hand_out(number, segment)? {
+            self.groups[last].end = number + 1;
+            Ok(Made::Ready)
+        } else {
+            Ok(Made::Inconsistent)
+        }
+    }
+
+    /// Takes the first piece, where one is ready.
+    pub fn take_piece(&mut self) -> Option<Piece>
+        ensures taken { TakesPiece self.old.handout result self.new.handout }
+        // Nothing else changes.
+        ensures rest { self.new ≡ record self.old { handout = self.new.handout } }
+        ensures asked { AsksNoMore self.old self.new }
+        ensures asked_up { (reader : ℕ) → StaysAskedUp self.old self.new reader }
+        ensures reads { StaysRead self.old self.new }
+        ensures same { IsSameFile self.old self.new }
+        ensures right { IsFile self.new }
+    {
+        self.handout.take()
+    }
+
+    /// What proves the segments that were made, one after another: a part for each. The record is
+    /// the one that the answers that were taken are in.
+    pub fn evidence_parts(
+        &self,
+        alloc: Global,
+        requests: &Requests,
+    ) -> Result<Vec<EvidencePart>, AllocError>
+        requires reads { IsRead requests.now.entries self.now }
+        ensures all { IfOk result (λ parts. map (λ (p : EvidencePart). p.number) parts.items
+            ≡ range_with_len self.now.first (made_end self.now - self.now.first)) }
+        ensures by { IfOk result (λ parts. All (λ (p : EvidencePart).
+            IsSegmentBy self.now.handout.ueb p.number p.segment p.path) parts.items) }
+        ensures right { IsFile self.now }
+    {
+        evidence_of(
+            alloc,
+            requests,
+            &self.handout,
+            &self.readers,
+            &self.groups,
+        )
+    }
+}
+
+// The plan for the segments that a range touches.
+fn plan_of(geometry: &Geometry, from: u64, to: u64) -> Plan
+    requires some { from < to }
+    requires inside { to ≤ geometry.now.size }
+    ensures geometry { result.geometry ≡ geometry.now }
+    ensures first { result.first ≡ from / geometry.now.segment_size }
+    ensures end { result.end ≡ (to - 1) / geometry.now.segment_size + 1 }
+{
+    let size = u64::from(geometry.segment_size());
+    let first = from / size;
+    let end = (to - 1) / size + 1;
+    Plan::of(geometry, first as u32, end as u32)
+}
+
+// The last segment that is asked for now.
+fn last_asked(plan: &Plan, next: u32) -> u32
+    requires { next < plan.now.end }
+    ensures from { next ≤ result }
+    ensures before { result < plan.now.end }
+{
+    let ahead = (WINDOW / plan.geometry.segment_size()).max(2);
+    next.saturating_add(ahead).min(plan.end) - 1
+}
+
+// A reader is read no more. Where it gave the ciphertext tree, the oldest that is still read gives
+// it, from what was taken on.
+fn end_reader(
+    readers: &mut [Reader],
+    live: &mut Vec<usize>,
+    taken: &[u32; 3],
+    reader: usize,
+) {
+    let gave = live.first() == Some(&reader);
+    readers[reader].stop();
+    live.retain(|place| !(*place == reader));
+    if gave {
+        if let Some(next) = live.first() {
+            readers[*next].give(taken);
+        }
+    }
+}
+
+// The last group is of the readers at these places.
+fn begin_group(
+    alloc: Global,
+    groups: &mut Vec<Group>,
+    geometry: &Geometry,
+    readers: &[Reader],
+    live: &[usize],
+    number: u32,
+) -> Result<(), AllocError> {
+    if let Some(group) = groups.last() {
+        if group.readers.as_slice() == live {
+            return Ok(());
+        }
+    }
+    let mut numbers = Vec::with_capacity(alloc, live.len())?;
+    for place in live {
+        numbers.push(u16::from(readers[*place].share()))?;
+    }
+    groups.push(Group {
+        first: number,
+        end: number,
+        readers: Vec::from_slice(alloc, live)?,
+        decoding: Decoding::new(alloc, geometry, numbers)?,
+    })?;
+    Ok(())
+}

@@ -1,0 +1,240 @@
+//! A share that is read.
+
+ghost use Rattle.std.specs.Prelude.{◌≡◌, ◌<◌, ◌≤◌, ◌↔◌, ◌++◌, [], true, false, IfOk, OnErr, OnOk, Some, Err};
+ghost use Rattle.std.specs.Prelude.{drop, length, slice_get};
+ghost use Rattle.share_layout.specs.Geometry.{segment_count};
+ghost use Rattle.download_plan.specs.Plan.{IsNodePiece, length_of};
+ghost use Rattle.download_trees.specs.Trees.{LeadTo};
+ghost use Rattle.download_source.specs.Asking.{AsksNow, IsAsked, IsWanted, IsWantedCiphertext};
+ghost use Rattle.download_source.specs.Asking.{OnlyAsks};
+ghost use Rattle.download_source.specs.Cursors.{cursor_at};
+ghost use Rattle.download_source.specs.Source.{IsSource, gives_from, new_source};
+ghost use Rattle.download_source.specs.Taking.{IsDue, RefutesPiece, TakesPiece, holds_more};
+ghost use Rattle.download_source.specs.Taking.{with_taken};
+ghost use Rattle.download_file.specs.State.{placed};
+
+use download_plan::{NodePiece, Part, Plan};
+use download_source::{Source, Wanted};
+use download_trees::{BlockTree, TreeFault};
+use share_verify::Check;
+use std::alloc::{AllocError, Global};
+use std::collections::VecDeque;
+use std::marker::Model;
+
+/// A part that was asked of a reader and not taken yet.
+#[derive(Clone, Copy, PartialEq, Eq)]
+pub struct Waiting {
+    /// The place of the request that asked it.
+    pub place: usize,
+    /// The part, and its bytes.
+    pub wanted: Wanted,
+}
+
+/// A share that is read.
+#[derive(Drop)]
+pub(crate) struct Reader {
+    share: u8,
+    source: Source,
+    waiting: VecDeque<Waiting>,
+}
+
+impl Model for Reader {
+    ghost use Rattle.download_file.specs.State.{ReaderState};
+
+    ghost Value = { ReaderState };
+
+    ghost view = { λ r. record {
+      share = r.share;
+      source = r.source;
+      waiting = r.waiting.items;
+    } };
+}
+
+impl Reader {
+    /// A reader of the segments from `first` on of a share with this number, in a download by this
+    /// plan. Nothing is asked of it yet.
+    pub(crate) fn new(alloc: Global, plan: &Plan, first: u32, share: u8) -> Reader
+        requires from { plan.now.first ≤ first }
+        requires before { first < plan.now.end }
+        ensures share { result.share ≡ share }
+        ensures source { result.source
+            ≡ new_source plan.now.geometry plan.now.first first plan.now.end }
+        ensures waiting { result.waiting ≡ [] }
+        ensures right { IsSource result.source }
+    {
+        Reader {
+            share,
+            source: Source::new(alloc, plan, first),
+            waiting: VecDeque::new(alloc),
+        }
+    }
+
+    /// The number of the share.
+    pub(crate) fn share(&self) -> u8
+        ensures { result ≡ self.now.share }
+    {
+        self.share
+    }
+
+    /// What was asked and taken of it.
+    pub(crate) fn source(&self) -> &Source
+        ensures { result.now ≡ self.now.source }
+    {
+        &self.source
+    }
+
+    /// The first part that waits.
+    pub(crate) fn first(&self) -> Option<Waiting>
+        ensures { result ≡ slice_get self.now.waiting 0 }
+    {
+        self.waiting.front().copied()
+    }
+
+    /// From now on it gives the ciphertext tree, from these pieces of each level on. It was asked
+    /// for none of it.
+    pub(crate) fn give(&mut self, taken: &[u32; 3])
+        requires none { (p : NodePiece) → ¬ IsAsked self.old.source (Part.CiphertextTree p) }
+        requires pieces { (p : NodePiece) → p.index < cursor_at taken.now p.level
+            → IsNodePiece self.old.source.geometry self.old.source.start self.old.source.end p }
+        ensures gives { self.new
+            ≡ record self.old { source = gives_from self.old.source taken.now } }
+        ensures asked { (part : Part)
+            → IsAsked self.new.source part ↔ IsAsked self.old.source part }
+        ensures right { IsSource self.new.source }
+    {
+        self.source.give_ciphertext(taken);
+    }
+
+    /// It is read no more.
+    pub(crate) fn stop(&mut self)
+        ensures { self.new ≡ record self.old { waiting = [] } }
+    {
+        self.waiting.clear();
+    }
+
+    /// What is to be asked of it for the segments up to this one, of the ciphertext tree too where
+    /// it gives that. It waits from now on, the first part at this place and the others behind.
+    pub(crate) fn ask(
+        &mut self,
+        alloc: Global,
+        gives: bool,
+        last: u32,
+        place: usize,
+    ) -> Result<Vec<Wanted>, AllocError>
+        ensures asks { IfOk result (λ wanted.
+            AsksNow self.old.source self.new.source wanted.items) }
+        ensures own { OnOk result ((part : Part)
+            → IsWanted self.old.source last part → IsAsked self.new.source part) }
+        ensures ciphertext { gives ≡ true → OnOk result ((part : Part)
+            → IsWantedCiphertext self.old.source last part → IsAsked self.new.source part) }
+        ensures waits { IfOk result (λ wanted.
+            self.new.waiting ≡ self.old.waiting ++ placed place wanted.items) }
+        // It is asked for the ciphertext tree only where it gives that.
+        ensures none { gives ≡ false → (p : NodePiece)
+            → IsAsked self.new.source (Part.CiphertextTree p)
+            → IsAsked self.old.source (Part.CiphertextTree p) }
+        ensures only { OnlyAsks self.old.source self.new.source }
+        ensures share { self.new.share ≡ self.old.share }
+        ensures right { IsSource self.new.source }
+    {
+        let mut wanted = self.source.wanted(alloc, last)?;
+        if gives {
+            let mut more = self.source.wanted_ciphertext(alloc, last)?;
+            wanted.append(&mut more)?;
+        }
+        wait_for(&mut self.waiting, place, &wanted)?;
+        Ok(wanted)
+    }
+
+    /// Takes the block tree that the share hashes tell the root of.
+    pub(crate) fn take_tree(&mut self, tree: BlockTree)
+        requires due { IsDue self.old.source Part.ShareHashes }
+        requires leads { LeadTo tree tree.root (segment_count self.old.source.geometry) }
+        ensures taken { self.new ≡ record self.old {
+          source = record (with_taken self.old.source Part.ShareHashes) { tree = Some tree };
+          waiting = drop 1 self.old.waiting;
+        } }
+        ensures right { IsSource self.new.source }
+    {
+        self.source.take_tree(tree);
+        drop_first(&mut self.waiting);
+    }
+
+    /// Takes a piece of the block tree, whose hashes are the bytes, 32 each.
+    pub(crate) fn take_nodes(
+        &mut self,
+        alloc: Global,
+        piece: &NodePiece,
+        bytes: &[u8],
+    ) -> Result<(), TreeFault>
+        requires due { IsDue self.old.source (Part.BlockTree piece.now) }
+        requires long { length bytes.now ≡ length_of self.old.source.geometry
+            self.old.source.first self.old.source.end (Part.BlockTree piece.now) }
+        ensures taken { OnOk result
+            (TakesPiece self.old.source piece.now bytes.now self.new.source) }
+        ensures share { self.new.share ≡ self.old.share }
+        ensures waiting { OnOk result (self.new.waiting ≡ drop 1 self.old.waiting) }
+        ensures refused { (check : Check) → result ≡ Err (TreeFault.Check check)
+            → (check ≡ Check.BlockTree) × RefutesPiece self.old.source piece.now bytes.now }
+        ensures unchanged { OnErr result (self.new ≡ self.old) }
+        ensures right { IsSource self.new.source }
+    {
+        self.source.take_nodes(alloc, piece, bytes)?;
+        drop_first(&mut self.waiting);
+        Ok(())
+    }
+
+    /// A piece of the ciphertext tree, which the share gave, is taken.
+    pub(crate) fn take_ciphertext(&mut self, piece: &NodePiece)
+        requires due { IsDue self.old.source (Part.CiphertextTree piece.now) }
+        ensures taken { self.new ≡ record self.old {
+          source = with_taken self.old.source (Part.CiphertextTree piece.now);
+          waiting = drop 1 self.old.waiting;
+        } }
+        ensures right { IsSource self.new.source }
+    {
+        self.source.take_ciphertext(piece);
+        drop_first(&mut self.waiting);
+    }
+
+    /// Takes the next piece of the data, which is the answer at this place.
+    pub(crate) fn take_data(&mut self, place: usize) -> Result<(), AllocError>
+        requires due { self.old.source.taken.data_piece < self.old.source.asked.data_piece }
+        ensures taken { OnOk result (self.new ≡ record self.old {
+          source = holds_more self.old.source place;
+          waiting = drop 1 self.old.waiting;
+        }) }
+        ensures unchanged { OnErr result (self.new ≡ self.old) }
+        ensures right { IsSource self.new.source }
+    {
+        self.source.take_data(place)?;
+        drop_first(&mut self.waiting);
+        Ok(())
+    }
+}
+
+// These parts wait from now on, the first at this place and the others behind.
+fn wait_for(
+    waiting: &mut VecDeque<Waiting>,
+    place: usize,
+    wanted: &[Wanted],
+) -> Result<(), AllocError>
+    ensures { OnOk result (waiting.new.items ≡ waiting.old.items ++ placed place wanted.now) }
+{
+    let mut place = place;
+    for part in wanted {
+        waiting.push_back(Waiting {
+            place,
+            wanted: *part,
+        })?;
+        place = place.checked_add(1).ok_or(AllocError)?;
+    }
+    Ok(())
+}
+
+// The first part waits no more.
+fn drop_first(waiting: &mut VecDeque<Waiting>)
+    ensures { waiting.new.items ≡ drop 1 waiting.old.items }
+{
+    let _ = waiting.pop_front();
+}
