@@ -13,7 +13,7 @@ use Rattle.download_plan.specs.declared.part.Part.TheVariants as parts
 use Rattle.download_source.specs.Blocks.{IsHeld, block_places, joined_block}
 use Rattle.download_source.specs.Source.{SourceState}
 use Rattle.download_segments.specs.Decoding.{blocks_in}
-use Rattle.download_segments.specs.State.{ProvesSegment}
+use Rattle.download_segments.specs.State.{HandoutState, ProvesSegment}
 use Rattle.download_file.specs.State.{FileState, GroupState, IsReader, ReaderState}
 
 -- the answer to the request at a place is these bytes
@@ -59,21 +59,21 @@ HoldsAnswers entries s = (k : ℕ) → k < length s.held
     → IsAnswered entries (slice_index_or s.held k 0) (length_of s.geometry s.first s.end (parts.Data k))
 
 -- the blocks of a segment that the readers of a group hold decode to what is proved
-pub record IsMade (entries : List Request) (f : FileState) (group : GroupState) (number : ℕ)
-    : Type 0 where
-  pub held : (place : ℕ) (r : ReaderState) → Contains group.readers place → IsReader f place r
-      → IsHeld r.source number
+pub record IsMade (entries : List Request) (h : HandoutState) (readers : List ReaderState)
+    (group : GroupState) (number : ℕ) : Type 0 where
+  pub held : (place : ℕ) (r : ReaderState) → Contains group.readers place
+      → slice_get readers place ≡ Some r → IsHeld r.source number
   pub segment : List ℕ
-  pub decodes : DecodesBlocks f.handout.geometry group.decoding.numbers
-      (blocks_in f.handout.geometry number (blocks_of entries f.readers number group.readers))
+  pub decodes : DecodesBlocks h.geometry group.decoding.numbers
+      (blocks_in h.geometry number (blocks_of entries readers number group.readers))
       number segment
-  pub proved : ProvesSegment f.handout number segment
+  pub proved : ProvesSegment h number segment
 
 -- the readers hold answers of this record, and each segment of a group was made of them
 pub record IsRead (entries : List Request) (f : FileState) : Type 0 where
   pub held : (place : ℕ) (r : ReaderState) → IsReader f place r → HoldsAnswers entries r.source
   pub made : (group : GroupState) (number : ℕ) → Contains f.groups group → group.first ≤ number
-      → number < group.end → IsMade entries f group number
+      → number < group.end → IsMade entries f.handout f.readers group number
 
 -- what was answered stays
 abbrev pub KeepsAnswers : List Request → List Request → Type 0

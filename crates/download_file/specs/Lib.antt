@@ -7,3 +7,5 @@ pub mod Taking
 pub mod Making
 pub mod Changes
 pub mod Laws
+-- words of private clauses
+pub mod Steps

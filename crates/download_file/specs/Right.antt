@@ -12,9 +12,9 @@ use Rattle.download_source.specs.Laws.{KnowsPiece}
 use Rattle.download_source.specs.Source.{IsSource}
 use Rattle.download_segments.specs.Decoding.{IsDecoding}
 use Rattle.download_segments.specs.Handout.{next_segment}
-use Rattle.download_segments.specs.State.{IsHandout}
+use Rattle.download_segments.specs.State.{HandoutState, IsHandout}
 use Rattle.download_file.specs.State.{FileState, GroupState, IsLive, IsReader, ReaderState}
-use Rattle.download_file.specs.State.{giver, waiting_parts}
+use Rattle.download_file.specs.State.{giver, numbers_of, waiting_parts}
 
 -- It reads one share of this file, by the plan of the download, from a segment on that is not
 -- behind the next. The root of its block tree is the one that the share tree tells.
@@ -69,18 +69,13 @@ AreConsecutive from [] end = from ≡ end
 AreConsecutive from (group ∷ groups) end =
     (group.first ≡ from) × (group.first ≤ group.end) × AreConsecutive group.end groups end
 
--- the shares of these readers have these numbers
-abbrev pub HaveNumbers : FileState → List ℕ → List ℕ → Type 0
-HaveNumbers f [] numbers = numbers ≡ []
-HaveNumbers f (place ∷ places) [] = ⊥
-HaveNumbers f (place ∷ places) (n ∷ ns) =
-    ((r : ReaderState) × IsReader f place r × (r.share ≡ n)) × HaveNumbers f places ns
-
 -- a group of this file
-pub record IsGroup (f : FileState) (group : GroupState) : Type 0 where
-  pub geometry : group.decoding.geometry ≡ f.handout.geometry
+pub record IsGroup (h : HandoutState) (readers : List ReaderState) (group : GroupState)
+    : Type 0 where
+  pub geometry : group.decoding.geometry ≡ h.geometry
   pub decoding : IsDecoding group.decoding
-  pub numbers : HaveNumbers f group.readers group.decoding.numbers
+  pub there : All (λ place. place < length readers) group.readers
+  pub numbers : group.decoding.numbers ≡ numbers_of readers group.readers
 
 pub record IsFile (f : FileState) : Type 0 where
   pub handout : IsHandout f.handout
@@ -91,5 +86,5 @@ pub record IsFile (f : FileState) : Type 0 where
   pub readers : (place : ℕ) (r : ReaderState) → IsReader f place r → IsReaderOf f r
   pub live : AreLive f
   pub ciphertext : GivesTree f
-  pub groups : All (IsGroup f) f.groups
+  pub groups : All (IsGroup f.handout f.readers) f.groups
   pub in_order : AreConsecutive f.first f.groups (made_end f)

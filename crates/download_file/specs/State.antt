@@ -68,6 +68,14 @@ giver f = slice_get f.live 0
 abbrev pub shares : FileState → List ℕ
 shares f = map (λ r. r.share) f.readers
 
+-- the numbers of the shares of the readers at these places
+abbrev pub share_in : Option ReaderState → ℕ
+share_in None = 0
+share_in (Some r) = r.share
+
+abbrev pub numbers_of : List ReaderState → List ℕ → List ℕ
+numbers_of readers places = map (λ place. share_in (slice_get readers place)) places
+
 -- what waits of a reader
 abbrev pub waiting_in : Option ReaderState → List Waiting
 waiting_in None = []

@@ -10,19 +10,19 @@ use Rattle.download_plan.specs.declared.part.Part.TheVariants.{CiphertextTree, D
 use Rattle.download_trees.specs.Offers.{nodes_offered}
 use Rattle.download_trees.specs.Refusal.{IsHashesRefusal}
 use Rattle.download_source.specs.Taking.{RefutesPiece}
+use Rattle.download_segments.specs.State.{HandoutState}
 use Rattle.download_file.specs.State.{FileState, IsReader, ReaderState}
 use Rattle.download_file.specs.declared.reader.Waiting.{Waiting}
 
--- bytes that have the length of a part do not pass the check of what they are part of
-abbrev pub RefutesPart : FileState → ReaderState → Part → List ℕ → Check → Type 0
-RefutesPart f r ShareHashes bytes check =
-    IsHashesRefusal f.handout.trees r.share bytes check
-RefutesPart f r (BlockTree p) bytes check =
+-- Bytes that have the length of a part of the plan for the segments `a` to before `b` do not pass the
+-- check of what they are part of.
+abbrev pub RefutesPart : HandoutState → ℕ → ℕ → ReaderState → Part → List ℕ → Check → Type 0
+RefutesPart h a b r ShareHashes bytes check = IsHashesRefusal h.trees r.share bytes check
+RefutesPart h a b r (BlockTree p) bytes check =
     (check ≡ checks.BlockTree) × RefutesPiece r.source p bytes
-RefutesPart f r (CiphertextTree p) bytes check = (check ≡ checks.CiphertextTree)
-    × IsNotConsistent f.handout.trees.ciphertext
-    (nodes_offered (nodes_of f.handout.geometry f.first f.end p) bytes)
-RefutesPart f r (Data i) bytes check = ⊥
+RefutesPart h a b r (CiphertextTree p) bytes check = (check ≡ checks.CiphertextTree)
+    × IsNotConsistent h.trees.ciphertext (nodes_offered (nodes_of h.geometry a b p) bytes)
+RefutesPart h a b r (Data i) bytes check = ⊥
 
 -- The bytes are refused as the first part that waits of a reader: they have another length than
 -- was asked, which fails the check of the layout, or they do not pass the part's check.
@@ -34,4 +34,4 @@ pub record IsRefused (f : FileState) (reader : ℕ) (bytes : List ℕ) (check : 
   pub waits : r.waiting ≡ first ∷ others
   pub why : ((check ≡ checks.Layout) × (length bytes ≢ first.wanted.read.length))
       ⊎ ((length bytes ≡ first.wanted.read.length)
-      × RefutesPart f r first.wanted.part bytes check)
+      × RefutesPart f.handout f.first f.end r first.wanted.part bytes check)

@@ -1,9 +1,11 @@
 //! The blocks of a segment, of the answers in the record.
 
-ghost use Rattle.std.specs.Prelude.{◌≡◌, ◌<◌, ◌++◌, ◌*◌, IfOk, OnOk, List, ℕ, All, length};
+ghost use Rattle.std.specs.Prelude.{◌≡◌, ◌<◌, ◌++◌, ◌*◌, ℕ, All, Contains, IfOk, IfSome, IsNone};
+ghost use Rattle.std.specs.Prelude.{IsTrue, OnOk, false, length};
 ghost use Rattle.share_layout.specs.Pieces.{block_length};
 ghost use Rattle.download_source.specs.Blocks.{IsHeld};
 ghost use Rattle.download_file.specs.Answers.{answer_at, block_of, blocks_of};
+ghost use Rattle.download_file.specs.Steps.{AreProved, AreReady, HasBlock, IsNotReady, IsWrong};
 
 use crate::reader::Reader;
 use download_source::Source;
@@ -32,15 +34,22 @@ pub(crate) fn join_blocks(
     readers: &[Reader],
     places: &[usize],
     number: u32,
-    length: u32,
+    size: u32,
 ) -> Result<Vec<u8>, AllocError>
+    requires { All (HasBlock readers.now number size) places.now }
     ensures { IfOk result (λ joined.
         joined.items ≡ blocks_of requests.now.entries readers.now number places.now) }
 {
-    let room = places.len().saturating_mul(length as usize);
+    let room = places.len().saturating_mul(size as usize);
     let mut joined = Vec::with_capacity(alloc, room)?;
     for place in places {
-        push_block(requests, readers[*place].source(), number, length, &mut joined)?;
+        push_block(
+            requests,
+            readers[*place].source(),
+            number,
+            size,
+            &mut joined,
+        )?;
     }
     Ok(joined)
 }
@@ -50,18 +59,20 @@ fn push_block(
     requests: &Requests,
     source: &Source,
     number: u32,
-    length: u32,
+    size: u32,
     joined: &mut Vec<u8>,
 ) -> Result<(), AllocError>
+    requires held { IsHeld source.now number }
+    requires long { size ≡ block_length source.now.geometry number }
     ensures { OnOk result (joined.new.items
         ≡ joined.old.items ++ block_of requests.now.entries source.now number) }
 {
     let mut skipped = source.block_offset(number) as usize;
-    let mut left = length as usize;
+    let mut left = size as usize;
     for place in source.block_places(number) {
         let bytes = answer_at(requests, *place);
         let from = skipped.min(bytes.len());
-        let upto = bytes.len().min(from.saturating_add(left));
+        let upto = bytes.len().min(from + left);
         joined.extend_from_slice(&bytes[from..upto])?;
         left -= upto - from;
         skipped -= from;
@@ -76,11 +87,19 @@ pub(crate) fn find_wrong(
     places: &[usize],
     number: u32,
     joined: &[u8],
-    length: u32,
-) -> Option<usize> {
+    size: u32,
+) -> Option<usize>
+    requires there { All (λ place. place < length readers.now) places.now }
+    requires ready { AreReady readers.now places.now number }
+    requires long { length joined.now ≡ length places.now * size }
+    ensures wrong { IfSome result
+        (IsWrong readers.now places.now number joined.now size) }
+    ensures right { IsNone result → AreProved readers.now places.now number joined.now size
+        (length places.now) }
+{
     let mut rest = joined;
     for place in places {
-        let (block, others) = rest.split_at(length as usize);
+        let (block, others) = rest.split_at(size as usize);
         if !readers[*place].source().proves(number, block) {
             return Some(*place);
         }
@@ -90,7 +109,11 @@ pub(crate) fn find_wrong(
 }
 
 /// Whether each of the readers at these places has the block of a segment, and knows its hash.
-pub(crate) fn are_ready(readers: &[Reader], places: &[usize], number: u32) -> bool {
+pub(crate) fn are_ready(readers: &[Reader], places: &[usize], number: u32) -> bool
+    requires { All (λ place. place < length readers.now) places.now }
+    ensures yes { IsTrue result → AreReady readers.now places.now number }
+    ensures no { result ≡ false → IsNotReady readers.now places.now number }
+{
     for place in places {
         if !readers[*place].source().is_ready(number) {
             return false;

@@ -23,10 +23,11 @@ ghost use Rattle.download_file.specs.Taking.{IsRefused};
 
 use crate::blocks::{are_ready, find_wrong, join_blocks};
 use crate::evidence::evidence_of;
-use crate::group::Group;
-use crate::reader::Reader;
-use download_plan::{NodePiece, Part, Plan};
-use download_segments::{Decoding, Handout, Piece};
+use crate::group::{Group, begin_group, make_segment};
+use crate::reader::{Reader, end_reader};
+use crate::taking::take_part;
+use download_plan::Plan;
+use download_segments::{Handout, Piece};
 use download_source::Wanted;
 use download_trees::TreeFault;
 use proved_parts::EvidencePart;
@@ -34,7 +35,6 @@ use request_record::requests::Requests;
 use share_layout::Geometry;
 use share_verify::Check;
 use std::alloc::{AllocError, Global};
-use std::collections::VecDeque;
 use std::marker::Model;
 use ueb::Ueb;
 
@@ -283,39 +283,15 @@ impl File {
         if bytes.len() != first.wanted.read.length as usize {
             return Err(TreeFault::Check(Check::Layout));
         }
-        match first.wanted.part {
-            Part::ShareHashes => self.take_share_hashes(reader, bytes),
-            Part::BlockTree(piece) => self.readers[reader].take_nodes(self.alloc, &piece, bytes),
-            Part::CiphertextTree(piece) => self.take_ciphertext(reader, &piece, bytes),
-            Part::Data(_) => self.take_data(reader, first.place),
-        }
-    }
-
-    // Takes the share hashes.
-    fn take_share_hashes(&mut self, reader: usize, bytes: &[u8]) -> Result<(), TreeFault> {
-        let share = u16::from(self.readers[reader].share());
-        let tree = self.handout.take_share_hashes(share, bytes)?;
-        self.readers[reader].take_tree(tree);
-        Ok(())
-    }
-
-    // Takes a piece of the ciphertext tree.
-    fn take_ciphertext(
-        &mut self,
-        reader: usize,
-        piece: &NodePiece,
-        bytes: &[u8],
-    ) -> Result<(), TreeFault> {
-        let nodes = self.plan.nodes(piece);
-        self.handout.take_nodes(&nodes, bytes)?;
-        self.readers[reader].take_ciphertext(piece);
-        self.taken[piece.level as usize] = piece.index + 1;
-        Ok(())
-    }
-
-    // Takes a piece of the data, which is the answer at this place.
-    fn take_data(&mut self, reader: usize, place: usize) -> Result<(), TreeFault> {
-        self.readers[reader].take_data(place)?;
+        take_part(
+            self.alloc,
+            &self.plan,
+            &mut self.handout,
+            &mut self.readers[reader],
+            &mut self.taken,
+            &first,
+            bytes,
+        )?;
         Ok(())
     }
 
@@ -344,45 +320,42 @@ impl File {
         let Some(number) = self.handout.next() else {
             return Ok(Made::Waits);
         };
-        if self.live.len() != usize::from(self.plan.geometry.needed())
-            || !self.handout.knows(number)
-            || !are_ready(&self.readers, &self.live, number)
-        {
+        if !has_all(&self.handout, &self.readers, &self.live, number) {
             return Ok(Made::Waits);
         }
-        let length = self.plan.geometry.block_length(number);
+        let geometry = self.plan.geometry;
+        let size = geometry.block_length(number);
         let joined = join_blocks(
             self.alloc,
             requests,
             &self.readers,
             &self.live,
             number,
-            length,
+            size,
         )?;
-        if let Some(wrong) = find_wrong(&self.readers, &self.live, number, &joined, length) {
+        if let Some(wrong) = find_wrong(&self.readers, &self.live, number, &joined, size) {
             return Ok(Made::Wrong(wrong));
         }
-        self.decode_next(number, &joined)
-    }
-
-    // Makes a piece of the next segment, of its blocks, one after another.
-    fn decode_next(&mut self, number: u32, joined: &[u8]) -> Result<Made, AllocError> {
         begin_group(
             self.alloc,
             &mut self.groups,
-            &self.plan.geometry,
+            &geometry,
             &self.readers,
             &self.live,
             number,
         )?;
-        let last = self.groups.len() - 1;
-        let segment = self.groups[last].decoding.decode(self.alloc, number, joined)?;
-        if self.handout.hand_out(number, segment)? {
-            self.groups[last].end = number + 1;
-            Ok(Made::Ready)
+        let made = make_segment(
+            self.alloc,
+            &mut self.handout,
+            &mut self.groups,
+            number,
+            &joined,
+        )?;
+        Ok(if made {
+            Made::Ready
         } else {
-            Ok(Made::Inconsistent)
-        }
+            Made::Inconsistent
+        })
     }
 
     /// Takes the first piece, where one is ready.
@@ -413,13 +386,7 @@ impl File {
             IsSegmentBy self.now.handout.ueb p.number p.segment p.path) parts.items) }
         ensures right { IsFile self.now }
     {
-        evidence_of(
-            alloc,
-            requests,
-            &self.handout,
-            &self.readers,
-            &self.groups,
-        )
+        evidence_of(alloc, requests, &self.handout, &self.readers, &self.groups)
     }
 }
 
@@ -447,47 +414,15 @@ fn last_asked(plan: &Plan, next: u32) -> u32
     next.saturating_add(ahead).min(plan.end) - 1
 }
 
-// A reader is read no more. Where it gave the ciphertext tree, the oldest that is still read gives
-// it, from what was taken on.
-fn end_reader(
-    readers: &mut [Reader],
-    live: &mut Vec<usize>,
-    taken: &[u32; 3],
-    reader: usize,
-) {
-    let gave = live.first() == Some(&reader);
-    readers[reader].stop();
-    live.retain(|place| !(*place == reader));
-    if gave {
-        if let Some(next) = live.first() {
-            readers[*next].give(taken);
-        }
-    }
-}
-
-// The last group is of the readers at these places.
-fn begin_group(
-    alloc: Global,
-    groups: &mut Vec<Group>,
-    geometry: &Geometry,
-    readers: &[Reader],
-    live: &[usize],
-    number: u32,
-) -> Result<(), AllocError> {
-    if let Some(group) = groups.last() {
-        if group.readers.as_slice() == live {
-            return Ok(());
-        }
-    }
-    let mut numbers = Vec::with_capacity(alloc, live.len())?;
-    for place in live {
-        numbers.push(u16::from(readers[*place].share()))?;
-    }
-    groups.push(Group {
-        first: number,
-        end: number,
-        readers: Vec::from_slice(alloc, live)?,
-        decoding: Decoding::new(alloc, geometry, numbers)?,
-    })?;
-    Ok(())
+// Whether as many shares as are needed are read, all their blocks of a segment were taken, and the
+// segment's hash is known.
+fn has_all(handout: &Handout, readers: &[Reader], live: &[usize], number: u32) -> bool
+    requires there { number < segment_count handout.now.geometry }
+    requires live { All (λ place. place < length readers.now) live.now }
+    ensures yes { IsTrue result → HasAll handout.now readers.now live.now number }
+    ensures no { result ≡ false → LacksSome handout.now readers.now live.now number }
+{
+    live.len() == usize::from(handout.geometry().needed())
+        && handout.knows(number)
+        && are_ready(readers, live, number)
 }

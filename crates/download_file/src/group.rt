@@ -1,20 +1,32 @@
-//! Segments that were made of the blocks of the same readers.
+//! Segments that are made of the blocks of the same readers.
 
-ghost use Rattle.std.specs.Prelude.{◌≡◌, IfOk};
+ghost use Rattle.std.specs.Prelude.{◌≡◌, ◌≢◌, ◌<◌, ◌*◌, ◌++◌, ◌∷◌, ◌↔◌, [], All, IfOk, IsSome};
+ghost use Rattle.std.specs.Prelude.{IsTrue, Ok, OnErr, OnOk, Some, false, length, true};
 ghost use Rattle.share_layout.specs.Geometry.{segment_count};
-ghost use Rattle.download_segments.specs.Decoding.{AreShareNumbers};
+ghost use Rattle.share_layout.specs.Pieces.{block_length, segment_length};
+ghost use Rattle.proved_parts.specs.Decoding.{DecodesBlocks};
+ghost use Rattle.download_trees.specs.Trees.{known_leaf};
+ghost use Rattle.download_segments.specs.Decoding.{AreShareNumbers, blocks_in};
+ghost use Rattle.download_segments.specs.Handout.{next_segment};
+ghost use Rattle.download_segments.specs.State.{IsHandout, TreesGrow};
+ghost use Rattle.download_file.specs.State.{GroupState, numbers_of};
+ghost use Rattle.download_file.specs.Steps.{BeginsGroup, IsLast, MakesSegment, RefutesBlocks};
+ghost use Rattle.download_file.specs.Steps.{with_end};
 
-use download_segments::Decoding;
+use crate::reader::Reader;
+use download_segments::{Decoding, Handout};
+use share_layout::Geometry;
+use std::alloc::{AllocError, Global};
 use std::marker::Model;
 
 /// The segments `first` to before `end`, which were made of the blocks of the readers at these
 /// places.
 #[derive(Drop)]
 pub(crate) struct Group {
-    pub(crate) first: u32,
-    pub(crate) end: u32,
-    pub(crate) readers: Vec<usize>,
-    pub(crate) decoding: Decoding,
+    first: u32,
+    end: u32,
+    readers: Vec<usize>,
+    decoding: Decoding,
 }
 
 impl Model for Group {
@@ -28,4 +40,147 @@ impl Model for Group {
       readers = g.readers.items;
       decoding = g.decoding;
     } };
+}
+
+impl Group {
+    /// The first of its segments.
+    pub(crate) fn first(&self) -> u32
+        ensures { result ≡ self.now.first }
+    {
+        self.first
+    }
+
+    /// The number behind its last segment.
+    pub(crate) fn end(&self) -> u32
+        ensures { result ≡ self.now.end }
+    {
+        self.end
+    }
+
+    /// The places of its readers.
+    pub(crate) fn places(&self) -> &[usize]
+        ensures { result.now ≡ self.now.readers }
+    {
+        self.readers.as_slice()
+    }
+
+    // Whether it is of the readers at these places.
+    fn is_of(&self, places: &[usize]) -> bool
+        ensures { IsTrue result ↔ (self.now.readers ≡ places.now) }
+    {
+        self.readers.as_slice() == places
+    }
+
+    // The segment before this one is its last.
+    fn reach(&mut self, end: u32)
+        ensures { self.new ≡ with_end self.old end }
+    {
+        self.end = end;
+    }
+
+    /// The segment with this number, of its blocks, which stand one after another.
+    pub(crate) fn decode(
+        &self,
+        alloc: Global,
+        number: u32,
+        joined: &[u8],
+    ) -> Result<Vec<u8>, AllocError>
+        requires there { number < segment_count self.now.decoding.geometry }
+        requires long { length joined.now ≡ self.now.decoding.geometry.needed
+            * block_length self.now.decoding.geometry number }
+        ensures decodes { IfOk result (λ segment. DecodesBlocks self.now.decoding.geometry
+            self.now.decoding.numbers (blocks_in self.now.decoding.geometry number joined.now)
+            number segment.items) }
+        ensures length { IfOk result (λ segment.
+            length segment.items ≡ segment_length self.now.decoding.geometry number) }
+    {
+        self.decoding.decode(alloc, number, joined)
+    }
+}
+
+/// The last group is of the readers at these places: it was, or such a group is added, from this
+/// segment on.
+pub(crate) fn begin_group(
+    alloc: Global,
+    groups: &mut Vec<Group>,
+    geometry: &Geometry,
+    readers: &[Reader],
+    places: &[usize],
+    number: u32,
+) -> Result<(), AllocError>
+    requires there { All (λ place. place < length readers.now) places.now }
+    requires shares { AreShareNumbers geometry.now (numbers_of readers.now places.now) }
+    ensures begins { OnOk result (BeginsGroup groups.old.items geometry.now readers.now places.now
+        number groups.new.items) }
+    ensures unchanged { OnErr result (groups.new.items ≡ groups.old.items) }
+{
+    if is_last_of(groups, places) {
+        return Ok(());
+    }
+    let mut numbers = Vec::with_capacity(alloc, places.len())?;
+    for place in places {
+        numbers.push(u16::from(readers[*place].share()))?;
+    }
+    let group = Group {
+        first: number,
+        end: number,
+        readers: Vec::from_slice(alloc, places)?,
+        decoding: Decoding::new(alloc, geometry, numbers)?,
+    };
+    push_group(groups, group)
+}
+
+// Whether the last group is of the readers at these places.
+fn is_last_of(groups: &[Group], places: &[usize]) -> bool
+    ensures { IsTrue result → (group : GroupState) × IsLast groups.now group
+        × (group.readers ≡ places.now) }
+{
+    match groups.last() {
+        Some(group) => group.is_of(places),
+        None => false,
+    }
+}
+
+// Adds a group.
+fn push_group(groups: &mut Vec<Group>, group: Group) -> Result<(), AllocError>
+    ensures pushed { OnOk result (groups.new.items ≡ groups.old.items ++ group ∷ []) }
+    ensures unchanged { OnErr result (groups.new.items ≡ groups.old.items) }
+{
+    groups.push(group)?;
+    Ok(())
+}
+
+/// Makes the next segment of its blocks, which are those of the last group's readers and stand one
+/// after another, and hands it out where it is proved: `true`. `false` where it is refuted.
+pub(crate) fn make_segment(
+    alloc: Global,
+    handout: &mut Handout,
+    groups: &mut Vec<Group>,
+    number: u32,
+    joined: &[u8],
+) -> Result<bool, AllocError>
+    requires right { IsHandout handout.old }
+    requires next { next_segment handout.old ≡ Some number }
+    requires known { IsSome (known_leaf handout.old.trees.ciphertext number) }
+    requires some { 0 < length groups.old.items }
+    requires geometry { (group : GroupState) → IsLast groups.old.items group
+        → group.decoding.geometry ≡ handout.old.geometry }
+    requires long { length joined.now ≡ handout.old.geometry.needed
+        * block_length handout.old.geometry number }
+    ensures made { result ≡ Ok true → MakesSegment handout.old groups.old.items number joined.now
+        handout.new groups.new.items }
+    ensures refuted { result ≡ Ok false
+        → RefutesBlocks handout.old groups.old.items number joined.now }
+    ensures same { result ≢ Ok true
+        → (handout.new ≡ handout.old) × (groups.new.items ≡ groups.old.items) }
+    ensures grow { TreesGrow handout.old.trees handout.new.trees }
+    ensures right { IsHandout handout.new }
+{
+    let last = groups.len() - 1;
+    let segment = groups[last].decode(alloc, number, joined)?;
+    if !handout.hand_out(number, segment)? {
+        return Ok(false);
+    }
+    groups[last].reach(number + 1);
+    Ok(true)
 }

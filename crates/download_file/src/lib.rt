@@ -12,6 +12,7 @@ mod file;
 mod group;
 mod laws;
 mod reader;
+mod taking;
 
 pub use file::{File, Made};
 pub use laws::reads_stay;

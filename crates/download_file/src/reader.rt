@@ -1,17 +1,18 @@
 //! A share that is read.
 
-ghost use Rattle.std.specs.Prelude.{◌≡◌, ◌<◌, ◌≤◌, ◌↔◌, ◌++◌, [], true, false, IfOk, OnErr, OnOk, Some, Err};
-ghost use Rattle.std.specs.Prelude.{drop, length, slice_get};
+ghost use Rattle.std.specs.Prelude.{◌≡◌, ◌<◌, ◌≤◌, ◌↔◌, ◌++◌, ℕ, [], true, false, All, Contains};
+ghost use Rattle.std.specs.Prelude.{Err, IfOk, IfSome, None, OnErr, OnOk, Some, drop, length, slice_get};
+ghost use Rattle.std.specs.Prelude.{slice_set};
 ghost use Rattle.share_layout.specs.Geometry.{segment_count};
 ghost use Rattle.download_plan.specs.Plan.{IsNodePiece, length_of};
 ghost use Rattle.download_trees.specs.Trees.{LeadTo};
-ghost use Rattle.download_source.specs.Asking.{AsksNow, IsAsked, IsWanted, IsWantedCiphertext};
-ghost use Rattle.download_source.specs.Asking.{OnlyAsks};
+ghost use Rattle.download_source.specs.Asking.{IsAsked, OnlyAsks};
 ghost use Rattle.download_source.specs.Cursors.{cursor_at};
 ghost use Rattle.download_source.specs.Source.{IsSource, gives_from, new_source};
 ghost use Rattle.download_source.specs.Taking.{IsDue, RefutesPiece, TakesPiece, holds_more};
 ghost use Rattle.download_source.specs.Taking.{with_taken};
-ghost use Rattle.download_file.specs.State.{placed};
+ghost use Rattle.download_file.specs.State.{ReaderState, placed, without};
+ghost use Rattle.download_file.specs.Steps.{Asks, AsksNoTree, CanGive, EndsReader, giving};
 
 use download_plan::{NodePiece, Part, Plan};
 use download_source::{Source, Wanted};
@@ -122,26 +123,16 @@ impl Reader {
         place: usize,
     ) -> Result<Vec<Wanted>, AllocError>
         ensures asks { IfOk result (λ wanted.
-            AsksNow self.old.source self.new.source wanted.items) }
-        ensures own { OnOk result ((part : Part)
-            → IsWanted self.old.source last part → IsAsked self.new.source part) }
-        ensures ciphertext { gives ≡ true → OnOk result ((part : Part)
-            → IsWantedCiphertext self.old.source last part → IsAsked self.new.source part) }
+            Asks self.old.source gives last wanted.items self.new.source) }
         ensures waits { IfOk result (λ wanted.
             self.new.waiting ≡ self.old.waiting ++ placed place wanted.items) }
         // It is asked for the ciphertext tree only where it gives that.
-        ensures none { gives ≡ false → (p : NodePiece)
-            → IsAsked self.new.source (Part.CiphertextTree p)
-            → IsAsked self.old.source (Part.CiphertextTree p) }
+        ensures none { gives ≡ false → AsksNoTree self.old.source self.new.source }
         ensures only { OnlyAsks self.old.source self.new.source }
         ensures share { self.new.share ≡ self.old.share }
         ensures right { IsSource self.new.source }
     {
-        let mut wanted = self.source.wanted(alloc, last)?;
-        if gives {
-            let mut more = self.source.wanted_ciphertext(alloc, last)?;
-            wanted.append(&mut more)?;
-        }
+        let wanted = ask_source(alloc, &mut self.source, gives, last)?;
         wait_for(&mut self.waiting, place, &wanted)?;
         Ok(wanted)
     }
@@ -213,6 +204,48 @@ impl Reader {
     }
 }
 
+// What a source is to be asked for the segments up to this one, of the ciphertext tree too where it
+// gives that.
+fn ask_source(
+    alloc: Global,
+    source: &mut Source,
+    gives: bool,
+    last: u32,
+) -> Result<Vec<Wanted>, AllocError>
+    ensures asks { IfOk result (λ wanted. Asks source.old gives last wanted.items source.new) }
+    ensures none { gives ≡ false → AsksNoTree source.old source.new }
+    ensures only { OnlyAsks source.old source.new }
+    ensures right { IsSource source.new }
+{
+    if gives {
+        ask_giver(alloc, source, last)
+    } else {
+        ask_other(alloc, source, last)
+    }
+}
+
+// What a source that gives the ciphertext tree is to be asked.
+fn ask_giver(alloc: Global, source: &mut Source, last: u32) -> Result<Vec<Wanted>, AllocError>
+    ensures asks { IfOk result (λ wanted. Asks source.old true last wanted.items source.new) }
+    ensures only { OnlyAsks source.old source.new }
+    ensures right { IsSource source.new }
+{
+    let mut wanted = source.wanted(alloc, last)?;
+    let mut more = source.wanted_ciphertext(alloc, last)?;
+    wanted.append(&mut more)?;
+    Ok(wanted)
+}
+
+// What another source is to be asked.
+fn ask_other(alloc: Global, source: &mut Source, last: u32) -> Result<Vec<Wanted>, AllocError>
+    ensures asks { IfOk result (λ wanted. Asks source.old false last wanted.items source.new) }
+    ensures none { AsksNoTree source.old source.new }
+    ensures only { OnlyAsks source.old source.new }
+    ensures right { IsSource source.new }
+{
+    source.wanted(alloc, last)
+}
+
 // These parts wait from now on, the first at this place and the others behind.
 fn wait_for(
     waiting: &mut VecDeque<Waiting>,
@@ -227,7 +260,10 @@ fn wait_for(
             place,
             wanted: *part,
         })?;
-        place = place.checked_add(1).ok_or(AllocError)?;
+        let Some(next) = place.checked_add(1) else {
+            return Err(AllocError);
+        };
+        place = next;
     }
     Ok(())
 }
@@ -237,4 +273,52 @@ fn drop_first(waiting: &mut VecDeque<Waiting>)
     ensures { waiting.new.items ≡ drop 1 waiting.old.items }
 {
     let _ = waiting.pop_front();
+}
+
+/// The reader at a place, which is one of those that are read, is read no more. Where it gave the
+/// ciphertext tree, the oldest that is left gives it from what was taken on.
+pub(crate) fn end_reader(
+    readers: &mut Vec<Reader>,
+    live: &mut Vec<usize>,
+    taken: &[u32; 3],
+    reader: usize,
+)
+    requires there { All (λ place. place < length readers.old.items) live.old.items }
+    requires live { Contains live.old.items reader }
+    requires gives { slice_get live.old.items 0 ≡ Some reader
+        → (next : ℕ) → (r : ReaderState)
+        → slice_get (without reader live.old.items) 0 ≡ Some next
+        → slice_get readers.old.items next ≡ Some r → CanGive r taken.now }
+    ensures live { live.new.items ≡ without reader live.old.items }
+    ensures ends { EndsReader readers.old.items live.old.items taken.now reader
+        readers.new.items }
+{
+    let gave = live.first().copied() == Some(reader);
+    readers[reader].stop();
+    drop_reader(live, reader);
+    if gave {
+        give_next(readers, live.first().copied(), taken);
+    }
+}
+
+// The reader at a place is not listed any more.
+fn drop_reader(live: &mut Vec<usize>, reader: usize)
+    ensures { live.new.items ≡ without reader live.old.items }
+{
+    live.retain(|place| !(*place == reader));
+}
+
+// The reader at this place, where there is one, gives the ciphertext tree from now on.
+fn give_next(readers: &mut Vec<Reader>, next: Option<usize>, taken: &[u32; 3])
+    requires there { IfSome next (λ place. place < length readers.old.items) }
+    requires gives { (place : ℕ) → (r : ReaderState) → next ≡ Some place
+        → slice_get readers.old.items place ≡ Some r → CanGive r taken.now }
+    ensures gives { (place : ℕ) → (r : ReaderState) → next ≡ Some place
+        → slice_get readers.old.items place ≡ Some r
+        → readers.new.items ≡ slice_set readers.old.items place (giving r taken.now) }
+    ensures none { next ≡ None → readers.new.items ≡ readers.old.items }
+{
+    if let Some(place) = next {
+        readers[place].give(taken);
+    }
 }

@@ -1,0 +1,10 @@
+pub mod ListLemmas
+pub mod BlockLemmas
+pub mod GrowLemmas
+pub mod AskLemmas
+pub mod RangeLemmas
+pub mod TakingLemmas
+pub mod LiveLemmas
+pub mod StateLemmas
+pub mod TakeLemmas
+pub mod EndLemmas

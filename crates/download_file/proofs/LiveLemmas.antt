@@ -1,0 +1,129 @@
+-- The readers that are read.
+use Rattle.std.proofs.Common.{◌≡◌, ◌≢◌, ℕ, zero, suc, ◌+◌, ◌<◌, ◌≤◌, ◌⊎◌, inl, inr, All, Bool, true, false, cond, not, Contains, List, [], ◌∷◌, ◌++◌, length, Option, Some, None, refl, sym, ap, subst, ◌∙◌, arith, eqb, nat_eq}
+use Rattle.std.specs.Prelude.{◌==◌, slice_get, slice_index_or}
+use Rattle.std.proofs.lemmas.Bool.{eq-eqb, eqb-true, true≢false}
+use Rattle.std.proofs.lemmas.List.Elements.{All-contains, All-tail, All-head}
+use Rattle.download_file.specs.Right.{RiseFrom}
+use Rattle.download_file.specs.State.{without}
+use Rattle.download_file.proofs.ListLemmas.{first_in, more_in}
+
+-- what a longer list contains
+pub cons_cases : {X : Type 0} (x y : X) (xs : List X) → Contains (x ∷ xs) y → (x ≡ y) ⊎ Contains xs y
+cons_cases {X} x y xs h = at h.0 h.1 h.2
+  where
+    at : (k : ℕ) → k < length (x ∷ xs) → slice_index_or (x ∷ xs) k y ≡ y → (x ≡ y) ⊎ Contains xs y
+    at zero low e = inl e
+    at (suc k) low e = inr (k, omega (arith, low), e)
+
+pub none_in : {X : Type 0} (y : X) → Contains [] y → ⊥
+none_in y h = let low = h.1 in omega (arith, low)
+
+-- ---- places that rise
+
+pub rise_above : (low : ℕ) (xs : List ℕ) (x : ℕ) → RiseFrom low xs → Contains xs x → low ≤ x
+rise_above low [] x rise among = absurd (none_in x among)
+rise_above low (y ∷ ys) x rise among = elim (cons_cases y x ys among) [
+  | inl e ↦ let from = rise.0 in omega (arith, e, from)
+  | inr more ↦ let from = rise.0 in let k = rise_above (y + 1) ys x rise.1 more in omega (arith, from, k)
+]
+
+pub rise_lower : (low high : ℕ) (xs : List ℕ) → low ≤ high → RiseFrom high xs → RiseFrom low xs
+rise_lower low high [] order rise = tt
+rise_lower low high (y ∷ ys) order rise = (let from = rise.0 in omega (arith, order, from), rise.1)
+
+pub rise_push : (low : ℕ) (xs : List ℕ) (y : ℕ) → RiseFrom low xs → low ≤ y → All (λ x. x < y) xs → RiseFrom low (xs ++ y ∷ [])
+rise_push low [] y rise order below = (order, tt)
+rise_push low (x ∷ xs) y rise order below =
+    let here = All-head (λ z. z < y) x xs below in
+    (rise.0, rise_push (x + 1) xs y rise.1 (omega (arith, here)) (All-tail (λ z. z < y) x xs below))
+
+-- each but the first is behind the first
+pub live_giver : (low : ℕ) (xs : List ℕ) (x : ℕ) → RiseFrom low xs → Contains xs x → (slice_get xs 0 ≡ Some x) ⊎ ((g : ℕ) × (slice_get xs 0 ≡ Some g) × (g < x))
+live_giver low [] x rise among = absurd (none_in x among)
+live_giver low (y ∷ ys) x rise among = elim (cons_cases y x ys among) [
+  | inl e ↦ inl (ap Some e)
+  | inr more ↦ inr (y, refl, (let k = rise_above (y + 1) ys x rise.1 more in omega (arith, k)))
+]
+
+pub first_live : (xs : List ℕ) (g : ℕ) → slice_get xs 0 ≡ Some g → Contains xs g
+first_live [] g e = absurd cc
+first_live (x ∷ xs) g e = let is : x ≡ g = cc in subst (λ (n : ℕ). Contains (x ∷ xs) n) is (first_in x xs)
+
+-- the first is before each other
+pub first_least : (low : ℕ) (xs : List ℕ) (g x : ℕ) → RiseFrom low xs → slice_get xs 0 ≡ Some g → Contains xs x → g ≤ x
+first_least low xs g x rise first among = elim (live_giver low xs x rise among) [
+  | inl e ↦ let k : Some g ≡ Some x = sym first ∙ e in let same : g ≡ x = cc in omega (arith, same)
+  | inr later ↦ let k : Some g ≡ Some later.0 = sym first ∙ later.1 in let same : g ≡ later.0 = cc in let low' = later.2 in omega (arith, same, low')
+]
+
+-- ---- a place is not listed any more
+
+without_by : (place x : ℕ) (xs : List ℕ) (b : Bool) → (x == place) ≡ b → without place (x ∷ xs) ≡ cond b (without place xs) (x ∷ without place xs)
+without_by place x xs true e = ap (λ (t : Bool). cond (not t) (x ∷ without place xs) (without place xs)) e
+without_by place x xs false e = ap (λ (t : Bool). cond (not t) (x ∷ without place xs) (without place xs)) e
+
+-- the first is kept, or is the place
+without_cases : (place x : ℕ) (xs : List ℕ) → ((x ≡ place) × (without place (x ∷ xs) ≡ without place xs)) ⊎ ((x ≡ place → ⊥) × (without place (x ∷ xs) ≡ x ∷ without place xs))
+without_cases place x xs = by (x == place) refl
+  where
+    by : (b : Bool) → (x == place) ≡ b → ((x ≡ place) × (without place (x ∷ xs) ≡ without place xs)) ⊎ ((x ≡ place → ⊥) × (without place (x ∷ xs) ≡ x ∷ without place xs))
+    by true e = inl (eqb-true x place e, without_by place x xs true e)
+    by false e = inr ((λ f. true≢false (sym (eq-eqb x place f) ∙ e)), without_by place x xs false e)
+
+pub without_keeps : (place q : ℕ) (xs : List ℕ) → Contains xs q → (q ≡ place → ⊥) → Contains (without place xs) q
+without_keeps place q [] h other = absurd (none_in q h)
+without_keeps place q (x ∷ xs) h other = elim (without_cases place x xs) [
+  | inl gone ↦ subst (λ (l : List ℕ). Contains l q) (sym gone.1) (elim (cons_cases x q xs h) [
+    | inl e ↦ absurd (other (sym e ∙ gone.0))
+    | inr more ↦ without_keeps place q xs more other
+  ])
+  | inr kept ↦ subst (λ (l : List ℕ). Contains l q) (sym kept.1) (elim (cons_cases x q xs h) [
+    | inl e ↦ subst (λ (n : ℕ). Contains (x ∷ without place xs) n) e (first_in x (without place xs))
+    | inr more ↦ more_in x q (without place xs) (without_keeps place q xs more other)
+  ])
+]
+
+pub from_without : (place q : ℕ) (xs : List ℕ) → Contains (without place xs) q → Contains xs q × (q ≡ place → ⊥)
+from_without place q [] h = absurd (none_in q h)
+from_without place q (x ∷ xs) h = elim (without_cases place x xs) [
+  | inl gone ↦
+      let k = from_without place q xs (subst (λ (l : List ℕ). Contains l q) gone.1 h) in
+      (more_in x q xs k.0, k.1)
+  | inr kept ↦ elim (cons_cases x q (without place xs) (subst (λ (l : List ℕ). Contains l q) kept.1 h)) [
+    | inl e ↦ (subst (λ (n : ℕ). Contains (x ∷ xs) n) e (first_in x xs), (λ f. kept.0 (e ∙ f)))
+    | inr more ↦ let k = from_without place q xs more in (more_in x q xs k.0, k.1)
+  ]
+]
+
+pub rise_without : (place low : ℕ) (xs : List ℕ) → RiseFrom low xs → RiseFrom low (without place xs)
+rise_without place low [] rise = tt
+rise_without place low (x ∷ xs) rise =
+    let from = rise.0 in
+    let rest = rise_without place (x + 1) xs rise.1 in
+    elim (without_cases place x xs) [
+      | inl gone ↦ subst (RiseFrom low) (sym gone.1) (rise_lower low (x + 1) (without place xs) (omega (arith, from)) rest)
+      | inr kept ↦ subst (RiseFrom low) (sym kept.1) (from, rest)
+    ]
+
+pub length-without : (place : ℕ) (xs : List ℕ) → length (without place xs) ≤ length xs
+length-without place [] = omega arith
+length-without place (x ∷ xs) =
+    let rest = length-without place xs in
+    elim (without_cases place x xs) [
+      | inl gone ↦ let e = ap length gone.1 in omega (arith, rest, e)
+      | inr kept ↦ let e = ap length kept.1 in omega (arith, rest, e)
+    ]
+
+-- where another than the first goes, the first stays
+pub first_stays : (place g : ℕ) (xs : List ℕ) → slice_get xs 0 ≡ Some g → (g ≡ place → ⊥) → slice_get (without place xs) 0 ≡ Some g
+first_stays place g [] e other = absurd cc
+first_stays place g (x ∷ xs) e other =
+    let is : x ≡ g = cc in
+    elim (without_cases place x xs) [
+      | inl gone ↦ absurd (other (sym is ∙ gone.0))
+      | inr kept ↦ ap (λ (l : List ℕ). slice_get l 0) kept.1 ∙ e
+    ]
+
+pub something_first : (xs : List ℕ) (x : ℕ) → Contains xs x → (g : ℕ) × (slice_get xs 0 ≡ Some g)
+something_first [] x h = absurd (none_in x h)
+something_first (y ∷ ys) x h = (y, refl)

@@ -1,0 +1,314 @@
+-- A file with one part more taken of a reader.
+use Rattle.std.proofs.Common.{◌≡◌, ◌≢◌, ◌↔◌, ℕ, zero, suc, ◌+◌, ◌<◌, ◌≤◌, ◌⊎◌, inl, inr, All, Contains, List, [], ◌∷◌, ◌++◌, length, map, drop, get_or, Option, Some, None, IfSome, refl, sym, ap, subst, ◌∙◌, arith}
+use Rattle.std.specs.Prelude.{slice_get, slice_set}
+use Rattle.std.proofs.lemmas.Bool.{cases_lt}
+use Rattle.std.proofs.lemmas.List.{append-nil, length-append, length-set}
+use Rattle.std.proofs.lemmas.List.Elements.{All-drop, All-tail, All-weaker}
+use Rattle.request_record.specs.declared.requests.Request.{Request}
+use Rattle.share_layout.specs.Geometry.{Geometry}
+use Rattle.download_plan.specs.Plan.{IsNodePiece, length_of}
+use Rattle.download_plan.specs.declared.part.NodePiece.{NodePiece}
+use Rattle.download_plan.specs.declared.part.Part.{Part}
+use Rattle.download_plan.specs.declared.part.Part.TheVariants.{ShareHashes, BlockTree, CiphertextTree, Data}
+use Rattle.download_trees.specs.Trees.{FileTreesState}
+use Rattle.download_source.specs.Asking.{IsAsked, IsReadOf}
+use Rattle.download_source.specs.Cursors.{IsNextPiece, IsPassed, LeadOn, cursor_at, passed}
+use Rattle.download_source.specs.Laws.{KnowsPiece}
+use Rattle.download_source.specs.Source.{IsSource, SourceState, first_of}
+use Rattle.download_source.specs.Taking.{IsDue}
+use Rattle.download_source.specs.declared.cursors.Cursors.{Cursors}
+use Rattle.download_source.proofs.CursorLemmas.{piece_next}
+use Rattle.download_source.proofs.LawLemmas.{first_due}
+use Rattle.download_segments.specs.Handout.{next_segment}
+use Rattle.download_segments.specs.State.{HandoutState, with_trees}
+use Rattle.download_file.specs.State.{FileState, GroupState, IsLive, IsReader, ReaderState, first_place, first_waiting, giver, waiting_in, waiting_parts}
+use Rattle.download_file.specs.Answers.{AnsweredWith, HoldsAnswers, IsAnswered, IsRead}
+use Rattle.download_file.specs.Right.{AreLive, GivesTree, IsFile, IsGroup, IsReaderOf}
+use Rattle.download_file.specs.Steps.{IsTaker, KnowsPart, TakesPart, held_with, taken_with}
+use Rattle.download_file.specs.declared.reader.Waiting.{Waiting}
+use Rattle.download_file.proofs.ListLemmas.{get_cases, get_set, one_there, set_cases}
+use Rattle.download_file.proofs.GrowLemmas.{GoesOn, GrowReaders, goes_same, group_stays, read_stays}
+use Rattle.download_file.proofs.LiveLemmas.{live_giver}
+use Rattle.download_file.proofs.StateLemmas.{Follows, GrowsAsks, KeepsAsks, SameAsks, StillAsks, asked_same, asks_itself, grows_itself, reader_stays, same_asks, same_reader}
+
+-- ---- kinds of parts
+
+tree_or : (taken : List ℕ) (part : Part) → ((p : NodePiece) × (part ≡ CiphertextTree p)) ⊎ (taken_with taken part ≡ taken)
+tree_or taken ShareHashes = inr refl
+tree_or taken (BlockTree p) = inr refl
+tree_or taken (CiphertextTree p) = inl (p, refl)
+tree_or taken (Data i) = inr refl
+
+length_taken : (taken : List ℕ) (part : Part) → length (taken_with taken part) ≡ length taken
+length_taken taken ShareHashes = refl
+length_taken taken (BlockTree p) = refl
+length_taken taken (CiphertextTree p) = length-set taken p.level (p.index + 1)
+length_taken taken (Data i) = refl
+
+passed_tree : (c : Cursors) (part : Part) → (passed c part).ciphertext_tree ≡ taken_with c.ciphertext_tree part
+passed_tree c ShareHashes = refl
+passed_tree c (BlockTree p) = refl
+passed_tree c (CiphertextTree p) = refl
+passed_tree c (Data i) = refl
+
+taken_cases : (taken : List ℕ) (part : Part) (p : NodePiece) → ((q : NodePiece) → part ≡ CiphertextTree q → IsNextPiece taken q)
+    → p.index < cursor_at (taken_with taken part) p.level → (p.index < cursor_at taken p.level) ⊎ (part ≡ CiphertextTree p)
+taken_cases taken ShareHashes p next low = inl low
+taken_cases taken (BlockTree q) p next low = inl low
+taken_cases taken (CiphertextTree q) p next low = elim ((piece_next taken q p (next q refl)).0 low) [ inl old ↦ inl old | inr same ↦ inr (ap CiphertextTree same) ]
+taken_cases taken (Data i) p next low = inl low
+
+
+held_more : (held : List ℕ) (part : Part) (place : ℕ) → (more : List ℕ) × (held_with held part place ≡ held ++ more)
+held_more held ShareHashes place = ([], sym (append-nil held))
+held_more held (BlockTree p) place = ([], sym (append-nil held))
+held_more held (CiphertextTree p) place = ([], sym (append-nil held))
+held_more held (Data i) place = (place ∷ [], refl)
+
+get_front : (xs ys : List ℕ) (k : ℕ) → k < length xs → get_or (xs ++ ys) k 0 ≡ get_or xs k 0
+get_front [] ys k low = absurd (omega (arith, low))
+get_front (x ∷ xs) ys zero low = refl
+get_front (x ∷ xs) ys (suc k) low = get_front xs ys k (omega (arith, low))
+
+get_behind : (xs : List ℕ) (y k : ℕ) → k ≡ length xs → get_or (xs ++ y ∷ []) k 0 ≡ y
+get_behind [] y zero e = refl
+get_behind [] y (suc k) e = absurd (omega (arith, e))
+get_behind (x ∷ xs) y zero e = absurd (omega (arith, e))
+get_behind (x ∷ xs) y (suc k) e = get_behind xs y k (omega (arith, e))
+
+-- the answers that are held, with this part
+holds_with : (entries : List Request) (s : SourceState) (part : Part) (place : ℕ) (bytes : List ℕ) → HoldsAnswers entries s → AnsweredWith entries place bytes
+    → ((i : ℕ) → part ≡ Data i → (i ≡ length s.held) × (length bytes ≡ length_of s.geometry s.first s.end (Data i)))
+    → (k : ℕ) → k < length (held_with s.held part place) → IsAnswered entries (get_or (held_with s.held part place) k 0) (length_of s.geometry s.first s.end (Data k))
+holds_with entries s ShareHashes place bytes holds answered data k low = holds k low
+holds_with entries s (BlockTree p) place bytes holds answered data k low = holds k low
+holds_with entries s (CiphertextTree p) place bytes holds answered data k low = holds k low
+holds_with entries s (Data i) place bytes holds answered data k low =
+    elim (cases_lt k (length s.held)) [
+      | inl before ↦ subst (λ (n : ℕ). IsAnswered entries n (length_of s.geometry s.first s.end (Data k))) (sym (get_front s.held (place ∷ []) k before)) (holds k before)
+      | inr behind ↦
+          let long = length-append s.held (place ∷ []) in
+          let at : k ≡ length s.held = omega (arith, low, long, behind) in
+          let one = data i refl in
+          let same : i ≡ k = one.0 ∙ sym at in
+          subst (λ (n : ℕ). IsAnswered entries n (length_of s.geometry s.first s.end (Data k))) (sym (get_behind s.held place k at))
+          (bytes, answered, (one.1 ∙ ap (λ (n : ℕ). length_of s.geometry s.first s.end (Data n)) same))
+    ]
+
+-- ---- the file
+
+module _ (f : FileState) (t : FileTreesState) (reader : ℕ) (r r' : ReaderState) (w : Waiting) (ws : List Waiting) (taken' : List ℕ)
+    (is : IsFile f) (live : IsLive f reader) (at : slice_get f.readers reader ≡ Some r) (waits : r.waiting ≡ w ∷ ws) where
+  -- it is the one that is due
+  pub is_due : IsDue r.source w.wanted.part
+  is_due = first_due r.source w.wanted.part (waiting_parts ws)
+      (subst (λ (l : List Waiting). LeadOn r.source.taken (waiting_parts l) r.source.asked) waits (is.live.waits reader r live at))
+
+  pub is_read : IsReadOf r.source w.wanted
+  is_read = subst (λ (l : List Waiting). All (λ v. IsReadOf r.source v.wanted) l) waits (is.live.reads reader r live at) 0 w (omega arith)
+
+  pub is_taker : IsTaker f.handout f.first f.end r w
+  is_taker =
+      let own = is.readers reader r at in
+      record {
+        right = is.handout;
+        source = own.source;
+        geometry = own.geometry;
+        start = own.start;
+        end = own.end;
+        share = own.share;
+        root = own.root;
+        due = is_due;
+        read = is_read;
+      }
+
+  -- only the giver is due to give a piece of the ciphertext tree
+  gives_if : (q : NodePiece) → w.wanted.part ≡ CiphertextTree q → giver f ≡ Some reader
+  gives_if q part = elim (live_giver 0 f.live reader is.live.rise live) [
+    | inl e ↦ e
+    | inr before ↦
+        let due : IsDue r.source (CiphertextTree q) = subst (λ (p : Part). IsDue r.source p) part is_due in
+        let index = due.next.index in
+        let given = (is.readers reader r at).source.given q.level in
+        absurd (is.ciphertext.behind before.0 reader r q before.1 before.2 at (omega (arith, index, given), due.asked))
+  ]
+
+  module _ (T : TakesPart f.handout r f.taken f.first f.end w.wanted.part w.place (with_trees f.handout t) r' taken') where
+    abbrev pub taken_file : FileState
+    taken_file = record f { handout = with_trees f.handout t; taken = taken'; readers = slice_set f.readers reader r' }
+
+    follows : Follows f taken_file
+    follows = record { geometry = refl; ueb = refl; first = refl; end = refl; later = λ number next. (number, next, omega arith) }
+
+    is_taken : IsReaderOf taken_file r'
+    is_taken = reader_stays f taken_file r r' follows (is.readers reader r at) T.share T.source (ap (λ (s : SourceState). s.geometry) T.source_is)
+        (ap (λ (s : SourceState). s.start) T.source_is) (ap (λ (s : SourceState). s.first) T.source_is) (ap (λ (s : SourceState). s.end) T.source_is) T.root
+
+    goes : GoesOn r.source r'.source
+    goes =
+        let more = held_more r.source.held w.wanted.part w.place in
+        record {
+          geometry = ap (λ (s : SourceState). s.geometry) T.source_is;
+          start = ap (λ (s : SourceState). s.start) T.source_is;
+          first = ap (λ (s : SourceState). s.first) T.source_is;
+          end = ap (λ (s : SourceState). s.end) T.source_is;
+          more = more.0;
+          held = ap (λ (s : SourceState). s.held) T.source_is ∙ more.1;
+        }
+
+    asks : SameAsks r.source r'.source
+    asks = same_asks r.source r'.source goes.geometry goes.start goes.first goes.end (ap (λ (s : SourceState). s.given) T.source_is) (ap (λ (s : SourceState). s.asked) T.source_is)
+
+    grows : GrowsAsks r.source r'.source
+    grows = record {
+      geometry = goes.geometry;
+      start = goes.start;
+      first = goes.first;
+      end = goes.end;
+      given = ap (λ (s : SourceState). s.given) T.source_is;
+      asked = λ part. (asks.asked part).1;
+    }
+
+    pub grow_taken : GrowReaders f.readers (slice_set f.readers reader r')
+    grow_taken place q there = elim (get_cases f.readers reader place r' r q at there) [
+      | inl k ↦ (r', k.2, T.share ∙ ap (λ (x : ReaderState). x.share) k.1, subst (λ (x : ReaderState). GoesOn x.source r'.source) k.1 goes)
+      | inr k ↦ (q, k.1, refl, goes_same q.source)
+    ]
+
+    pub still_taken : StillAsks f.readers (slice_set f.readers reader r')
+    still_taken place q there = elim (get_cases f.readers reader place r' r q at there) [
+      | inl k ↦ (r', k.2, subst (λ (x : ReaderState). SameAsks x.source r'.source) k.1 asks)
+      | inr k ↦ (q, k.1, asks_itself q.source)
+    ]
+
+    pub keeps_taken : KeepsAsks f.readers (slice_set f.readers reader r')
+    keeps_taken place q there = elim (set_cases f.readers reader place r' q there) [
+      | inl k ↦ inl (r, ap (slice_get f.readers) k.0 ∙ at, subst (λ (x : ReaderState). SameAsks r.source x.source) k.1 asks)
+      | inr k ↦ inl (q, k.1, asks_itself q.source)
+    ]
+
+    pub grows_taken : (place : ℕ) (q : ReaderState) → slice_get (slice_set f.readers reader r') place ≡ Some q → (o : ReaderState) × (slice_get f.readers place ≡ Some o) × GrowsAsks o.source q.source
+    grows_taken place q there = elim (set_cases f.readers reader place r' q there) [
+      | inl k ↦ (r, ap (slice_get f.readers) k.0 ∙ at, subst (λ (x : ReaderState). GrowsAsks r.source x.source) k.1 grows)
+      | inr k ↦ (q, k.1, grows_itself q.source)
+    ]
+
+    share_was : (place : ℕ) (q : ReaderState) → slice_get (slice_set f.readers reader r') place ≡ Some q → (o : ReaderState) × (slice_get f.readers place ≡ Some o) × (q.share ≡ o.share)
+    share_was place q there = elim (set_cases f.readers reader place r' q there) [
+      | inl k ↦ (r, ap (slice_get f.readers) k.0 ∙ at, sym (ap (λ (x : ReaderState). x.share) k.1) ∙ T.share)
+      | inr k ↦ (q, k.1, refl)
+    ]
+
+    leads_on : LeadOn r'.source.taken (waiting_parts r'.waiting) r'.source.asked
+    leads_on =
+        let was = subst (λ (l : List Waiting). LeadOn r.source.taken (waiting_parts l) r.source.asked) waits (is.live.waits reader r live at) in
+        let rest : r'.waiting ≡ ws = T.waiting ∙ ap (drop 1) waits in
+        subst (λ (l : List Waiting). LeadOn r'.source.taken (waiting_parts l) r'.source.asked) (sym rest)
+        (subst (λ (s : SourceState). LeadOn s.taken (waiting_parts ws) s.asked) (sym T.source_is) was.1)
+
+    reads_on : All (λ v. IsReadOf r'.source v.wanted) r'.waiting
+    reads_on =
+        let rest : r'.waiting ≡ ws = T.waiting ∙ ap (drop 1) waits in
+        let was = subst (λ (l : List Waiting). All (λ v. IsReadOf r.source v.wanted) l) waits (is.live.reads reader r live at) in
+        subst (λ (l : List Waiting). All (λ v. IsReadOf r'.source v.wanted) l) (sym rest)
+        (subst (λ (s : SourceState). All (λ v. IsReadOf s v.wanted) ws) (sym T.source_is) (All-tail (λ v. IsReadOf r.source v.wanted) w ws was))
+
+    live_taken : AreLive taken_file
+    live_taken = record {
+      rise = is.live.rise;
+      there = All-weaker (λ place. place < length f.readers) (λ place. place < length (slice_set f.readers reader r'))
+          (λ place low. let long = length-set f.readers reader r' in omega (arith, low, long)) f.live is.live.there;
+      few = is.live.few;
+      different = λ i j x y one two order at_one at_two same.
+          let a = share_was i x at_one in
+          let b = share_was j y at_two in
+          is.live.different i j a.0 b.0 one two order a.1 b.1 (sym a.2 ∙ same ∙ b.2);
+      waits = λ place q one there. elim (set_cases f.readers reader place r' q there) [
+        | inl k ↦ subst (λ (x : ReaderState). LeadOn x.source.taken (waiting_parts x.waiting) x.source.asked) k.1 leads_on
+        | inr k ↦ is.live.waits place q one k.1
+      ];
+      reads = λ place q one there. elim (set_cases f.readers reader place r' q there) [
+        | inl k ↦ subst (λ (x : ReaderState). All (λ v. IsReadOf x.source v.wanted) x.waiting) k.1 reads_on
+        | inr k ↦ is.live.reads place q one k.1
+      ];
+    }
+
+    next_in : (q : NodePiece) → w.wanted.part ≡ CiphertextTree q → IsNextPiece f.taken q
+    next_in q part =
+        let due : IsDue r.source (CiphertextTree q) = subst (λ (p : Part). IsDue r.source p) part is_due in
+        subst (λ (l : List ℕ). IsNextPiece l q) (is.ciphertext.at_giver reader r (gives_if q part) at) due.next
+
+    either : (p : NodePiece) → p.index < cursor_at taken' p.level → (p.index < cursor_at f.taken p.level) ⊎ (w.wanted.part ≡ CiphertextTree p)
+    either p low = taken_cases f.taken w.wanted.part p next_in (subst (λ (l : List ℕ). p.index < cursor_at l p.level) T.taken_is low)
+
+    piece_due : (p : NodePiece) → w.wanted.part ≡ CiphertextTree p → IsNodePiece f.handout.geometry f.first f.end p
+    piece_due p part =
+        let due : IsDue r.source (CiphertextTree p) = subst (λ (q : Part). IsDue r.source q) part is_due in
+        let own = is.readers reader r at in
+        let piece = own.source.parts (CiphertextTree p) due.asked in
+        subst (λ (g : Geometry). IsNodePiece g f.first f.end p) own.geometry
+        (subst (λ (n : ℕ). IsNodePiece r.source.geometry n f.end p) own.start (subst (λ (n : ℕ). IsNodePiece r.source.geometry r.source.start n p) own.end piece))
+
+    gives_taken : GivesTree taken_file
+    gives_taken = record {
+      levels = ap length T.taken_is ∙ length_taken f.taken w.wanted.part ∙ is.ciphertext.levels;
+      pieces = λ p low. elim (either p low) [ inl old ↦ is.ciphertext.pieces p old | inr part ↦ piece_due p part ];
+      known = λ p low. elim (either p low) [
+        | inl old ↦ λ place among. T.stays _ (is.ciphertext.known p old place among)
+        | inr part ↦ subst (λ (q : Part). KnowsPart f.handout.geometry f.first f.end t.ciphertext q) part T.known
+      ];
+      at_giver = λ place q gives there. elim (set_cases f.readers reader place r' q there) [
+        | inl k ↦
+            let first : giver f ≡ Some reader = subst (λ (n : ℕ). giver f ≡ Some n) k.0 gives in
+            subst (λ (x : ReaderState). x.source.taken.ciphertext_tree ≡ taken') k.1
+            (ap (λ (s : SourceState). s.taken.ciphertext_tree) T.source_is ∙ passed_tree r.source.taken w.wanted.part
+            ∙ ap (λ (l : List ℕ). taken_with l w.wanted.part) (is.ciphertext.at_giver reader r first at) ∙ sym T.taken_is)
+        | inr k ↦ is.ciphertext.at_giver place q gives k.1 ∙ sym (T.taken_is ∙ elim (tree_or f.taken w.wanted.part) [
+          | inl piece ↦ absurd (k.0 (one_there (giver f) place reader gives (gives_if piece.0 piece.1)))
+          | inr same ↦ same
+        ])
+      ];
+      behind = λ place other q p gives order there asked. elim (set_cases f.readers reader other r' q there) [
+        | inl k ↦ is.ciphertext.behind place reader r p gives (let same = k.0 in omega (arith, order, same)) at
+            ((asks.asked (CiphertextTree p)).0 (subst (λ (x : ReaderState). IsAsked x.source (CiphertextTree p)) (sym k.1) asked))
+        | inr k ↦ is.ciphertext.behind place other q p gives order k.1 asked
+      ];
+    }
+
+    pub file_taken : IsFile taken_file
+    file_taken = record {
+      handout = T.right;
+      range = is.range;
+      last = is.last;
+      next = is.next;
+      readers = λ place q there. elim (set_cases f.readers reader place r' q there) [
+        | inl k ↦ subst (IsReaderOf taken_file) k.1 is_taken
+        | inr k ↦ same_reader f taken_file q follows (is.readers place q k.1)
+      ];
+      live = live_taken;
+      ciphertext = gives_taken;
+      groups = All-weaker (IsGroup f.handout f.readers) (IsGroup (with_trees f.handout t) (slice_set f.readers reader r'))
+          (λ group own. group_stays f.handout (with_trees f.handout t) f.readers (slice_set f.readers reader r') group refl grow_taken own) f.groups is.groups;
+      in_order = is.in_order;
+    }
+
+    holds_taken : (entries : List Request) (bytes : List ℕ) → HoldsAnswers entries r.source → AnsweredWith entries w.place bytes → length bytes ≡ w.wanted.read.length
+        → HoldsAnswers entries r'.source
+    holds_taken entries bytes holds answered long =
+        subst (HoldsAnswers entries) (sym T.source_is)
+        (holds_with entries r.source w.wanted.part w.place bytes holds answered (λ i part.
+        let due : IsDue r.source (Data i) = subst (λ (p : Part). IsDue r.source p) part is_due in
+        (due.next ∙ sym (is.readers reader r at).source.held,
+        (long ∙ is_read.length ∙ (λ j. length_of r.source.geometry (first_of r.source (part j)) r.source.end (part j))))))
+
+    pub read_taken : (entries : List Request) (place : ℕ) (bytes : List ℕ) → IsRead entries f → first_waiting f reader ≡ Some place → AnsweredWith entries place bytes
+        → length bytes ≡ w.wanted.read.length → IsRead entries taken_file
+    read_taken entries place bytes read first answered long =
+        let same : w.place ≡ place = one_there (Some w.place) w.place place refl (sym (ap (λ (o : Option ReaderState). first_place (waiting_in o)) at ∙ ap first_place waits) ∙ first) in
+        let own : AnsweredWith entries w.place bytes = subst (λ (n : ℕ). AnsweredWith entries n bytes) (sym same) answered in
+        read_stays entries f taken_file refl T.grow grow_taken is.groups refl
+        (λ other q there. elim (set_cases f.readers reader other r' q there) [
+          | inl k ↦ subst (λ (x : ReaderState). HoldsAnswers entries x.source) k.1 (holds_taken entries bytes (read.held reader r at) own long)
+          | inr k ↦ read.held other q k.1
+        ])
+        read

@@ -1,0 +1,108 @@
+-- The first part that waits of a reader is taken.
+use Rattle.std.proofs.Common.{◌≡◌, ◌≢◌, ℕ, ◌+◌, ◌*◌, ◌<◌, ◌≤◌, List, [], ◌∷◌, ◌++◌, length, drop, Option, Some, None, IfSome, is_some, true, refl, sym, ap, subst, ◌∙◌, arith}
+use Rattle.merkle.specs.Partial.{PartialState, Takes, known_at}
+use Rattle.download_plan.specs.Plan.{length_of, nodes_of}
+use Rattle.download_plan.specs.declared.part.NodePiece.{NodePiece}
+use Rattle.download_plan.specs.declared.part.Nodes.{Nodes}
+use Rattle.download_plan.specs.declared.part.Part.{Part}
+use Rattle.download_plan.specs.declared.part.Part.TheVariants.{ShareHashes, BlockTree, CiphertextTree, Data}
+use Rattle.download_trees.specs.Offers.{nodes_offered}
+use Rattle.download_trees.specs.Trees.{FileTreesState, IsBlockRoot}
+use Rattle.download_source.specs.Cursors.{passed, piece_passed}
+use Rattle.download_source.specs.Laws.{KnowsPiece}
+use Rattle.download_source.specs.Source.{IsSource, SourceState, first_of}
+use Rattle.download_source.specs.Taking.{IsDue, TakesPiece, holds_more, with_taken}
+use Rattle.download_source.proofs.TakingLemmas.{kept_known, offered_known}
+use Rattle.download_segments.specs.State.{HandoutState, IsHandout, TreesGrow, with_trees}
+use Rattle.download_segments.proofs.TreeLemmas.{grow_none}
+use Rattle.download_file.specs.State.{ReaderState}
+use Rattle.download_file.specs.Steps.{IsTaker, TakesPart, held_with}
+use Rattle.download_file.specs.declared.reader.Waiting.{Waiting}
+
+-- the same tree
+pub same_known : (old new : PartialState) → new ≡ old → (number : ℕ) → is_some (known_at old number) ≡ true → is_some (known_at new number) ≡ true
+same_known old new same number known = subst (λ (t : PartialState). is_some (known_at t number) ≡ true) (sym same) known
+
+module _ (h : HandoutState) (r : ReaderState) (taken : List ℕ) (a b : ℕ) (w : Waiting) (is : IsTaker h a b r w) where
+  -- bytes of the length that was asked are the nodes' hashes
+  pub read_long : (p : NodePiece) (bytes : List ℕ) (nodes : Nodes) → w.wanted.part ≡ CiphertextTree p → length bytes ≡ w.wanted.read.length
+      → nodes ≡ nodes_of h.geometry a b p → length bytes ≡ 32 * nodes.count
+  read_long p bytes nodes part long these =
+      long ∙ is.read.length
+      ∙ (λ i. length_of (is.geometry i) (first_of r.source (part i)) (is.end i) (part i))
+      ∙ ap (λ (n : ℕ). 32 * (nodes_of h.geometry n b p).count) is.start
+      ∙ ap (λ (n : Nodes). 32 * n.count) (sym these)
+
+  pub took_hashes : (h' : HandoutState) (r' : ReaderState) (tree : PartialState) → h' ≡ with_trees h h'.trees → IsHandout h' → TreesGrow h.trees h'.trees
+      → h'.trees.ciphertext ≡ h.trees.ciphertext → IsBlockRoot h.ueb.share_root_hash h.ueb.total_shares r.share tree.root
+      → r' ≡ record r { source = record (with_taken r.source ShareHashes) { tree = Some tree }; waiting = drop 1 r.waiting } → IsSource r'.source
+      → TakesPart h r taken a b ShareHashes w.place h' r' taken
+  took_hashes h' r' tree others right grow same root reader source = record {
+    handout = others;
+    right = right;
+    grow = grow;
+    stays = same_known h.trees.ciphertext h'.trees.ciphertext same;
+    known = tt;
+    share = ap (λ (q : ReaderState). q.share) reader;
+    waiting = ap (λ (q : ReaderState). q.waiting) reader;
+    source = source;
+    source_is = subst (λ (q : ReaderState). q.source ≡ record r.source { taken = passed r.source.taken ShareHashes; tree = q.source.tree; held = r.source.held }) (sym reader) refl;
+    root = subst (λ (q : ReaderState). IfSome q.source.tree (λ t. IsBlockRoot h.ueb.share_root_hash h.ueb.total_shares r.share t.root)) (sym reader) root;
+    taken_is = refl;
+  }
+
+  pub took_nodes : (r' : ReaderState) (p : NodePiece) (bytes : List ℕ) → r'.share ≡ r.share → r'.waiting ≡ drop 1 r.waiting
+      → TakesPiece r.source p bytes r'.source → IsSource r'.source → TakesPart h r taken a b (BlockTree p) w.place h r' taken
+  took_nodes r' p bytes share waiting takes source = record {
+    handout = refl;
+    right = is.right;
+    grow = grow_none h.trees;
+    stays = λ number known. known;
+    known = tt;
+    share = share;
+    waiting = waiting;
+    source = source;
+    source_is = subst (λ (s : SourceState). s ≡ record r.source { taken = passed r.source.taken (BlockTree p); tree = s.tree; held = r.source.held }) (sym takes.is) refl;
+    root = subst (λ (s : SourceState). IfSome s.tree (λ t. IsBlockRoot h.ueb.share_root_hash h.ueb.total_shares r.share t.root)) (sym takes.is)
+        (subst (λ (root : List ℕ). IsBlockRoot h.ueb.share_root_hash h.ueb.total_shares r.share root) (sym takes.takes.root)
+        (subst (λ (o : Option PartialState). IfSome o (λ t. IsBlockRoot h.ueb.share_root_hash h.ueb.total_shares r.share t.root)) takes.was is.root));
+    taken_is = refl;
+  }
+
+  pub took_ciphertext : (h' : HandoutState) (r' : ReaderState) (p : NodePiece) (nodes : Nodes) (bytes : List ℕ) → h' ≡ with_trees h h'.trees → IsHandout h'
+      → TreesGrow h.trees h'.trees → nodes ≡ nodes_of h.geometry a b p → length bytes ≡ 32 * nodes.count
+      → Takes h.trees.ciphertext (nodes_offered nodes bytes) h'.trees.ciphertext
+      → r' ≡ record r { source = with_taken r.source (CiphertextTree p); waiting = drop 1 r.waiting } → IsSource r'.source
+      → TakesPart h r taken a b (CiphertextTree p) w.place h' r' (piece_passed taken p)
+  took_ciphertext h' r' p nodes bytes others right grow these long takes reader source = record {
+    handout = others;
+    right = right;
+    grow = grow;
+    stays = λ number known. kept_known h.trees.ciphertext h'.trees.ciphertext (nodes_offered nodes bytes) number takes known;
+    known = offered_known (nodes_of h.geometry a b p) bytes h.trees.ciphertext h'.trees.ciphertext (subst (λ (n : Nodes). length bytes ≡ 32 * n.count) these long)
+        (subst (λ (n : Nodes). Takes h.trees.ciphertext (nodes_offered n bytes) h'.trees.ciphertext) these takes);
+    share = ap (λ (q : ReaderState). q.share) reader;
+    waiting = ap (λ (q : ReaderState). q.waiting) reader;
+    source = source;
+    source_is = subst (λ (q : ReaderState). q.source ≡ record r.source { taken = passed r.source.taken (CiphertextTree p); tree = q.source.tree; held = r.source.held }) (sym reader) refl;
+    root = subst (λ (q : ReaderState). IfSome q.source.tree (λ t. IsBlockRoot h.ueb.share_root_hash h.ueb.total_shares r.share t.root)) (sym reader) is.root;
+    taken_is = refl;
+  }
+
+  pub took_data : (r' : ReaderState) (index : ℕ) → index ≡ r.source.taken.data_piece
+      → r' ≡ record r { source = holds_more r.source w.place; waiting = drop 1 r.waiting } → IsSource r'.source
+      → TakesPart h r taken a b (Data index) w.place h r' taken
+  took_data r' index next reader source = record {
+    handout = refl;
+    right = is.right;
+    grow = grow_none h.trees;
+    stays = λ number known. known;
+    known = tt;
+    share = ap (λ (q : ReaderState). q.share) reader;
+    waiting = ap (λ (q : ReaderState). q.waiting) reader;
+    source = source;
+    source_is = subst (λ (q : ReaderState). q.source ≡ record r.source { taken = passed r.source.taken (Data index); tree = q.source.tree; held = r.source.held ++ w.place ∷ [] }) (sym reader)
+        (subst (λ (n : ℕ). holds_more r.source w.place ≡ record r.source { taken = passed r.source.taken (Data n); tree = r.source.tree; held = r.source.held ++ w.place ∷ [] }) (sym next) refl);
+    root = subst (λ (q : ReaderState). IfSome q.source.tree (λ t. IsBlockRoot h.ueb.share_root_hash h.ueb.total_shares r.share t.root)) (sym reader) is.root;
+    taken_is = refl;
+  }

@@ -1,0 +1,261 @@
+-- Words of private clauses: readers and groups of a list.
+use Rattle.std.specs.Prelude.{◌≡◌, ◌≢◌, ◌⊎◌, ℕ, ◌+◌, ◌-◌, ◌*◌, ◌<◌, ◌≤◌, List, [], ◌∷◌, ◌++◌, length}
+use Rattle.std.specs.Prelude.{take, drop, map, Some, None, slice_get, slice_set, Contains, All}
+use Rattle.std.specs.Prelude.{Bool, IfSome, IsSome, is_some, true}
+use Rattle.merkle.specs.Partial.{PartialState, known_at}
+use Rattle.std.specs.List.{range_with_len}
+use Rattle.ueb.specs.Shape.{Contents}
+use Rattle.request_record.specs.declared.requests.Request.{Request}
+use Rattle.share_layout.specs.Geometry.{Geometry, segment_count}
+use Rattle.share_layout.specs.Pieces.{block_length}
+use Rattle.proved_parts.specs.Decoding.{DecodesBlocks}
+use Rattle.proved_parts.specs.Parts.{IsSegmentBy}
+use Rattle.proved_parts.specs.declared.evidence.EvidencePart.{EvidencePart}
+use Rattle.download_plan.specs.Plan.{IsNodePiece}
+use Rattle.download_plan.specs.declared.part.NodePiece.{NodePiece}
+use Rattle.download_plan.specs.declared.part.Part.{Part}
+use Rattle.download_plan.specs.declared.part.Part.TheVariants.{CiphertextTree, Data}
+use Rattle.download_trees.specs.Trees.{IsBlockRoot, known_leaf}
+use Rattle.download_source.specs.Asking.{AsksNow, IsAsked, IsReadOf, IsWanted}
+use Rattle.download_source.specs.Asking.{IsWantedCiphertext}
+use Rattle.download_source.specs.Blocks.{IsHeld, IsReady}
+use Rattle.download_source.specs.Cursors.{cursor_at, passed, piece_passed}
+use Rattle.download_source.specs.Laws.{KnowsPiece}
+use Rattle.download_source.specs.Source.{IsSource, SourceState, gives_from}
+use Rattle.download_source.specs.Taking.{IsDue, IsProved}
+use Rattle.download_source.specs.declared.wanted.Wanted.{Wanted}
+use Rattle.download_segments.specs.Decoding.{blocks_in}
+use Rattle.download_segments.specs.Handout.{handed_out}
+use Rattle.download_segments.specs.State.{HandoutState, IsHandout, ProvesSegment}
+use Rattle.download_segments.specs.State.{RefutesSegment, TreesGrow, with_trees}
+use Rattle.download_file.specs.State.{GroupState, ReaderState, numbers_of, without}
+use Rattle.download_file.specs.Answers.{HoldsAnswers, IsMade}
+use Rattle.download_file.specs.Right.{IsGroup}
+use Rattle.download_file.specs.declared.reader.Waiting.{Waiting}
+
+-- each of the readers at these places has the block of a segment, and knows its hash
+abbrev pub AreReady : List ReaderState → List ℕ → ℕ → Type 0
+AreReady readers places number = (place : ℕ) (r : ReaderState) → Contains places place
+    → slice_get readers place ≡ Some r → IsReady r.source number
+
+-- one of them has not, or does not
+pub record IsNotReady (readers : List ReaderState) (places : List ℕ) (number : ℕ) : Type 0 where
+  pub place : ℕ
+  pub among : Contains places place
+  pub r : ReaderState
+  pub there : slice_get readers place ≡ Some r
+  pub not : ¬ IsReady r.source number
+
+-- the reader at a place has the block of a segment, which has this length
+pub record HasBlock (readers : List ReaderState) (number len place : ℕ) : Type 0 where
+  pub r : ReaderState
+  pub there : slice_get readers place ≡ Some r
+  pub held : IsHeld r.source number
+  pub long : len ≡ block_length r.source.geometry number
+
+-- the block of this number, of blocks of one length that stand one after another
+abbrev pub nth_block : List ℕ → ℕ → ℕ → List ℕ
+nth_block joined len k = take len (drop (k * len) joined)
+
+-- of so many readers from the first on each has its block among these
+abbrev pub AreProved : List ReaderState → List ℕ → ℕ → List ℕ → ℕ → ℕ → Type 0
+AreProved readers places number joined len count = (k place : ℕ) (r : ReaderState) → k < count
+    → slice_get places k ≡ Some place → slice_get readers place ≡ Some r
+    → IsProved r.source number (nth_block joined len k)
+
+-- the block of the reader at this place is another
+pub record IsWrong (readers : List ReaderState) (places : List ℕ) (number : ℕ)
+    (joined : List ℕ) (len place : ℕ) : Type 0 where
+  pub k : ℕ
+  pub at : slice_get places k ≡ Some place
+  pub r : ReaderState
+  pub there : slice_get readers place ≡ Some r
+  pub not : ¬ IsProved r.source number (nth_block joined len k)
+
+-- the readers read shares of one file, and hold answers of this record
+pub record AreOfFile (entries : List Request) (g : Geometry) (readers : List ReaderState)
+    : Type 0 where
+  pub source : (place : ℕ) (r : ReaderState) → slice_get readers place ≡ Some r
+      → IsSource r.source
+  pub geometry : (place : ℕ) (r : ReaderState) → slice_get readers place ≡ Some r
+      → r.source.geometry ≡ g
+  pub held : (place : ℕ) (r : ReaderState) → slice_get readers place ≡ Some r
+      → HoldsAnswers entries r.source
+
+-- the last of these groups
+abbrev pub IsLast : List GroupState → GroupState → Type 0
+IsLast groups group = slice_get groups (length groups - 1) ≡ Some group
+
+-- a group of the readers at these places that no segment was made of yet
+abbrev pub empty_group : Geometry → List ReaderState → List ℕ → ℕ → GroupState
+empty_group g readers places number = record {
+  first = number;
+  end = number;
+  readers = places;
+  decoding = record { geometry = g; numbers = numbers_of readers places };
+}
+
+-- the last group is of the readers at these places: it was, or such a group is added
+abbrev pub BeginsGroup : List GroupState → Geometry → List ReaderState → List ℕ → ℕ
+    → List GroupState → Type 0
+BeginsGroup old g readers places number new =
+    ((new ≡ old) × (group : GroupState) × IsLast old group × (group.readers ≡ places))
+    ⊎ (new ≡ old ++ empty_group g readers places number ∷ [])
+
+-- the last group has one segment more
+abbrev pub with_end : GroupState → ℕ → GroupState
+with_end group end = record group { end = end }
+
+-- the reader where nothing waits of it, and where it gives the ciphertext tree
+abbrev pub stopped : ReaderState → ReaderState
+stopped r = record r { waiting = [] }
+
+abbrev pub giving : ReaderState → List ℕ → ReaderState
+giving r taken = record r { source = gives_from r.source taken }
+
+-- The last group has one segment more, which is handed out: what its blocks decode to, and proved.
+pub record MakesSegment (h : HandoutState) (groups : List GroupState) (number : ℕ)
+    (joined : List ℕ) (h' : HandoutState) (groups' : List GroupState) : Type 0 where
+  pub group : GroupState
+  pub last : IsLast groups group
+  pub segment : List ℕ
+  pub decodes : DecodesBlocks group.decoding.geometry group.decoding.numbers
+      (blocks_in group.decoding.geometry number joined) number segment
+  pub proved : ProvesSegment h number segment
+  pub handed : h' ≡ handed_out h segment
+  pub groups_are : groups' ≡ slice_set groups (length groups - 1) (with_end group (number + 1))
+
+-- the blocks decode to a segment that is refuted
+pub record RefutesBlocks (h : HandoutState) (groups : List GroupState) (number : ℕ)
+    (joined : List ℕ) : Type 0 where
+  pub group : GroupState
+  pub last : IsLast groups group
+  pub segment : List ℕ
+  pub decodes : DecodesBlocks group.decoding.geometry group.decoding.numbers
+      (blocks_in group.decoding.geometry number joined) number segment
+  pub refuted : RefutesSegment h number segment
+
+-- the numbers of the segments of these groups
+abbrev pub segments_in : GroupState → List ℕ
+segments_in group = range_with_len group.first (group.end - group.first)
+
+-- the numbers of the parts
+abbrev pub part_numbers : List EvidencePart → List ℕ
+part_numbers parts = map (λ (p : EvidencePart). p.number) parts
+
+-- each part is a segment by the extension block
+abbrev pub AreSegmentsBy : Contents → List EvidencePart → Type 0
+AreSegmentsBy u parts = All (λ (p : EvidencePart). IsSegmentBy u p.number p.segment p.path) parts
+
+-- each segment of a group was made of blocks that the readers hold, by this record
+pub record IsMadeGroup (entries : List Request) (h : HandoutState) (readers : List ReaderState)
+    (group : GroupState) : Type 0 where
+  pub right : IsGroup h readers group
+  pub there : group.end ≤ segment_count h.geometry
+  pub made : (number : ℕ) → group.first ≤ number → number < group.end
+      → IsMade entries h readers group number
+
+-- These parts are asked now: all that is wanted of the source up to a segment, of the ciphertext
+-- tree too where it gives that.
+pub record Asks (old : SourceState) (gives : Bool) (last : ℕ) (wanted : List Wanted)
+    (new : SourceState) : Type 0 where
+  pub now : AsksNow old new wanted
+  pub own : (part : Part) → IsWanted old last part → IsAsked new part
+  pub ciphertext : gives ≡ true → (part : Part) → IsWantedCiphertext old last part
+      → IsAsked new part
+
+-- no piece of the ciphertext tree is asked
+abbrev pub AsksNoTree : SourceState → SourceState → Type 0
+AsksNoTree old new =
+    (p : NodePiece) → IsAsked new (CiphertextTree p) → IsAsked old (CiphertextTree p)
+
+-- the reader can give the ciphertext tree from these pieces on: it was asked for none of it
+pub record CanGive (r : ReaderState) (taken : List ℕ) : Type 0 where
+  pub none : (p : NodePiece) → ¬ IsAsked r.source (CiphertextTree p)
+  pub pieces : (p : NodePiece) → p.index < cursor_at taken p.level
+      → IsNodePiece r.source.geometry r.source.start r.source.end p
+
+-- The reader at a place gave the ciphertext tree and ends. The first that is left gives it.
+pub record GivesNext (old : List ReaderState) (live : List ℕ) (taken : List ℕ) (reader : ℕ)
+    (r : ReaderState) (new : List ReaderState) : Type 0 where
+  pub gave : slice_get live 0 ≡ Some reader
+  pub next : ℕ
+  pub first : slice_get (without reader live) 0 ≡ Some next
+  pub s : ReaderState
+  pub at : slice_get old next ≡ Some s
+  pub new_is : new ≡ slice_set (slice_set old reader (stopped r)) next (giving s taken)
+
+-- The reader at a place ends: nothing waits of it. Where it gave the ciphertext tree, the first
+-- that is left gives it, if there is one.
+pub record EndsReader (old : List ReaderState) (live : List ℕ) (taken : List ℕ) (reader : ℕ)
+    (new : List ReaderState) : Type 0 where
+  pub r : ReaderState
+  pub there : slice_get old reader ≡ Some r
+  pub then : ((new ≡ slice_set old reader (stopped r)) × ((slice_get live 0 ≢ Some reader)
+      ⊎ (slice_get (without reader live) 0 ≡ None)))
+      ⊎ GivesNext old live taken reader r new
+
+-- the pieces of the ciphertext tree that are taken, with this part
+abbrev pub taken_with : List ℕ → Part → List ℕ
+taken_with taken (CiphertextTree p) = piece_passed taken p
+taken_with taken part = taken
+
+-- where the part is a piece of the ciphertext tree, its nodes are known
+abbrev pub KnowsPart : Geometry → ℕ → ℕ → PartialState → Part → Type 0
+KnowsPart g a b tree (CiphertextTree p) = KnowsPiece g a b tree p
+KnowsPart g a b tree part = Unit {0}
+
+-- the answers that a source holds, with this part at this place
+abbrev pub held_with : List ℕ → Part → ℕ → List ℕ
+held_with held (Data i) place = held ++ place ∷ []
+held_with held part place = held
+
+-- A reader of this file, in a download of the segments `a` to before `b`. The first part that waits
+-- of it is the next to be taken.
+pub record IsTaker (h : HandoutState) (a b : ℕ) (r : ReaderState) (w : Waiting) : Type 0 where
+  pub right : IsHandout h
+  pub source : IsSource r.source
+  pub geometry : r.source.geometry ≡ h.geometry
+  pub start : r.source.start ≡ a
+  pub end : r.source.end ≡ b
+  pub share : r.share < h.geometry.total
+  pub root : IfSome r.source.tree (λ tree. IsBlockRoot h.ueb.share_root_hash
+      h.ueb.total_shares r.share tree.root)
+  pub due : IsDue r.source w.wanted.part
+  pub read : IsReadOf r.source w.wanted
+
+-- The first part that waits of a reader is taken, of the answer at a place. What is known of the
+-- trees stays known.
+pub record TakesPart (h : HandoutState) (r : ReaderState) (taken : List ℕ) (a b : ℕ) (part : Part)
+    (place : ℕ) (h' : HandoutState) (r' : ReaderState) (taken' : List ℕ) : Type 0 where
+  pub handout : h' ≡ with_trees h h'.trees
+  pub right : IsHandout h'
+  pub grow : TreesGrow h.trees h'.trees
+  pub stays : (number : ℕ) → is_some (known_at h.trees.ciphertext number) ≡ true
+      → is_some (known_at h'.trees.ciphertext number) ≡ true
+  pub known : KnowsPart h.geometry a b h'.trees.ciphertext part
+  pub share : r'.share ≡ r.share
+  pub waiting : r'.waiting ≡ drop 1 r.waiting
+  pub source : IsSource r'.source
+  pub source_is : r'.source ≡ record r.source {
+    taken = passed r.source.taken part;
+    tree = r'.source.tree;
+    held = held_with r.source.held part place;
+  }
+  pub root : IfSome r'.source.tree (λ tree. IsBlockRoot h.ueb.share_root_hash
+      h.ueb.total_shares r.share tree.root)
+  pub taken_is : taken' ≡ taken_with taken part
+
+-- why no segment is made of these readers' blocks
+pub data LacksSome (h : HandoutState) (readers : List ReaderState) (live : List ℕ) (number : ℕ)
+    : Type 0 where
+  lacks_readers : length live ≢ h.geometry.needed → LacksSome h readers live number
+  lacks_hash : known_leaf h.trees.ciphertext number ≡ None → LacksSome h readers live number
+  lacks_block : IsNotReady readers live number → LacksSome h readers live number
+
+-- all that it is made of is there
+pub record HasAll (h : HandoutState) (readers : List ReaderState) (live : List ℕ) (number : ℕ)
+    : Type 0 where
+  pub enough : length live ≡ h.geometry.needed
+  pub known : IsSome (known_leaf h.trees.ciphertext number)
+  pub ready : AreReady readers live number
