@@ -1,5 +1,6 @@
 -- Parts that are asked together, and wait.
-use Rattle.std.proofs.Common.{◌≡◌, ◌≢◌, ◌↔◌, ℕ, zero, suc, ◌+◌, ◌<◌, ◌≤◌, ◌⊎◌, inl, inr, All, Bool, true, false, Contains, Result, Ok, Err, OnOk, OnErr, List, [], ◌∷◌, ◌++◌, length, map, take, get_or, refl, sym, ap, subst, ◌∙◌, arith}
+use Rattle.std.proofs.Common.{◌≡◌, ◌≢◌, ◌↔◌, ℕ, zero, suc, ◌+◌, ◌<◌, ◌≤◌, ◌⊎◌, inl, inr, All, Bool, true, false, Contains, Result, Ok, Err, OnOk, OnErr, Option, Some, None, List, [], ◌∷◌, ◌++◌, length, map, take, get_or, refl, sym, ap, subst, ◌∙◌, arith}
+use Rattle.std.specs.Option.{SomeIff}
 use Rattle.std.proofs.lemmas.List.{append-nil, append_assoc, map-append, take_more, length-take-le}
 use Rattle.std.proofs.lemmas.List.Elements.{All-append, All-weaker, Contains-append_cases, Contains-append_left, Contains-append_right}
 use Rattle.download_plan.specs.declared.part.NodePiece.{NodePiece}
@@ -104,3 +105,7 @@ pub no_tree_by : {X E : Type 0} (r : Result X E) (s t : SourceState) (last : ℕ
     → OnErr r (t ≡ s) → AsksNoTree s t
 no_tree_by (Ok x) s t last exact same = no_tree s t last exact
 no_tree_by (Err e) s t last exact same = λ p asked. subst (λ (q : SourceState). IsAsked q (CiphertextTree p)) same asked
+
+pub by_iff : (o : Option ℕ) (P : Type 0) (v x : ℕ) → SomeIff o P v → o ≡ Some x → x ≡ v
+by_iff None P v x iff is = absurd cc
+by_iff (Some y) P v x iff is = let same : y ≡ x = cc in sym same ∙ iff.1

@@ -8,3 +8,6 @@ pub mod LiveLemmas
 pub mod StateLemmas
 pub mod TakeLemmas
 pub mod EndLemmas
+pub mod BeginLemmas
+pub mod EndFileLemmas
+pub mod WantedLemmas

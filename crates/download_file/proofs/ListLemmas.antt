@@ -3,6 +3,8 @@ use Rattle.std.proofs.Common.{◌≡◌, ◌≢◌, ℕ, zero, suc, ◌+◌, ◌
 use Rattle.std.specs.Prelude.{◌==◌, slice_get, slice_index_or, slice_set}
 use Rattle.std.proofs.lemmas.Bool.{eq-eqb, eqb-true}
 use Rattle.std.proofs.lemmas.List.{length-append}
+use Rattle.std.proofs.lemmas.List.Elements.{Contains-get_or}
+use Rattle.download_file.specs.State.{ReaderState, waiting_in}
 use Rattle.std.proofs.lemmas.Option.{slice_get-get_or, slice_get_within, get_or_from_slice_get}
 
 -- what an index reads stands there
@@ -87,3 +89,44 @@ pub map_set : {X Y : Type 0} (f : X → Y) (xs : List X) (i : ℕ) (x y : X) →
 map_set f [] i x y e same = refl
 map_set {X} {Y} f (q ∷ qs) zero x y e same = let is : q ≡ y = cc in ap (λ (v : Y). v ∷ map f qs) (same ∙ sym (ap f is))
 map_set {X} {Y} f (q ∷ qs) (suc i) x y e same = ap (λ (l : List Y). f q ∷ l) (map_set f qs i x y e same)
+
+pub set_again : {X : Type 0} (xs : List X) (i : ℕ) (x y : X) → slice_set (slice_set xs i x) i y ≡ slice_set xs i y
+set_again [] i x y = refl
+set_again (q ∷ qs) zero x y = refl
+set_again {X} (q ∷ qs) (suc i) x y = ap (λ (l : List X). q ∷ l) (set_again qs i x y)
+
+pub set_same : {X : Type 0} (xs : List X) (i : ℕ) (x : X) → slice_get xs i ≡ Some x → slice_set xs i x ≡ xs
+set_same [] i x e = refl
+set_same {X} (q ∷ qs) zero x e = let is : q ≡ x = cc in ap (λ (v : X). v ∷ qs) (sym is)
+set_same {X} (q ∷ qs) (suc i) x e = ap (λ (l : List X). q ∷ l) (set_same qs i x e)
+
+-- what holds of all that a list contains holds of each element
+pub All-from_contains : {X : Type 0} (P : X → Type 0) (xs : List X) → ((x : X) → Contains xs x → P x) → All P xs
+All-from_contains P xs each = λ k d low. each (slice_index_or xs k d) (Contains-get_or xs k d low)
+
+-- what waits at a place stays where a reader with the same is put
+pub waiting_set : (rs : List ReaderState) (i j : ℕ) (x y : ReaderState) → slice_get rs i ≡ Some y → x.waiting ≡ y.waiting → waiting_in (slice_get (slice_set rs i x) j) ≡ waiting_in (slice_get rs j)
+waiting_set [] i j x y e same = refl
+waiting_set (q ∷ qs) zero zero x y e same = let is : q ≡ y = cc in same ∙ ap (λ (r : ReaderState). r.waiting) (sym is)
+waiting_set (q ∷ qs) zero (suc j) x y e same = refl
+waiting_set (q ∷ qs) (suc i) zero x y e same = refl
+waiting_set (q ∷ qs) (suc i) (suc j) x y e same = waiting_set qs i j x y e same
+
+-- what a list contains, told of each
+pub contains_map : {X Y : Type 0} (f : X → Y) (xs : List X) (x : X) → Contains xs x → Contains (map f xs) (f x)
+contains_map f xs x h = contains_at (map f xs) h.0 (f x) (mapped f xs h.0 x (got xs h.0 x h.1 (sym h.2)))
+  where
+    mapped : {X Y : Type 0} (f : X → Y) (xs : List X) (i : ℕ) (x : X) → slice_get xs i ≡ Some x → slice_get (map f xs) i ≡ Some (f x)
+    mapped f [] i x e = absurd cc
+    mapped f (q ∷ qs) zero x e = let is : q ≡ x = cc in ap (λ v. Some (f v)) is
+    mapped f (q ∷ qs) (suc i) x e = mapped f qs i x e
+
+pub from_map : {X Y : Type 0} (f : X → Y) (xs : List X) (y : Y) → Contains (map f xs) y → (x : X) × Contains xs x × (f x ≡ y)
+from_map f xs y h =
+    let k = unmapped f xs h.0 y (got (map f xs) h.0 y h.1 (sym h.2)) in
+    (k.0, contains_at xs h.0 k.0 k.1, k.2)
+  where
+    unmapped : {X Y : Type 0} (f : X → Y) (xs : List X) (i : ℕ) (y : Y) → slice_get (map f xs) i ≡ Some y → (x : X) × (slice_get xs i ≡ Some x) × (f x ≡ y)
+    unmapped f [] i y e = absurd cc
+    unmapped f (q ∷ qs) zero y e = (q, refl, cc)
+    unmapped f (q ∷ qs) (suc i) y e = unmapped f qs i y e

@@ -80,16 +80,16 @@ get_behind (x ∷ xs) y (suc k) e = get_behind xs y k (omega (arith, e))
 holds_with : (entries : List Request) (s : SourceState) (part : Part) (place : ℕ) (bytes : List ℕ) → HoldsAnswers entries s → AnsweredWith entries place bytes
     → ((i : ℕ) → part ≡ Data i → (i ≡ length s.held) × (length bytes ≡ length_of s.geometry s.first s.end (Data i)))
     → (k : ℕ) → k < length (held_with s.held part place) → IsAnswered entries (get_or (held_with s.held part place) k 0) (length_of s.geometry s.first s.end (Data k))
-holds_with entries s ShareHashes place bytes holds answered data k low = holds k low
-holds_with entries s (BlockTree p) place bytes holds answered data k low = holds k low
-holds_with entries s (CiphertextTree p) place bytes holds answered data k low = holds k low
-holds_with entries s (Data i) place bytes holds answered data k low =
+holds_with entries s ShareHashes place bytes holds answered datum k low = holds k low
+holds_with entries s (BlockTree p) place bytes holds answered datum k low = holds k low
+holds_with entries s (CiphertextTree p) place bytes holds answered datum k low = holds k low
+holds_with entries s (Data i) place bytes holds answered datum k low =
     elim (cases_lt k (length s.held)) [
       | inl before ↦ subst (λ (n : ℕ). IsAnswered entries n (length_of s.geometry s.first s.end (Data k))) (sym (get_front s.held (place ∷ []) k before)) (holds k before)
       | inr behind ↦
           let long = length-append s.held (place ∷ []) in
           let at : k ≡ length s.held = omega (arith, low, long, behind) in
-          let one = data i refl in
+          let one = datum i refl in
           let same : i ≡ k = one.0 ∙ sym at in
           subst (λ (n : ℕ). IsAnswered entries n (length_of s.geometry s.first s.end (Data k))) (sym (get_behind s.held place k at))
           (bytes, answered, (one.1 ∙ ap (λ (n : ℕ). length_of s.geometry s.first s.end (Data n)) same))

@@ -175,6 +175,23 @@ pub record CanGive (r : ReaderState) (taken : List ℕ) : Type 0 where
   pub pieces : (p : NodePiece) → p.index < cursor_at taken p.level
       → IsNodePiece r.source.geometry r.source.start r.source.end p
 
+-- a reader of which nothing was asked yet; where it gives the ciphertext tree, it does from these
+-- pieces on
+pub record IsBegun (g : Geometry) (start first end share : ℕ) (gives : Bool) (taken : List ℕ)
+    (r : ReaderState) : Type 0 where
+  pub share_is : r.share ≡ share
+  pub waiting : r.waiting ≡ []
+  pub right : IsSource r.source
+  pub geometry : r.source.geometry ≡ g
+  pub start_is : r.source.start ≡ start
+  pub first_is : r.source.first ≡ first
+  pub end_is : r.source.end ≡ end
+  pub asked : r.source.taken ≡ r.source.asked
+  pub tree : r.source.tree ≡ None
+  pub held : r.source.held ≡ []
+  pub from : gives ≡ true → r.source.taken.ciphertext_tree ≡ taken
+  pub none : (part : Part) → ¬ IsAsked r.source part
+
 -- The reader at a place gave the ciphertext tree and ends. The first that is left gives it.
 pub record GivesNext (old : List ReaderState) (live : List ℕ) (taken : List ℕ) (reader : ℕ)
     (r : ReaderState) (new : List ReaderState) : Type 0 where

@@ -24,7 +24,7 @@ ghost use Rattle.download_file.specs.Taking.{IsRefused};
 use crate::blocks::{are_ready, find_wrong, join_blocks};
 use crate::evidence::evidence_of;
 use crate::group::{Group, begin_group, make_segment};
-use crate::reader::{Reader, end_reader};
+use crate::reader::{Reader, begin_reader, end_reader};
 use crate::taking::take_part;
 use download_plan::Plan;
 use download_segments::{Handout, Piece};
@@ -177,10 +177,8 @@ impl File {
             unreachable!();
         };
         let reader = self.readers.len();
-        let mut begun = Reader::new(self.alloc, &self.plan, next, share);
-        if self.live.is_empty() {
-            begun.give(&self.taken);
-        }
+        let gives = self.live.is_empty();
+        let begun = begin_reader(self.alloc, &self.plan, next, share, gives, &self.taken);
         self.readers.reserve(1)?;
         self.live.push(reader)?;
         self.readers.push_reserved(begun);

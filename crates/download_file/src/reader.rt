@@ -12,7 +12,8 @@ ghost use Rattle.download_source.specs.Source.{IsSource, gives_from, new_source}
 ghost use Rattle.download_source.specs.Taking.{IsDue, RefutesPiece, TakesPiece, holds_more};
 ghost use Rattle.download_source.specs.Taking.{with_taken};
 ghost use Rattle.download_file.specs.State.{ReaderState, placed, without};
-ghost use Rattle.download_file.specs.Steps.{Asks, AsksNoTree, CanGive, EndsReader, giving};
+ghost use Rattle.download_file.specs.Steps.{Asks, AsksNoTree, CanGive, EndsReader, IsBegun};
+ghost use Rattle.download_file.specs.Steps.{giving};
 
 use download_plan::{NodePiece, Part, Plan};
 use download_source::{Source, Wanted};
@@ -273,6 +274,31 @@ fn drop_first(waiting: &mut VecDeque<Waiting>)
     ensures { waiting.new.items ≡ drop 1 waiting.old.items }
 {
     let _ = waiting.pop_front();
+}
+
+/// A reader of the segments from `first` on of a share with this number, in a download by this plan.
+/// Where it gives the ciphertext tree, it does from what was taken on.
+pub(crate) fn begin_reader(
+    alloc: Global,
+    plan: &Plan,
+    first: u32,
+    share: u8,
+    gives: bool,
+    taken: &[u32; 3],
+) -> Reader
+    requires from { plan.now.first ≤ first }
+    requires before { first < plan.now.end }
+    requires pieces { (p : NodePiece) → p.index < cursor_at taken.now p.level
+        → IsNodePiece plan.now.geometry plan.now.first plan.now.end p }
+    ensures { IsBegun plan.now.geometry plan.now.first first plan.now.end share gives taken.now
+        result }
+{
+    let mut reader = Reader::new(alloc, plan, first, share);
+    if !gives {
+        return reader;
+    }
+    reader.give(taken);
+    reader
 }
 
 /// The reader at a place, which is one of those that are read, is read no more. Where it gave the

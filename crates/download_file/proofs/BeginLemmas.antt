@@ -1,0 +1,271 @@
+-- A reader that begins.
+use Rattle.std.proofs.Common.{◌≡◌, ◌≢◌, ◌↔◌, ℕ, zero, suc, ◌+◌, ◌<◌, ◌≤◌, ◌⊎◌, inl, inr, All, Bool, true, false, Contains, List, [], ◌∷◌, ◌++◌, length, map, Option, Some, None, IfSome, refl, sym, ap, subst, ◌∙◌, arith}
+use Rattle.std.specs.Prelude.{slice_get, slice_set}
+use Rattle.std.proofs.lemmas.Bool.{true≢false}
+use Rattle.std.proofs.lemmas.List.{length-append, map-append}
+use Rattle.std.proofs.lemmas.List.Elements.{All-contains, All-nil, All-push, All-weaker, Contains-push_cases}
+use Rattle.std.proofs.lemmas.Option.{slice_get_within}
+use Rattle.request_record.specs.declared.requests.Request.{Request}
+use Rattle.merkle.specs.Partial.{PartialState}
+use Rattle.share_layout.specs.Geometry.{Geometry}
+use Rattle.download_plan.specs.Plan.{length_of}
+use Rattle.download_plan.specs.declared.part.NodePiece.{NodePiece}
+use Rattle.download_plan.specs.declared.part.Part.{Part}
+use Rattle.download_plan.specs.declared.part.Part.TheVariants.{CiphertextTree}
+use Rattle.download_trees.specs.Trees.{IsBlockRoot}
+use Rattle.download_source.specs.Asking.{IsAsked, IsReadOf}
+use Rattle.download_source.specs.Cursors.{LeadOn}
+use Rattle.download_source.specs.Source.{IsSource, SourceState, gives_from, new_source}
+use Rattle.download_source.specs.declared.cursors.Cursors.{Cursors}
+use Rattle.download_segments.specs.Handout.{next_segment}
+use Rattle.download_segments.specs.State.{HandoutState}
+use Rattle.download_segments.proofs.TreeLemmas.{grow_none}
+use Rattle.download_file.specs.State.{FileState, IsLive, IsReader, ReaderState, giver, shares, waiting_at, waiting_in, waiting_parts}
+use Rattle.download_file.specs.Answers.{HoldsAnswers, IsAnswered, IsRead}
+use Rattle.download_file.specs.Asked.{AsksNoMore}
+use Rattle.download_file.specs.Changes.{StaysAskedUp, StaysRead}
+use Rattle.download_file.specs.Right.{AreLive, GivesTree, IsFile, IsGroup, IsReaderOf}
+use Rattle.download_file.specs.Steps.{IsBegun}
+use Rattle.download_file.specs.declared.reader.Waiting.{Waiting}
+use Rattle.download_file.proofs.ListLemmas.{get_first, get_pushed, one_there}
+use Rattle.download_file.proofs.GrowLemmas.{GrowReaders, goes_same, group_stays, read_stays}
+use Rattle.download_file.proofs.LiveLemmas.{first_live, rise_push}
+use Rattle.download_file.proofs.StateLemmas.{Follows, GrowsAsks, KeepsAsks, StillAsks, asked_up_stays, asks_itself, asks_no_more, grows_itself, new_asks_none, same_reader}
+
+-- ---- the reader
+
+pub begun_new : (g : Geometry) (start first end share : ℕ) (gives : Bool) (taken : List ℕ) (r : ReaderState) → gives ≡ false → r.share ≡ share
+    → r.source ≡ new_source g start first end → r.waiting ≡ [] → IsSource r.source → IsBegun g start first end share gives taken r
+begun_new g start first end share gives taken r not share_is source waiting right = record {
+  share_is = share_is;
+  waiting = waiting;
+  right = right;
+  geometry = ap (λ (s : SourceState). s.geometry) source;
+  start_is = ap (λ (s : SourceState). s.start) source;
+  first_is = ap (λ (s : SourceState). s.first) source;
+  end_is = ap (λ (s : SourceState). s.end) source;
+  asked = subst (λ (s : SourceState). s.taken ≡ s.asked) (sym source) refl;
+  tree = ap (λ (s : SourceState). s.tree) source;
+  held = ap (λ (s : SourceState). s.held) source;
+  from = λ yes. absurd (true≢false (sym yes ∙ not));
+  none = λ part. subst (λ (s : SourceState). ¬ IsAsked s part) (sym source) (new_asks_none g start first end part);
+}
+
+pub begun_gives : (g : Geometry) (start first end share : ℕ) (gives : Bool) (taken : List ℕ) (old r : ReaderState) → old.share ≡ share
+    → old.source ≡ new_source g start first end → old.waiting ≡ [] → r ≡ record old { source = gives_from old.source taken }
+    → ((part : Part) → IsAsked r.source part ↔ IsAsked old.source part) → IsSource r.source → IsBegun g start first end share gives taken r
+begun_gives g start first end share gives taken old r share_is source waiting is asked right =
+    let now : r.source ≡ gives_from (new_source g start first end) taken = ap (λ (q : ReaderState). q.source) is ∙ ap (λ (s : SourceState). gives_from s taken) source in
+    record {
+      share_is = ap (λ (q : ReaderState). q.share) is ∙ share_is;
+      waiting = ap (λ (q : ReaderState). q.waiting) is ∙ waiting;
+      right = right;
+      geometry = ap (λ (s : SourceState). s.geometry) now;
+      start_is = ap (λ (s : SourceState). s.start) now;
+      first_is = ap (λ (s : SourceState). s.first) now;
+      end_is = ap (λ (s : SourceState). s.end) now;
+      asked = subst (λ (s : SourceState). s.taken ≡ s.asked) (sym now) refl;
+      tree = ap (λ (s : SourceState). s.tree) now;
+      held = ap (λ (s : SourceState). s.held) now;
+      from = λ yes. ap (λ (s : SourceState). s.taken.ciphertext_tree) now;
+      none = λ part is_asked. subst (λ (s : SourceState). ¬ IsAsked s part) (sym source) (new_asks_none g start first end part) ((asked part).0 is_asked);
+    }
+
+-- ---- lists
+
+first_push : (xs : List ℕ) (y g : ℕ) → slice_get (xs ++ y ∷ []) 0 ≡ Some g → (slice_get xs 0 ≡ Some g) ⊎ ((xs ≡ []) × (g ≡ y))
+first_push [] y g e = let k : y ≡ g = cc in inr (refl, sym k)
+first_push (x ∷ xs) y g e = inl e
+
+pub waiting_pushed : (xs : List ReaderState) (x : ReaderState) (i : ℕ) → x.waiting ≡ [] → waiting_in (slice_get (xs ++ x ∷ []) i) ≡ waiting_in (slice_get xs i)
+waiting_pushed [] x zero e = e
+waiting_pushed [] x (suc i) e = refl
+waiting_pushed (q ∷ qs) x zero e = refl
+waiting_pushed (q ∷ qs) x (suc i) e = waiting_pushed qs x i e
+
+-- ---- the file
+
+pub record HasBegun (f : FileState) (share : ℕ) (g : FileState) : Type 0 where
+  pub right : IsFile g
+  pub shares_are : shares g ≡ shares f ++ share ∷ []
+  pub waiting : (reader : ℕ) → waiting_at g reader ≡ waiting_at f reader
+  pub asked : AsksNoMore f g
+  pub asked_up : (reader : ℕ) → IsLive f reader → StaysAskedUp f g reader
+  pub reads : StaysRead f g
+
+module _ (f : FileState) (share next : ℕ) (x : ReaderState) (gives : Bool) (is : IsFile f) (next_is : next_segment f.handout ≡ Some next)
+    (begun : IsBegun f.handout.geometry f.first next f.end share gives f.taken x) (given : f.live ≡ [] → gives ≡ true)
+    (there : share < f.handout.geometry.total) (few : length f.live < f.handout.geometry.needed)
+    (unread : (reader : ℕ) (r : ReaderState) → IsLive f reader → IsReader f reader r → r.share ≢ share) where
+  abbrev pub begun_file : FileState
+  begun_file = record f { readers = f.readers ++ x ∷ []; live = f.live ++ length f.readers ∷ [] }
+
+  follows : Follows f begun_file
+  follows = record { geometry = refl; ueb = refl; first = refl; end = refl; later = λ number at. (number, at, omega arith) }
+
+  is_begun : IsReaderOf begun_file x
+  is_begun = record {
+    source = begun.right;
+    geometry = begun.geometry;
+    start = begun.start_is;
+    end = begun.end_is;
+    begun = λ number at.
+        let same : next ≡ number = one_there (next_segment f.handout) next number next_is at in
+        let first = begun.first_is in
+        omega (arith, same, first);
+    share = let low = there in let same = begun.share_is in omega (arith, low, same);
+    root = subst (λ (o : Option PartialState). IfSome o (λ tree. IsBlockRoot f.handout.ueb.share_root_hash f.handout.ueb.total_shares x.share tree.root)) (sym begun.tree) tt;
+  }
+
+  grow : GrowReaders f.readers (f.readers ++ x ∷ [])
+  grow place r at = (r, get_first f.readers (x ∷ []) r place at, refl, goes_same r.source)
+
+  below : (place : ℕ) → IsLive f place → place < length f.readers
+  below place among = All-contains (λ p. p < length f.readers) f.live place is.live.there among
+
+  -- which of them it is
+  which : (place : ℕ) (r : ReaderState) → slice_get (f.readers ++ x ∷ []) place ≡ Some r → (slice_get f.readers place ≡ Some r) ⊎ ((place ≡ length f.readers) × (x ≡ r))
+  which place r at = get_pushed f.readers x r place at
+
+  which_live : (place : ℕ) → IsLive begun_file place → IsLive f place ⊎ (length f.readers ≡ place)
+  which_live place among = Contains-push_cases f.live (length f.readers) place among
+
+  -- one that was there is none that is new
+  old_there : (place : ℕ) (r : ReaderState) → slice_get f.readers place ≡ Some r → place < length f.readers
+  old_there place r at = slice_get_within f.readers place r at
+
+  shares_differ : (i j : ℕ) (r s : ReaderState) → IsLive begun_file i → IsLive begun_file j → i < j → IsReader begun_file i r → IsReader begun_file j s → r.share ≢ s.share
+  shares_differ i j r s one two order at_one at_two same = elim (which i r at_one) [
+    | inr new ↦ elim (which_live j two) [
+      | inl old ↦ let low = below j old in let is_new = new.0 in omega (arith, order, low, is_new)
+      | inr last ↦ let is_new = new.0 in omega (arith, order, last, is_new)
+    ]
+    | inl was ↦ elim (which_live i one) [
+      | inr last ↦ let low = old_there i r was in omega (arith, last, low)
+      | inl first ↦ elim (which j s at_two) [
+        | inl also ↦ elim (which_live j two) [
+          | inl second ↦ is.live.different i j r s first second order was also same
+          | inr last ↦ let low = old_there j s also in omega (arith, last, low)
+        ]
+        | inr new ↦ unread i r first was (same ∙ sym (ap (λ (q : ReaderState). q.share) new.1) ∙ begun.share_is)
+      ]
+    ]
+  ]
+
+  live_begun : AreLive begun_file
+  live_begun =
+      let long : length (f.readers ++ x ∷ []) ≡ length f.readers + 1 = length-append f.readers (x ∷ []) in
+      let count : length (f.live ++ length f.readers ∷ []) ≡ length f.live + 1 = length-append f.live (length f.readers ∷ []) in
+      record {
+        rise = rise_push 0 f.live (length f.readers) is.live.rise (omega arith) is.live.there;
+        there = All-push (λ place. place < length (f.readers ++ x ∷ [])) f.live (length f.readers)
+            (All-weaker (λ place. place < length f.readers) (λ place. place < length (f.readers ++ x ∷ [])) (λ place low. omega (arith, low, long)) f.live is.live.there)
+            (omega (arith, long));
+        few = let low = few in omega (arith, low, count);
+        different = shares_differ;
+        waits = λ place r among at. elim (which place r at) [
+          | inl old ↦ elim (which_live place among) [
+            | inl was ↦ is.live.waits place r was old
+            | inr last ↦ absurd (let low = old_there place r old in omega (arith, last, low))
+          ]
+          | inr new ↦ subst (λ (q : ReaderState). LeadOn q.source.taken (waiting_parts q.waiting) q.source.asked) new.1
+              (subst (λ (l : List Waiting). LeadOn x.source.taken (waiting_parts l) x.source.asked) (sym begun.waiting) begun.asked)
+        ];
+        reads = λ place r among at. elim (which place r at) [
+          | inl old ↦ elim (which_live place among) [
+            | inl was ↦ is.live.reads place r was old
+            | inr last ↦ absurd (let low = old_there place r old in omega (arith, last, low))
+          ]
+          | inr new ↦ subst (λ (q : ReaderState). All (λ v. IsReadOf q.source v.wanted) q.waiting) new.1
+              (subst (λ (l : List Waiting). All (λ v. IsReadOf x.source v.wanted) l) (sym begun.waiting) (All-nil (λ v. IsReadOf x.source v.wanted)))
+        ];
+      }
+
+  gives_begun : GivesTree begun_file
+  gives_begun = record {
+    levels = is.ciphertext.levels;
+    pieces = is.ciphertext.pieces;
+    known = is.ciphertext.known;
+    at_giver = λ place r gives_now at. elim (first_push f.live (length f.readers) place gives_now) [
+      | inl was ↦ elim (which place r at) [
+        | inl old ↦ is.ciphertext.at_giver place r was old
+        | inr new ↦ absurd (let low = below place (first_live f.live place was) in let is_new = new.0 in omega (arith, low, is_new))
+      ]
+      | inr alone ↦ elim (which place r at) [
+        | inl old ↦ absurd (let low = old_there place r old in let last = alone.1 in omega (arith, low, last))
+        | inr new ↦ subst (λ (q : ReaderState). q.source.taken.ciphertext_tree ≡ f.taken) new.1 (begun.from (given alone.0))
+      ]
+    ];
+    behind = λ place other r p gives_now order at asked. elim (which other r at) [
+      | inr new ↦ begun.none (CiphertextTree p) (subst (λ (q : ReaderState). IsAsked q.source (CiphertextTree p)) (sym new.1) asked)
+      | inl old ↦ elim (first_push f.live (length f.readers) place gives_now) [
+        | inl was ↦ is.ciphertext.behind place other r p was order old asked
+        | inr alone ↦ let low = old_there other r old in let last = alone.1 in omega (arith, low, last, order)
+      ]
+    ];
+  }
+
+  pub file_begun : IsFile begun_file
+  file_begun = record {
+    handout = is.handout;
+    range = is.range;
+    last = is.last;
+    next = is.next;
+    readers = λ place r at. elim (which place r at) [
+      | inl old ↦ same_reader f begun_file r follows (is.readers place r old)
+      | inr new ↦ subst (IsReaderOf begun_file) new.1 is_begun
+    ];
+    live = live_begun;
+    ciphertext = gives_begun;
+    groups = All-weaker (IsGroup f.handout f.readers) (IsGroup f.handout (f.readers ++ x ∷ []))
+        (λ group own. group_stays f.handout f.handout f.readers (f.readers ++ x ∷ []) group refl grow own) f.groups is.groups;
+    in_order = is.in_order;
+  }
+
+  pub asks_begun : AsksNoMore f begun_file
+  asks_begun = asks_no_more f begun_file keeps (λ place r at. (r, get_first f.readers (x ∷ []) r place at, asks_itself r.source))
+    where
+      keeps : KeepsAsks f.readers (f.readers ++ x ∷ [])
+      keeps place r at = elim (which place r at) [
+        | inl old ↦ inl (r, old, asks_itself r.source)
+        | inr new ↦ inr (λ part asked. begun.none part (subst (λ (q : ReaderState). IsAsked q.source part) (sym new.1) asked))
+      ]
+
+  pub asked_up_begun : (reader : ℕ) → IsLive f reader → StaysAskedUp f begun_file reader
+  asked_up_begun reader live = asked_up_stays f begun_file reader refl
+      (λ first. elim (first_push f.live (length f.readers) reader first) [
+        | inl was ↦ was
+        | inr alone ↦ absurd (let low = below reader live in let last = alone.1 in omega (arith, low, last))
+      ])
+      (λ r at. elim (which reader r at) [
+        | inl old ↦ (r, old, grows_itself r.source)
+        | inr new ↦ absurd (let low = below reader live in let is_new = new.0 in omega (arith, low, is_new))
+      ])
+
+  pub read_begun : StaysRead f begun_file
+  read_begun entries read = read_stays entries f begun_file refl (grow_none f.handout.trees) grow is.groups refl
+      (λ place r at. elim (which place r at) [
+        | inl old ↦ read.held place r old
+        | inr new ↦ subst (λ (q : ReaderState). HoldsAnswers entries q.source) new.1 none_held
+      ])
+      read
+    where
+      none_held : HoldsAnswers entries x.source
+      none_held k low = absurd (let e = ap length begun.held in omega (arith, low, e))
+
+  pub shares_begun : shares begun_file ≡ shares f ++ share ∷ []
+  shares_begun = map-append (λ (q : ReaderState). q.share) f.readers (x ∷ []) ∙ ap (λ (n : ℕ). shares f ++ n ∷ []) begun.share_is
+
+  pub waiting_begun : (reader : ℕ) → waiting_at begun_file reader ≡ waiting_at f reader
+  waiting_begun reader = waiting_pushed f.readers x reader begun.waiting
+
+  -- what holds of the file then
+  pub has_begun : HasBegun f share begun_file
+  has_begun = record {
+    right = file_begun;
+    shares_are = shares_begun;
+    waiting = waiting_begun;
+    asked = asks_begun;
+    asked_up = asked_up_begun;
+    reads = read_begun;
+  }

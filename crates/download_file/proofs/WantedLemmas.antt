@@ -1,0 +1,360 @@
+-- A file of which a reader is asked for more.
+use Rattle.std.proofs.Common.{◌≡◌, ◌≢◌, ◌↔◌, ℕ, zero, suc, ◌+◌, ◌-◌, ◌<◌, ◌≤◌, ◌⊎◌, inl, inr, All, AllPairs, Bool, true, false, Contains, List, [], ◌∷◌, ◌++◌, length, map, get_or, Option, Some, None, IfSome, refl, sym, ap, subst, ◌∙◌, arith}
+use Rattle.std.specs.Prelude.{slice_get, slice_set}
+use Rattle.std.proofs.lemmas.Bool.{cases_lt}
+use Rattle.std.proofs.Math.ListN.{get_or-map}
+use Rattle.std.proofs.lemmas.List.{append-nil, length-map, length-set, map-append}
+use Rattle.std.proofs.lemmas.List.Elements.{All-append, All-contains, All-nil, All-weaker, Contains-get_or}
+use Rattle.request_record.specs.declared.requests.Request.{Request}
+use Rattle.share_layout.specs.Geometry.{Geometry}
+use Rattle.download_plan.specs.Laws.{AreApart}
+use Rattle.download_plan.specs.Plan.{IsPlanned, length_of, max_read, place_of}
+use Rattle.download_plan.specs.declared.part.NodePiece.{NodePiece}
+use Rattle.download_plan.specs.declared.part.Part.{Part}
+use Rattle.download_plan.specs.declared.part.Part.TheVariants.{ShareHashes, BlockTree, CiphertextTree, Data}
+use Rattle.download_trees.specs.Trees.{IsBlockRoot}
+use Rattle.download_source.specs.Asking.{AsksNow, IsAsked, IsReadOf, IsWanted, IsWantedCiphertext, OnlyAsks, parts_of}
+use Rattle.download_source.specs.Cursors.{IsPassed, LeadOn}
+use Rattle.download_source.specs.Source.{IsPartOf, IsSource, SourceState, first_of}
+use Rattle.download_source.specs.declared.cursors.Cursors.{Cursors}
+use Rattle.download_source.specs.declared.wanted.Wanted.{Wanted}
+use Rattle.download_source.proofs.LawLemmas.{lead_append, parts_apart, plans_grow}
+use Rattle.download_segments.specs.Handout.{next_segment}
+use Rattle.download_segments.specs.State.{HandoutState}
+use Rattle.download_segments.proofs.TreeLemmas.{grow_none}
+use Rattle.download_file.specs.State.{FileState, IsLive, IsReader, ReaderState, giver, placed, shares, waiting_at, waiting_in, waiting_parts}
+use Rattle.download_file.specs.Answers.{HoldsAnswers, IsRead}
+use Rattle.download_file.specs.Asked.{AsksParts, HasAsked, IsAskedUp, IsOneOf, IsPlannedRead}
+use Rattle.download_file.specs.Changes.{OthersWait, StaysAskedUp, StaysRead}
+use Rattle.download_file.specs.Right.{AreLive, IsFile, IsGroup, IsReaderOf}
+use Rattle.download_file.specs.Steps.{Asks, AsksNoTree}
+use Rattle.download_file.specs.declared.reader.Waiting.{Waiting}
+use Rattle.download_file.proofs.ListLemmas.{All-from_contains, contains_map, first_in, from_map, get_cases, get_other, get_set, map_set, more_in, one_there, set_cases}
+use Rattle.download_file.proofs.GrowLemmas.{GoesOn, GrowReaders, goes_same, group_stays, read_stays}
+use Rattle.download_file.proofs.LiveLemmas.{cons_cases, none_in}
+use Rattle.download_file.proofs.StateLemmas.{Follows, GrowsAsks, asked_up_stays, ciphertext_back, grows_itself, reader_stays, same_reader, wanted_back}
+
+-- ---- parts
+
+asked_passed : (s : SourceState) (part : Part) → IsAsked s part → IsPassed s.asked part
+asked_passed s ShareHashes h = h
+asked_passed s (BlockTree p) h = h
+asked_passed s (CiphertextTree p) h = h.1
+asked_passed s (Data i) h = h
+
+-- what is wanted for a segment is wanted for those up to a later one
+wanted_more : (s : SourceState) (number last : ℕ) (part : Part) → number ≤ last → last < s.end → IsWanted s number part → IsWanted s last part
+wanted_more s number last ShareHashes order before h = (let from = h.0.from in record { from = omega (arith, from, order); before = before }, tt)
+wanted_more s number last (BlockTree p) order before h =
+    (let from = h.0.from in record { from = omega (arith, from, order); before = before }, (plans_grow s.geometry s.first (number + 1) (last + 1) (BlockTree p) (omega (arith, order)) h.1).0)
+wanted_more s number last (CiphertextTree p) order before h = absurd h
+wanted_more s number last (Data i) order before h =
+    (let from = h.0.from in record { from = omega (arith, from, order); before = before }, (plans_grow s.geometry s.first (number + 1) (last + 1) (Data i) (omega (arith, order)) h.1).0)
+
+ciphertext_more : (s : SourceState) (number last : ℕ) (part : Part) → number ≤ last → last < s.end → IsWantedCiphertext s number part → IsWantedCiphertext s last part
+ciphertext_more s number last ShareHashes order before h = h
+ciphertext_more s number last (BlockTree p) order before h = h
+ciphertext_more s number last (CiphertextTree p) order before h =
+    (let from = h.0 in omega (arith, from, order), before, h.2, (plans_grow s.geometry s.start (number + 1) (last + 1) (CiphertextTree p) (omega (arith, order)) h.3).0)
+ciphertext_more s number last (Data i) order before h = h
+
+-- the first segment of the plan that a part is of is one of those that are wanted
+first_within : (s : SourceState) (part : Part) → IsSource s → (s.start ≤ first_of s part) × (first_of s part < s.end)
+first_within s ShareHashes is = (is.begins, is.range.some)
+first_within s (BlockTree p) is = (is.begins, is.range.some)
+first_within s (CiphertextTree p) is = (omega arith, (let begins = is.begins in let some = is.range.some in omega (arith, begins, some)))
+first_within s (Data i) is = (is.begins, is.range.some)
+
+-- ---- parts that wait
+
+placed_parts : (place : ℕ) (wanted : List Wanted) → waiting_parts (placed place wanted) ≡ parts_of wanted
+placed_parts place [] = refl
+placed_parts place (w ∷ ws) = ap (λ (l : List Part). w.part ∷ l) (placed_parts (place + 1) ws)
+
+placed_all : (P : Wanted → Type 0) (place : ℕ) (wanted : List Wanted) → ((w : Wanted) → Contains wanted w → P w) → (v : Waiting) → Contains (placed place wanted) v → P v.wanted
+placed_all P place [] each v among = absurd (none_in v among)
+placed_all P place (w ∷ ws) each v among = elim (cons_cases (record { place = place; wanted = w }) v (placed (place + 1) ws) among) [
+  | inl e ↦ subst (λ (u : Waiting). P u.wanted) e (each w (first_in w ws))
+  | inr more ↦ placed_all P (place + 1) ws (λ u k. each u (more_in w u ws k)) v more
+]
+
+-- ---- the file
+
+module _ (f : FileState) (reader : ℕ) (r r' : ReaderState) (gives : Bool) (last place : ℕ) (wanted : List Wanted) (is : IsFile f) (live : IsLive f reader)
+    (at : slice_get f.readers reader ≡ Some r) (share : r'.share ≡ r.share) (only : OnlyAsks r.source r'.source) (right : IsSource r'.source)
+    (asks : Asks r.source gives last wanted r'.source) (tree : gives ≡ false → AsksNoTree r.source r'.source)
+    (giver_is : (giver f ≡ Some reader → gives ≡ true) × (giver f ≢ Some reader → gives ≡ false))
+    (waits : r'.waiting ≡ r.waiting ++ placed place wanted) where
+  abbrev pub asked_file : FileState
+  asked_file = record f { readers = slice_set f.readers reader r' }
+
+  follows : Follows f asked_file
+  follows = record { geometry = refl; ueb = refl; first = refl; end = refl; later = λ number next. (number, next, omega arith) }
+
+  goes : GoesOn r.source r'.source
+  goes = record {
+    geometry = ap (λ (s : SourceState). s.geometry) only;
+    start = ap (λ (s : SourceState). s.start) only;
+    first = ap (λ (s : SourceState). s.first) only;
+    end = ap (λ (s : SourceState). s.end) only;
+    more = [];
+    held = ap (λ (s : SourceState). s.held) only ∙ sym (append-nil r.source.held);
+  }
+
+  grows : GrowsAsks r.source r'.source
+  grows = record {
+    geometry = goes.geometry;
+    start = goes.start;
+    first = goes.first;
+    end = goes.end;
+    given = ap (λ (s : SourceState). s.given) only;
+    asked = λ part was. (asks.now.asked part).1 (inl was);
+  }
+
+  is_asked : IsReaderOf asked_file r'
+  is_asked = reader_stays f asked_file r r' follows (is.readers reader r at) share right goes.geometry goes.start goes.first goes.end
+      (subst (λ (s : SourceState). IfSome s.tree (λ t. IsBlockRoot f.handout.ueb.share_root_hash f.handout.ueb.total_shares r.share t.root)) (sym only) (is.readers reader r at).root)
+
+  grow : GrowReaders f.readers (slice_set f.readers reader r')
+  grow other q there = elim (get_cases f.readers reader other r' r q at there) [
+    | inl k ↦ (r', k.2, share ∙ ap (λ (x : ReaderState). x.share) k.1, subst (λ (x : ReaderState). GoesOn x.source r'.source) k.1 goes)
+    | inr k ↦ (q, k.1, refl, goes_same q.source)
+  ]
+
+  share_was : (other : ℕ) (q : ReaderState) → IsReader asked_file other q → (o : ReaderState) × (IsReader f other o) × (q.share ≡ o.share)
+  share_was other q there = elim (set_cases f.readers reader other r' q there) [
+    | inl k ↦ (r, ap (slice_get f.readers) k.0 ∙ at, sym (ap (λ (x : ReaderState). x.share) k.1) ∙ share)
+    | inr k ↦ (q, k.1, refl)
+  ]
+
+  leads_on : LeadOn r'.source.taken (waiting_parts r'.waiting) r'.source.asked
+  leads_on =
+      let parts : waiting_parts r'.waiting ≡ waiting_parts r.waiting ++ parts_of wanted =
+      ap waiting_parts waits ∙ map-append (λ (w : Waiting). w.wanted.part) r.waiting (placed place wanted)
+      ∙ ap (λ (l : List Part). waiting_parts r.waiting ++ l) (placed_parts place wanted) in
+      let taken : r'.source.taken ≡ r.source.taken = ap (λ (s : SourceState). s.taken) only in
+      subst (λ (l : List Part). LeadOn r'.source.taken l r'.source.asked) (sym parts)
+      (subst (λ (c : Cursors). LeadOn c (waiting_parts r.waiting ++ parts_of wanted) r'.source.asked) (sym taken)
+      (lead_append r.source.taken r.source.asked r'.source.asked (waiting_parts r.waiting) (parts_of wanted) (is.live.waits reader r live at) asks.now.in_order))
+
+  reads_on : All (λ v. IsReadOf r'.source v.wanted) r'.waiting
+  reads_on =
+      subst (λ (l : List Waiting). All (λ v. IsReadOf r'.source v.wanted) l) (sym waits)
+      (subst (λ (s : SourceState). All (λ v. IsReadOf s v.wanted) (r.waiting ++ placed place wanted)) (sym only)
+      (All-append (λ v. IsReadOf r.source v.wanted) r.waiting (placed place wanted) (is.live.reads reader r live at)
+      (All-from_contains (λ v. IsReadOf r.source v.wanted) (placed place wanted)
+      (placed_all (IsReadOf r.source) place wanted (λ w among. All-contains (IsReadOf r.source) wanted w asks.now.reads among)))))
+
+  live_asked : AreLive asked_file
+  live_asked =
+      let long : length (slice_set f.readers reader r') ≡ length f.readers = length-set f.readers reader r' in
+      record {
+        rise = is.live.rise;
+        there = All-weaker (λ p. p < length f.readers) (λ p. p < length (slice_set f.readers reader r')) (λ p low. omega (arith, low, long)) f.live is.live.there;
+        few = is.live.few;
+        different = λ i j x y one two order at_one at_two same.
+            let a = share_was i x at_one in
+            let b = share_was j y at_two in
+            is.live.different i j a.0 b.0 one two order a.1 b.1 (sym a.2 ∙ same ∙ b.2);
+        waits = λ other q among there. elim (set_cases f.readers reader other r' q there) [
+          | inl k ↦ subst (λ (x : ReaderState). LeadOn x.source.taken (waiting_parts x.waiting) x.source.asked) k.1 leads_on
+          | inr k ↦ is.live.waits other q among k.1
+        ];
+        reads = λ other q among there. elim (set_cases f.readers reader other r' q there) [
+          | inl k ↦ subst (λ (x : ReaderState). All (λ v. IsReadOf x.source v.wanted) x.waiting) k.1 reads_on
+          | inr k ↦ is.live.reads other q among k.1
+        ];
+      }
+
+  pub file_asked : IsFile asked_file
+  file_asked = record {
+    handout = is.handout;
+    range = is.range;
+    last = is.last;
+    next = is.next;
+    readers = λ other q there. elim (set_cases f.readers reader other r' q there) [
+      | inl k ↦ subst (IsReaderOf asked_file) k.1 is_asked
+      | inr k ↦ same_reader f asked_file q follows (is.readers other q k.1)
+    ];
+    live = live_asked;
+    ciphertext = record {
+      levels = is.ciphertext.levels;
+      pieces = is.ciphertext.pieces;
+      known = is.ciphertext.known;
+      at_giver = λ other q now there. elim (set_cases f.readers reader other r' q there) [
+        | inl k ↦ subst (λ (x : ReaderState). x.source.taken.ciphertext_tree ≡ f.taken) k.1
+            (ap (λ (s : SourceState). s.taken.ciphertext_tree) only ∙ is.ciphertext.at_giver other r now (ap (slice_get f.readers) k.0 ∙ at))
+        | inr k ↦ is.ciphertext.at_giver other q now k.1
+      ];
+      behind = λ first other q p now order there asked. elim (set_cases f.readers reader other r' q there) [
+        | inr k ↦ is.ciphertext.behind first other q p now order k.1 asked
+        | inl k ↦
+            let is_reader = k.0 in
+            let not : giver f ≢ Some reader = λ e. let one : first ≡ reader = one_there (giver f) first reader now e in omega (arith, order, one, is_reader) in
+            is.ciphertext.behind first other r p now order (ap (slice_get f.readers) k.0 ∙ at)
+            (tree (giver_is.1 not) p (subst (λ (x : ReaderState). IsAsked x.source (CiphertextTree p)) (sym k.1) asked))
+      ];
+    };
+    groups = All-weaker (IsGroup f.handout f.readers) (IsGroup f.handout (slice_set f.readers reader r'))
+        (λ group own. group_stays f.handout f.handout f.readers (slice_set f.readers reader r') group refl grow own) f.groups is.groups;
+    in_order = is.in_order;
+  }
+
+  pub read_asked : StaysRead f asked_file
+  read_asked entries read = read_stays entries f asked_file refl (grow_none f.handout.trees) grow is.groups refl
+      (λ other q there. elim (set_cases f.readers reader other r' q there) [
+        | inl k ↦ subst (λ (x : ReaderState). HoldsAnswers entries x.source) k.1 (subst (HoldsAnswers entries) (sym only) (read.held reader r at))
+        | inr k ↦ read.held other q k.1
+      ])
+      read
+
+  pub shares_asked : shares asked_file ≡ shares f
+  shares_asked = map_set (λ (q : ReaderState). q.share) f.readers reader r' r at share
+
+  pub waiting_asked : waiting_at asked_file reader ≡ waiting_at f reader ++ placed place wanted
+  waiting_asked = ap waiting_in (get_set f.readers reader r' r at) ∙ waits ∙ sym (ap (λ (o : Option ReaderState). waiting_in o ++ placed place wanted) at)
+
+  pub others_asked : OthersWait f reader asked_file
+  others_asked other not = ap waiting_in (get_other f.readers reader other r' not)
+
+  pub still_up : (other : ℕ) → StaysAskedUp f asked_file other
+  still_up other = asked_up_stays f asked_file other refl (λ now. now) (λ q there. elim (set_cases f.readers reader other r' q there) [
+    | inl k ↦ (r, ap (slice_get f.readers) k.0 ∙ at, subst (λ (x : ReaderState). GrowsAsks r.source x.source) k.1 grows)
+    | inr k ↦ (q, k.1, grows_itself q.source)
+  ])
+
+  -- all that is wanted up to the next segment is asked
+  pub now_up : (next : ℕ) → next_segment f.handout ≡ Some next → next ≤ last → last < f.end → IsAskedUp asked_file reader
+  now_up next next_is order before =
+      let own = is.readers reader r at in
+      let end = own.end in
+      let low : last < r.source.end = omega (arith, before, end) in
+      record {
+        own = λ q number part there is_next wants.
+            let one : q ≡ r' = one_there (slice_get (slice_set f.readers reader r') reader) q r' there (get_set f.readers reader r' r at) in
+            let same : number ≡ next = one_there (next_segment f.handout) number next is_next next_is in
+            subst (λ (x : ReaderState). IsAsked x.source part) (sym one)
+            (asks.own part (wanted_more r.source next last part order low (subst (λ (n : ℕ). IsWanted r.source n part) same
+            (wanted_back r.source r'.source number part grows (subst (λ (x : ReaderState). IsWanted x.source number part) one wants)))));
+        ciphertext = λ q number part first there is_next wants.
+            let one : q ≡ r' = one_there (slice_get (slice_set f.readers reader r') reader) q r' there (get_set f.readers reader r' r at) in
+            let same : number ≡ next = one_there (next_segment f.handout) number next is_next next_is in
+            subst (λ (x : ReaderState). IsAsked x.source part) (sym one)
+            (asks.ciphertext (giver_is.0 first) part (ciphertext_more r.source next last part order low (subst (λ (n : ℕ). IsWantedCiphertext r.source n part) same
+            (ciphertext_back r.source r'.source number part grows (subst (λ (x : ReaderState). IsWantedCiphertext x.source number part) one wants)))));
+      }
+
+  -- ---- what is asked
+
+  -- of two parts that are not one no byte is read twice
+  apart_from : (p q : Part) (o l : ℕ) (w : Wanted) → IsPartOf r.source p → IsReadOf r.source w → q ≡ w.part → p ≢ q
+      → o ≡ place_of r.source.geometry (first_of r.source p) r.source.end p → l ≡ length_of r.source.geometry (first_of r.source p) r.source.end p
+      → AreApart o l w.read.place w.read.length
+  apart_from p q o l w one read same other place_is long_is = elim (parts_apart r.source p w.part (is.readers reader r at).source one read.part) [
+    | inl e ↦ absurd (other (e ∙ sym same))
+    | inr k ↦ subst (λ (n : ℕ). AreApart n l w.read.place w.read.length) (sym place_is)
+        (subst (λ (n : ℕ). AreApart (place_of r.source.geometry (first_of r.source p) r.source.end p) n w.read.place w.read.length) (sym long_is)
+        (subst (λ (n : ℕ). AreApart (place_of r.source.geometry (first_of r.source p) r.source.end p) (length_of r.source.geometry (first_of r.source p) r.source.end p) n w.read.length) (sym read.place)
+        (subst (λ (n : ℕ). AreApart (place_of r.source.geometry (first_of r.source p) r.source.end p) (length_of r.source.geometry (first_of r.source p) r.source.end p)
+        (place_of r.source.geometry (first_of r.source w.part) r.source.end w.part) n) (sym read.length) k)))
+  ]
+
+  planned_read : (w : Wanted) → IsReadOf r.source w → IsPlannedRead f w.read.place w.read.length
+  planned_read w read =
+      let own = is.readers reader r at in
+      let within = first_within r.source w.part own.source in
+      let from = within.0 in
+      let before = within.1 in
+      let start = own.start in
+      let end = own.end in
+      record {
+        from = first_of r.source w.part;
+        begins = omega (arith, from, start);
+        before = omega (arith, before, end);
+        planned = subst (λ (g : Geometry). IsPlanned g (first_of r.source w.part) f.end w.read.place w.read.length) own.geometry
+            (subst (λ (n : ℕ). IsPlanned r.source.geometry (first_of r.source w.part) n w.read.place w.read.length) own.end
+            (record { part = w.part; is = read.part; place_is = read.place; len_is = read.length }));
+      }
+
+  pub asks_parts : AsksParts f reader wanted asked_file
+  asks_parts = record {
+    planned = All-weaker (IsReadOf r.source) (λ w. IsPlannedRead f w.read.place w.read.length) planned_read wanted asks.now.reads;
+    few = All-weaker (IsReadOf r.source) (λ w. (0 < w.read.length) × (w.read.length ≤ max_read)) (λ w read. (read.some, read.few)) wanted asks.now.reads;
+    apart = λ i j d order low.
+        let one = asks.now.reads i d (omega (arith, order, low)) in
+        let two = asks.now.reads j d low in
+        apart_from (get_or wanted i d).part (get_or wanted j d).part _ _ (get_or wanted j d) one.part two refl
+        (different i j d order low) one.place one.length;
+    fresh = λ offset len has.
+        let same : has.r ≡ r = one_there (slice_get f.readers reader) has.r r has.there at in
+        All-from_contains (λ w. AreApart offset len w.read.place w.read.length) wanted (λ w among.
+        let asked : IsAsked r.source has.part = subst (λ (x : ReaderState). IsAsked x.source has.part) same has.asked in
+        let read = All-contains (IsReadOf r.source) wanted w asks.now.reads among in
+        apart_from has.part w.part offset len w ((is.readers reader r at).source.parts has.part (asked_passed r.source has.part asked)) read refl
+        (λ e. asks.now.fresh w.part (among_parts w among) (subst (IsAsked r.source) e asked))
+        (subst (λ (x : ReaderState). offset ≡ place_of x.source.geometry (first_of x.source has.part) x.source.end has.part) same has.place)
+        (subst (λ (x : ReaderState). len ≡ length_of x.source.geometry (first_of x.source has.part) x.source.end has.part) same has.long));
+    asked = λ other offset len. (to other offset len, from other offset len);
+  } where
+    among_parts : (w : Wanted) → Contains wanted w → Contains (parts_of wanted) w.part
+    among_parts w among = contains_map (λ (x : Wanted). x.part) wanted w among
+
+    different : (i j : ℕ) (d : Wanted) → i < j → j < length wanted → (get_or wanted i d).part ≢ (get_or wanted j d).part
+    different i j d order low =
+        let part : Wanted → Part = λ x. x.part in
+        let k = asks.now.different i j d.part order (let long = length-map part wanted in omega (arith, low, long)) in
+        λ e. k (get_or-map part wanted i d ∙ e ∙ sym (get_or-map part wanted j d))
+
+    to : (other offset len : ℕ) → HasAsked asked_file other offset len → HasAsked f other offset len ⊎ ((other ≡ reader) × IsOneOf wanted offset len)
+    to other offset len has = elim (set_cases f.readers reader other r' has.r has.there) [
+      | inr k ↦ inl (record { r = has.r; there = k.1; part = has.part; asked = has.asked; place = has.place; long = has.long })
+      | inl k ↦
+          let place_is : offset ≡ place_of r.source.geometry (first_of r.source has.part) r.source.end has.part =
+          subst (λ (s : SourceState). offset ≡ place_of s.geometry (first_of s has.part) s.end has.part) only
+          (subst (λ (x : ReaderState). offset ≡ place_of x.source.geometry (first_of x.source has.part) x.source.end has.part) (sym k.1) has.place) in
+          let long_is : len ≡ length_of r.source.geometry (first_of r.source has.part) r.source.end has.part =
+          subst (λ (s : SourceState). len ≡ length_of s.geometry (first_of s has.part) s.end has.part) only
+          (subst (λ (x : ReaderState). len ≡ length_of x.source.geometry (first_of x.source has.part) x.source.end has.part) (sym k.1) has.long) in
+          elim ((asks.now.asked has.part).0 (subst (λ (x : ReaderState). IsAsked x.source has.part) (sym k.1) has.asked)) [
+            | inl old ↦ inl (record { r = r; there = ap (slice_get f.readers) k.0 ∙ at; part = has.part; asked = old; place = place_is; long = long_is })
+            | inr new ↦
+                let w = from_map (λ (x : Wanted). x.part) wanted has.part new in
+                let read = All-contains (IsReadOf r.source) wanted w.0 asks.now.reads w.1 in
+                inr (k.0, record {
+                  one = w.0;
+                  among = w.1;
+                  place = place_is ∙ sym (read.place ∙ ap (λ (p : Part). place_of r.source.geometry (first_of r.source p) r.source.end p) w.2);
+                  long = long_is ∙ sym (read.length ∙ ap (λ (p : Part). length_of r.source.geometry (first_of r.source p) r.source.end p) w.2);
+                })
+          ]
+    ]
+
+    -- what was asked of a reader before
+    still : (other offset len : ℕ) → HasAsked f other offset len → HasAsked asked_file other offset len
+    still other offset len has = elim (get_cases f.readers reader other r' r has.r at has.there) [
+      | inr k ↦ record { r = has.r; there = k.1; part = has.part; asked = has.asked; place = has.place; long = has.long }
+      | inl k ↦ record {
+        r = r';
+        there = k.2;
+        part = has.part;
+        asked = grows.asked has.part (subst (λ (x : ReaderState). IsAsked x.source has.part) (sym k.1) has.asked);
+        place = subst (λ (s : SourceState). offset ≡ place_of s.geometry (first_of s has.part) s.end has.part) (sym only)
+            (subst (λ (x : ReaderState). offset ≡ place_of x.source.geometry (first_of x.source has.part) x.source.end has.part) (sym k.1) has.place);
+        long = subst (λ (s : SourceState). len ≡ length_of s.geometry (first_of s has.part) s.end has.part) (sym only)
+            (subst (λ (x : ReaderState). len ≡ length_of x.source.geometry (first_of x.source has.part) x.source.end has.part) (sym k.1) has.long);
+      }
+    ]
+
+    from : (other offset len : ℕ) → (HasAsked f other offset len ⊎ ((other ≡ reader) × IsOneOf wanted offset len)) → HasAsked asked_file other offset len
+    from other offset len (inl old) = still other offset len old
+    from other offset len (inr new) =
+        let one = new.1 in
+        let read = All-contains (IsReadOf r.source) wanted one.one asks.now.reads one.among in
+        record {
+          r = r';
+          there = ap (slice_get (slice_set f.readers reader r')) new.0 ∙ get_set f.readers reader r' r at;
+          part = one.one.part;
+          asked = (asks.now.asked one.one.part).1 (inr (among_parts one.one one.among));
+          place = subst (λ (s : SourceState). offset ≡ place_of s.geometry (first_of s one.one.part) s.end one.one.part) (sym only) (one.place ∙ read.place);
+          long = subst (λ (s : SourceState). len ≡ length_of s.geometry (first_of s one.one.part) s.end one.one.part) (sym only) (one.long ∙ read.length);
+        }
