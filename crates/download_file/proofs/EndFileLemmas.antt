@@ -26,9 +26,9 @@ use Rattle.download_file.specs.Answers.{HoldsAnswers, IsRead}
 use Rattle.download_file.specs.Asked.{AsksNoMore}
 use Rattle.download_file.specs.Changes.{OthersWait, StaysAskedUp, StaysRead}
 use Rattle.download_file.specs.Right.{AreConsecutive, AreLive, IsFile, IsGroup, IsReaderOf, made_end}
-use Rattle.download_file.specs.Steps.{AsksNoTree, EndsReader, giving, stopped}
-use Rattle.download_file.proofs.ListLemmas.{All-from_contains, get_cases, get_other, get_set, map_set, one_there, set_again, set_cases, waiting_set}
-use Rattle.download_file.proofs.GrowLemmas.{GoesOn, GrowReaders, goes_same, group_stays, read_stays}
+use Rattle.download_file.specs.Steps.{AsksNoTree, CanGive, EndsReader, giving, stopped}
+use Rattle.download_file.proofs.ListLemmas.{All-from_contains, get_cases, get_other, get_set, map_set, one_there, set_again, set_cases, set_same, waiting_set}
+use Rattle.download_file.proofs.GrowLemmas.{GoesOn, GrowReaders, goes_same, group_stays, read_stays, reader_there}
 use Rattle.download_file.proofs.LiveLemmas.{first_least, first_live, first_stays, from_without, length-without, rise_without, something_first}
 use Rattle.download_file.proofs.StateLemmas.{Follows, GrowsAsks, KeepsAsks, SameAsks, StillAsks, asked_same, asked_up_stays, asks_itself, asks_no_more, grows_itself, reader_stays, same_asks, same_reader}
 use Rattle.download_file.proofs.EndLemmas.{next_left}
@@ -336,11 +336,12 @@ asks_two f m g one two reader offset len =
     ((λ h. (one reader offset len).0 ((two reader offset len).0 h)), (λ h. (two reader offset len).1 ((one reader offset len).1 h)))
 
 -- what holds of a file after a reader ended
-pub record HasEnded (f : FileState) (reader : ℕ) (g : FileState) : Type 0 where
+pub record HasEnded (f : FileState) (reader : ℕ) (s t : SourceState) (g : FileState) : Type 0 where
   pub right : IsFile g
   pub same_shares : shares g ≡ shares f
   pub none : waiting_at g reader ≡ []
   pub others : OthersWait f reader g
+  pub asked : SameAsks s t → AsksNoMore f g
   pub asked_up : giver f ≢ Some reader → (other : ℕ) → other ≢ reader → StaysAskedUp f g other
   pub reads : StaysRead f g
 
@@ -353,12 +354,13 @@ module _ (f : FileState) (reader : ℕ) (r r1 : ReaderState) (rs : List ReaderSt
   plain = stopped_file f reader r r1 is live at share only right tree
 
   -- where no other gives the ciphertext tree now
-  pub ended_plain : rs ≡ slice_set f.readers reader (stopped r1) → (giver f ≢ Some reader) ⊎ (giver plain ≡ None) → HasEnded f reader ended_file
-  ended_plain list why = subst (λ (l : List ReaderState). HasEnded f reader (record f { readers = l; live = without reader f.live })) (sym list) (record {
+  pub ended_plain : rs ≡ slice_set f.readers reader (stopped r1) → (giver f ≢ Some reader) ⊎ (giver plain ≡ None) → HasEnded f reader r.source r1.source ended_file
+  ended_plain list why = subst (λ (l : List ReaderState). HasEnded f reader r.source r1.source (record f { readers = l; live = without reader f.live })) (sym list) (record {
     right = whole plain (nearly f reader r r1 is live at share only right tree) (gives why);
     same_shares = shares_stopped f reader r r1 is live at share only right tree;
     none = none_waits f reader r r1 is live at share only right tree;
     others = others_wait f reader r r1 is live at share only right tree;
+    asked = asks_stopped f reader r r1 is live at share only right tree;
     asked_up = asked_up_stopped f reader r r1 is live at share only right tree;
     reads = read_stopped f reader r r1 is live at share only right tree;
   }) where
@@ -368,18 +370,20 @@ module _ (f : FileState) (reader : ℕ) (r r1 : ReaderState) (rs : List ReaderSt
 
   -- where another does
   pub ended_gives : (next : ℕ) (s : ReaderState) → giver f ≡ Some reader → giver plain ≡ Some next → slice_get f.readers next ≡ Some s
-      → rs ≡ slice_set (slice_set f.readers reader (stopped r1)) next (giving s f.taken) → HasEnded f reader ended_file
+      → rs ≡ slice_set (slice_set f.readers reader (stopped r1)) next (giving s f.taken) → HasEnded f reader r.source r1.source ended_file
   ended_gives next s gave first at_next list =
       let k = nearly f reader r r1 is live at share only right tree in
       let left = next_left f.live reader next first in
       let there : slice_get plain.readers next ≡ Some s = get_other f.readers reader next (stopped r1) left.1 ∙ at_next in
       let later : reader ≤ next = first_least 0 f.live reader next is.live.rise gave left.0 in
       let none : (p : NodePiece) → ¬ IsAsked s.source (CiphertextTree p) = λ p. is.ciphertext.behind reader next s p gave (strictly reader next later left.1) at_next in
-      subst (λ (l : List ReaderState). HasEnded f reader (record f { readers = l; live = without reader f.live })) (sym list) (record {
+      subst (λ (l : List ReaderState). HasEnded f reader r.source r1.source (record f { readers = l; live = without reader f.live })) (sym list) (record {
         right = file_giving plain next s k first there none;
         same_shares = shares_giving plain next s k first there none ∙ shares_stopped f reader r r1 is live at share only right tree;
         none = waiting_giving plain next s k first there none reader ∙ none_waits f reader r r1 is live at share only right tree;
         others = λ other not. waiting_giving plain next s k first there none other ∙ others_wait f reader r r1 is live at share only right tree other not;
+        asked = λ same. asks_two f plain (giving_file plain next s k first there none) (asks_stopped f reader r r1 is live at share only right tree same)
+            (asks_giving plain next s k first there none);
         asked_up = λ other. absurd (other gave);
         reads = λ entries read. read_giving plain next s k first there none entries (read_stopped f reader r r1 is live at share only right tree entries read);
       })
@@ -390,7 +394,7 @@ module _ (f : FileState) (reader : ℕ) (r r1 : ReaderState) (rs : List ReaderSt
         | inr high ↦ absurd (other (omega (arith, order, high)))
       ]
 
-  pub has_ended : EndsReader (slice_set f.readers reader r1) f.live f.taken reader rs → HasEnded f reader ended_file
+  pub has_ended : EndsReader (slice_set f.readers reader r1) f.live f.taken reader rs → HasEnded f reader r.source r1.source ended_file
   has_ended ends =
       let one : ends.r ≡ r1 = one_there (slice_get (slice_set f.readers reader r1) reader) ends.r r1 ends.there (get_set f.readers reader r1 r at) in
       let list : slice_set (slice_set f.readers reader r1) reader (stopped ends.r) ≡ slice_set f.readers reader (stopped r1) =
@@ -402,3 +406,28 @@ module _ (f : FileState) (reader : ℕ) (r r1 : ReaderState) (rs : List ReaderSt
             ended_gives k.next k.s k.gave k.first (sym (get_other f.readers reader k.next r1 left.1) ∙ k.at)
             (k.new_is ∙ ap (λ (l : List ReaderState). slice_set l k.next (giving k.s f.taken)) list)
       ]
+
+-- ---- the reader at a place ends as it is
+
+pub can_give : (f : FileState) (reader : ℕ) → IsFile f → IsLive f reader → giver f ≡ Some reader → (next : ℕ) (s : ReaderState)
+    → slice_get (without reader f.live) 0 ≡ Some next → slice_get f.readers next ≡ Some s → CanGive s f.taken
+can_give f reader is live gave next s first at =
+    let left = next_left f.live reader next first in
+    let later : reader ≤ next = first_least 0 f.live reader next is.live.rise gave left.0 in
+    let order : reader < next = elim (cases_lt reader next) [ inl low ↦ low | inr high ↦ absurd (left.1 (omega (arith, later, high))) ] in
+    let own = is.readers next s at in
+    record {
+      none = λ p. is.ciphertext.behind reader next s p gave order at;
+      pieces = λ p low.
+          subst (λ (g : Geometry). IsNodePiece g s.source.start s.source.end p) (sym own.geometry)
+          (subst (λ (n : ℕ). IsNodePiece f.handout.geometry n s.source.end p) (sym own.start)
+          (subst (λ (n : ℕ). IsNodePiece f.handout.geometry f.first n p) (sym own.end) (is.ciphertext.pieces p low)));
+    }
+
+pub ended_itself : (f : FileState) (reader : ℕ) (rs : List ReaderState) → IsFile f → IsLive f reader → EndsReader f.readers f.live f.taken reader rs
+    → (r : ReaderState) × HasEnded f reader r.source r.source (record f { readers = rs; live = without reader f.live })
+ended_itself f reader rs is live ends =
+    let r = reader_there f.readers reader (All-contains (λ place. place < length f.readers) f.live reader is.live.there live) in
+    let same : slice_set f.readers reader r.0 ≡ f.readers = set_same f.readers reader r.0 r.1 in
+    (r.0, has_ended f reader r.0 r.0 rs is live r.1 refl refl (is.readers reader r.0 r.1).source (λ other p asked. asked)
+    (subst (λ (l : List ReaderState). EndsReader l f.live f.taken reader rs) (sym same) ends))

@@ -19,6 +19,18 @@ pub option_is_not : (o : Option ℕ) (x : ℕ) → option_eq eqb o (Some x) ≡ 
 option_is_not None x e f = absurd cc
 option_is_not (Some y) x e f = let same : y ≡ x = cc in true≢false (sym (eq-eqb y x same) ∙ e)
 
+pub option_is_true : (o : Option ℕ) (x : ℕ) → o ≡ Some x → option_eq eqb o (Some x) ≡ true
+option_is_true None x e = absurd cc
+option_is_true (Some y) x e = let same : y ≡ x = cc in eq-eqb y x same
+
+pub option_is_false : (o : Option ℕ) (x : ℕ) → o ≢ Some x → option_eq eqb o (Some x) ≡ false
+option_is_false None x e = refl
+option_is_false (Some y) x e = by (eqb y x) refl
+  where
+    by : (b : Bool) → eqb y x ≡ b → eqb y x ≡ false
+    by true k = absurd (e (ap Some (eqb-true y x k)))
+    by false k = k
+
 -- the first that is left is another reader, and there
 pub next_left : (live : List ℕ) (reader next : ℕ) → slice_get (without reader live) 0 ≡ Some next → Contains live next × (next ≡ reader → ⊥)
 next_left live reader next first = from_without reader next live (first_live (without reader live) next first)

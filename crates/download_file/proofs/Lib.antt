@@ -11,3 +11,5 @@ pub mod EndLemmas
 pub mod BeginLemmas
 pub mod EndFileLemmas
 pub mod WantedLemmas
+pub mod EvidenceLemmas
+pub mod WaitLemmas

@@ -21,15 +21,17 @@ use Rattle.download_source.proofs.CursorLemmas.{piece_next}
 use Rattle.download_source.proofs.LawLemmas.{first_due}
 use Rattle.download_segments.specs.Handout.{next_segment}
 use Rattle.download_segments.specs.State.{HandoutState, with_trees}
-use Rattle.download_file.specs.State.{FileState, GroupState, IsLive, IsReader, ReaderState, first_place, first_waiting, giver, waiting_in, waiting_parts}
+use Rattle.download_file.specs.State.{FileState, GroupState, IsLive, IsReader, ReaderState, first_place, first_waiting, giver, shares, waiting_at, waiting_in, waiting_parts}
 use Rattle.download_file.specs.Answers.{AnsweredWith, HoldsAnswers, IsAnswered, IsRead}
+use Rattle.download_file.specs.Asked.{AsksNoMore}
+use Rattle.download_file.specs.Changes.{OthersWait, StaysAskedUp}
 use Rattle.download_file.specs.Right.{AreLive, GivesTree, IsFile, IsGroup, IsReaderOf}
 use Rattle.download_file.specs.Steps.{IsTaker, KnowsPart, TakesPart, held_with, taken_with}
 use Rattle.download_file.specs.declared.reader.Waiting.{Waiting}
-use Rattle.download_file.proofs.ListLemmas.{get_cases, get_set, one_there, set_cases}
+use Rattle.download_file.proofs.ListLemmas.{get_cases, get_other, get_set, map_set, one_there, set_cases, set_same}
 use Rattle.download_file.proofs.GrowLemmas.{GoesOn, GrowReaders, goes_same, group_stays, read_stays}
 use Rattle.download_file.proofs.LiveLemmas.{live_giver}
-use Rattle.download_file.proofs.StateLemmas.{Follows, GrowsAsks, KeepsAsks, SameAsks, StillAsks, asked_same, asks_itself, grows_itself, reader_stays, same_asks, same_reader}
+use Rattle.download_file.proofs.StateLemmas.{Follows, GrowsAsks, KeepsAsks, SameAsks, StillAsks, asked_same, asked_up_stays, asks_itself, asks_no_more, grows_itself, reader_stays, same_asks, same_reader}
 
 -- ---- kinds of parts
 
@@ -96,6 +98,15 @@ holds_with entries s (Data i) place bytes holds answered datum k low =
     ]
 
 -- ---- the file
+
+pub record HasTaken (f : FileState) (reader : ℕ) (bytes : List ℕ) (g : FileState) : Type 0 where
+  pub right : IsFile g
+  pub taken_is : waiting_at g reader ≡ drop 1 (waiting_at f reader)
+  pub shares_are : shares g ≡ shares f
+  pub others : OthersWait f reader g
+  pub asked : AsksNoMore f g
+  pub asked_up : (other : ℕ) → StaysAskedUp f g other
+  pub reads : (entries : List Request) (place : ℕ) → IsRead entries f → first_waiting f reader ≡ Some place → AnsweredWith entries place bytes → IsRead entries g
 
 module _ (f : FileState) (t : FileTreesState) (reader : ℕ) (r r' : ReaderState) (w : Waiting) (ws : List Waiting) (taken' : List ℕ)
     (is : IsFile f) (live : IsLive f reader) (at : slice_get f.readers reader ≡ Some r) (waits : r.waiting ≡ w ∷ ws) where
@@ -312,3 +323,35 @@ module _ (f : FileState) (t : FileTreesState) (reader : ℕ) (r r' : ReaderState
           | inr k ↦ read.held other q k.1
         ])
         read
+
+    pub has_taken_by : (bytes : List ℕ) → length bytes ≡ w.wanted.read.length → HasTaken f reader bytes taken_file
+    has_taken_by bytes long = record {
+      right = file_taken;
+      taken_is = ap waiting_in (get_set f.readers reader r' r at) ∙ T.waiting ∙ sym (ap (λ (o : Option ReaderState). drop 1 (waiting_in o)) at);
+      shares_are = map_set (λ (q : ReaderState). q.share) f.readers reader r' r at T.share;
+      others = λ other not. ap waiting_in (get_other f.readers reader other r' not);
+      asked = asks_no_more f taken_file keeps_taken still_taken;
+      asked_up = λ other. asked_up_stays f taken_file other refl (λ now. now) (grows_taken other);
+      reads = λ entries place read first answered. read_taken entries place bytes read first answered long;
+    }
+
+-- the part is taken
+pub has_taken : (f : FileState) (h' : HandoutState) (reader : ℕ) (r r' : ReaderState) (w : Waiting) (ws : List Waiting) (taken' bytes : List ℕ) → IsFile f → IsLive f reader
+    → slice_get f.readers reader ≡ Some r → r.waiting ≡ w ∷ ws → TakesPart f.handout r f.taken f.first f.end w.wanted.part w.place h' r' taken' → length bytes ≡ w.wanted.read.length
+    → HasTaken f reader bytes (record f { handout = h'; taken = taken'; readers = slice_set f.readers reader r' })
+has_taken f h' reader r r' w ws taken' bytes is live at waits T long =
+    subst (λ (h : HandoutState). HasTaken f reader bytes (record f { handout = h; taken = taken'; readers = slice_set f.readers reader r' })) (sym T.handout)
+    (has_taken_by f h'.trees reader r r' w ws taken' is live at waits
+    (subst (λ (h : HandoutState). TakesPart f.handout r f.taken f.first f.end w.wanted.part w.place h r' taken') T.handout T) bytes long)
+
+-- nothing is taken
+pub same_still : (f : FileState) (h' : HandoutState) (reader : ℕ) (r r' : ReaderState) (taken' : List ℕ) → slice_get f.readers reader ≡ Some r → h' ≡ f.handout → r' ≡ r → taken' ≡ f.taken
+    → record f { handout = h'; taken = taken'; readers = slice_set f.readers reader r' } ≡ f
+same_still f h' reader r r' taken' at handout same taken =
+    let readers : slice_set f.readers reader r' ≡ f.readers = ap (slice_set f.readers reader) same ∙ set_same f.readers reader r at in
+    λ i. record f { handout = handout i; taken = taken i; readers = readers i }
+
+-- what stands first in a list
+pub front_is : (xs : List Waiting) (w : Waiting) → slice_get xs 0 ≡ Some w → (ws : List Waiting) × (xs ≡ w ∷ ws)
+front_is [] w e = absurd cc
+front_is (v ∷ vs) w e = let is : v ≡ w = cc in (vs, ap (λ (u : Waiting). u ∷ vs) is)

@@ -36,7 +36,7 @@ use Rattle.download_file.proofs.StateLemmas.{Follows, GrowsAsks, asked_up_stays,
 
 -- ---- parts
 
-asked_passed : (s : SourceState) (part : Part) → IsAsked s part → IsPassed s.asked part
+pub asked_passed : (s : SourceState) (part : Part) → IsAsked s part → IsPassed s.asked part
 asked_passed s ShareHashes h = h
 asked_passed s (BlockTree p) h = h
 asked_passed s (CiphertextTree p) h = h.1
@@ -79,6 +79,16 @@ placed_all P place (w ∷ ws) each v among = elim (cons_cases (record { place = 
 ]
 
 -- ---- the file
+
+pub record HasWanted (f : FileState) (reader place last : ℕ) (wanted : List Wanted) (g : FileState) : Type 0 where
+  pub right : IsFile g
+  pub asks : AsksParts f reader wanted g
+  pub waits : waiting_at g reader ≡ waiting_at f reader ++ placed place wanted
+  pub asked_up : (next : ℕ) → next_segment f.handout ≡ Some next → next ≤ last → last < f.end → IsAskedUp g reader
+  pub others_asked_up : (other : ℕ) → StaysAskedUp f g other
+  pub shares_are : shares g ≡ shares f
+  pub others : OthersWait f reader g
+  pub reads : StaysRead f g
 
 module _ (f : FileState) (reader : ℕ) (r r' : ReaderState) (gives : Bool) (last place : ℕ) (wanted : List Wanted) (is : IsFile f) (live : IsLive f reader)
     (at : slice_get f.readers reader ≡ Some r) (share : r'.share ≡ r.share) (only : OnlyAsks r.source r'.source) (right : IsSource r'.source)
@@ -302,7 +312,7 @@ module _ (f : FileState) (reader : ℕ) (r r' : ReaderState) (gives : Bool) (las
     different : (i j : ℕ) (d : Wanted) → i < j → j < length wanted → (get_or wanted i d).part ≢ (get_or wanted j d).part
     different i j d order low =
         let part : Wanted → Part = λ x. x.part in
-        let k = asks.now.different i j d.part order (let long = length-map part wanted in omega (arith, low, long)) in
+        let k = asks.now.different i j d.part order (let long = length-map wanted part in omega (arith, low, long)) in
         λ e. k (get_or-map part wanted i d ∙ e ∙ sym (get_or-map part wanted j d))
 
     to : (other offset len : ℕ) → HasAsked asked_file other offset len → HasAsked f other offset len ⊎ ((other ≡ reader) × IsOneOf wanted offset len)
@@ -358,3 +368,15 @@ module _ (f : FileState) (reader : ℕ) (r r' : ReaderState) (gives : Bool) (las
           place = subst (λ (s : SourceState). offset ≡ place_of s.geometry (first_of s one.one.part) s.end one.one.part) (sym only) (one.place ∙ read.place);
           long = subst (λ (s : SourceState). len ≡ length_of s.geometry (first_of s one.one.part) s.end one.one.part) (sym only) (one.long ∙ read.length);
         }
+
+  pub has_wanted : HasWanted f reader place last wanted asked_file
+  has_wanted = record {
+    right = file_asked;
+    asks = asks_parts;
+    waits = waiting_asked;
+    asked_up = now_up;
+    others_asked_up = still_up;
+    shares_are = shares_asked;
+    others = others_asked;
+    reads = read_asked;
+  }

@@ -151,6 +151,7 @@ AreSegmentsBy u parts = All (λ (p : EvidencePart). IsSegmentBy u p.number p.seg
 pub record IsMadeGroup (entries : List Request) (h : HandoutState) (readers : List ReaderState)
     (group : GroupState) : Type 0 where
   pub right : IsGroup h readers group
+  pub order : group.first ≤ group.end
   pub there : group.end ≤ segment_count h.geometry
   pub made : (number : ℕ) → group.first ≤ number → number < group.end
       → IsMade entries h readers group number

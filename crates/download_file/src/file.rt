@@ -232,7 +232,7 @@ impl File {
             return Ok(Vec::new(self.alloc));
         };
         let last = last_asked(&self.plan, next);
-        let gives = self.live.first() == Some(&reader);
+        let gives = self.live.first().copied() == Some(reader);
         match self.readers[reader].ask(self.alloc, gives, last, place) {
             Ok(wanted) => Ok(wanted),
             Err(error) => {

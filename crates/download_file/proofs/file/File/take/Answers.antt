@@ -1,6 +1,173 @@
-use Rattle.std.proofs.Common.{◌≡◌}
-use Rattle.download_file.proofs.TakeLemmas.{file_taken}
+use Rattle.std.proofs.Common.{◌≡◌, ◌≢◌, ◌∙◌, ◌<◌, ◌↔◌, inl, inr, ℕ, List, Err, Some, ap, subst, sym, length, refl, slice_get, slice_set, rules}
+use Rattle.std.proofs.lemmas.List.Elements.{All-contains}
+use Rattle.request_record.specs.declared.requests.Request.{Request}
+use Rattle.share_verify.specs.declared.check.Check.{Check}
+use Rattle.download_trees.specs.declared.error.TreeFault.TheVariants as faults
+use Rattle.download_segments.specs.State.{HandoutState}
+use Rattle.download_file.specs.State.{FileState, IsLive, ReaderState, first_waiting}
+use Rattle.download_file.specs.Answers.{AnsweredWith, IsRead}
+use Rattle.download_file.specs.Asked.{AsksNoMore}
+use Rattle.download_file.specs.Changes.{StaysAskedUp}
+use Rattle.download_file.specs.Right.{IsFile}
+use Rattle.download_file.specs.Taking.{IsRefused}
+use Rattle.download_file.proofs.ListLemmas.{got, one_there}
+use Rattle.download_file.proofs.TakeLemmas.{HasTaken, front_is, has_taken, is_taker, same_still}
 use Rattle.download_file.proofs.file.File.take.Goals as goal
 
+pub take_part-requires-clause-taker : goal.take_part-requires-clause-taker
+take_part-requires-clause-taker c =
+    let f : FileState = record {
+    handout = c.self.inside.handout;
+    first = c.self.inside.plan.first;
+    end = c.self.inside.plan.end;
+    taken = c.self.inside.taken;
+    readers = c.self.inside.readers.items;
+    live = c.self.inside.live.items;
+    groups = c.self.inside.groups.items;
+  } in
+    let live : IsLive f c.args.reader = subst (λ (s : FileState). IsLive s c.args.reader) (sym c.self.view_is) c.requires.live in
+    let low : c.args.reader < length f.readers = All-contains (λ place. place < length f.readers) f.live c.args.reader c.self.invariant.0.live.there live in
+    let r : ReaderState = c.index_mut.result.now in
+    let at : slice_get f.readers c.args.reader ≡ Some r = got f.readers c.args.reader r low c.index_mut.ensures.value in
+    let was : c.index.result.now ≡ r = one_there (slice_get f.readers c.args.reader) c.index.result.now r (got f.readers c.args.reader c.index.result.now low c.index.ensures) at in
+    let front = front_is r.waiting c.in-Some.first (sym (ap (λ (q : ReaderState). slice_get q.waiting 0) was) ∙ sym c.first.ensures ∙ c.in-Some.is) in
+    is_taker f f.handout.trees c.args.reader r r c.in-Some.first front.0 f.taken c.self.invariant.0 live at front.1
+
+-- ---- it is taken
+
+abbrev then : goal.In_ok-take_part → FileState
+then c = record {
+    handout = c.take_part.new.handout;
+    first = c.self.inside.plan.first;
+    end = c.self.inside.plan.end;
+    taken = c.take_part.new.taken;
+    readers = slice_set c.self.inside.readers.items c.args.reader c.take_part.new.reader;
+    live = c.self.inside.live.items;
+    groups = c.self.inside.groups.items;
+  }
+
+taken : (c : goal.In_ok-take_part) → HasTaken c.args.self.now c.args.reader c.args.bytes.now (then c)
+taken c =
+    let f : FileState = record {
+    handout = c.self.inside.handout;
+    first = c.self.inside.plan.first;
+    end = c.self.inside.plan.end;
+    taken = c.self.inside.taken;
+    readers = c.self.inside.readers.items;
+    live = c.self.inside.live.items;
+    groups = c.self.inside.groups.items;
+  } in
+    let live : IsLive f c.args.reader = subst (λ (s : FileState). IsLive s c.args.reader) (sym c.self.view_is) c.requires.live in
+    let low : c.args.reader < length f.readers = All-contains (λ place. place < length f.readers) f.live c.args.reader c.self.invariant.0.live.there live in
+    let r : ReaderState = c.index_mut.result.now in
+    let at : slice_get f.readers c.args.reader ≡ Some r = got f.readers c.args.reader r low c.index_mut.ensures.value in
+    let was : c.index.result.now ≡ r = one_there (slice_get f.readers c.args.reader) c.index.result.now r (got f.readers c.args.reader c.index.result.now low c.index.ensures) at in
+    let front = front_is r.waiting c.in-Some.first (sym (ap (λ (q : ReaderState). slice_get q.waiting 0) was) ∙ sym c.first.ensures ∙ c.in-Some.is) in
+    subst (λ (s : FileState). HasTaken s c.args.reader c.args.bytes.now (then c)) c.self.view_is
+    (has_taken f c.take_part.new.handout c.args.reader r c.take_part.new.reader c.in-Some.first front.0 c.take_part.new.taken c.args.bytes.now c.self.invariant.0 live at front.1
+    c.in_ok-take_part.ensures.taken c.if-bytes-first.false)
+
+pub invariant_of-self-2 : goal.invariant_of-self-2
+invariant_of-self-2 c = ((taken c).right, c.self.invariant.1 ∙ sym (ap (λ (h : HandoutState). h.geometry) c.in_ok-take_part.ensures.taken.handout))
+
+pub returns-clause-right : goal.returns-clause-right
+returns-clause-right c = (taken c).right
+
+pub returns-clause-taken : goal.returns-clause-taken
+returns-clause-taken c = (taken c).taken_is
+
+pub returns-clause-shares : goal.returns-clause-shares
+returns-clause-shares c = (taken c).shares_are
+
+pub returns-clause-others : goal.returns-clause-others
+returns-clause-others c = (taken c).others
+
+pub returns-clause-asked : goal.returns-clause-asked
+returns-clause-asked c = (taken c).asked
+
+pub returns-clause-asked_up : goal.returns-clause-asked_up
+returns-clause-asked_up c = (taken c).asked_up
+
+pub returns-clause-reads : goal.returns-clause-reads
+returns-clause-reads c = (taken c).reads
+
+-- ---- it is refused
+
+abbrev still : goal.After-from_residual → FileState
+still c = record {
+    handout = c.take_part.new.handout;
+    first = c.self.inside.plan.first;
+    end = c.self.inside.plan.end;
+    taken = c.take_part.new.taken;
+    readers = slice_set c.self.inside.readers.items c.args.reader c.take_part.new.reader;
+    live = c.self.inside.live.items;
+    groups = c.self.inside.groups.items;
+  }
+
+same : (c : goal.After-from_residual) → still c ≡ c.args.self.now
+same c =
+    let f : FileState = record {
+    handout = c.self.inside.handout;
+    first = c.self.inside.plan.first;
+    end = c.self.inside.plan.end;
+    taken = c.self.inside.taken;
+    readers = c.self.inside.readers.items;
+    live = c.self.inside.live.items;
+    groups = c.self.inside.groups.items;
+  } in
+    let live : IsLive f c.args.reader = subst (λ (s : FileState). IsLive s c.args.reader) (sym c.self.view_is) c.requires.live in
+    let low : c.args.reader < length f.readers = All-contains (λ place. place < length f.readers) f.live c.args.reader c.self.invariant.0.live.there live in
+    let r : ReaderState = c.index_mut.result.now in
+    let at : slice_get f.readers c.args.reader ≡ Some r = got f.readers c.args.reader r low c.index_mut.ensures.value in
+    let was : c.index.result.now ≡ r = one_there (slice_get f.readers c.args.reader) c.index.result.now r (got f.readers c.args.reader c.index.result.now low c.index.ensures) at in
+    let front = front_is r.waiting c.in-Some.first (sym (ap (λ (q : ReaderState). slice_get q.waiting 0) was) ∙ sym c.first.ensures ∙ c.in-Some.is) in
+    same_still f c.take_part.new.handout c.args.reader r c.take_part.new.reader c.take_part.new.taken at c.in_err-take_part.ensures.handout c.in_err-take_part.ensures.reader c.in_err-take_part.ensures.pieces
+    ∙ c.self.view_is
+
+right : (c : goal.After-from_residual) → IsFile (still c)
+right c = subst IsFile (sym (same c)) (subst IsFile c.self.view_is c.self.invariant.0)
+
 pub invariant_of-self : goal.invariant_of-self
-invariant_of-self c = let k = file_taken in ?
+invariant_of-self c = (right c, c.self.invariant.1 ∙ sym (ap (λ (h : HandoutState). h.geometry) c.in_err-take_part.ensures.handout))
+
+pub returns-in_err-take_part-clause-right : goal.returns-in_err-take_part-clause-right
+returns-in_err-take_part-clause-right c = right c
+
+pub returns-in_err-take_part-clause-asked : goal.returns-in_err-take_part-clause-asked
+returns-in_err-take_part-clause-asked c = subst (AsksNoMore c.args.self.now) (sym (same c)) (λ reader offset len. ((λ h. h), (λ h. h)))
+
+pub returns-in_err-take_part-clause-asked_up : goal.returns-in_err-take_part-clause-asked_up
+returns-in_err-take_part-clause-asked_up c = subst (λ (g : FileState). (other : ℕ) → StaysAskedUp c.args.self.now g other) (sym (same c)) (λ other h. h)
+
+pub returns-in_err-take_part-clause-reads : goal.returns-in_err-take_part-clause-reads
+returns-in_err-take_part-clause-reads c =
+    subst (λ (g : FileState). (entries : List Request) (place : ℕ) → IsRead entries c.args.self.now → first_waiting c.args.self.now c.args.reader ≡ Some place
+    → AnsweredWith entries place c.args.bytes.now → IsRead entries g) (sym (same c)) (λ entries place read first answered. read)
+
+pub returns-in_err-take_part-clause-refused : goal.returns-in_err-take_part-clause-refused
+returns-in_err-take_part-clause-refused c = λ check is.
+    let f : FileState = record {
+    handout = c.self.inside.handout;
+    first = c.self.inside.plan.first;
+    end = c.self.inside.plan.end;
+    taken = c.self.inside.taken;
+    readers = c.self.inside.readers.items;
+    live = c.self.inside.live.items;
+    groups = c.self.inside.groups.items;
+  } in
+    let live : IsLive f c.args.reader = subst (λ (s : FileState). IsLive s c.args.reader) (sym c.self.view_is) c.requires.live in
+    let low : c.args.reader < length f.readers = All-contains (λ place. place < length f.readers) f.live c.args.reader c.self.invariant.0.live.there live in
+    let r : ReaderState = c.index_mut.result.now in
+    let at : slice_get f.readers c.args.reader ≡ Some r = got f.readers c.args.reader r low c.index_mut.ensures.value in
+    let was : c.index.result.now ≡ r = one_there (slice_get f.readers c.args.reader) c.index.result.now r (got f.readers c.args.reader c.index.result.now low c.index.ensures) at in
+    let front = front_is r.waiting c.in-Some.first (sym (ap (λ (q : ReaderState). slice_get q.waiting 0) was) ∙ sym c.first.ensures ∙ c.in-Some.is) in
+    let fault : c.in_err-take_part.field-0.0 ≡ faults.Check check = search rules in
+    subst (λ (s : FileState). IsRefused s c.args.reader c.args.bytes.now check) c.self.view_is
+    (record {
+      r = r;
+      there = at;
+      first = c.in-Some.first;
+      others = front.0;
+      waits = front.1;
+      why = inr (c.if-bytes-first.false, c.in_err-take_part.ensures.refused check (ap Err fault));
+    })

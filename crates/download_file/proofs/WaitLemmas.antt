@@ -1,0 +1,117 @@
+-- Why no segment is made now.
+use Rattle.std.proofs.Common.{◌≡◌, ◌≢◌, ℕ, zero, suc, ◌+◌, ◌-◌, ◌*◌, ◌/◌, ◌<◌, ◌≤◌, ◌⊎◌, inl, inr, Bool, true, false, Contains, List, [], ◌∷◌, length, get_or, Option, Some, None, is_some, refl, sym, ap, subst, ◌∙◌, arith}
+use Rattle.std.specs.Prelude.{slice_get, nat_lt, if◌then◌else◌}
+use Rattle.std.proofs.lemmas.List.Elements.{All-contains}
+use Rattle.std.proofs.lemmas.Bool.{cases_lt, false≢true, ltb-false}
+use Rattle.share_layout.specs.Geometry.{Geometry, segment_count}
+use Rattle.merkle.specs.Partial.{PartialState}
+use Rattle.download_plan.specs.Plan.{IsNodePiece}
+use Rattle.download_plan.specs.declared.part.NodePiece.{NodePiece}
+use Rattle.download_plan.specs.declared.part.Part.{Part}
+use Rattle.download_plan.specs.declared.part.Part.TheVariants.{CiphertextTree}
+use Rattle.download_trees.specs.Trees.{LeadTo, known_leaf}
+use Rattle.download_source.specs.Asking.{IsAsked, IsWanted}
+use Rattle.download_source.specs.Blocks.{IsReady}
+use Rattle.download_source.specs.Cursors.{IsPassed, LeadOn, cursor_at}
+use Rattle.download_source.specs.Laws.{KnowsPiece}
+use Rattle.download_source.specs.declared.cursors.Cursors.{Cursors}
+use Rattle.download_source.proofs.LawLemmas.{all_ready, leaf_known}
+use Rattle.download_segments.specs.Handout.{next_segment}
+use Rattle.download_segments.specs.State.{HandoutState, IsHandout}
+use Rattle.download_file.specs.State.{FileState, IsComplete, IsLive, IsReader, ReaderState, first_place, giver, waiting_in, waiting_parts}
+use Rattle.download_file.specs.Asked.{IsAskedUp}
+use Rattle.download_file.specs.Making.{CanNotGoOn, SomeWaits}
+use Rattle.download_file.specs.Right.{IsFile}
+use Rattle.download_file.specs.Steps.{LacksSome, lacks_block, lacks_hash, lacks_readers}
+use Rattle.download_file.specs.declared.reader.Waiting.{Waiting}
+use Rattle.download_file.proofs.GrowLemmas.{reader_there}
+use Rattle.download_file.proofs.LiveLemmas.{first_live, something_first}
+use Rattle.download_file.proofs.WantedLemmas.{asked_passed}
+
+-- ---- all that is wanted was made
+
+pub complete : (f : FileState) → IsHandout f.handout → next_segment f.handout ≡ None → IsComplete f
+complete f is none = by (nat_lt f.handout.reached f.handout.to) refl
+  where
+    by : (b : Bool) → nat_lt f.handout.reached f.handout.to ≡ b → f.handout.reached ≡ f.handout.to
+    by true e = absurd (let k : Some (f.handout.reached / f.handout.geometry.segment_size) ≡ None = sym (ap (λ (t : Bool). if t then Some (f.handout.reached / f.handout.geometry.segment_size) else None) e) ∙ none in cc)
+    by false e = let high = ltb-false f.handout.reached f.handout.to e in let within = is.within in omega (arith, high, within)
+
+-- ---- something is lacking
+
+module _ (f : FileState) (number : ℕ) (is : IsFile f) (next : next_segment f.handout ≡ Some number) where
+  -- where nothing waits of a reader, all that was asked of it is taken
+  all_taken : (place : ℕ) (r : ReaderState) → IsLive f place → IsReader f place r → r.waiting ≡ [] → (part : Part) → IsAsked r.source part → IsPassed r.source.taken part
+  all_taken place r live at none part asked =
+      let same : r.source.taken ≡ r.source.asked = subst (λ (l : List Waiting). LeadOn r.source.taken (waiting_parts l) r.source.asked) none (is.live.waits place r live at) in
+      subst (λ (c : Cursors). IsPassed c part) (sym same) (asked_passed r.source part asked)
+
+  -- the first that waits of a reader, where something does
+  some_waits : (place : ℕ) (r : ReaderState) → IsLive f place → IsReader f place r → (r.waiting ≡ [] → ⊥) → SomeWaits f
+  some_waits place r live at not = by r.waiting refl
+    where
+      by : (ws : List Waiting) → r.waiting ≡ ws → SomeWaits f
+      by [] e = absurd (not e)
+      by (w ∷ ws) e = record {
+        reader = place;
+        live = live;
+        place = w.place;
+        first = ap (λ (o : Option ReaderState). first_place (waiting_in o)) at ∙ ap first_place e;
+      }
+
+  -- a reader of which nothing waits has its block, and knows its hash
+  ready_then : (place : ℕ) (r : ReaderState) → IsLive f place → IsReader f place r → IsAskedUp f place → r.waiting ≡ [] → IsReady r.source number
+  ready_then place r live at up none =
+      let own = is.readers place r at in
+      let from = own.begun number next in
+      let before = (is.next number next).1 in
+      let end = own.end in
+      all_ready r.source number own.source (record { from = from; before = omega (arith, before, end) })
+      (λ part wanted. all_taken place r live at none part (up.own r number part at next wanted))
+
+  leads : LeadTo f.handout.trees.ciphertext f.handout.trees.ciphertext.root (segment_count f.handout.geometry)
+  leads = subst (λ (g : Geometry). LeadTo f.handout.trees.ciphertext f.handout.trees.ciphertext.root (segment_count g)) is.handout.roots.geometry is.handout.trees.ciphertext
+
+  -- where nothing waits of the giver, the segment's hash is known
+  known_then : (place : ℕ) (r : ReaderState) → giver f ≡ Some place → IsReader f place r → IsAskedUp f place → r.waiting ≡ []
+      → is_some (known_leaf f.handout.trees.ciphertext number) ≡ true
+  known_then place r first at up none =
+      let own = is.readers place r at in
+      let within = is.next number next in
+      leaf_known f.handout.geometry f.first f.end number f.handout.trees.ciphertext is.range within.0 within.1 leads (λ p piece.
+      elim (cases_lt p.index (cursor_at f.taken p.level)) [
+        | inl low ↦ is.ciphertext.known p low
+        | inr high ↦
+            let same : cursor_at r.source.taken.ciphertext_tree p.level ≡ cursor_at f.taken p.level = ap (λ (l : List ℕ). cursor_at l p.level) (is.ciphertext.at_giver place r first at) in
+            let given = own.source.given p.level in
+            let start = own.start in
+            let end = own.end in
+            let from = within.0 in
+            let before = within.1 in
+            let its : IsNodePiece r.source.geometry r.source.start (number + 1) p =
+            subst (λ (g : Geometry). IsNodePiece g r.source.start (number + 1) p) (sym own.geometry) (subst (λ (n : ℕ). IsNodePiece f.handout.geometry n (number + 1) p) (sym own.start) piece) in
+            let passes = all_taken place r (first_live f.live place first) at none (CiphertextTree p)
+            (up.ciphertext r number (CiphertextTree p) first at next (omega (arith, start, from), omega (arith, end, before), omega (arith, given, same, high), its)) in
+            absurd (omega (arith, passes, same, high))
+      ])
+
+  pub cannot : LacksSome f.handout f.readers f.live number → CanNotGoOn f
+  cannot (lacks_readers other) = inr (inl (let few = is.live.few in strictly (length f.live) f.handout.geometry.needed few other))
+    where
+      strictly : (a b : ℕ) → a ≤ b → a ≢ b → a < b
+      strictly a b order not = elim (cases_lt a b) [ inl low ↦ low | inr high ↦ absurd (not (omega (arith, order, high))) ]
+  cannot (lacks_block k) = inr (inr (λ up.
+      some_waits k.place k.r k.among k.there (λ none. k.not (ready_then k.place k.r k.among k.there (up k.place k.among) none))))
+  cannot (lacks_hash unknown) = elim (cases_lt (length f.live) f.handout.geometry.needed) [
+    | inl few ↦ inr (inl few)
+    | inr enough ↦ inr (inr (λ up.
+        let some = is.range.valid.some_needed in
+        let first = first_of_some f.live (omega (arith, enough, some)) in
+        let live = first_live f.live first.0 first.1 in
+        let r = reader_there f.readers first.0 (All-contains (λ place. place < length f.readers) f.live first.0 is.live.there live) in
+        some_waits first.0 r.0 live r.1 (λ none. false≢true (sym (ap is_some unknown) ∙ known_then first.0 r.0 first.1 r.1 (up first.0 live) none))))
+  ]
+    where
+      first_of_some : (xs : List ℕ) → 0 < length xs → (g : ℕ) × (slice_get xs 0 ≡ Some g)
+      first_of_some [] some = absurd (omega (arith, some))
+      first_of_some (x ∷ xs) some = (x, refl)

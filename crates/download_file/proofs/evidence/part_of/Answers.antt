@@ -1,0 +1,32 @@
+use Rattle.std.proofs.Common.{◌≡◌, ◌∙◌, ◌*◌, ◌<◌, ℕ, List, All, ap, subst, sym, length}
+use Rattle.share_layout.specs.Geometry.{Geometry, IsGeometry, segment_count}
+use Rattle.share_layout.specs.Pieces.{block_length}
+use Rattle.download_segments.proofs.HandoutLemmas.{valid_of}
+use Rattle.download_file.specs.Answers.{blocks_of}
+use Rattle.download_file.specs.Steps.{HasBlock}
+use Rattle.download_file.proofs.EvidenceLemmas.{has_blocks, long_enough, proves_again}
+use Rattle.download_file.proofs.evidence.part_of.Goals as goal
+
+pub join_blocks-requires : goal.join_blocks-requires
+join_blocks-requires c =
+    let entries = c.args.requests.now.entries in
+    let size : c.block_length-size.result ≡ block_length c.args.handout.now.geometry c.args.number =
+    c.block_length-size.ensures ∙ ap (λ (g : Geometry). block_length g c.args.number) c.geometry.ensures.value in
+    subst (λ (l : List ℕ). All (HasBlock c.args.readers.now c.args.number c.block_length-size.result) l) (sym c.places.ensures)
+    (has_blocks entries c.args.handout.now c.args.readers.now c.args.group.now c.args.number c.requires.group c.requires.made c.requires.file c.block_length-size.result size)
+
+pub decode-requires-clause-long : goal.decode-requires-clause-long
+decode-requires-clause-long c =
+    let entries = c.args.requests.now.entries in
+    ap length (c.deref.ensures.value ∙ c.in_ok-joined.ensures ∙ ap (λ (l : List ℕ). blocks_of entries c.args.readers.now c.args.number l) c.places.ensures)
+    ∙ long_enough entries c.args.handout.now c.args.readers.now c.args.group.now c.args.number c.requires.group c.requires.made c.requires.file
+    ∙ ap (λ (g : Geometry). g.needed * block_length g c.args.number) (sym c.requires.group.geometry)
+
+pub unreachable-requires : goal.unreachable-requires
+unreachable-requires c =
+    let entries = c.args.requests.now.entries in
+    let joined : c.deref.result.now ≡ blocks_of entries c.args.readers.now c.args.number c.args.group.now.readers =
+    c.deref.ensures.value ∙ c.in_ok-joined.ensures ∙ ap (λ (l : List ℕ). blocks_of entries c.args.readers.now c.args.number l) c.places.ensures in
+    let proves = proves_again entries c.args.handout.now c.args.readers.now c.args.group.now c.args.number c.requires.group c.requires.made c.requires.file
+    (valid_of c.args.handout.now c.geometry.ensures.right) c.deref.result.now c.in_ok-segment.segment.items joined c.in_ok-segment.ensures.decodes in
+    ?

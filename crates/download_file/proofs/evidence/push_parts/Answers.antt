@@ -1,0 +1,50 @@
+use Rattle.std.proofs.Common.{◌≡◌, ◌∙◌, ◌++◌, ◌∷◌, ◌+◌, ◌-◌, ◌≤◌, [], ℕ, List, All, ap, subst, sym, arith, length, map}
+use Rattle.std.specs.List.{range_with_len}
+use Rattle.std.proofs.lemmas.List.{append_assoc, map-append}
+use Rattle.std.proofs.lemmas.List.Elements.{All-push}
+use Rattle.proved_parts.specs.Parts.{IsSegmentBy}
+use Rattle.proved_parts.specs.declared.evidence.EvidencePart.{EvidencePart}
+use Rattle.download_file.specs.Steps.{AreSegmentsBy, part_numbers}
+use Rattle.download_file.proofs.EvidenceLemmas.{range_more}
+use Rattle.download_file.proofs.evidence.push_parts.Goals as goal
+
+pub part_of-requires-clause-made : goal.part_of-requires-clause-made
+part_of-requires-clause-made c =
+    let first = c.first-number.ensures in
+    let end = c.end-number-end.ensures in
+    let from = c.loop-number.auto.number in
+    let before = c.loop-number-test.true in
+    c.requires.made.made c.loop-number.number (omega (arith, first, from)) (omega (arith, end, before))
+
+pub loop-number-preserved : goal.loop-number-preserved
+loop-number-preserved c =
+    let k = c.loop-number.invariant in
+    let a : ℕ = c.args.group.now.first in
+    let n : ℕ = c.loop-number.number in
+    let first = c.first-number.ensures in
+    let auto = c.loop-number.auto.number in
+    let from : a ≤ n = omega (arith, first, auto) in
+    let num : EvidencePart → ℕ = λ p. p.number in
+    let old : List EvidencePart = c.loop-number.parts.items in
+    let part : EvidencePart = c.in_ok-part.part in
+    let before : List ℕ = part_numbers c.args.parts.now.items in
+    record {
+      all = ap part_numbers c.in_ok-push.ensures.items ∙ map-append num old (part ∷ []) ∙ (λ i. k.all i ++ c.in_ok-part.ensures.number i ∷ [])
+          ∙ append_assoc before (range_with_len a (n - a)) (n ∷ [])
+          ∙ ap (λ (l : List ℕ). before ++ l)
+          (ap (λ (m : ℕ). range_with_len a (n - a) ++ m ∷ []) (let e : n ≡ a + (n - a) = omega (arith, from) in e)
+          ∙ sym (range_more a (n - a)) ∙ ap (range_with_len a) (let e : n - a + 1 ≡ n + 1 - a = omega (arith, from) in e));
+      by = subst (AreSegmentsBy c.args.handout.now.ueb) (sym c.in_ok-push.ensures.items)
+          (All-push (λ (p : EvidencePart). IsSegmentBy c.args.handout.now.ueb p.number p.segment p.path) old part k.by c.in_ok-part.ensures.by);
+    }
+
+pub returns-clause-all : goal.returns-clause-all
+returns-clause-all c =
+    let a : ℕ = c.args.group.now.first in
+    let first = c.first-number.ensures in
+    let end = c.end-number-end.ensures in
+    let auto = c.loop-number.auto.number-end in
+    let last = c.loop-number-test.false in
+    let order = c.requires.made.order in
+    let same : c.loop-number.number ≡ c.args.group.now.end = omega (arith, first, end, auto, last, order) in
+    c.loop-number.invariant.all ∙ ap (λ (n : ℕ). part_numbers c.args.parts.now.items ++ range_with_len a (n - a)) same
