@@ -13,3 +13,5 @@ pub mod EndFileLemmas
 pub mod WantedLemmas
 pub mod EvidenceLemmas
 pub mod WaitLemmas
+pub mod MakeLemmas
+pub mod SegmentLemmas

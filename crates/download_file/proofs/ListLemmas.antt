@@ -130,3 +130,8 @@ from_map f xs y h =
     unmapped f [] i y e = absurd cc
     unmapped f (q ∷ qs) zero y e = (q, refl, cc)
     unmapped f (q ∷ qs) (suc i) y e = unmapped f qs i y e
+
+pub get_unmapped : {X Y : Type 0} (f : X → Y) (xs : List X) (i : ℕ) (y : Y) → slice_get (map f xs) i ≡ Some y → (x : X) × (slice_get xs i ≡ Some x) × (f x ≡ y)
+get_unmapped f [] i y e = absurd cc
+get_unmapped f (q ∷ qs) zero y e = (q, refl, cc)
+get_unmapped f (q ∷ qs) (suc i) y e = get_unmapped f qs i y e

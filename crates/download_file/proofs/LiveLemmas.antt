@@ -5,7 +5,7 @@ use Rattle.std.proofs.lemmas.Bool.{eq-eqb, eqb-true, true≢false}
 use Rattle.std.proofs.lemmas.List.Elements.{All-contains, All-tail, All-head}
 use Rattle.download_file.specs.Right.{RiseFrom}
 use Rattle.download_file.specs.State.{without}
-use Rattle.download_file.proofs.ListLemmas.{first_in, more_in}
+use Rattle.download_file.proofs.ListLemmas.{contains_at, first_in, more_in}
 
 -- what a longer list contains
 pub cons_cases : {X : Type 0} (x y : X) (xs : List X) → Contains (x ∷ xs) y → (x ≡ y) ⊎ Contains xs y
@@ -127,3 +127,14 @@ first_stays place g (x ∷ xs) e other =
 pub something_first : (xs : List ℕ) (x : ℕ) → Contains xs x → (g : ℕ) × (slice_get xs 0 ≡ Some g)
 something_first [] x h = absurd (none_in x h)
 something_first (y ∷ ys) x h = (y, refl)
+
+-- of places that rise a later one is a greater one
+pub rise_order : (low : ℕ) (xs : List ℕ) (i j x y : ℕ) → RiseFrom low xs → i < j → slice_get xs i ≡ Some x → slice_get xs j ≡ Some y → x < y
+rise_order low [] i j x y rise order one two = absurd cc
+rise_order low (q ∷ qs) zero zero x y rise order one two = absurd (omega (arith, order))
+rise_order low (q ∷ qs) zero (suc j) x y rise order one two =
+    let same : q ≡ x = cc in
+    let k = rise_above (q + 1) qs y rise.1 (contains_at qs j y two) in
+    omega (arith, same, k)
+rise_order low (q ∷ qs) (suc i) zero x y rise order one two = absurd (omega (arith, order))
+rise_order low (q ∷ qs) (suc i) (suc j) x y rise order one two = rise_order (q + 1) qs i j x y rise.1 (omega (arith, order)) one two

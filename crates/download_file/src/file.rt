@@ -2,7 +2,7 @@
 
 ghost use Rattle.std.specs.Prelude.{◌≡◌, ◌≢◌, ℕ, ◌+◌, ◌-◌, ◌/◌, ◌<◌, ◌≤◌, ◌++◌, ◌∷◌, ◌↔◌, [], List};
 ghost use Rattle.std.specs.Prelude.{All, Contains, Err, IfOk, IfSome, IsSome, IsTrue, Ok, OnErr};
-ghost use Rattle.std.specs.Prelude.{OnOk, Some, drop, length, map, slice_get};
+ghost use Rattle.std.specs.Prelude.{OnOk, Some, drop, false, length, map};
 ghost use Rattle.std.specs.List.{range_with_len};
 ghost use Rattle.request_record.specs.declared.requests.Request.{Request};
 ghost use Rattle.share_layout.specs.Geometry.{segment_count};
@@ -19,6 +19,7 @@ ghost use Rattle.download_file.specs.Right.{IsFile, made_end};
 ghost use Rattle.download_file.specs.State.{IsComplete, IsLive, IsReader, ReaderState};
 ghost use Rattle.download_file.specs.State.{first_waiting, giver, new_file, placed, shares};
 ghost use Rattle.download_file.specs.State.{waiting_at, without};
+ghost use Rattle.download_file.specs.Steps.{HasAll, LacksSome};
 ghost use Rattle.download_file.specs.Taking.{IsRefused};
 
 use crate::blocks::{are_ready, find_wrong, join_blocks};

@@ -1,6 +1,8 @@
-use Rattle.std.proofs.Common.{◌≡◌, ◌∙◌, ◌*◌, ◌<◌, ℕ, List, All, ap, subst, sym, length}
+use Rattle.std.proofs.Common.{◌≡◌, ◌∙◌, ◌*◌, ◌<◌, ℕ, List, All, IsSome, Option, ap, subst, sym, length}
+use Rattle.std.proofs.lemmas.Bool.{false≢true}
 use Rattle.share_layout.specs.Geometry.{Geometry, IsGeometry, segment_count}
 use Rattle.share_layout.specs.Pieces.{block_length}
+use Rattle.proved_parts.specs.declared.evidence.EvidencePart.{EvidencePart}
 use Rattle.download_segments.proofs.HandoutLemmas.{valid_of}
 use Rattle.download_file.specs.Answers.{blocks_of}
 use Rattle.download_file.specs.Steps.{HasBlock}
@@ -11,7 +13,7 @@ pub join_blocks-requires : goal.join_blocks-requires
 join_blocks-requires c =
     let entries = c.args.requests.now.entries in
     let size : c.block_length-size.result ≡ block_length c.args.handout.now.geometry c.args.number =
-    c.block_length-size.ensures ∙ ap (λ (g : Geometry). block_length g c.args.number) c.geometry.ensures.value in
+    c.block_length-size.ensures.value ∙ ap (λ (g : Geometry). block_length g c.args.number) c.geometry.ensures.value in
     subst (λ (l : List ℕ). All (HasBlock c.args.readers.now c.args.number c.block_length-size.result) l) (sym c.places.ensures)
     (has_blocks entries c.args.handout.now c.args.readers.now c.args.group.now c.args.number c.requires.group c.requires.made c.requires.file c.block_length-size.result size)
 
@@ -29,4 +31,5 @@ unreachable-requires c =
     c.deref.ensures.value ∙ c.in_ok-joined.ensures ∙ ap (λ (l : List ℕ). blocks_of entries c.args.readers.now c.args.number l) c.places.ensures in
     let proves = proves_again entries c.args.handout.now c.args.readers.now c.args.group.now c.args.number c.requires.group c.requires.made c.requires.file
     (valid_of c.args.handout.now c.geometry.ensures.right) c.deref.result.now c.in_ok-segment.segment.items joined c.in_ok-segment.ensures.decodes in
-    ?
+    let some : IsSome c.in_ok-part.field-0 = c.in_ok-part.ensures.proved.1 proves in
+    false≢true (subst (λ (o : Option EvidencePart). IsSome o) c.in_default.is some)

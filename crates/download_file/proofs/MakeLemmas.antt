@@ -1,0 +1,215 @@
+-- The next segment is made, or its blocks are refuted.
+use Rattle.std.proofs.Common.{◌≡◌, ◌≢◌, ◌↔◌, ℕ, zero, suc, ◌+◌, ◌-◌, ◌*◌, ◌/◌, ◌<◌, ◌≤◌, ◌⊎◌, inl, inr, All, Bool, true, false, Contains, List, [], ◌∷◌, ◌++◌, length, map, take, drop, get_or, Option, Some, None, IfSome, is_some, unwrap_or, option_and_then, refl, sym, ap, subst, ◌∙◌, arith, suc-mul}
+use Rattle.std.specs.Prelude.{slice_get, slice_index, slice_set, nat_lt, if◌then◌else◌}
+use Rattle.std.proofs.Math.Seq.{drop-append-add, take-append_seam}
+use Rattle.std.proofs.lemmas.Bool.{cases_lt, cases_order, false≢true, ltb-false}
+use Rattle.std.proofs.lemmas.List.{length-append, length-map}
+use Rattle.std.proofs.lemmas.List.Elements.{All-contains, All-push, All-set, Contains-push_cases}
+use Rattle.std.proofs.lemmas.Option.{get_or_from_slice_get, slice_get-get_or, slice_get_within}
+use Rattle.tagged_hash.specs.TaggedHash.{tagged_hash}
+use Rattle.tagged_hash.specs.declared.tag.Tag.TheVariants.{Block}
+use Rattle.request_record.specs.declared.requests.Request.{Request}
+use Rattle.merkle.specs.Partial.{PartialState}
+use Rattle.merkle.proofs.PaddingLemmas.{lt_from_true}
+use Rattle.ueb.specs.Shape.{Contents}
+use Rattle.share_layout.specs.Geometry.{Geometry, segment_count}
+use Rattle.share_layout.specs.Pieces.{block_length, pieces}
+use Rattle.share_layout.proofs.CutLemmas as cut
+use Rattle.share_verify.specs.CapBlock.{geometry_by}
+use Rattle.proved_parts.specs.Decoding.{DecodesBlocks}
+use Rattle.download_trees.specs.Trees.{IsBlockRoot, LeadTo, RefutesBlock, known_leaf}
+use Rattle.download_source.specs.Blocks.{IsHeld, IsReady}
+use Rattle.download_source.specs.Source.{IsSource, SourceState}
+use Rattle.download_source.specs.Taking.{IsProved, known_hash}
+use Rattle.download_segments.specs.Decoding.{AreShareNumbers, blocks_in}
+use Rattle.download_segments.specs.Handout.{handed_out, next_end, next_segment}
+use Rattle.download_segments.specs.NoCodeWord.{IsBlockBy, IsNoCodeWord}
+use Rattle.download_segments.specs.State.{HandoutState, IsHandout, ProvesSegment, RefutesSegment}
+use Rattle.download_segments.proofs.DecodingLemmas.{length-pieces}
+use Rattle.download_segments.proofs.HandoutLemmas.{next_is, next_follows, next_within}
+use Rattle.download_segments.proofs.LawLemmas.{blocks_lead, no_code_words}
+use Rattle.download_segments.proofs.TreeLemmas.{grow_none}
+use Rattle.download_file.specs.State.{FileState, GroupState, IsLive, IsReader, ReaderState, numbers_of, share_in}
+use Rattle.download_file.specs.Answers.{HoldsAnswers, IsMade, IsRead, block_in, block_of, blocks_of}
+use Rattle.download_file.specs.Making.{RefutesReader}
+use Rattle.download_file.specs.Right.{AreConsecutive, IsFile, IsGroup, made_end}
+use Rattle.download_file.specs.Steps.{AreOfFile, AreProved, AreReady, BeginsGroup, HasBlock, IsLast, IsWrong, MakesSegment, RefutesBlocks, empty_group, nth_block, with_end}
+use Rattle.download_file.proofs.ListLemmas.{All-from_contains, at_contained, contains_at, first_in, from_map, get_last, get_unmapped, more_in, one_there, set_cases}
+use Rattle.download_file.proofs.GrowLemmas.{grow_same, group_stays, reader_there}
+use Rattle.download_file.proofs.LiveLemmas.{rise_order}
+use Rattle.download_file.proofs.EvidenceLemmas.{block_long, blocks_long}
+use Rattle.download_file.proofs.StateLemmas.{Follows, same_reader}
+
+-- ---- blocks of one length that stand one after another
+
+pub nth_is : (entries : List Request) (readers : List ReaderState) (number size : ℕ) (places : List ℕ) (k place : ℕ)
+    → ((p : ℕ) → Contains places p → length (block_in entries number (slice_get readers p)) ≡ size) → slice_get places k ≡ Some place
+    → nth_block (blocks_of entries readers number places) size k ≡ block_in entries number (slice_get readers place)
+nth_is entries readers number size [] k place long at = absurd cc
+nth_is entries readers number size (p ∷ ps) zero place long at =
+    let same : p ≡ place = cc in
+    let b : List ℕ = block_in entries number (slice_get readers p) in
+    let rest : List ℕ = blocks_of entries readers number ps in
+    let none : 0 * size ≡ 0 = omega arith in
+    ap (λ (n : ℕ). take size (drop n (b ++ rest))) none
+    ∙ ap (λ (n : ℕ). take n (b ++ rest)) (sym (long p (first_in p ps))) ∙ take-append_seam b rest
+    ∙ ap (λ (q : ℕ). block_in entries number (slice_get readers q)) same
+nth_is entries readers number size (p ∷ ps) (suc k) place long at =
+    let b : List ℕ = block_in entries number (slice_get readers p) in
+    let rest : List ℕ = blocks_of entries readers number ps in
+    let is : length b ≡ size = long p (first_in p ps) in
+    let more : suc k * size ≡ length b + k * size = suc-mul k size ∙ omega (arith, is) in
+    ap (λ (n : ℕ). take size (drop n (b ++ rest))) more ∙ ap (take size) (drop-append-add b rest (k * size))
+    ∙ nth_is entries readers number size ps k place (λ q among. long q (more_in p q ps among)) at
+
+-- ---- the blocks of the readers that are read
+
+module _ (entries : List Request) (f : FileState) (number size : ℕ) (is : IsFile f) (read : IsRead entries f) (next : next_segment f.handout ≡ Some number)
+    (long : size ≡ block_length f.handout.geometry number) (ready : AreReady f.readers f.live number) where
+  pub of_file : AreOfFile entries f.handout.geometry f.readers
+  of_file = record {
+    source = λ place r at. (is.readers place r at).source;
+    geometry = λ place r at. (is.readers place r at).geometry;
+    held = read.held;
+  }
+
+  pub there : number < segment_count f.handout.geometry
+  there = next_within f.handout number is.handout next
+
+  reader_at : (place : ℕ) → IsLive f place → (r : ReaderState) × (slice_get f.readers place ≡ Some r) × IsHeld r.source number
+  reader_at place live =
+      let r = reader_there f.readers place (All-contains (λ p. p < length f.readers) f.live place is.live.there live) in
+      (r.0, r.1, (ready place r.0 live r.1).held)
+
+  pub live_blocks : All (HasBlock f.readers number size) f.live
+  live_blocks = All-from_contains (HasBlock f.readers number size) f.live (λ place live.
+      let r = reader_at place live in
+      record { r = r.0; there = r.1; held = r.2; long = long ∙ ap (λ (g : Geometry). block_length g number) (sym (is.readers place r.0 r.1).geometry) })
+
+  its_length : (place : ℕ) → IsLive f place → length (block_in entries number (slice_get f.readers place)) ≡ size
+  its_length place live =
+      let r = reader_at place live in
+      ap (λ (o : Option ReaderState). length (block_in entries number o)) r.1
+      ∙ block_long entries r.0.source number (is.readers place r.0 r.1).source r.2 (read.held place r.0 r.1)
+      ∙ ap (λ (g : Geometry). block_length g number) (is.readers place r.0 r.1).geometry ∙ sym long
+
+  pub all_long : length (blocks_of entries f.readers number f.live) ≡ length f.live * size
+  all_long = blocks_long entries f.handout.geometry f.readers f.live number of_file reader_at ∙ ap (λ (n : ℕ). length f.live * n) (sym long)
+
+  -- the block of a reader among those that stand one after another
+  nth_own : (k place : ℕ) (r : ReaderState) → slice_get f.live k ≡ Some place → slice_get f.readers place ≡ Some r
+      → nth_block (blocks_of entries f.readers number f.live) size k ≡ block_of entries r.source number
+  nth_own k place r at at_reader = nth_is entries f.readers number size f.live k place its_length at ∙ ap (block_in entries number) at_reader
+
+  -- what is known of the hash of a block that is ready
+  known_tree : (r : ReaderState) → IsReady r.source number → (tree : PartialState) × (r.source.tree ≡ Some tree) × (leaf : List ℕ) × (known_leaf tree number ≡ Some leaf)
+  known_tree r own = by r.source.tree refl
+    where
+      leaf_of : (tree : PartialState) (o : Option (List ℕ)) → known_leaf tree number ≡ o → is_some o ≡ true → (leaf : List ℕ) × (known_leaf tree number ≡ Some leaf)
+      leaf_of tree (Some leaf) e known = (leaf, e)
+      leaf_of tree None e known = absurd (false≢true known)
+
+      by : (o : Option PartialState) → r.source.tree ≡ o → (tree : PartialState) × (r.source.tree ≡ Some tree) × (leaf : List ℕ) × (known_leaf tree number ≡ Some leaf)
+      by None e = absurd (false≢true (sym (ap (λ (o : Option PartialState). is_some (option_and_then (λ tree. known_leaf tree number) o)) e) ∙ own.known))
+      by (Some tree) e =
+          let k = leaf_of tree (known_leaf tree number) refl (sym (ap (λ (o : Option PartialState). is_some (option_and_then (λ t. known_leaf t number) o)) e) ∙ own.known) in
+          (tree, e, k.0, k.1)
+
+  pub refutes_reader : (joined : List ℕ) (place : ℕ) → joined ≡ blocks_of entries f.readers number f.live → IsWrong f.readers f.live number joined size place → RefutesReader entries f place
+  refutes_reader joined place joins wrong =
+      let live = contains_at f.live wrong.k place wrong.at in
+      let own = ready place wrong.r live wrong.there in
+      let tree = known_tree wrong.r own in
+      let block : nth_block joined size wrong.k ≡ block_of entries wrong.r.source number = ap (λ (l : List ℕ). nth_block l size wrong.k) joins ∙ nth_own wrong.k place wrong.r wrong.at wrong.there in
+      record {
+        live = live;
+        r = wrong.r;
+        there = wrong.there;
+        number = number;
+        next = next;
+        held = own.held;
+        tree = tree.0;
+        is = tree.1;
+        long = block_long entries wrong.r.source number (is.readers place wrong.r wrong.there).source own.held (read.held place wrong.r wrong.there)
+            ∙ ap (λ (g : Geometry). block_length g number) (is.readers place wrong.r wrong.there).geometry;
+        refuted = record {
+          leaf = tree.2;
+          known = tree.3;
+          differs = λ same. wrong.not (subst (IsProved wrong.r.source number) (sym block)
+              (ap (option_and_then (λ t. known_leaf t number)) tree.1 ∙ tree.3 ∙ ap Some same));
+        };
+      }
+
+  -- ---- no code word
+
+  module _ (joined : List ℕ) (joins : joined ≡ blocks_of entries f.readers number f.live) (proved : AreProved f.readers f.live number joined size (length f.live)) where
+    by_live : (i share : ℕ) (block : List ℕ) → slice_get (numbers_of f.readers f.live) i ≡ Some share → slice_get (blocks_in f.handout.geometry number joined) i ≡ Some block
+        → IsBlockBy f.handout.ueb share number block
+    by_live i share block at_number at_block =
+        let place = get_unmapped (λ (p : ℕ). share_in (slice_get f.readers p)) f.live i share at_number in
+        let live = contains_at f.live i place.0 place.1 in
+        let r = reader_at place.0 live in
+        let own = is.readers place.0 r.0 r.1 in
+        let g = f.handout.geometry in
+        let u = f.handout.ueb in
+        let low : i < g.needed = let l = slice_get_within (blocks_in g number joined) i block at_block in let count = length-pieces g.needed (block_length g number) joined in omega (arith, l, count) in
+        let block_is : nth_block joined size i ≡ block =
+        ap (λ (n : ℕ). nth_block joined n i) long ∙ sym (cut.piece_at g.needed (block_length g number) i joined low) ∙ get_or_from_slice_get (blocks_in g number joined) i block [] at_block in
+        let proves : IsProved r.0.source number block = subst (IsProved r.0.source number) block_is (proved i place.0 r.0 (slice_get_within f.live i place.0 place.1) place.1 r.1) in
+        let tree = known_tree r.0 (ready place.0 r.0 live r.1) in
+        let same : share ≡ r.0.share = sym place.2 ∙ ap share_in r.1 in
+        let by_u : g ≡ geometry_by u = is.handout.geometry in
+        let low_share = own.share in
+        let total = ap (λ (h : Geometry). h.total) by_u in
+        let root : IsBlockRoot u.share_root_hash u.total_shares share tree.0.root =
+        subst (λ (n : ℕ). IsBlockRoot u.share_root_hash u.total_shares n tree.0.root) (sym same)
+        (subst (λ (o : Option PartialState). IfSome o (λ t. IsBlockRoot u.share_root_hash u.total_shares r.0.share t.root)) tree.1 own.root) in
+        let leads : LeadTo tree.0 tree.0.root (segment_count (geometry_by u)) =
+        subst (λ (h : Geometry). LeadTo tree.0 tree.0.root (segment_count h)) (own.geometry ∙ by_u)
+        (subst (λ (o : Option PartialState). IfSome o (λ t. LeadTo t t.root (segment_count r.0.source.geometry))) tree.1 own.source.leads) in
+        let size_is : length block ≡ block_length (geometry_by u) number =
+        sym (ap length block_is) ∙ ap length (ap (λ (l : List ℕ). nth_block l size i) joins ∙ nth_own i place.0 r.0 place.1 r.1)
+        ∙ sym (ap (λ (o : Option ReaderState). length (block_in entries number o)) r.1) ∙ its_length place.0 live ∙ long ∙ ap (λ (h : Geometry). block_length h number) by_u in
+        blocks_lead u tree.0 share number block (omega (arith, same, low_share, total)) (subst (λ (h : Geometry). number < segment_count h) by_u there) root leads
+        (sym (ap (option_and_then (λ t. known_leaf t number)) tree.1) ∙ proves) size_is
+
+    pub is_no_code_word : (numbers segment : List ℕ) → numbers ≡ numbers_of f.readers f.live → AreShareNumbers f.handout.geometry numbers
+        → DecodesBlocks f.handout.geometry numbers (blocks_in f.handout.geometry number joined) number segment → RefutesSegment f.handout number segment → IsNoCodeWord f.handout.ueb
+    is_no_code_word numbers segment same shares decodes refutes =
+        no_code_words f.handout numbers number joined segment is.handout there shares decodes
+        (λ i share block at_number at_block. by_live i share block (ap (λ (l : List ℕ). slice_get l i) (sym same) ∙ at_number) at_block) refutes
+
+-- ---- the numbers of the shares that are read
+
+pub live_numbers : (f : FileState) → IsFile f → length f.live ≡ f.handout.geometry.needed → AreShareNumbers f.handout.geometry (numbers_of f.readers f.live)
+live_numbers f is enough = record {
+  enough = length-map f.live (λ place. share_in (slice_get f.readers place)) ∙ enough;
+  below = All-from_contains (λ n. n < f.handout.geometry.total) (numbers_of f.readers f.live) (λ n among.
+      let place = from_map (λ (p : ℕ). share_in (slice_get f.readers p)) f.live n among in
+      let r = reader_there f.readers place.0 (All-contains (λ p. p < length f.readers) f.live place.0 is.live.there place.1) in
+      let same : r.0.share ≡ n = sym (ap share_in r.1) ∙ place.2 in
+      let low = (is.readers place.0 r.0 r.1).share in
+      omega (arith, low, same));
+  distinct = λ i j low_i low_j same. elim (cases_order i j) [
+    | inl e ↦ e
+    | inr other ↦ absurd (elim other [
+      | inl less ↦ differ i j less (number_at i low_i) (number_at j low_j) same
+      | inr more ↦ differ j i more (number_at j low_j) (number_at i low_i) (sym same)
+    ])
+  ];
+} where
+  number_at : (i : ℕ) → i < length (numbers_of f.readers f.live) → (n : ℕ) × (slice_get (numbers_of f.readers f.live) i ≡ Some n) × (slice_index (numbers_of f.readers f.live) i ≡ n)
+  number_at i low = (get_or (numbers_of f.readers f.live) i 0, slice_get-get_or (numbers_of f.readers f.live) i 0 low, refl)
+
+  differ : (i j : ℕ) → i < j → ((n : ℕ) × (slice_get (numbers_of f.readers f.live) i ≡ Some n) × (slice_index (numbers_of f.readers f.live) i ≡ n))
+      → ((n : ℕ) × (slice_get (numbers_of f.readers f.live) j ≡ Some n) × (slice_index (numbers_of f.readers f.live) j ≡ n))
+      → slice_index (numbers_of f.readers f.live) i ≡ slice_index (numbers_of f.readers f.live) j → ⊥
+  differ i j order one two same =
+      let p = get_unmapped (λ (q : ℕ). share_in (slice_get f.readers q)) f.live i one.0 one.1 in
+      let q = get_unmapped (λ (x : ℕ). share_in (slice_get f.readers x)) f.live j two.0 two.1 in
+      let live_p = contains_at f.live i p.0 p.1 in
+      let live_q = contains_at f.live j q.0 q.1 in
+      let r = reader_there f.readers p.0 (All-contains (λ x. x < length f.readers) f.live p.0 is.live.there live_p) in
+      let s = reader_there f.readers q.0 (All-contains (λ x. x < length f.readers) f.live q.0 is.live.there live_q) in
+      is.live.different p.0 q.0 r.0 s.0 live_p live_q (rise_order 0 f.live i j p.0 q.0 is.live.rise order p.1 q.1) r.1 s.1
+      (sym (ap share_in r.1) ∙ p.2 ∙ sym one.2 ∙ same ∙ two.2 ∙ sym q.2 ∙ ap share_in s.1)

@@ -1,0 +1,231 @@
+-- A file with one segment more.
+use Rattle.std.proofs.Common.{◌≡◌, ◌≢◌, ◌↔◌, ℕ, zero, suc, ◌+◌, ◌-◌, ◌*◌, ◌/◌, ◌<◌, ◌≤◌, ◌⊎◌, inl, inr, All, Bool, true, false, Contains, List, [], ◌∷◌, ◌++◌, length, Option, Some, None, unwrap_or, refl, sym, ap, subst, ◌∙◌, arith}
+use Rattle.std.specs.Prelude.{slice_get, slice_set, nat_lt, if◌then◌else◌}
+use Rattle.std.proofs.lemmas.Bool.{cases_lt, ltb-false}
+use Rattle.std.proofs.lemmas.List.{length-append}
+use Rattle.std.proofs.lemmas.List.Elements.{All-contains, All-push, All-set, All-weaker, Contains-push_cases}
+use Rattle.std.proofs.lemmas.Nat.{le-div}
+use Rattle.request_record.specs.declared.requests.Request.{Request}
+use Rattle.merkle.proofs.PaddingLemmas.{lt_from_true}
+use Rattle.share_layout.specs.Geometry.{Geometry}
+use Rattle.proved_parts.specs.Decoding.{DecodesBlocks}
+use Rattle.download_source.specs.Blocks.{IsHeld}
+use Rattle.download_segments.specs.Decoding.{AreShareNumbers, blocks_in}
+use Rattle.download_segments.specs.Handout.{handed_out, next_end, next_segment}
+use Rattle.download_segments.specs.State.{HandoutState, IsHandout, ProvesSegment}
+use Rattle.download_segments.proofs.HandoutLemmas.{next_is, next_follows, valid_of}
+use Rattle.download_segments.proofs.TreeLemmas.{grow_none}
+use Rattle.download_file.specs.State.{FileState, GroupState, ReaderState, numbers_of}
+use Rattle.download_file.specs.Answers.{IsMade, IsRead, blocks_of}
+use Rattle.download_file.specs.Right.{AreConsecutive, IsFile, IsGroup, made_end}
+use Rattle.download_file.specs.Steps.{AreReady, BeginsGroup, IsLast, MakesSegment, empty_group, with_end}
+use Rattle.download_file.proofs.ListLemmas.{at_contained, contains_at, get_last, one_there, set_cases}
+use Rattle.download_file.proofs.GrowLemmas.{grow_same, group_stays, made_stays}
+use Rattle.download_file.proofs.MakeLemmas.{live_numbers}
+use Rattle.download_file.proofs.StateLemmas.{Follows, same_reader}
+
+-- ---- groups that follow one another
+
+last_end : (gs : List GroupState) (k from end : ℕ) (g : GroupState) → k + 1 ≡ length gs → AreConsecutive from gs end → slice_get gs k ≡ Some g → g.end ≡ end
+last_end [] k from end g count is at = absurd cc
+last_end (h ∷ []) zero from end g count is at = let same : h ≡ g = cc in ap (λ (x : GroupState). x.end) (sym same) ∙ is.2
+last_end (h ∷ i ∷ gs) zero from end g count is at = absurd (omega (arith, count))
+last_end (h ∷ gs) (suc k) from end g count is at = last_end gs k h.end end g (omega (arith, count)) is.2 at
+
+raise_last : (gs : List GroupState) (k from end to : ℕ) (g : GroupState) → k + 1 ≡ length gs → AreConsecutive from gs end → slice_get gs k ≡ Some g → end ≤ to
+    → AreConsecutive from (slice_set gs k (with_end g to)) to
+raise_last [] k from end to g count is at order = absurd cc
+raise_last (h ∷ []) zero from end to g count is at order =
+    let same : h ≡ g = cc in
+    let own = is.1 in
+    let last = is.2 in
+    (ap (λ (x : GroupState). x.first) (sym same) ∙ is.0, subst (λ (x : GroupState). x.first ≤ to) same (omega (arith, own, last, order)), refl)
+raise_last (h ∷ i ∷ gs) zero from end to g count is at order = absurd (omega (arith, count))
+raise_last (h ∷ gs) (suc k) from end to g count is at order = (is.0, is.1, raise_last gs k h.end end to g (omega (arith, count)) is.2 at order)
+
+push_empty : (from end : ℕ) (gs : List GroupState) (g : GroupState) → AreConsecutive from gs end → g.first ≡ end → g.end ≡ end → AreConsecutive from (gs ++ g ∷ []) end
+push_empty from end [] g is first last = (first ∙ sym is, omega (arith, first, last), last)
+push_empty from end (h ∷ gs) g is first last = (is.0, is.1, push_empty h.end end gs g is.2 first last)
+
+-- ---- the last group is of the readers that are read
+
+pub record HasLast (f : FileState) (number : ℕ) (groups : List GroupState) : Type 0 where
+  pub some : 0 < length groups
+  pub in_order : AreConsecutive f.first groups number
+  pub groups_are : All (IsGroup f.handout f.readers) groups
+  pub last : (group : GroupState) → IsLast groups group → group.readers ≡ f.live
+  pub old : (group : GroupState) (n : ℕ) → Contains groups group → group.first ≤ n → n < group.end → Contains f.groups group
+
+pub has_last : (f : FileState) (number : ℕ) (groups : List GroupState) → IsFile f → next_segment f.handout ≡ Some number → length f.live ≡ f.handout.geometry.needed
+    → BeginsGroup f.groups f.handout.geometry f.readers f.live number groups → HasLast f number groups
+has_last f number groups is next enough (inl same) =
+    subst (λ (gs : List GroupState). HasLast f number gs) (sym same.0) (record {
+      some = some_in f.groups (length f.groups - 1) same.1 same.2;
+      in_order = subst (AreConsecutive f.first f.groups) (ap (λ (o : Option ℕ). unwrap_or o f.end) next) is.in_order;
+      groups_are = is.groups;
+      last = λ group at. ap (λ (g : GroupState). g.readers) (one_there (slice_get f.groups (length f.groups - 1)) group same.1 at same.2) ∙ same.3;
+      old = λ group n among from before. among;
+    })
+  where
+    some_in : (gs : List GroupState) (k : ℕ) (g : GroupState) → slice_get gs k ≡ Some g → 0 < length gs
+    some_in [] k g e = absurd cc
+    some_in (h ∷ hs) k g e = omega arith
+has_last f number groups is next enough (inr pushed) =
+    let g : GroupState = empty_group f.handout.geometry f.readers f.live number in
+    let was : AreConsecutive f.first f.groups number = subst (AreConsecutive f.first f.groups) (ap (λ (o : Option ℕ). unwrap_or o f.end) next) is.in_order in
+    let long : length (f.groups ++ g ∷ []) ≡ length f.groups + 1 = length-append f.groups (g ∷ []) in
+    subst (λ (gs : List GroupState). HasLast f number gs) (sym pushed) (record {
+      some = omega (arith, long);
+      in_order = push_empty f.first number f.groups g was refl refl;
+      groups_are = All-push (IsGroup f.handout f.readers) f.groups g is.groups
+          (record { geometry = refl; decoding = live_numbers f is enough; there = is.live.there; numbers = refl });
+      last = λ group at.
+          let place : length (f.groups ++ g ∷ []) - 1 ≡ length f.groups = omega (arith, long) in
+          let at_last : slice_get (f.groups ++ g ∷ []) (length (f.groups ++ g ∷ []) - 1) ≡ Some g = ap (slice_get (f.groups ++ g ∷ [])) place ∙ get_last f.groups g in
+          ap (λ (x : GroupState). x.readers) (one_there (slice_get (f.groups ++ g ∷ []) (length (f.groups ++ g ∷ []) - 1)) group g at at_last);
+      old = λ group n among from before. elim (Contains-push_cases f.groups g group among) [
+        | inl k ↦ k
+        | inr e ↦ absurd (let one = ap (λ (x : GroupState). x.first) e in let two = ap (λ (x : GroupState). x.end) e in omega (arith, one, two, from, before))
+      ];
+    })
+
+-- ---- the segment is made
+
+if_some : (b : Bool) (x n : ℕ) → (if b then Some x else None) ≡ Some n → (b ≡ true) × (x ≡ n)
+if_some true x n e = (refl, cc)
+if_some false x n e = absurd cc
+
+module _ (entries : List Request) (f : FileState) (number : ℕ) (groups groups' : List GroupState) (joined : List ℕ) (is : IsFile f) (read : IsRead entries f)
+    (next : next_segment f.handout ≡ Some number) (begun : HasLast f number groups) (ready : AreReady f.readers f.live number) (joins : joined ≡ blocks_of entries f.readers number f.live)
+    (h' : HandoutState) (right : IsHandout h') (made : MakesSegment f.handout groups number joined h' groups') where
+  abbrev pub made_file : FileState
+  made_file = record f { handout = handed_out f.handout made.segment; groups = groups' }
+
+  is_right : IsHandout (handed_out f.handout made.segment)
+  is_right = subst IsHandout made.handed right
+
+  last_place : ℕ
+  last_place = length groups - 1
+
+  follows_next : next_segment (handed_out f.handout made.segment) ≡ (if nat_lt (next_end f.handout) f.handout.to then Some (number + 1) else None)
+  follows_next = next_follows f.handout number made.segment is.handout next
+
+  pub next_number : (n : ℕ) → next_segment (handed_out f.handout made.segment) ≡ Some n → (number + 1 ≡ n) × (number + 1 < f.end)
+  next_number n e =
+      let k = if_some (nat_lt (next_end f.handout) f.handout.to) (number + 1) n (sym follows_next ∙ e) in
+      let low : next_end f.handout < f.handout.to = lt_from_true (next_end f.handout) f.handout.to k.0 in
+      let seg = f.handout.geometry.segment_size in
+      let own = (next_is f.handout number next).1 in
+      let same : (f.handout.reached / seg + 1) * seg ≡ (number + 1) * seg = ap (λ (m : ℕ). (m + 1) * seg) own in
+      let whole : (number + 1) * seg ≤ f.handout.to - 1 = omega (arith, low, same) in
+      let le = le-div (number + 1) (f.handout.to - 1) seg (valid_of f.handout is.handout).some_segment whole in
+      let last = is.last in
+      (k.1, omega (arith, le, last))
+
+  follows : Follows f made_file
+  follows = record { geometry = refl; ueb = refl; first = refl; end = refl; later = λ n e. (number, next, (let same = (next_number n e).0 in omega (arith, same))) }
+
+  end_made : made_end made_file ≡ number + 1
+  end_made = by (nat_lt (next_end f.handout) f.handout.to) refl
+    where
+      by : (b : Bool) → nat_lt (next_end f.handout) f.handout.to ≡ b → made_end made_file ≡ number + 1
+      by true e = ap (λ (o : Option ℕ). unwrap_or o f.end) (follows_next ∙ ap (λ (b : Bool). if b then Some (number + 1) else None) e)
+      by false e =
+          ap (λ (o : Option ℕ). unwrap_or o f.end) (follows_next ∙ ap (λ (b : Bool). if b then Some (number + 1) else None) e)
+          ∙ is.last ∙ ap (λ (n : ℕ). n + 1) (last_number (ltb-false (next_end f.handout) f.handout.to e))
+        where
+          last_number : f.handout.to ≤ next_end f.handout → (f.handout.to - 1) / f.handout.geometry.segment_size ≡ number
+          last_number high = ?
+
+  made_geometry : made.group.decoding.geometry ≡ f.handout.geometry
+  made_geometry = (All-contains (IsGroup f.handout f.readers) groups made.group begun.groups_are (contains_at groups last_place made.group made.last)).geometry
+
+  made_readers : made.group.readers ≡ f.live
+  made_readers = begun.last made.group made.last
+
+  count : last_place + 1 ≡ length groups
+  count = let some = begun.some in omega (arith, some)
+
+  is_made : IsMade entries (handed_out f.handout made.segment) f.readers (with_end made.group (number + 1)) number
+  is_made = record {
+    held = λ place r among at. (ready place r (subst (λ (l : List ℕ). Contains l place) made_readers among) at).held;
+    segment = made.segment;
+    decodes = subst (λ (g : Geometry). DecodesBlocks g made.group.decoding.numbers (blocks_in g number (blocks_of entries f.readers number made.group.readers)) number made.segment) made_geometry
+        (subst (λ (l : List ℕ). DecodesBlocks made.group.decoding.geometry made.group.decoding.numbers (blocks_in made.group.decoding.geometry number l) number made.segment)
+        (joins ∙ ap (blocks_of entries f.readers number) (sym made_readers)) made.decodes);
+    proved = record { size = made.proved.size; known = made.proved.known };
+  }
+
+  -- what was made before
+  made_before : (group : GroupState) (n : ℕ) → Contains f.groups group → group.first ≤ n → n < group.end → IsMade entries (handed_out f.handout made.segment) f.readers group n
+  made_before group n among from before =
+      made_stays entries f.handout (handed_out f.handout made.segment) f.readers f.readers group n refl (grow_none f.handout.trees) (grow_same f.readers)
+      (All-contains (IsGroup f.handout f.readers) f.groups group is.groups among) (read.made group n among from before)
+
+  in_groups : (group : GroupState) (n : ℕ) → Contains groups' group → group.first ≤ n → n < group.end → IsMade entries (handed_out f.handout made.segment) f.readers group n
+  in_groups group n among from before =
+      let at = at_contained groups' group among in
+      elim (set_cases groups last_place at.0 (with_end made.group (number + 1)) group (sym (ap (λ (gs : List GroupState). slice_get gs at.0) made.groups_are) ∙ at.1)) [
+        | inr k ↦ made_before group n (begun.old group n (contains_at groups at.0 group k.1) from before) from before
+        | inl k ↦
+            let end : made.group.end ≡ number = last_end groups last_place f.first number made.group count begun.in_order made.last in
+            let one = ap (λ (x : GroupState). x.end) k.1 in
+            let first = ap (λ (x : GroupState). x.first) k.1 in
+            elim (cases_lt n number) [
+              | inl low ↦ subst (λ (x : GroupState). IsMade entries (handed_out f.handout made.segment) f.readers x n) k.1
+                  (raised made.group n (made_before made.group n (begun.old made.group n (contains_at groups last_place made.group made.last) (omega (arith, first, from)) (omega (arith, end, low)))
+                  (omega (arith, first, from)) (omega (arith, end, low))))
+              | inr high ↦
+                  let same : number ≡ n = omega (arith, one, before, high) in
+                  subst (λ (x : GroupState). IsMade entries (handed_out f.handout made.segment) f.readers x n) k.1
+                  (subst (λ (m : ℕ). IsMade entries (handed_out f.handout made.segment) f.readers (with_end made.group (number + 1)) m) same is_made)
+            ]
+      ]
+    where
+      raised : (group : GroupState) (n : ℕ) → IsMade entries (handed_out f.handout made.segment) f.readers group n
+          → IsMade entries (handed_out f.handout made.segment) f.readers (with_end group (number + 1)) n
+      raised group n k = record { held = k.held; segment = k.segment; decodes = k.decodes; proved = k.proved }
+
+  pub read_made : IsRead entries made_file
+  read_made = record { held = read.held; made = in_groups }
+
+  pub file_made : IsFile made_file
+  file_made = record {
+    handout = is_right;
+    range = is.range;
+    last = is.last;
+    next = λ n e.
+        let k = next_number n e in
+        let same = k.0 in
+        let low = k.1 in
+        let from = (is.next number next).0 in
+        (omega (arith, same, from), omega (arith, same, low));
+    readers = λ place r at. same_reader f made_file r follows (is.readers place r at);
+    live = record {
+      rise = is.live.rise;
+      there = is.live.there;
+      few = is.live.few;
+      different = is.live.different;
+      waits = is.live.waits;
+      reads = is.live.reads;
+    };
+    ciphertext = record {
+      levels = is.ciphertext.levels;
+      pieces = is.ciphertext.pieces;
+      known = is.ciphertext.known;
+      at_giver = is.ciphertext.at_giver;
+      behind = is.ciphertext.behind;
+    };
+    groups = subst (All (IsGroup (handed_out f.handout made.segment) f.readers)) (sym made.groups_are)
+        (All-set (IsGroup (handed_out f.handout made.segment) f.readers) groups last_place (with_end made.group (number + 1))
+        (raised (stays made.group (All-contains (IsGroup f.handout f.readers) groups made.group begun.groups_are (contains_at groups last_place made.group made.last))))
+        (All-weaker (IsGroup f.handout f.readers) (IsGroup (handed_out f.handout made.segment) f.readers) stays groups begun.groups_are));
+    in_order = subst (AreConsecutive f.first groups') (sym end_made)
+        (subst (λ (gs : List GroupState). AreConsecutive f.first gs (number + 1)) (sym made.groups_are)
+        (raise_last groups last_place f.first number (number + 1) made.group count begun.in_order made.last (omega arith)));
+  } where
+    stays : (group : GroupState) → IsGroup f.handout f.readers group → IsGroup (handed_out f.handout made.segment) f.readers group
+    stays group own = group_stays f.handout (handed_out f.handout made.segment) f.readers f.readers group refl (grow_same f.readers) own
+
+    raised : IsGroup (handed_out f.handout made.segment) f.readers made.group → IsGroup (handed_out f.handout made.segment) f.readers (with_end made.group (number + 1))
+    raised own = record { geometry = own.geometry; decoding = own.decoding; there = own.there; numbers = own.numbers }
