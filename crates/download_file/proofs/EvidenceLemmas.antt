@@ -1,5 +1,5 @@
 -- What proves the segments that were made.
-use Rattle.std.proofs.Common.{◌≡◌, ℕ, zero, suc, ◌+◌, ◌-◌, ◌*◌, ◌<◌, ◌≤◌, ◌⊎◌, inl, inr, All, Contains, List, [], ◌∷◌, ◌++◌, length, map, take, drop, get_or, Option, Some, None, refl, sym, ap, subst, ◌∙◌, arith, suc-mul}
+use Rattle.std.proofs.Common.{◌≡◌, ℕ, zero, suc, ◌+◌, ◌-◌, ◌*◌, ◌<◌, ◌≤◌, ◌⊎◌, inl, inr, All, Contains, List, [], ◌∷◌, ◌++◌, length, map, take, drop, get_or, Option, Some, None, unwrap_or, refl, sym, ap, subst, ◌∙◌, arith, suc-mul}
 use Rattle.std.specs.Prelude.{slice_get, slice_range}
 use Rattle.std.specs.List.{flat_map, range_with_len}
 use Rattle.std.proofs.lemmas.List.{length-append, length-drop, length-map, length-take-le}
@@ -17,10 +17,11 @@ use Rattle.download_source.proofs.LawLemmas.{joined_long}
 use Rattle.download_segments.specs.Decoding.{AreShareNumbers, blocks_in}
 use Rattle.download_segments.specs.State.{HandoutState, ProvesSegment}
 use Rattle.download_segments.proofs.DecodingLemmas.{unique}
-use Rattle.download_file.specs.State.{GroupState, ReaderState, numbers_of, share_in}
-use Rattle.download_file.specs.Answers.{HoldsAnswers, IsMade, answer_at, block_in, block_of, blocks_of}
-use Rattle.download_file.specs.Right.{AreConsecutive, IsGroup}
-use Rattle.download_file.specs.Steps.{AreOfFile, HasBlock, segments_in}
+use Rattle.download_file.specs.State.{FileState, GroupState, ReaderState, numbers_of, share_in}
+use Rattle.download_file.specs.Answers.{HoldsAnswers, IsMade, IsRead, answer_at, block_in, block_of, blocks_of}
+use Rattle.download_segments.specs.Handout.{next_segment}
+use Rattle.download_file.specs.Right.{AreConsecutive, IsFile, IsGroup, made_end}
+use Rattle.download_file.specs.Steps.{AreOfFile, HasBlock, IsMadeGroup, segments_in}
 use Rattle.download_file.proofs.ListLemmas.{All-from_contains, first_in, more_in, one_there}
 use Rattle.download_file.proofs.GrowLemmas.{answer_is, reader_there}
 use Rattle.download_file.proofs.LiveLemmas.{cons_cases, none_in}
@@ -65,7 +66,7 @@ all_segments from end (g ∷ gs) is =
     ∙ (let e : g.end - g.first + (end - g.end) ≡ end - from = omega (arith, first, order, rest) in λ i. range_with_len (first i) (e i))
 
 -- each group is within
-pub groups_within : (from end : ℕ) (groups : List GroupState) (group : GroupState) → AreConsecutive from groups end → Contains groups group → (group.end ≤ end) × (from ≤ group.first)
+pub groups_within : (from end : ℕ) (groups : List GroupState) (group : GroupState) → AreConsecutive from groups end → Contains groups group → (group.end ≤ end) × (from ≤ group.first) × (group.first ≤ group.end)
 groups_within from end [] group is among = absurd (none_in group among)
 groups_within from end (g ∷ gs) group is among =
     let first = is.0 in
@@ -73,11 +74,11 @@ groups_within from end (g ∷ gs) group is among =
     elim (cons_cases g group gs among) [
       | inl e ↦
           let rest = consecutive_order g.end end gs is.2 in
-          subst (λ (x : GroupState). (x.end ≤ end) × (from ≤ x.first)) e (rest, omega (arith, first))
+          subst (λ (x : GroupState). (x.end ≤ end) × (from ≤ x.first) × (x.first ≤ x.end)) e (rest, omega (arith, first), order)
       | inr more ↦
           let k = groups_within g.end end gs group is.2 more in
           let begins = k.1 in
-          (k.0, omega (arith, first, order, begins))
+          (k.0, omega (arith, first, order, begins), k.2)
     ]
 
 -- ---- the lengths of blocks
@@ -147,3 +148,33 @@ module _ (entries : List Request) (h : HandoutState) (readers : List ReaderState
       (subst (λ (g : Geometry). DecodesBlocks g group.decoding.numbers (blocks_in g number joined) number segment) right.geometry decodes) in
       let shares : AreShareNumbers h.geometry group.decoding.numbers = subst (λ (g : Geometry). AreShareNumbers g group.decoding.numbers) right.geometry right.decoding in
       subst (ProvesSegment h number) (unique h.geometry group.decoding.numbers (blocks_in h.geometry number (blocks_of entries readers number group.readers)) number made.segment segment valid shares made.decodes one) made.proved
+
+-- ---- all that was made
+
+-- the segments that were made are those before the next
+pub made_within : (f : FileState) → IsFile f → made_end f ≤ f.end
+made_within f is = by (next_segment f.handout) refl
+  where
+    by : (o : Option ℕ) → next_segment f.handout ≡ o → unwrap_or (next_segment f.handout) f.end ≤ f.end
+    by None e = let same = ap (λ (o : Option ℕ). unwrap_or o f.end) e in omega (arith, same)
+    by (Some n) e = let same = ap (λ (o : Option ℕ). unwrap_or o f.end) e in let low = (is.next n e).1 in omega (arith, same, low)
+
+pub all_made : (entries : List Request) (f : FileState) → IsFile f → IsRead entries f → All (IsMadeGroup entries f.handout f.readers) f.groups
+all_made entries f is read = All-from_contains (IsMadeGroup entries f.handout f.readers) f.groups (λ group among.
+    let within = groups_within f.first (made_end f) f.groups group is.in_order among in
+    let end = within.0 in
+    let upto = made_within f is in
+    let count = is.range.within in
+    record {
+      right = All-contains (IsGroup f.handout f.readers) f.groups group is.groups among;
+      order = within.2;
+      there = omega (arith, end, upto, count);
+      made = λ number from before. read.made group number among from before;
+    })
+
+pub readers_of : (entries : List Request) (f : FileState) → IsFile f → IsRead entries f → AreOfFile entries f.handout.geometry f.readers
+readers_of entries f is read = record {
+  source = λ place r at. (is.readers place r at).source;
+  geometry = λ place r at. (is.readers place r at).geometry;
+  held = read.held;
+}

@@ -15,3 +15,4 @@ pub mod EvidenceLemmas
 pub mod WaitLemmas
 pub mod MakeLemmas
 pub mod SegmentLemmas
+pub mod NewLemmas

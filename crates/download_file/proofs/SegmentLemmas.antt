@@ -1,6 +1,7 @@
 -- A file with one segment more.
 use Rattle.std.proofs.Common.{◌≡◌, ◌≢◌, ◌↔◌, ℕ, zero, suc, ◌+◌, ◌-◌, ◌*◌, ◌/◌, ◌<◌, ◌≤◌, ◌⊎◌, inl, inr, All, Bool, true, false, Contains, List, [], ◌∷◌, ◌++◌, length, Option, Some, None, unwrap_or, refl, sym, ap, subst, ◌∙◌, arith}
 use Rattle.std.specs.Prelude.{slice_get, slice_set, nat_lt, if◌then◌else◌}
+use Rattle.std.proofs.Math.Nat.{div-lt_iff_lt-mul, div-mul-le_self}
 use Rattle.std.proofs.lemmas.Bool.{cases_lt, ltb-false}
 use Rattle.std.proofs.lemmas.List.{length-append}
 use Rattle.std.proofs.lemmas.List.Elements.{All-contains, All-push, All-set, All-weaker, Contains-push_cases}
@@ -104,7 +105,7 @@ module _ (entries : List Request) (f : FileState) (number : ℕ) (groups groups'
   is_right : IsHandout (handed_out f.handout made.segment)
   is_right = subst IsHandout made.handed right
 
-  last_place : ℕ
+  abbrev last_place : ℕ
   last_place = length groups - 1
 
   follows_next : next_segment (handed_out f.handout made.segment) ≡ (if nat_lt (next_end f.handout) f.handout.to then Some (number + 1) else None)
@@ -135,7 +136,18 @@ module _ (entries : List Request) (f : FileState) (number : ℕ) (groups groups'
           ∙ is.last ∙ ap (λ (n : ℕ). n + 1) (last_number (ltb-false (next_end f.handout) f.handout.to e))
         where
           last_number : f.handout.to ≤ next_end f.handout → (f.handout.to - 1) / f.handout.geometry.segment_size ≡ number
-          last_number high = ?
+          last_number high =
+              let seg = f.handout.geometry.segment_size in
+              let some = (valid_of f.handout is.handout).some_segment in
+              let k = next_is f.handout number next in
+              let own = k.1 in
+              let wanted = k.0 in
+              let below = div-mul-le_self f.handout.reached seg in
+              let whole : number * seg ≤ f.handout.to - 1 = let e : f.handout.reached / seg * seg ≡ number * seg = ap (λ (n : ℕ). n * seg) own in omega (arith, e, below, wanted) in
+              let low : f.handout.to - 1 < (number + 1) * seg = let e : (f.handout.reached / seg + 1) * seg ≡ (number + 1) * seg = ap (λ (n : ℕ). (n + 1) * seg) own in omega (arith, e, high, wanted) in
+              let less = (div-lt_iff_lt-mul {y = number + 1} some).1 low in
+              let least = le-div number (f.handout.to - 1) seg some whole in
+              omega (arith, less, least)
 
   made_geometry : made.group.decoding.geometry ≡ f.handout.geometry
   made_geometry = (All-contains (IsGroup f.handout f.readers) groups made.group begun.groups_are (contains_at groups last_place made.group made.last)).geometry

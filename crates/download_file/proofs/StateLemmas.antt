@@ -56,7 +56,7 @@ pub asks_itself : (s : SourceState) → SameAsks s s
 asks_itself s = same_asks s s refl refl refl refl refl refl
 
 -- nothing is asked of a new source
-cursor_none : (level : ℕ) → cursor_at (0 ∷ 0 ∷ 0 ∷ []) level ≡ 0
+pub cursor_none : (level : ℕ) → cursor_at (0 ∷ 0 ∷ 0 ∷ []) level ≡ 0
 cursor_none zero = refl
 cursor_none (suc zero) = refl
 cursor_none (suc (suc zero)) = refl

@@ -248,8 +248,10 @@ impl File {
         ensures value { result ≡ first_waiting self.now reader }
         ensures right { IsFile self.now }
     {
-        let first = self.readers.get(reader)?.first()?;
-        Some(first.place)
+        match self.readers.get(reader) {
+            Some(found) => found.first_place(),
+            None => None,
+        }
     }
 
     /// Takes the answer to the first request that waits of a reader. The answer is refused with the

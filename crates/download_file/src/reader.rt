@@ -11,7 +11,7 @@ ghost use Rattle.download_source.specs.Cursors.{cursor_at};
 ghost use Rattle.download_source.specs.Source.{IsSource, gives_from, new_source};
 ghost use Rattle.download_source.specs.Taking.{IsDue, RefutesPiece, TakesPiece, holds_more};
 ghost use Rattle.download_source.specs.Taking.{with_taken};
-ghost use Rattle.download_file.specs.State.{ReaderState, placed, without};
+ghost use Rattle.download_file.specs.State.{ReaderState, first_place, placed, without};
 ghost use Rattle.download_file.specs.Steps.{Asks, AsksNoTree, CanGive, EndsReader, IsBegun};
 ghost use Rattle.download_file.specs.Steps.{giving};
 
@@ -90,6 +90,16 @@ impl Reader {
         ensures { result ≡ slice_get self.now.waiting 0 }
     {
         self.waiting.front().copied()
+    }
+
+    /// The place of the request that asked it.
+    pub(crate) fn first_place(&self) -> Option<usize>
+        ensures { result ≡ first_place self.now.waiting }
+    {
+        match self.waiting.front() {
+            Some(first) => Some(first.place),
+            None => None,
+        }
     }
 
     /// From now on it gives the ciphertext tree, from these pieces of each level on. It was asked
