@@ -18,12 +18,14 @@ use Rattle.download_segments.proofs.HandoutLemmas.{next_is, next_follows, valid_
 use Rattle.download_segments.proofs.TreeLemmas.{grow_none}
 use Rattle.download_file.specs.State.{FileState, GroupState, ReaderState, numbers_of}
 use Rattle.download_file.specs.Answers.{IsMade, IsRead, blocks_of}
+use Rattle.download_file.specs.Changes.{IsSameFile, StaysAskedUp}
+use Rattle.download_file.specs.Making.{MakesNext}
 use Rattle.download_file.specs.Right.{AreConsecutive, IsFile, IsGroup, made_end}
 use Rattle.download_file.specs.Steps.{AreReady, BeginsGroup, IsLast, MakesSegment, empty_group, with_end}
 use Rattle.download_file.proofs.ListLemmas.{at_contained, contains_at, get_last, one_there, set_cases}
 use Rattle.download_file.proofs.GrowLemmas.{grow_same, group_stays, made_stays}
 use Rattle.download_file.proofs.MakeLemmas.{live_numbers}
-use Rattle.download_file.proofs.StateLemmas.{Follows, same_reader}
+use Rattle.download_file.proofs.StateLemmas.{Follows, asked_up_stays, grows_itself, same_reader}
 
 -- ---- groups that follow one another
 
@@ -241,3 +243,69 @@ module _ (entries : List Request) (f : FileState) (number : ℕ) (groups groups'
 
     raised : IsGroup (handed_out f.handout made.segment) f.readers made.group → IsGroup (handed_out f.handout made.segment) f.readers (with_end made.group (number + 1))
     raised own = record { geometry = own.geometry; decoding = own.decoding; there = own.there; numbers = own.numbers }
+
+-- ---- what holds of the file then
+
+-- where a piece is made of the segment
+pub record HasMade (entries : List Request) (f g : FileState) : Type 0 where
+  pub right : IsFile g
+  pub reads : IsRead entries g
+  pub makes : MakesNext f g
+  pub same : IsSameFile f g
+
+pub has_made : (entries : List Request) (f : FileState) (number : ℕ) (groups groups' : List GroupState) (joined : List ℕ) → IsFile f → IsRead entries f
+    → next_segment f.handout ≡ Some number → HasLast f number groups → AreReady f.readers f.live number → joined ≡ blocks_of entries f.readers number f.live
+    → (h' : HandoutState) → IsHandout h' → MakesSegment f.handout groups number joined h' groups' → HasMade entries f (record f { handout = h'; groups = groups' })
+has_made entries f number groups groups' joined is read next begun ready joins h' right made =
+    subst (λ (h : HandoutState). HasMade entries f (record f { handout = h; groups = groups' })) (sym made.handed) (record {
+      right = file_made entries f number groups groups' joined is read next begun ready joins h' right made;
+      reads = read_made entries f number groups groups' joined is read next begun ready joins h' right made;
+      makes = record { number = number; segment = made.segment; next = next; proved = made.proved; handed = refl };
+      same = record { key = refl; ueb = refl; geometry = refl; to = refl; first = refl; end = refl };
+    })
+
+-- where none is, and the last group is of the readers that are read
+pub record HasGroups (entries : List Request) (f g : FileState) : Type 0 where
+  pub right : IsFile g
+  pub reads : IsRead entries g
+  pub asked_up : (reader : ℕ) → StaysAskedUp f g reader
+  pub same : IsSameFile f g
+  pub handout_is : g.handout ≡ f.handout
+
+pub has_groups : (entries : List Request) (f : FileState) (number : ℕ) (groups groups' : List GroupState) (h' : HandoutState) → IsFile f → IsRead entries f
+    → next_segment f.handout ≡ Some number → HasLast f number groups → h' ≡ f.handout → groups' ≡ groups → HasGroups entries f (record f { handout = h'; groups = groups' })
+has_groups entries f number groups groups' h' is read next begun same_handout same_groups =
+    subst (λ (h : HandoutState). HasGroups entries f (record f { handout = h; groups = groups' })) (sym same_handout)
+    (subst (λ (gs : List GroupState). HasGroups entries f (record f { groups = gs })) (sym same_groups) (record {
+      right = record {
+        handout = is.handout;
+        range = is.range;
+        last = is.last;
+        next = is.next;
+        readers = λ place r at. same_reader f (record f { groups = groups }) r follows_same (is.readers place r at);
+        live = record {
+          rise = is.live.rise;
+          there = is.live.there;
+          few = is.live.few;
+          different = is.live.different;
+          waits = is.live.waits;
+          reads = is.live.reads;
+        };
+        ciphertext = record {
+          levels = is.ciphertext.levels;
+          pieces = is.ciphertext.pieces;
+          known = is.ciphertext.known;
+          at_giver = is.ciphertext.at_giver;
+          behind = is.ciphertext.behind;
+        };
+        groups = begun.groups_are;
+        in_order = subst (AreConsecutive f.first groups) (sym (ap (λ (o : Option ℕ). unwrap_or o f.end) next)) begun.in_order;
+      };
+      reads = record { held = read.held; made = λ group n among from before. read.made group n (begun.old group n among from before) from before };
+      asked_up = λ reader. asked_up_stays f (record f { groups = groups }) reader refl (λ now. now) (λ r at. (r, at, grows_itself r.source));
+      same = record { key = refl; ueb = refl; geometry = refl; to = refl; first = refl; end = refl };
+      handout_is = refl;
+    }))
+  where
+    follows_same : Follows f (record f { groups = groups })
+    follows_same = record { geometry = refl; ueb = refl; first = refl; end = refl; later = λ n e. (n, e, omega arith) }

@@ -345,18 +345,10 @@ impl File {
             &self.live,
             number,
         )?;
-        let made = make_segment(
-            self.alloc,
-            &mut self.handout,
-            &mut self.groups,
-            number,
-            &joined,
-        )?;
-        Ok(if made {
-            Made::Ready
-        } else {
-            Made::Inconsistent
-        })
+        if !make_segment(self.alloc, &mut self.handout, &mut self.groups, number, &joined)? {
+            return Ok(Made::Inconsistent);
+        }
+        Ok(Made::Ready)
     }
 
     /// Takes the first piece, where one is ready.

@@ -1,0 +1,518 @@
+use Rattle.std.proofs.Common.{◌≡◌, ◌≢◌, ◌∙◌, ◌*◌, ◌<◌, ℕ, All, Bool, IsNone, List, Contains, Ok, Err, Option, Some, None, ap, subst, sym, length, refl, slice_get, true, false, rules}
+use Rattle.std.proofs.lemmas.Bool.{true≢false}
+use Rattle.std.proofs.lemmas.List.Elements.{All-contains}
+use Rattle.share_layout.specs.Geometry.{Geometry}
+use Rattle.share_layout.specs.Pieces.{block_length}
+use Rattle.proved_parts.specs.Decoding.{DecodesBlocks}
+use Rattle.download_segments.specs.Decoding.{AreShareNumbers, blocks_in}
+use Rattle.download_segments.specs.Handout.{next_segment}
+use Rattle.download_segments.specs.NoCodeWord.{IsNoCodeWord}
+use Rattle.download_segments.specs.State.{HandoutState}
+use Rattle.download_file.specs.State.{FileState, GroupState, ReaderState, numbers_of}
+use Rattle.download_file.specs.Answers.{IsRead, blocks_of}
+use Rattle.download_file.specs.Changes.{IsSameFile, StaysAskedUp}
+use Rattle.download_file.specs.Making.{CanNotGoOn, MakesNext, RefutesReader}
+use Rattle.download_file.specs.Right.{IsFile, IsGroup}
+use Rattle.download_file.specs.Steps.{AreProved, AreReady, BeginsGroup, HasAll, HasBlock, IsWrong, LacksSome, RefutesBlocks}
+use Rattle.download_file.proofs.ListLemmas.{contains_at}
+use Rattle.download_file.proofs.WaitLemmas.{cannot}
+use Rattle.download_file.proofs.MakeLemmas.{all_long, is_no_code_word, live_blocks, live_numbers, refutes_reader}
+use Rattle.download_file.proofs.SegmentLemmas.{HasGroups, HasLast, HasMade, has_groups, has_last, has_made}
+use Rattle.download_file.proofs.file.File.make_next.Goals as goal
+
+pub returns-then-not-has_all-clause-waits : goal.returns-then-not-has_all-clause-waits
+returns-then-not-has_all-clause-waits c = λ _.
+    let entries = c.args.requests.now.entries in
+    let f : FileState = record {
+    handout = c.self.inside.handout;
+    first = c.self.inside.plan.first;
+    end = c.self.inside.plan.end;
+    taken = c.self.inside.taken;
+    readers = c.self.inside.readers.items;
+    live = c.self.inside.live.items;
+    groups = c.self.inside.groups.items;
+  } in
+    let is : IsFile f = c.self.invariant.0 in
+    let number : ℕ = c.in-Some.number in
+    let next : next_segment f.handout ≡ Some number = sym c.in-Some.ensures.value in
+    let lacks : LacksSome f.handout f.readers f.live number =
+    subst (λ (l : List ℕ). LacksSome f.handout f.readers l number) c.deref-2.ensures.value
+    (subst (λ (rs : List ReaderState). LacksSome f.handout rs c.deref-2.result.now number) c.deref.ensures.value (c.has_all.ensures.no c.if-not-has_all.true)) in
+    subst CanNotGoOn c.self.view_is (cannot f number is next lacks)
+
+pub join_blocks-requires : goal.join_blocks-requires
+join_blocks-requires c =
+    let entries = c.args.requests.now.entries in
+    let f : FileState = record {
+    handout = c.self.inside.handout;
+    first = c.self.inside.plan.first;
+    end = c.self.inside.plan.end;
+    taken = c.self.inside.taken;
+    readers = c.self.inside.readers.items;
+    live = c.self.inside.live.items;
+    groups = c.self.inside.groups.items;
+  } in
+    let is : IsFile f = c.self.invariant.0 in
+    let number : ℕ = c.in-Some.number in
+    let next : next_segment f.handout ≡ Some number = sym c.in-Some.ensures.value in
+    let read : IsRead entries f = subst (IsRead entries) (sym c.self.view_is) c.requires.reads in
+    let all : HasAll f.handout f.readers f.live number =
+    subst (λ (l : List ℕ). HasAll f.handout f.readers l number) c.deref-2.ensures.value
+    (subst (λ (rs : List ReaderState). HasAll f.handout rs c.deref-2.result.now number) c.deref.ensures.value (c.has_all.ensures.yes c.if-not-has_all.false)) in
+    let size : ℕ = c.block_length-size.result in
+    let size_is : size ≡ block_length f.handout.geometry number = c.block_length-size.ensures.value ∙ ap (λ (g : Geometry). block_length g number) c.self.invariant.1 in
+    subst (λ (rs : List ReaderState). All (HasBlock rs number size) c.deref-4.result.now) (sym c.deref-3.ensures.value)
+    (subst (λ (l : List ℕ). All (HasBlock f.readers number size) l) (sym c.deref-4.ensures.value) (live_blocks entries f number size is read next size_is all.ready))
+
+pub find_wrong-requires-clause-there : goal.find_wrong-requires-clause-there
+find_wrong-requires-clause-there c =
+    let entries = c.args.requests.now.entries in
+    let f : FileState = record {
+    handout = c.self.inside.handout;
+    first = c.self.inside.plan.first;
+    end = c.self.inside.plan.end;
+    taken = c.self.inside.taken;
+    readers = c.self.inside.readers.items;
+    live = c.self.inside.live.items;
+    groups = c.self.inside.groups.items;
+  } in
+    let is : IsFile f = c.self.invariant.0 in
+    let number : ℕ = c.in-Some.number in
+    let next : next_segment f.handout ≡ Some number = sym c.in-Some.ensures.value in
+    subst (λ (rs : List ReaderState). All (λ place. place < length rs) c.deref-6.result.now) (sym c.deref-5.ensures.value)
+    (subst (λ (l : List ℕ). All (λ place. place < length f.readers) l) (sym c.deref-6.ensures.value) is.live.there)
+
+pub find_wrong-requires-clause-ready : goal.find_wrong-requires-clause-ready
+find_wrong-requires-clause-ready c =
+    let entries = c.args.requests.now.entries in
+    let f : FileState = record {
+    handout = c.self.inside.handout;
+    first = c.self.inside.plan.first;
+    end = c.self.inside.plan.end;
+    taken = c.self.inside.taken;
+    readers = c.self.inside.readers.items;
+    live = c.self.inside.live.items;
+    groups = c.self.inside.groups.items;
+  } in
+    let is : IsFile f = c.self.invariant.0 in
+    let number : ℕ = c.in-Some.number in
+    let next : next_segment f.handout ≡ Some number = sym c.in-Some.ensures.value in
+    let read : IsRead entries f = subst (IsRead entries) (sym c.self.view_is) c.requires.reads in
+    let all : HasAll f.handout f.readers f.live number =
+    subst (λ (l : List ℕ). HasAll f.handout f.readers l number) c.deref-2.ensures.value
+    (subst (λ (rs : List ReaderState). HasAll f.handout rs c.deref-2.result.now number) c.deref.ensures.value (c.has_all.ensures.yes c.if-not-has_all.false)) in
+    let size : ℕ = c.block_length-size.result in
+    let size_is : size ≡ block_length f.handout.geometry number = c.block_length-size.ensures.value ∙ ap (λ (g : Geometry). block_length g number) c.self.invariant.1 in
+    subst (λ (rs : List ReaderState). AreReady rs c.deref-6.result.now number) (sym c.deref-5.ensures.value)
+    (subst (λ (l : List ℕ). AreReady f.readers l number) (sym c.deref-6.ensures.value) all.ready)
+
+pub find_wrong-requires-clause-long : goal.find_wrong-requires-clause-long
+find_wrong-requires-clause-long c =
+    let entries = c.args.requests.now.entries in
+    let f : FileState = record {
+    handout = c.self.inside.handout;
+    first = c.self.inside.plan.first;
+    end = c.self.inside.plan.end;
+    taken = c.self.inside.taken;
+    readers = c.self.inside.readers.items;
+    live = c.self.inside.live.items;
+    groups = c.self.inside.groups.items;
+  } in
+    let is : IsFile f = c.self.invariant.0 in
+    let number : ℕ = c.in-Some.number in
+    let next : next_segment f.handout ≡ Some number = sym c.in-Some.ensures.value in
+    let read : IsRead entries f = subst (IsRead entries) (sym c.self.view_is) c.requires.reads in
+    let all : HasAll f.handout f.readers f.live number =
+    subst (λ (l : List ℕ). HasAll f.handout f.readers l number) c.deref-2.ensures.value
+    (subst (λ (rs : List ReaderState). HasAll f.handout rs c.deref-2.result.now number) c.deref.ensures.value (c.has_all.ensures.yes c.if-not-has_all.false)) in
+    let size : ℕ = c.block_length-size.result in
+    let size_is : size ≡ block_length f.handout.geometry number = c.block_length-size.ensures.value ∙ ap (λ (g : Geometry). block_length g number) c.self.invariant.1 in
+    let joins : c.in_ok-joined.joined.items ≡ blocks_of entries f.readers number f.live =
+    c.in_ok-joined.ensures ∙ (λ i. blocks_of entries (c.deref-3.ensures.value i) number (c.deref-4.ensures.value i)) in
+    ap length (c.deref-7.ensures.value ∙ joins) ∙ all_long entries f number size is read next size_is all.ready
+    ∙ ap (λ (l : List ℕ). length l * size) (sym c.deref-6.ensures.value)
+
+pub returns-in-Some-find_wrong-clause-wrong : goal.returns-in-Some-find_wrong-clause-wrong
+returns-in-Some-find_wrong-clause-wrong c = λ reader is_wrong.
+    let entries = c.args.requests.now.entries in
+    let f : FileState = record {
+    handout = c.self.inside.handout;
+    first = c.self.inside.plan.first;
+    end = c.self.inside.plan.end;
+    taken = c.self.inside.taken;
+    readers = c.self.inside.readers.items;
+    live = c.self.inside.live.items;
+    groups = c.self.inside.groups.items;
+  } in
+    let is : IsFile f = c.self.invariant.0 in
+    let number : ℕ = c.in-Some.number in
+    let next : next_segment f.handout ≡ Some number = sym c.in-Some.ensures.value in
+    let read : IsRead entries f = subst (IsRead entries) (sym c.self.view_is) c.requires.reads in
+    let all : HasAll f.handout f.readers f.live number =
+    subst (λ (l : List ℕ). HasAll f.handout f.readers l number) c.deref-2.ensures.value
+    (subst (λ (rs : List ReaderState). HasAll f.handout rs c.deref-2.result.now number) c.deref.ensures.value (c.has_all.ensures.yes c.if-not-has_all.false)) in
+    let size : ℕ = c.block_length-size.result in
+    let size_is : size ≡ block_length f.handout.geometry number = c.block_length-size.ensures.value ∙ ap (λ (g : Geometry). block_length g number) c.self.invariant.1 in
+    let joins : c.in_ok-joined.joined.items ≡ blocks_of entries f.readers number f.live =
+    c.in_ok-joined.ensures ∙ (λ i. blocks_of entries (c.deref-3.ensures.value i) number (c.deref-4.ensures.value i)) in
+    let same : c.in-Some-find_wrong.wrong ≡ reader = cc in
+    let wrong : IsWrong f.readers f.live number c.deref-7.result.now size c.in-Some-find_wrong.wrong =
+    subst (λ (l : List ℕ). IsWrong f.readers l number c.deref-7.result.now size c.in-Some-find_wrong.wrong) c.deref-6.ensures.value
+    (subst (λ (rs : List ReaderState). IsWrong rs c.deref-6.result.now number c.deref-7.result.now size c.in-Some-find_wrong.wrong) c.deref-5.ensures.value c.in-Some-find_wrong.ensures.wrong) in
+    subst (λ (s : FileState). RefutesReader entries s reader) c.self.view_is
+    (subst (λ (n : ℕ). RefutesReader entries f n) same
+    (refutes_reader entries f number size is read next size_is all.ready c.deref-7.result.now c.in-Some-find_wrong.wrong (c.deref-7.ensures.value ∙ joins) wrong))
+
+pub begin_group-requires-clause-there : goal.begin_group-requires-clause-there
+begin_group-requires-clause-there c =
+    let entries = c.args.requests.now.entries in
+    let f : FileState = record {
+    handout = c.self.inside.handout;
+    first = c.self.inside.plan.first;
+    end = c.self.inside.plan.end;
+    taken = c.self.inside.taken;
+    readers = c.self.inside.readers.items;
+    live = c.self.inside.live.items;
+    groups = c.self.inside.groups.items;
+  } in
+    let is : IsFile f = c.self.invariant.0 in
+    let number : ℕ = c.in-Some.number in
+    let next : next_segment f.handout ≡ Some number = sym c.in-Some.ensures.value in
+    subst (λ (rs : List ReaderState). All (λ place. place < length rs) c.deref-9.result.now) (sym c.deref-8.ensures.value)
+    (subst (λ (l : List ℕ). All (λ place. place < length f.readers) l) (sym c.deref-9.ensures.value) is.live.there)
+
+pub begin_group-requires-clause-shares : goal.begin_group-requires-clause-shares
+begin_group-requires-clause-shares c =
+    let entries = c.args.requests.now.entries in
+    let f : FileState = record {
+    handout = c.self.inside.handout;
+    first = c.self.inside.plan.first;
+    end = c.self.inside.plan.end;
+    taken = c.self.inside.taken;
+    readers = c.self.inside.readers.items;
+    live = c.self.inside.live.items;
+    groups = c.self.inside.groups.items;
+  } in
+    let is : IsFile f = c.self.invariant.0 in
+    let number : ℕ = c.in-Some.number in
+    let next : next_segment f.handout ≡ Some number = sym c.in-Some.ensures.value in
+    let read : IsRead entries f = subst (IsRead entries) (sym c.self.view_is) c.requires.reads in
+    let all : HasAll f.handout f.readers f.live number =
+    subst (λ (l : List ℕ). HasAll f.handout f.readers l number) c.deref-2.ensures.value
+    (subst (λ (rs : List ReaderState). HasAll f.handout rs c.deref-2.result.now number) c.deref.ensures.value (c.has_all.ensures.yes c.if-not-has_all.false)) in
+    let size : ℕ = c.block_length-size.result in
+    let size_is : size ≡ block_length f.handout.geometry number = c.block_length-size.ensures.value ∙ ap (λ (g : Geometry). block_length g number) c.self.invariant.1 in
+    subst (λ (g : Geometry). AreShareNumbers g (numbers_of c.deref-8.result.now c.deref-9.result.now)) (sym c.self.invariant.1)
+    (subst (λ (rs : List ReaderState). AreShareNumbers f.handout.geometry (numbers_of rs c.deref-9.result.now)) (sym c.deref-8.ensures.value)
+    (subst (λ (l : List ℕ). AreShareNumbers f.handout.geometry (numbers_of f.readers l)) (sym c.deref-9.ensures.value) (live_numbers f is all.enough)))
+
+pub make_segment-requires-clause-some : goal.make_segment-requires-clause-some
+make_segment-requires-clause-some c =
+    let entries = c.args.requests.now.entries in
+    let f : FileState = record {
+    handout = c.self.inside.handout;
+    first = c.self.inside.plan.first;
+    end = c.self.inside.plan.end;
+    taken = c.self.inside.taken;
+    readers = c.self.inside.readers.items;
+    live = c.self.inside.live.items;
+    groups = c.self.inside.groups.items;
+  } in
+    let is : IsFile f = c.self.invariant.0 in
+    let number : ℕ = c.in-Some.number in
+    let next : next_segment f.handout ≡ Some number = sym c.in-Some.ensures.value in
+    let read : IsRead entries f = subst (IsRead entries) (sym c.self.view_is) c.requires.reads in
+    let all : HasAll f.handout f.readers f.live number =
+    subst (λ (l : List ℕ). HasAll f.handout f.readers l number) c.deref-2.ensures.value
+    (subst (λ (rs : List ReaderState). HasAll f.handout rs c.deref-2.result.now number) c.deref.ensures.value (c.has_all.ensures.yes c.if-not-has_all.false)) in
+    let size : ℕ = c.block_length-size.result in
+    let size_is : size ≡ block_length f.handout.geometry number = c.block_length-size.ensures.value ∙ ap (λ (g : Geometry). block_length g number) c.self.invariant.1 in
+    let joins : c.in_ok-joined.joined.items ≡ blocks_of entries f.readers number f.live =
+    c.in_ok-joined.ensures ∙ (λ i. blocks_of entries (c.deref-3.ensures.value i) number (c.deref-4.ensures.value i)) in
+    let begins : BeginsGroup f.groups f.handout.geometry f.readers f.live number c.begin_group.new.groups.items =
+    subst (λ (g : Geometry). BeginsGroup f.groups g f.readers f.live number c.begin_group.new.groups.items) c.self.invariant.1
+    (subst (λ (l : List ℕ). BeginsGroup f.groups c.self.inside.plan.geometry f.readers l number c.begin_group.new.groups.items) c.deref-9.ensures.value
+    (subst (λ (rs : List ReaderState). BeginsGroup f.groups c.self.inside.plan.geometry rs c.deref-9.result.now number c.begin_group.new.groups.items) c.deref-8.ensures.value
+    c.in_ok-begin_group.ensures.begins)) in
+    let last : HasLast f number c.begin_group.new.groups.items = has_last f number c.begin_group.new.groups.items is next all.enough begins in
+    last.some
+
+pub make_segment-requires-clause-geometry : goal.make_segment-requires-clause-geometry
+make_segment-requires-clause-geometry c = λ group at.
+    let entries = c.args.requests.now.entries in
+    let f : FileState = record {
+    handout = c.self.inside.handout;
+    first = c.self.inside.plan.first;
+    end = c.self.inside.plan.end;
+    taken = c.self.inside.taken;
+    readers = c.self.inside.readers.items;
+    live = c.self.inside.live.items;
+    groups = c.self.inside.groups.items;
+  } in
+    let is : IsFile f = c.self.invariant.0 in
+    let number : ℕ = c.in-Some.number in
+    let next : next_segment f.handout ≡ Some number = sym c.in-Some.ensures.value in
+    let read : IsRead entries f = subst (IsRead entries) (sym c.self.view_is) c.requires.reads in
+    let all : HasAll f.handout f.readers f.live number =
+    subst (λ (l : List ℕ). HasAll f.handout f.readers l number) c.deref-2.ensures.value
+    (subst (λ (rs : List ReaderState). HasAll f.handout rs c.deref-2.result.now number) c.deref.ensures.value (c.has_all.ensures.yes c.if-not-has_all.false)) in
+    let size : ℕ = c.block_length-size.result in
+    let size_is : size ≡ block_length f.handout.geometry number = c.block_length-size.ensures.value ∙ ap (λ (g : Geometry). block_length g number) c.self.invariant.1 in
+    let joins : c.in_ok-joined.joined.items ≡ blocks_of entries f.readers number f.live =
+    c.in_ok-joined.ensures ∙ (λ i. blocks_of entries (c.deref-3.ensures.value i) number (c.deref-4.ensures.value i)) in
+    let begins : BeginsGroup f.groups f.handout.geometry f.readers f.live number c.begin_group.new.groups.items =
+    subst (λ (g : Geometry). BeginsGroup f.groups g f.readers f.live number c.begin_group.new.groups.items) c.self.invariant.1
+    (subst (λ (l : List ℕ). BeginsGroup f.groups c.self.inside.plan.geometry f.readers l number c.begin_group.new.groups.items) c.deref-9.ensures.value
+    (subst (λ (rs : List ReaderState). BeginsGroup f.groups c.self.inside.plan.geometry rs c.deref-9.result.now number c.begin_group.new.groups.items) c.deref-8.ensures.value
+    c.in_ok-begin_group.ensures.begins)) in
+    let last : HasLast f number c.begin_group.new.groups.items = has_last f number c.begin_group.new.groups.items is next all.enough begins in
+    (All-contains (IsGroup f.handout f.readers) c.begin_group.new.groups.items group last.groups_are (contains_at c.begin_group.new.groups.items _ group at)).geometry
+
+pub make_segment-requires-clause-long : goal.make_segment-requires-clause-long
+make_segment-requires-clause-long c =
+    let entries = c.args.requests.now.entries in
+    let f : FileState = record {
+    handout = c.self.inside.handout;
+    first = c.self.inside.plan.first;
+    end = c.self.inside.plan.end;
+    taken = c.self.inside.taken;
+    readers = c.self.inside.readers.items;
+    live = c.self.inside.live.items;
+    groups = c.self.inside.groups.items;
+  } in
+    let is : IsFile f = c.self.invariant.0 in
+    let number : ℕ = c.in-Some.number in
+    let next : next_segment f.handout ≡ Some number = sym c.in-Some.ensures.value in
+    let read : IsRead entries f = subst (IsRead entries) (sym c.self.view_is) c.requires.reads in
+    let all : HasAll f.handout f.readers f.live number =
+    subst (λ (l : List ℕ). HasAll f.handout f.readers l number) c.deref-2.ensures.value
+    (subst (λ (rs : List ReaderState). HasAll f.handout rs c.deref-2.result.now number) c.deref.ensures.value (c.has_all.ensures.yes c.if-not-has_all.false)) in
+    let size : ℕ = c.block_length-size.result in
+    let size_is : size ≡ block_length f.handout.geometry number = c.block_length-size.ensures.value ∙ ap (λ (g : Geometry). block_length g number) c.self.invariant.1 in
+    let joins : c.in_ok-joined.joined.items ≡ blocks_of entries f.readers number f.live =
+    c.in_ok-joined.ensures ∙ (λ i. blocks_of entries (c.deref-3.ensures.value i) number (c.deref-4.ensures.value i)) in
+    ap length (c.deref-10.ensures.value ∙ joins) ∙ all_long entries f number size is read next size_is all.ready
+    ∙ (λ i. all.enough i * size_is i)
+
+-- ---- memory was refused
+
+abbrev refused : goal.After-drop-joined-in_err-make_segment → FileState
+refused c = record {
+    handout = c.make_segment.new.handout;
+    first = c.self.inside.plan.first;
+    end = c.self.inside.plan.end;
+    taken = c.self.inside.taken;
+    readers = c.self.inside.readers.items;
+    live = c.self.inside.live.items;
+    groups = c.make_segment.new.groups.items;
+  }
+
+at_refusal : (c : goal.After-drop-joined-in_err-make_segment) → HasGroups c.args.requests.now.entries c.args.self.now (refused c)
+at_refusal c =
+    let entries = c.args.requests.now.entries in
+    let f : FileState = record {
+    handout = c.self.inside.handout;
+    first = c.self.inside.plan.first;
+    end = c.self.inside.plan.end;
+    taken = c.self.inside.taken;
+    readers = c.self.inside.readers.items;
+    live = c.self.inside.live.items;
+    groups = c.self.inside.groups.items;
+  } in
+    let is : IsFile f = c.self.invariant.0 in
+    let number : ℕ = c.in-Some.number in
+    let next : next_segment f.handout ≡ Some number = sym c.in-Some.ensures.value in
+    let read : IsRead entries f = subst (IsRead entries) (sym c.self.view_is) c.requires.reads in
+    let all : HasAll f.handout f.readers f.live number =
+    subst (λ (l : List ℕ). HasAll f.handout f.readers l number) c.deref-2.ensures.value
+    (subst (λ (rs : List ReaderState). HasAll f.handout rs c.deref-2.result.now number) c.deref.ensures.value (c.has_all.ensures.yes c.if-not-has_all.false)) in
+    let size : ℕ = c.block_length-size.result in
+    let size_is : size ≡ block_length f.handout.geometry number = c.block_length-size.ensures.value ∙ ap (λ (g : Geometry). block_length g number) c.self.invariant.1 in
+    let joins : c.in_ok-joined.joined.items ≡ blocks_of entries f.readers number f.live =
+    c.in_ok-joined.ensures ∙ (λ i. blocks_of entries (c.deref-3.ensures.value i) number (c.deref-4.ensures.value i)) in
+    let begins : BeginsGroup f.groups f.handout.geometry f.readers f.live number c.begin_group.new.groups.items =
+    subst (λ (g : Geometry). BeginsGroup f.groups g f.readers f.live number c.begin_group.new.groups.items) c.self.invariant.1
+    (subst (λ (l : List ℕ). BeginsGroup f.groups c.self.inside.plan.geometry f.readers l number c.begin_group.new.groups.items) c.deref-9.ensures.value
+    (subst (λ (rs : List ReaderState). BeginsGroup f.groups c.self.inside.plan.geometry rs c.deref-9.result.now number c.begin_group.new.groups.items) c.deref-8.ensures.value
+    c.in_ok-begin_group.ensures.begins)) in
+    let last : HasLast f number c.begin_group.new.groups.items = has_last f number c.begin_group.new.groups.items is next all.enough begins in
+    let same = c.in_err-make_segment.ensures.same (λ e. cc) in
+    subst (λ (s : FileState). HasGroups entries s (refused c)) c.self.view_is
+    (has_groups entries f number c.begin_group.new.groups.items c.make_segment.new.groups.items c.make_segment.new.handout is read next last same.0 same.1)
+
+pub invariant_of-self-in_err-make_segment : goal.invariant_of-self-in_err-make_segment
+invariant_of-self-in_err-make_segment c = ((at_refusal c).right, c.self.invariant.1 ∙ sym (ap (λ (h : HandoutState). h.geometry) (c.in_err-make_segment.ensures.same (λ e. cc)).0))
+
+pub returns-in_err-make_segment-clause-same_handout : goal.returns-in_err-make_segment-clause-same_handout
+returns-in_err-make_segment-clause-same_handout c = λ _. (at_refusal c).handout_is
+
+pub returns-in_err-make_segment-clause-asked_up : goal.returns-in_err-make_segment-clause-asked_up
+returns-in_err-make_segment-clause-asked_up c = λ _. (at_refusal c).asked_up
+
+pub returns-in_err-make_segment-clause-reads : goal.returns-in_err-make_segment-clause-reads
+returns-in_err-make_segment-clause-reads c = (at_refusal c).reads
+
+pub returns-in_err-make_segment-clause-same : goal.returns-in_err-make_segment-clause-same
+returns-in_err-make_segment-clause-same c = (at_refusal c).same
+
+pub returns-in_err-make_segment-clause-right : goal.returns-in_err-make_segment-clause-right
+returns-in_err-make_segment-clause-right c = (at_refusal c).right
+
+-- ---- the segment is refuted
+
+abbrev refuted : goal.After-drop-joined-then-not-branch → FileState
+refuted c = record {
+    handout = c.make_segment.new.handout;
+    first = c.self.inside.plan.first;
+    end = c.self.inside.plan.end;
+    taken = c.self.inside.taken;
+    readers = c.self.inside.readers.items;
+    live = c.self.inside.live.items;
+    groups = c.make_segment.new.groups.items;
+  }
+
+at_refuted : (c : goal.After-drop-joined-then-not-branch) → HasGroups c.args.requests.now.entries c.args.self.now (refuted c)
+at_refuted c =
+    let entries = c.args.requests.now.entries in
+    let f : FileState = record {
+    handout = c.self.inside.handout;
+    first = c.self.inside.plan.first;
+    end = c.self.inside.plan.end;
+    taken = c.self.inside.taken;
+    readers = c.self.inside.readers.items;
+    live = c.self.inside.live.items;
+    groups = c.self.inside.groups.items;
+  } in
+    let is : IsFile f = c.self.invariant.0 in
+    let number : ℕ = c.in-Some.number in
+    let next : next_segment f.handout ≡ Some number = sym c.in-Some.ensures.value in
+    let read : IsRead entries f = subst (IsRead entries) (sym c.self.view_is) c.requires.reads in
+    let all : HasAll f.handout f.readers f.live number =
+    subst (λ (l : List ℕ). HasAll f.handout f.readers l number) c.deref-2.ensures.value
+    (subst (λ (rs : List ReaderState). HasAll f.handout rs c.deref-2.result.now number) c.deref.ensures.value (c.has_all.ensures.yes c.if-not-has_all.false)) in
+    let size : ℕ = c.block_length-size.result in
+    let size_is : size ≡ block_length f.handout.geometry number = c.block_length-size.ensures.value ∙ ap (λ (g : Geometry). block_length g number) c.self.invariant.1 in
+    let joins : c.in_ok-joined.joined.items ≡ blocks_of entries f.readers number f.live =
+    c.in_ok-joined.ensures ∙ (λ i. blocks_of entries (c.deref-3.ensures.value i) number (c.deref-4.ensures.value i)) in
+    let begins : BeginsGroup f.groups f.handout.geometry f.readers f.live number c.begin_group.new.groups.items =
+    subst (λ (g : Geometry). BeginsGroup f.groups g f.readers f.live number c.begin_group.new.groups.items) c.self.invariant.1
+    (subst (λ (l : List ℕ). BeginsGroup f.groups c.self.inside.plan.geometry f.readers l number c.begin_group.new.groups.items) c.deref-9.ensures.value
+    (subst (λ (rs : List ReaderState). BeginsGroup f.groups c.self.inside.plan.geometry rs c.deref-9.result.now number c.begin_group.new.groups.items) c.deref-8.ensures.value
+    c.in_ok-begin_group.ensures.begins)) in
+    let last : HasLast f number c.begin_group.new.groups.items = has_last f number c.begin_group.new.groups.items is next all.enough begins in
+    let same = c.in_ok-make_segment.ensures.same (λ e. true≢false (let k : c.in_ok-make_segment.field-0 ≡ true = cc in sym k ∙ c.if-not-branch.true)) in
+    subst (λ (s : FileState). HasGroups entries s (refuted c)) c.self.view_is
+    (has_groups entries f number c.begin_group.new.groups.items c.make_segment.new.groups.items c.make_segment.new.handout is read next last same.0 same.1)
+
+pub invariant_of-self-then-not-branch : goal.invariant_of-self-then-not-branch
+invariant_of-self-then-not-branch c = ((at_refuted c).right, c.self.invariant.1 ∙ sym (ap (λ (h : HandoutState). h.geometry) (c.in_ok-make_segment.ensures.same (λ e. true≢false (let k : c.in_ok-make_segment.field-0 ≡ true = cc in sym k ∙ c.if-not-branch.true))).0))
+
+pub returns-then-not-branch-clause-asked_up : goal.returns-then-not-branch-clause-asked_up
+returns-then-not-branch-clause-asked_up c = λ _. (at_refuted c).asked_up
+
+pub returns-then-not-branch-clause-reads : goal.returns-then-not-branch-clause-reads
+returns-then-not-branch-clause-reads c = (at_refuted c).reads
+
+pub returns-then-not-branch-clause-right : goal.returns-then-not-branch-clause-right
+returns-then-not-branch-clause-right c = (at_refuted c).right
+
+pub returns-then-not-branch-clause-inconsistent : goal.returns-then-not-branch-clause-inconsistent
+returns-then-not-branch-clause-inconsistent c = λ _.
+    let entries = c.args.requests.now.entries in
+    let f : FileState = record {
+    handout = c.self.inside.handout;
+    first = c.self.inside.plan.first;
+    end = c.self.inside.plan.end;
+    taken = c.self.inside.taken;
+    readers = c.self.inside.readers.items;
+    live = c.self.inside.live.items;
+    groups = c.self.inside.groups.items;
+  } in
+    let is : IsFile f = c.self.invariant.0 in
+    let number : ℕ = c.in-Some.number in
+    let next : next_segment f.handout ≡ Some number = sym c.in-Some.ensures.value in
+    let read : IsRead entries f = subst (IsRead entries) (sym c.self.view_is) c.requires.reads in
+    let all : HasAll f.handout f.readers f.live number =
+    subst (λ (l : List ℕ). HasAll f.handout f.readers l number) c.deref-2.ensures.value
+    (subst (λ (rs : List ReaderState). HasAll f.handout rs c.deref-2.result.now number) c.deref.ensures.value (c.has_all.ensures.yes c.if-not-has_all.false)) in
+    let size : ℕ = c.block_length-size.result in
+    let size_is : size ≡ block_length f.handout.geometry number = c.block_length-size.ensures.value ∙ ap (λ (g : Geometry). block_length g number) c.self.invariant.1 in
+    let joins : c.in_ok-joined.joined.items ≡ blocks_of entries f.readers number f.live =
+    c.in_ok-joined.ensures ∙ (λ i. blocks_of entries (c.deref-3.ensures.value i) number (c.deref-4.ensures.value i)) in
+    let begins : BeginsGroup f.groups f.handout.geometry f.readers f.live number c.begin_group.new.groups.items =
+    subst (λ (g : Geometry). BeginsGroup f.groups g f.readers f.live number c.begin_group.new.groups.items) c.self.invariant.1
+    (subst (λ (l : List ℕ). BeginsGroup f.groups c.self.inside.plan.geometry f.readers l number c.begin_group.new.groups.items) c.deref-9.ensures.value
+    (subst (λ (rs : List ReaderState). BeginsGroup f.groups c.self.inside.plan.geometry rs c.deref-9.result.now number c.begin_group.new.groups.items) c.deref-8.ensures.value
+    c.in_ok-begin_group.ensures.begins)) in
+    let last : HasLast f number c.begin_group.new.groups.items = has_last f number c.begin_group.new.groups.items is next all.enough begins in
+    let joined : List ℕ = c.deref-10.result.now in
+    let passed : AreProved c.deref-5.result.now c.deref-6.result.now number c.deref-7.result.now size (length c.deref-6.result.now) = c.in_default-find_wrong.ensures.right refl in
+    let proved : AreProved f.readers f.live number joined size (length f.live) =
+    subst (λ (l : List ℕ). AreProved f.readers f.live number l size (length f.live)) (c.deref-7.ensures.value ∙ sym c.deref-10.ensures.value)
+    (subst (λ (l : List ℕ). AreProved f.readers l number c.deref-7.result.now size (length l)) c.deref-6.ensures.value
+    (subst (λ (rs : List ReaderState). AreProved rs c.deref-6.result.now number c.deref-7.result.now size (length c.deref-6.result.now)) c.deref-5.ensures.value passed)) in
+    let k : RefutesBlocks f.handout c.begin_group.new.groups.items number joined = c.in_ok-make_segment.ensures.refuted (ap Ok c.if-not-branch.true) in
+    let own : IsGroup f.handout f.readers k.group = All-contains (IsGroup f.handout f.readers) c.begin_group.new.groups.items k.group last.groups_are (contains_at c.begin_group.new.groups.items _ k.group k.last) in
+    let numbers : k.group.decoding.numbers ≡ numbers_of f.readers f.live = own.numbers ∙ ap (numbers_of f.readers) (last.last k.group k.last) in
+    subst (λ (s : FileState). IsNoCodeWord s.handout.ueb) c.self.view_is
+    (is_no_code_word entries f number size is read next size_is all.ready joined (c.deref-10.ensures.value ∙ joins) proved k.group.decoding.numbers k.segment numbers
+    (subst (λ (g : Geometry). AreShareNumbers g k.group.decoding.numbers) own.geometry own.decoding)
+    (subst (λ (g : Geometry). DecodesBlocks g k.group.decoding.numbers (blocks_in g number joined) number k.segment) own.geometry k.decodes) k.refuted)
+
+-- ---- a piece is made
+
+abbrev made : goal.After-drop-joined-2 → FileState
+made c = record {
+    handout = c.make_segment.new.handout;
+    first = c.self.inside.plan.first;
+    end = c.self.inside.plan.end;
+    taken = c.self.inside.taken;
+    readers = c.self.inside.readers.items;
+    live = c.self.inside.live.items;
+    groups = c.make_segment.new.groups.items;
+  }
+
+at_made : (c : goal.After-drop-joined-2) → HasMade c.args.requests.now.entries c.args.self.now (made c)
+at_made c =
+    let entries = c.args.requests.now.entries in
+    let f : FileState = record {
+    handout = c.self.inside.handout;
+    first = c.self.inside.plan.first;
+    end = c.self.inside.plan.end;
+    taken = c.self.inside.taken;
+    readers = c.self.inside.readers.items;
+    live = c.self.inside.live.items;
+    groups = c.self.inside.groups.items;
+  } in
+    let is : IsFile f = c.self.invariant.0 in
+    let number : ℕ = c.in-Some.number in
+    let next : next_segment f.handout ≡ Some number = sym c.in-Some.ensures.value in
+    let read : IsRead entries f = subst (IsRead entries) (sym c.self.view_is) c.requires.reads in
+    let all : HasAll f.handout f.readers f.live number =
+    subst (λ (l : List ℕ). HasAll f.handout f.readers l number) c.deref-2.ensures.value
+    (subst (λ (rs : List ReaderState). HasAll f.handout rs c.deref-2.result.now number) c.deref.ensures.value (c.has_all.ensures.yes c.if-not-has_all.false)) in
+    let size : ℕ = c.block_length-size.result in
+    let size_is : size ≡ block_length f.handout.geometry number = c.block_length-size.ensures.value ∙ ap (λ (g : Geometry). block_length g number) c.self.invariant.1 in
+    let joins : c.in_ok-joined.joined.items ≡ blocks_of entries f.readers number f.live =
+    c.in_ok-joined.ensures ∙ (λ i. blocks_of entries (c.deref-3.ensures.value i) number (c.deref-4.ensures.value i)) in
+    let begins : BeginsGroup f.groups f.handout.geometry f.readers f.live number c.begin_group.new.groups.items =
+    subst (λ (g : Geometry). BeginsGroup f.groups g f.readers f.live number c.begin_group.new.groups.items) c.self.invariant.1
+    (subst (λ (l : List ℕ). BeginsGroup f.groups c.self.inside.plan.geometry f.readers l number c.begin_group.new.groups.items) c.deref-9.ensures.value
+    (subst (λ (rs : List ReaderState). BeginsGroup f.groups c.self.inside.plan.geometry rs c.deref-9.result.now number c.begin_group.new.groups.items) c.deref-8.ensures.value
+    c.in_ok-begin_group.ensures.begins)) in
+    let last : HasLast f number c.begin_group.new.groups.items = has_last f number c.begin_group.new.groups.items is next all.enough begins in
+    subst (λ (s : FileState). HasMade entries s (made c)) c.self.view_is
+    (has_made entries f number c.begin_group.new.groups.items c.make_segment.new.groups.items c.deref-10.result.now is read next last all.ready
+    (c.deref-10.ensures.value ∙ joins) c.make_segment.new.handout c.make_segment.ensures.right (c.in_ok-make_segment.ensures.made (ap Ok c.if-not-branch.false)))
+
+pub invariant_of-self-2 : goal.invariant_of-self-2
+invariant_of-self-2 c = ((at_made c).right, c.self.invariant.1 ∙ sym (ap (λ (h : HandoutState). h.geometry) (c.in_ok-make_segment.ensures.made (ap Ok c.if-not-branch.false)).handed))
+
+pub returns-clause-ready : goal.returns-clause-ready
+returns-clause-ready c = λ _. (at_made c).makes
+
+pub returns-clause-reads : goal.returns-clause-reads
+returns-clause-reads c = (at_made c).reads
+
+pub returns-clause-right : goal.returns-clause-right
+returns-clause-right c = (at_made c).right
