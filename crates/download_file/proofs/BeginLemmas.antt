@@ -1,27 +1,22 @@
 -- A reader that begins.
-use Rattle.std.proofs.Common.{◌≡◌, ◌≢◌, ◌↔◌, ℕ, zero, suc, ◌+◌, ◌<◌, ◌≤◌, ◌⊎◌, inl, inr, All, Bool, true, false, Contains, List, [], ◌∷◌, ◌++◌, length, map, Option, Some, None, IfSome, refl, sym, ap, subst, ◌∙◌, arith}
-use Rattle.std.specs.Prelude.{slice_get, slice_set}
+use Rattle.std.proofs.Common.{◌≡◌, ◌≢◌, ◌↔◌, ℕ, zero, suc, ◌+◌, ◌<◌, ◌⊎◌, inl, inr, All, Bool, true, false, List, [], ◌∷◌, ◌++◌, length, Option, Some, IfSome, refl, sym, ap, subst, ◌∙◌, arith}
+use Rattle.std.specs.Prelude.{slice_get}
 use Rattle.std.proofs.lemmas.Bool.{true≢false}
 use Rattle.std.proofs.lemmas.List.{length-append, map-append}
 use Rattle.std.proofs.lemmas.List.Elements.{All-contains, All-nil, All-push, All-weaker, Contains-push_cases}
 use Rattle.std.proofs.lemmas.Option.{slice_get_within}
-use Rattle.request_record.specs.declared.requests.Request.{Request}
 use Rattle.merkle.specs.Partial.{PartialState}
 use Rattle.share_layout.specs.Geometry.{Geometry}
-use Rattle.download_plan.specs.Plan.{length_of}
-use Rattle.download_plan.specs.declared.part.NodePiece.{NodePiece}
 use Rattle.download_plan.specs.declared.part.Part.{Part}
 use Rattle.download_plan.specs.declared.part.Part.TheVariants.{CiphertextTree}
 use Rattle.download_trees.specs.Trees.{IsBlockRoot}
 use Rattle.download_source.specs.Asking.{IsAsked, IsReadOf}
 use Rattle.download_source.specs.Cursors.{LeadOn}
 use Rattle.download_source.specs.Source.{IsSource, SourceState, gives_from, new_source}
-use Rattle.download_source.specs.declared.cursors.Cursors.{Cursors}
 use Rattle.download_segments.specs.Handout.{next_segment}
-use Rattle.download_segments.specs.State.{HandoutState}
 use Rattle.download_segments.proofs.TreeLemmas.{grow_none}
-use Rattle.download_file.specs.State.{FileState, IsLive, IsReader, ReaderState, giver, shares, waiting_at, waiting_in, waiting_parts}
-use Rattle.download_file.specs.Answers.{HoldsAnswers, IsAnswered, IsRead}
+use Rattle.download_file.specs.State.{FileState, IsLive, IsReader, ReaderState, shares, waiting_at, waiting_in, waiting_parts}
+use Rattle.download_file.specs.Answers.{HoldsAnswers}
 use Rattle.download_file.specs.Asked.{AsksNoMore}
 use Rattle.download_file.specs.Changes.{StaysAskedUp, StaysRead}
 use Rattle.download_file.specs.Right.{AreLive, GivesTree, IsFile, IsGroup, IsReaderOf}
@@ -30,7 +25,7 @@ use Rattle.download_file.specs.declared.reader.Waiting.{Waiting}
 use Rattle.download_file.proofs.ListLemmas.{get_first, get_pushed, one_there}
 use Rattle.download_file.proofs.GrowLemmas.{GrowReaders, goes_same, group_stays, read_stays}
 use Rattle.download_file.proofs.LiveLemmas.{first_live, rise_push}
-use Rattle.download_file.proofs.StateLemmas.{Follows, GrowsAsks, KeepsAsks, StillAsks, asked_up_stays, asks_itself, asks_no_more, grows_itself, new_asks_none, same_reader}
+use Rattle.download_file.proofs.StateLemmas.{Follows, KeepsAsks, asked_up_stays, asks_itself, asks_no_more, grows_itself, new_asks_none, same_reader}
 
 -- ---- the reader
 

@@ -1,10 +1,9 @@
 -- A file of which a reader ends.
-use Rattle.std.proofs.Common.{◌≡◌, ◌≢◌, ◌↔◌, ℕ, zero, suc, ◌+◌, ◌-◌, ◌/◌, ◌<◌, ◌≤◌, ◌⊎◌, inl, inr, All, Bool, true, false, Contains, List, [], ◌∷◌, ◌++◌, length, map, Option, Some, None, IfSome, refl, sym, ap, subst, ◌∙◌, arith}
+use Rattle.std.proofs.Common.{◌≡◌, ◌≢◌, ◌↔◌, ℕ, ◌+◌, ◌-◌, ◌/◌, ◌<◌, ◌≤◌, ◌⊎◌, inl, inr, All, List, [], length, Some, None, IfSome, refl, sym, ap, subst, ◌∙◌, arith}
 use Rattle.std.specs.Prelude.{slice_get, slice_set}
 use Rattle.std.proofs.lemmas.Bool.{cases_lt}
 use Rattle.std.proofs.lemmas.List.{append-nil, length-set}
 use Rattle.std.proofs.lemmas.List.Elements.{All-contains, All-weaker}
-use Rattle.request_record.specs.declared.requests.Request.{Request}
 use Rattle.share_layout.specs.Geometry.{Geometry}
 use Rattle.download_plan.specs.Plan.{IsNodePiece}
 use Rattle.download_plan.specs.Range.{IsRange}
@@ -19,10 +18,10 @@ use Rattle.download_source.specs.Source.{IsSource, SourceState, gives_from}
 use Rattle.download_source.proofs.LawLemmas.{lead_giving}
 use Rattle.download_source.proofs.SourceLemmas.{gives_source}
 use Rattle.download_segments.specs.Handout.{next_segment}
-use Rattle.download_segments.specs.State.{HandoutState, IsHandout}
+use Rattle.download_segments.specs.State.{IsHandout}
 use Rattle.download_segments.proofs.TreeLemmas.{grow_none}
 use Rattle.download_file.specs.State.{FileState, IsLive, IsReader, ReaderState, giver, shares, waiting_at, waiting_in, waiting_parts, without}
-use Rattle.download_file.specs.Answers.{HoldsAnswers, IsRead}
+use Rattle.download_file.specs.Answers.{HoldsAnswers}
 use Rattle.download_file.specs.Asked.{AsksNoMore}
 use Rattle.download_file.specs.Changes.{OthersWait, StaysAskedUp, StaysRead}
 use Rattle.download_file.specs.Right.{AreConsecutive, AreLive, IsFile, IsGroup, IsReaderOf, made_end}
@@ -30,7 +29,7 @@ use Rattle.download_file.specs.Steps.{AsksNoTree, CanGive, EndsReader, giving, s
 use Rattle.download_file.proofs.ListLemmas.{All-from_contains, get_cases, get_other, get_set, map_set, one_there, set_again, set_cases, set_same, waiting_set}
 use Rattle.download_file.proofs.GrowLemmas.{GoesOn, GrowReaders, goes_same, group_stays, read_stays, reader_there}
 use Rattle.download_file.proofs.LiveLemmas.{first_least, first_live, first_stays, from_without, length-without, rise_without, something_first}
-use Rattle.download_file.proofs.StateLemmas.{Follows, GrowsAsks, KeepsAsks, SameAsks, StillAsks, asked_same, asked_up_stays, asks_itself, asks_no_more, grows_itself, reader_stays, same_asks, same_reader}
+use Rattle.download_file.proofs.StateLemmas.{Follows, SameAsks, asked_up_stays, asks_itself, asks_no_more, grows_itself, reader_stays, same_reader}
 use Rattle.download_file.proofs.EndLemmas.{next_left}
 
 -- the same was asked of a source that gives the ciphertext tree, of which none of it was asked
@@ -428,6 +427,8 @@ pub ended_itself : (f : FileState) (reader : ℕ) (rs : List ReaderState) → Is
     → (r : ReaderState) × HasEnded f reader r.source r.source (record f { readers = rs; live = without reader f.live })
 ended_itself f reader rs is live ends =
     let r = reader_there f.readers reader (All-contains (λ place. place < length f.readers) f.live reader is.live.there live) in
-    let same : slice_set f.readers reader r.0 ≡ f.readers = set_same f.readers reader r.0 r.1 in
-    (r.0, has_ended f reader r.0 r.0 rs is live r.1 refl refl (is.readers reader r.0 r.1).source (λ other p asked. asked)
-    (subst (λ (l : List ReaderState). EndsReader l f.live f.taken reader rs) (sym same) ends))
+    let same : slice_set f.readers reader r.0 ≡ f.readers = set_same f.readers reader r.0 r.1 in (
+      r.0,
+      has_ended f reader r.0 r.0 rs is live r.1 refl refl (is.readers reader r.0 r.1).source (λ other p asked. asked)
+          (subst (λ (l : List ReaderState). EndsReader l f.live f.taken reader rs) (sym same) ends),
+    )

@@ -1,13 +1,12 @@
 -- A reader that ends.
-use Rattle.std.proofs.Common.{◌≡◌, ◌≢◌, ℕ, zero, suc, ◌+◌, ◌<◌, ◌≤◌, ◌⊎◌, inl, inr, All, Bool, true, false, Contains, List, [], ◌∷◌, ◌++◌, length, Option, Some, None, IfSome, refl, sym, ap, subst, ◌∙◌, arith, eqb}
+use Rattle.std.proofs.Common.{◌≡◌, ◌≢◌, ℕ, ◌<◌, inl, inr, All, Bool, true, false, Contains, List, length, Option, Some, None, IfSome, refl, sym, ap, ◌∙◌, arith, eqb}
 use Rattle.std.specs.Prelude.{slice_get, slice_set}
 use Rattle.std.specs.Option.{option_eq}
 use Rattle.std.proofs.lemmas.Bool.{eq-eqb, eqb-true, false≢true, true≢false}
-use Rattle.std.proofs.lemmas.List.{length-set}
 use Rattle.std.proofs.lemmas.List.Elements.{All-contains}
 use Rattle.download_file.specs.State.{ReaderState, without}
-use Rattle.download_file.specs.Steps.{CanGive, EndsReader, GivesNext, giving, stopped}
-use Rattle.download_file.proofs.ListLemmas.{get_other, one_there}
+use Rattle.download_file.specs.Steps.{CanGive, EndsReader, giving, stopped}
+use Rattle.download_file.proofs.ListLemmas.{get_other}
 use Rattle.download_file.proofs.GrowLemmas.{reader_there}
 use Rattle.download_file.proofs.LiveLemmas.{first_live, from_without}
 

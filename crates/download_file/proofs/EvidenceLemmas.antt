@@ -1,28 +1,25 @@
 -- What proves the segments that were made.
-use Rattle.std.proofs.Common.{◌≡◌, ℕ, zero, suc, ◌+◌, ◌-◌, ◌*◌, ◌<◌, ◌≤◌, ◌⊎◌, inl, inr, All, Contains, List, [], ◌∷◌, ◌++◌, length, map, take, drop, get_or, Option, Some, None, unwrap_or, refl, sym, ap, subst, ◌∙◌, arith, suc-mul}
+use Rattle.std.proofs.Common.{◌≡◌, ℕ, zero, suc, ◌+◌, ◌-◌, ◌*◌, ◌<◌, ◌≤◌, inl, inr, All, Contains, List, [], ◌∷◌, ◌++◌, length, map, take, drop, get_or, Option, Some, None, unwrap_or, refl, sym, ap, subst, ◌∙◌, arith, suc-mul}
 use Rattle.std.specs.Prelude.{slice_get, slice_range}
 use Rattle.std.specs.List.{flat_map, range_with_len}
 use Rattle.std.proofs.lemmas.List.{length-append, length-drop, length-map, length-take-le}
 use Rattle.std.proofs.lemmas.List.Elements.{All-contains}
 use Rattle.request_record.specs.declared.requests.Request.{Request}
-use Rattle.share_layout.specs.Geometry.{Geometry, IsGeometry, segment_count}
+use Rattle.share_layout.specs.Geometry.{Geometry, IsGeometry}
 use Rattle.share_layout.specs.Pieces.{block_length}
 use Rattle.proved_parts.specs.Decoding.{DecodesBlocks}
-use Rattle.proved_parts.specs.declared.evidence.EvidencePart.{EvidencePart}
-use Rattle.download_plan.specs.Plan.{length_of}
-use Rattle.download_plan.specs.declared.part.Part.TheVariants.{Data}
-use Rattle.download_source.specs.Blocks.{IsHeld, block_end, block_first, block_places}
+use Rattle.download_source.specs.Blocks.{IsHeld, block_end, block_first}
 use Rattle.download_source.specs.Source.{IsSource, SourceState}
 use Rattle.download_source.proofs.LawLemmas.{joined_long}
 use Rattle.download_segments.specs.Decoding.{AreShareNumbers, blocks_in}
 use Rattle.download_segments.specs.State.{HandoutState, ProvesSegment}
 use Rattle.download_segments.proofs.DecodingLemmas.{unique}
-use Rattle.download_file.specs.State.{FileState, GroupState, ReaderState, numbers_of, share_in}
+use Rattle.download_file.specs.State.{FileState, GroupState, ReaderState, share_in}
 use Rattle.download_file.specs.Answers.{HoldsAnswers, IsMade, IsRead, answer_at, block_in, block_of, blocks_of}
 use Rattle.download_segments.specs.Handout.{next_segment}
 use Rattle.download_file.specs.Right.{AreConsecutive, IsFile, IsGroup, made_end}
 use Rattle.download_file.specs.Steps.{AreOfFile, HasBlock, IsMadeGroup, segments_in}
-use Rattle.download_file.proofs.ListLemmas.{All-from_contains, first_in, more_in, one_there}
+use Rattle.download_file.proofs.ListLemmas.{All-from_contains, first_in, more_in}
 use Rattle.download_file.proofs.GrowLemmas.{answer_is, reader_there}
 use Rattle.download_file.proofs.LiveLemmas.{cons_cases, none_in}
 

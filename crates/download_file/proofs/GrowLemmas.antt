@@ -1,24 +1,22 @@
 -- Readers that go on: what they hold stays, and so do the segments that were made of it.
-use Rattle.std.proofs.Common.{◌≡◌, ℕ, zero, suc, ◌+◌, ◌-◌, ◌*◌, ◌/◌, ◌%◌, ◌<◌, ◌≤◌, ◌⊎◌, inl, inr, List, [], ◌∷◌, ◌++◌, All, Contains, length, map, take, drop, get_or, Option, Some, None, refl, sym, ap, subst, ◌∙◌, arith}
+use Rattle.std.proofs.Common.{◌≡◌, ℕ, zero, suc, ◌+◌, ◌-◌, ◌<◌, ◌≤◌, List, [], ◌∷◌, ◌++◌, All, Contains, length, map, take, drop, get_or, Option, Some, None, refl, sym, ap, subst, ◌∙◌, arith}
 use Rattle.std.specs.Prelude.{slice_get, slice_range}
-use Rattle.std.specs.List.{concat}
-use Rattle.std.proofs.lemmas.List.{append-nil, append_assoc, drop-append-le, drop-map, length-append, length-drop, take-append-le, take-map}
-use Rattle.std.proofs.lemmas.List.Elements.{All-contains, All-weaker, Contains-get_or}
+use Rattle.std.proofs.lemmas.List.{append-nil, drop-append-le, drop-map, length-append, length-drop, take-append-le, take-map}
+use Rattle.std.proofs.lemmas.List.Elements.{All-contains, All-weaker}
 use Rattle.std.proofs.lemmas.Option.{slice_get_within, slice_get-get_or}
-use Rattle.request_record.specs.declared.requests.Outcome.{Outcome}
 use Rattle.request_record.specs.declared.requests.Request.{Request}
 use Rattle.share_layout.specs.Geometry.{Geometry}
 use Rattle.proved_parts.specs.Decoding.{DecodesBlocks}
-use Rattle.download_source.specs.Blocks.{IsHeld, block_end, block_first, block_places, joined_block}
+use Rattle.download_source.specs.Blocks.{IsHeld, block_end, block_first, joined_block}
 use Rattle.download_source.specs.Source.{SourceState}
 use Rattle.download_segments.specs.Decoding.{blocks_in}
-use Rattle.download_segments.specs.State.{HandoutState, ProvesSegment, TreesGrow}
+use Rattle.download_segments.specs.State.{HandoutState, TreesGrow}
 use Rattle.download_segments.proofs.TreeLemmas.{proved_stays}
 use Rattle.download_file.specs.State.{FileState, GroupState, ReaderState, numbers_of, share_in}
 use Rattle.download_file.specs.Answers.{AnsweredWith, HoldsAnswers, IsAnswered, IsMade, IsRead, KeepsAnswers, answer_at, block_in, block_of, blocks_of, bytes_in, bytes_of}
 use Rattle.download_file.specs.Laws.{ReadsStay}
 use Rattle.download_file.specs.Right.{IsGroup}
-use Rattle.download_file.proofs.ListLemmas.{at_contained, first_in, more_in, one_there}
+use Rattle.download_file.proofs.ListLemmas.{first_in, more_in, one_there}
 
 -- ---- lists
 

@@ -1,44 +1,37 @@
 -- The next segment is made, or its blocks are refuted.
-use Rattle.std.proofs.Common.{◌≡◌, ◌≢◌, ◌↔◌, ℕ, zero, suc, ◌+◌, ◌-◌, ◌*◌, ◌/◌, ◌<◌, ◌≤◌, ◌⊎◌, inl, inr, All, Bool, true, false, Contains, List, [], ◌∷◌, ◌++◌, length, map, take, drop, get_or, Option, Some, None, IfSome, is_some, unwrap_or, option_and_then, refl, sym, ap, subst, ◌∙◌, arith, suc-mul}
-use Rattle.std.specs.Prelude.{slice_get, slice_index, slice_set, nat_lt, if◌then◌else◌}
+use Rattle.std.proofs.Common.{◌≡◌, ℕ, zero, suc, ◌+◌, ◌*◌, ◌<◌, inl, inr, All, true, Contains, List, [], ◌∷◌, ◌++◌, length, take, drop, get_or, Option, Some, None, IfSome, is_some, option_and_then, refl, sym, ap, subst, ◌∙◌, arith, suc-mul}
+use Rattle.std.specs.Prelude.{slice_get, slice_index}
 use Rattle.std.proofs.Math.Seq.{drop-append-add, take-append_seam}
-use Rattle.std.proofs.lemmas.Bool.{cases_lt, cases_order, false≢true, ltb-false}
-use Rattle.std.proofs.lemmas.List.{length-append, length-map}
-use Rattle.std.proofs.lemmas.List.Elements.{All-contains, All-push, All-set, Contains-push_cases}
+use Rattle.std.proofs.lemmas.Bool.{cases_order, false≢true}
+use Rattle.std.proofs.lemmas.List.{length-map}
+use Rattle.std.proofs.lemmas.List.Elements.{All-contains}
 use Rattle.std.proofs.lemmas.Option.{get_or_from_slice_get, slice_get-get_or, slice_get_within}
-use Rattle.tagged_hash.specs.TaggedHash.{tagged_hash}
-use Rattle.tagged_hash.specs.declared.tag.Tag.TheVariants.{Block}
 use Rattle.request_record.specs.declared.requests.Request.{Request}
 use Rattle.merkle.specs.Partial.{PartialState}
-use Rattle.merkle.proofs.PaddingLemmas.{lt_from_true}
-use Rattle.ueb.specs.Shape.{Contents}
 use Rattle.share_layout.specs.Geometry.{Geometry, segment_count}
-use Rattle.share_layout.specs.Pieces.{block_length, pieces}
+use Rattle.share_layout.specs.Pieces.{block_length}
 use Rattle.share_layout.proofs.CutLemmas as cut
 use Rattle.share_verify.specs.CapBlock.{geometry_by}
 use Rattle.proved_parts.specs.Decoding.{DecodesBlocks}
-use Rattle.download_trees.specs.Trees.{IsBlockRoot, LeadTo, RefutesBlock, known_leaf}
+use Rattle.download_trees.specs.Trees.{IsBlockRoot, LeadTo, known_leaf}
 use Rattle.download_source.specs.Blocks.{IsHeld, IsReady}
-use Rattle.download_source.specs.Source.{IsSource, SourceState}
-use Rattle.download_source.specs.Taking.{IsProved, known_hash}
+use Rattle.download_source.specs.Taking.{IsProved}
 use Rattle.download_segments.specs.Decoding.{AreShareNumbers, blocks_in}
-use Rattle.download_segments.specs.Handout.{handed_out, next_end, next_segment}
+use Rattle.download_segments.specs.Handout.{next_segment}
 use Rattle.download_segments.specs.NoCodeWord.{IsBlockBy, IsNoCodeWord}
-use Rattle.download_segments.specs.State.{HandoutState, IsHandout, ProvesSegment, RefutesSegment}
+use Rattle.download_segments.specs.State.{RefutesSegment}
 use Rattle.download_segments.proofs.DecodingLemmas.{length-pieces}
-use Rattle.download_segments.proofs.HandoutLemmas.{next_is, next_follows, next_within}
+use Rattle.download_segments.proofs.HandoutLemmas.{next_within}
 use Rattle.download_segments.proofs.LawLemmas.{blocks_lead, no_code_words}
-use Rattle.download_segments.proofs.TreeLemmas.{grow_none}
-use Rattle.download_file.specs.State.{FileState, GroupState, IsLive, IsReader, ReaderState, numbers_of, share_in}
-use Rattle.download_file.specs.Answers.{HoldsAnswers, IsMade, IsRead, block_in, block_of, blocks_of}
+use Rattle.download_file.specs.State.{FileState, IsLive, ReaderState, numbers_of, share_in}
+use Rattle.download_file.specs.Answers.{IsRead, block_in, block_of, blocks_of}
 use Rattle.download_file.specs.Making.{RefutesReader}
-use Rattle.download_file.specs.Right.{AreConsecutive, IsFile, IsGroup, made_end}
-use Rattle.download_file.specs.Steps.{AreOfFile, AreProved, AreReady, BeginsGroup, HasBlock, IsLast, IsWrong, MakesSegment, RefutesBlocks, empty_group, nth_block, with_end}
-use Rattle.download_file.proofs.ListLemmas.{All-from_contains, at_contained, contains_at, first_in, from_map, get_last, get_unmapped, more_in, one_there, set_cases}
-use Rattle.download_file.proofs.GrowLemmas.{grow_same, group_stays, reader_there}
+use Rattle.download_file.specs.Right.{IsFile}
+use Rattle.download_file.specs.Steps.{AreOfFile, AreProved, AreReady, HasBlock, IsWrong, nth_block}
+use Rattle.download_file.proofs.ListLemmas.{All-from_contains, contains_at, first_in, from_map, get_unmapped, more_in}
+use Rattle.download_file.proofs.GrowLemmas.{reader_there}
 use Rattle.download_file.proofs.LiveLemmas.{rise_order}
 use Rattle.download_file.proofs.EvidenceLemmas.{block_long, blocks_long}
-use Rattle.download_file.proofs.StateLemmas.{Follows, same_reader}
 
 -- ---- blocks of one length that stand one after another
 

@@ -1,22 +1,22 @@
 -- A file of which nothing was read yet, and one of which pieces are taken.
-use Rattle.std.proofs.Common.{◌≡◌, ◌≢◌, ℕ, zero, suc, ◌+◌, ◌-◌, ◌/◌, ◌<◌, ◌≤◌, inl, All, Bool, true, false, Contains, List, [], ◌∷◌, length, Option, Some, None, unwrap_or, refl, sym, ap, subst, ◌∙◌, arith}
-use Rattle.std.specs.Prelude.{slice_get, nat_lt, if◌then◌else◌}
+use Rattle.std.proofs.Common.{◌≡◌, ℕ, ◌+◌, ◌-◌, ◌/◌, ◌<◌, ◌≤◌, inl, Bool, List, [], ◌∷◌, Option, Some, None, unwrap_or, refl, sym, ap, subst, ◌∙◌, arith}
+use Rattle.std.specs.Prelude.{slice_get, if◌then◌else◌}
 use Rattle.std.proofs.lemmas.Bool.{lt-ltb}
 use Rattle.std.proofs.lemmas.List.Elements.{All-nil, All-weaker}
 use Rattle.request_record.specs.declared.requests.Request.{Request}
 use Rattle.ueb.specs.Shape.{Contents}
-use Rattle.share_layout.specs.Geometry.{Geometry, IsGeometry, segment_count}
+use Rattle.share_layout.specs.Geometry.{Geometry, IsGeometry}
 use Rattle.download_plan.proofs.NumberLemmas.{div_le}
 use Rattle.download_plan.specs.declared.part.NodePiece.{NodePiece}
 use Rattle.download_source.specs.Cursors.{cursor_at}
 use Rattle.download_segments.specs.declared.piece.Piece.{Piece}
-use Rattle.download_segments.specs.Handout.{TakesPiece, next_segment}
+use Rattle.download_segments.specs.Handout.{TakesPiece}
 use Rattle.download_segments.specs.State.{HandoutState, IsHandout, starting_handout}
 use Rattle.download_segments.proofs.HandoutLemmas.{next_is, valid_of}
 use Rattle.download_segments.proofs.TreeLemmas.{grow_none}
-use Rattle.download_file.specs.State.{FileState, GroupState, ReaderState, new_file}
+use Rattle.download_file.specs.State.{FileState, new_file}
 use Rattle.download_file.specs.Answers.{IsRead}
-use Rattle.download_file.specs.Asked.{AsksNoMore, IsAskedUp}
+use Rattle.download_file.specs.Asked.{AsksNoMore}
 use Rattle.download_file.specs.Changes.{IsSameFile, StaysAskedUp, StaysRead}
 use Rattle.download_file.specs.Right.{IsFile, IsGroup, made_end}
 use Rattle.download_file.proofs.GrowLemmas.{grow_same, group_stays, read_stays}

@@ -1,5 +1,5 @@
 -- A file with one segment more.
-use Rattle.std.proofs.Common.{◌≡◌, ◌≢◌, ◌↔◌, ℕ, zero, suc, ◌+◌, ◌-◌, ◌*◌, ◌/◌, ◌<◌, ◌≤◌, ◌⊎◌, inl, inr, All, Bool, true, false, Contains, List, [], ◌∷◌, ◌++◌, length, Option, Some, None, unwrap_or, refl, sym, ap, subst, ◌∙◌, arith}
+use Rattle.std.proofs.Common.{◌≡◌, ℕ, zero, suc, ◌+◌, ◌-◌, ◌*◌, ◌/◌, ◌<◌, ◌≤◌, inl, inr, All, Bool, true, false, Contains, List, [], ◌∷◌, ◌++◌, length, Option, Some, None, unwrap_or, refl, sym, ap, subst, ◌∙◌, arith}
 use Rattle.std.specs.Prelude.{slice_get, slice_set, nat_lt, if◌then◌else◌}
 use Rattle.std.proofs.Math.Nat.{div-lt_iff_lt-mul, div-mul-le_self}
 use Rattle.std.proofs.lemmas.Bool.{cases_lt, ltb-false}
@@ -10,13 +10,12 @@ use Rattle.request_record.specs.declared.requests.Request.{Request}
 use Rattle.merkle.proofs.PaddingLemmas.{lt_from_true}
 use Rattle.share_layout.specs.Geometry.{Geometry}
 use Rattle.proved_parts.specs.Decoding.{DecodesBlocks}
-use Rattle.download_source.specs.Blocks.{IsHeld}
-use Rattle.download_segments.specs.Decoding.{AreShareNumbers, blocks_in}
+use Rattle.download_segments.specs.Decoding.{blocks_in}
 use Rattle.download_segments.specs.Handout.{handed_out, next_end, next_segment}
-use Rattle.download_segments.specs.State.{HandoutState, IsHandout, ProvesSegment}
+use Rattle.download_segments.specs.State.{HandoutState, IsHandout}
 use Rattle.download_segments.proofs.HandoutLemmas.{next_is, next_follows, valid_of}
 use Rattle.download_segments.proofs.TreeLemmas.{grow_none}
-use Rattle.download_file.specs.State.{FileState, GroupState, ReaderState, numbers_of}
+use Rattle.download_file.specs.State.{FileState, GroupState}
 use Rattle.download_file.specs.Answers.{IsMade, IsRead, blocks_of}
 use Rattle.download_file.specs.Changes.{IsSameFile, StaysAskedUp}
 use Rattle.download_file.specs.Making.{MakesNext}

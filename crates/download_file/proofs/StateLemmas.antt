@@ -1,6 +1,6 @@
 -- Readers of a file that go on.
-use Rattle.std.proofs.Common.{◌≡◌, ◌≢◌, ◌↔◌, ℕ, zero, suc, ◌+◌, ◌<◌, ◌≤◌, ◌⊎◌, inl, inr, All, Bool, true, false, Contains, List, [], ◌∷◌, ◌++◌, length, map, Option, Some, None, IfSome, refl, sym, ap, subst, ◌∙◌, arith}
-use Rattle.std.specs.Prelude.{slice_get, slice_set}
+use Rattle.std.proofs.Common.{◌≡◌, ◌↔◌, ℕ, zero, suc, ◌+◌, ◌<◌, ◌≤◌, ◌⊎◌, inl, inr, List, [], ◌∷◌, Some, IfSome, refl, sym, subst, ◌∙◌, arith}
+use Rattle.std.specs.Prelude.{slice_get}
 use Rattle.std.proofs.lemmas.Bool.{false≢true}
 use Rattle.share_layout.specs.Geometry.{Geometry}
 use Rattle.ueb.specs.Shape.{Contents}
@@ -10,13 +10,12 @@ use Rattle.download_plan.specs.declared.part.Part.{Part}
 use Rattle.download_plan.specs.declared.part.Part.TheVariants.{ShareHashes, BlockTree, CiphertextTree, Data}
 use Rattle.download_trees.specs.Trees.{IsBlockRoot}
 use Rattle.download_source.specs.Asking.{IsAsked, IsWanted, IsWantedCiphertext, IsWithin}
-use Rattle.download_source.specs.Cursors.{IsPassed, cursor_at, no_parts}
+use Rattle.download_source.specs.Cursors.{IsPassed, cursor_at}
 use Rattle.download_source.specs.Source.{IsSource, SourceState, first_of, new_source}
 use Rattle.download_source.specs.declared.cursors.Cursors.{Cursors}
 use Rattle.download_segments.specs.Handout.{next_segment}
-use Rattle.download_segments.specs.State.{HandoutState}
 use Rattle.download_file.specs.State.{FileState, ReaderState, giver}
-use Rattle.download_file.specs.Asked.{AsksNoMore, HasAsked, IsAskedUp}
+use Rattle.download_file.specs.Asked.{AsksNoMore}
 use Rattle.download_file.specs.Changes.{StaysAskedUp}
 use Rattle.download_file.specs.Right.{IsReaderOf}
 
@@ -91,15 +90,15 @@ asks_no_more f f' keeps still reader offset len = (
     | inr none ↦ absurd (none has.part has.asked)
   ]),
   (λ has.
-  let k = still reader has.r has.there in
-  record {
-    r = k.0;
-    there = k.1;
-    part = has.part;
-    asked = (k.2.asked has.part).1 has.asked;
-    place = has.place ∙ sym (λ i. place_of (k.2.geometry i) (first_same has.r.source k.0.source k.2.start k.2.first has.part i) (k.2.end i) has.part);
-    long = has.long ∙ sym (λ i. length_of (k.2.geometry i) (first_same has.r.source k.0.source k.2.start k.2.first has.part i) (k.2.end i) has.part);
-  }),
+      let k = still reader has.r has.there in
+      record {
+        r = k.0;
+        there = k.1;
+        part = has.part;
+        asked = (k.2.asked has.part).1 has.asked;
+        place = has.place ∙ sym (λ i. place_of (k.2.geometry i) (first_same has.r.source k.0.source k.2.start k.2.first has.part i) (k.2.end i) has.part);
+        long = has.long ∙ sym (λ i. length_of (k.2.geometry i) (first_same has.r.source k.0.source k.2.start k.2.first has.part i) (k.2.end i) has.part);
+      }),
 )
 
 -- ---- all that is wanted is asked
@@ -141,9 +140,12 @@ ciphertext_back s t number (CiphertextTree p) k h =
     let start = k.start in
     let end = k.end in
     let from = h.0 in
-    let before = h.1 in
-    (omega (arith, from, start), omega (arith, before, end), subst (λ (g : List ℕ). cursor_at g p.level ≤ p.index) k.given h.2,
-    piece_back s.geometry t.geometry s.start t.start (number + 1) p k.geometry k.start h.3)
+    let before = h.1 in (
+      omega (arith, from, start),
+      omega (arith, before, end),
+      subst (λ (g : List ℕ). cursor_at g p.level ≤ p.index) k.given h.2,
+      piece_back s.geometry t.geometry s.start t.start (number + 1) p k.geometry k.start h.3,
+    )
 ciphertext_back s t number (Data i) k h = h
 
 pub asked_up_stays : (f f' : FileState) (reader : ℕ) → next_segment f'.handout ≡ next_segment f.handout → (giver f' ≡ Some reader → giver f ≡ Some reader)

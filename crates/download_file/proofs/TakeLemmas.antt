@@ -1,9 +1,9 @@
 -- A file with one part more taken of a reader.
-use Rattle.std.proofs.Common.{◌≡◌, ◌≢◌, ◌↔◌, ℕ, zero, suc, ◌+◌, ◌<◌, ◌≤◌, ◌⊎◌, inl, inr, All, Contains, List, [], ◌∷◌, ◌++◌, length, map, drop, get_or, Option, Some, None, IfSome, refl, sym, ap, subst, ◌∙◌, arith}
+use Rattle.std.proofs.Common.{◌≡◌, ℕ, zero, suc, ◌+◌, ◌<◌, ◌⊎◌, inl, inr, All, List, [], ◌∷◌, ◌++◌, length, drop, get_or, Option, Some, refl, sym, ap, subst, ◌∙◌, arith}
 use Rattle.std.specs.Prelude.{slice_get, slice_set}
 use Rattle.std.proofs.lemmas.Bool.{cases_lt}
 use Rattle.std.proofs.lemmas.List.{append-nil, length-append, length-set}
-use Rattle.std.proofs.lemmas.List.Elements.{All-drop, All-tail, All-weaker}
+use Rattle.std.proofs.lemmas.List.Elements.{All-tail, All-weaker}
 use Rattle.request_record.specs.declared.requests.Request.{Request}
 use Rattle.share_layout.specs.Geometry.{Geometry}
 use Rattle.download_plan.specs.Plan.{IsNodePiece, length_of}
@@ -12,16 +12,14 @@ use Rattle.download_plan.specs.declared.part.Part.{Part}
 use Rattle.download_plan.specs.declared.part.Part.TheVariants.{ShareHashes, BlockTree, CiphertextTree, Data}
 use Rattle.download_trees.specs.Trees.{FileTreesState}
 use Rattle.download_source.specs.Asking.{IsAsked, IsReadOf}
-use Rattle.download_source.specs.Cursors.{IsNextPiece, IsPassed, LeadOn, cursor_at, passed}
-use Rattle.download_source.specs.Laws.{KnowsPiece}
-use Rattle.download_source.specs.Source.{IsSource, SourceState, first_of}
+use Rattle.download_source.specs.Cursors.{IsNextPiece, LeadOn, cursor_at, passed}
+use Rattle.download_source.specs.Source.{SourceState, first_of}
 use Rattle.download_source.specs.Taking.{IsDue}
 use Rattle.download_source.specs.declared.cursors.Cursors.{Cursors}
 use Rattle.download_source.proofs.CursorLemmas.{piece_next}
 use Rattle.download_source.proofs.LawLemmas.{first_due}
-use Rattle.download_segments.specs.Handout.{next_segment}
 use Rattle.download_segments.specs.State.{HandoutState, with_trees}
-use Rattle.download_file.specs.State.{FileState, GroupState, IsLive, IsReader, ReaderState, first_place, first_waiting, giver, shares, waiting_at, waiting_in, waiting_parts}
+use Rattle.download_file.specs.State.{FileState, IsLive, ReaderState, first_place, first_waiting, giver, shares, waiting_at, waiting_in, waiting_parts}
 use Rattle.download_file.specs.Answers.{AnsweredWith, HoldsAnswers, IsAnswered, IsRead}
 use Rattle.download_file.specs.Asked.{AsksNoMore}
 use Rattle.download_file.specs.Changes.{OthersWait, StaysAskedUp}
@@ -31,7 +29,7 @@ use Rattle.download_file.specs.declared.reader.Waiting.{Waiting}
 use Rattle.download_file.proofs.ListLemmas.{get_cases, get_other, get_set, map_set, one_there, set_cases, set_same}
 use Rattle.download_file.proofs.GrowLemmas.{GoesOn, GrowReaders, goes_same, group_stays, read_stays}
 use Rattle.download_file.proofs.LiveLemmas.{live_giver}
-use Rattle.download_file.proofs.StateLemmas.{Follows, GrowsAsks, KeepsAsks, SameAsks, StillAsks, asked_same, asked_up_stays, asks_itself, asks_no_more, grows_itself, reader_stays, same_asks, same_reader}
+use Rattle.download_file.proofs.StateLemmas.{Follows, GrowsAsks, KeepsAsks, SameAsks, StillAsks, asked_up_stays, asks_itself, asks_no_more, grows_itself, reader_stays, same_asks, same_reader}
 
 -- ---- kinds of parts
 
@@ -59,7 +57,6 @@ taken_cases taken ShareHashes p next low = inl low
 taken_cases taken (BlockTree q) p next low = inl low
 taken_cases taken (CiphertextTree q) p next low = elim ((piece_next taken q p (next q refl)).0 low) [ inl old ↦ inl old | inr same ↦ inr (ap CiphertextTree same) ]
 taken_cases taken (Data i) p next low = inl low
-
 
 held_more : (held : List ℕ) (part : Part) (place : ℕ) → (more : List ℕ) × (held_with held part place ≡ held ++ more)
 held_more held ShareHashes place = ([], sym (append-nil held))
@@ -308,9 +305,10 @@ module _ (f : FileState) (t : FileTreesState) (reader : ℕ) (r r' : ReaderState
     holds_taken entries bytes holds answered long =
         subst (HoldsAnswers entries) (sym T.source_is)
         (holds_with entries r.source w.wanted.part w.place bytes holds answered (λ i part.
-        let due : IsDue r.source (Data i) = subst (λ (p : Part). IsDue r.source p) part is_due in
-        (due.next ∙ sym (is.readers reader r at).source.held,
-        (long ∙ is_read.length ∙ (λ j. length_of r.source.geometry (first_of r.source (part j)) r.source.end (part j))))))
+        let due : IsDue r.source (Data i) = subst (λ (p : Part). IsDue r.source p) part is_due in (
+          due.next ∙ sym (is.readers reader r at).source.held,
+          (long ∙ is_read.length ∙ (λ j. length_of r.source.geometry (first_of r.source (part j)) r.source.end (part j))),
+        )))
 
     pub read_taken : (entries : List Request) (place : ℕ) (bytes : List ℕ) → IsRead entries f → first_waiting f reader ≡ Some place → AnsweredWith entries place bytes
         → length bytes ≡ w.wanted.read.length → IsRead entries taken_file

@@ -1,22 +1,20 @@
 -- The first part that waits of a reader is taken.
-use Rattle.std.proofs.Common.{◌≡◌, ◌≢◌, ℕ, ◌+◌, ◌*◌, ◌<◌, ◌≤◌, List, [], ◌∷◌, ◌++◌, length, drop, Option, Some, None, IfSome, is_some, true, refl, sym, ap, subst, ◌∙◌, arith}
+use Rattle.std.proofs.Common.{◌≡◌, ℕ, ◌*◌, List, [], ◌∷◌, ◌++◌, length, drop, Option, Some, IfSome, is_some, true, refl, sym, ap, subst, ◌∙◌}
 use Rattle.merkle.specs.Partial.{PartialState, Takes, known_at}
 use Rattle.download_plan.specs.Plan.{length_of, nodes_of}
 use Rattle.download_plan.specs.declared.part.NodePiece.{NodePiece}
 use Rattle.download_plan.specs.declared.part.Nodes.{Nodes}
-use Rattle.download_plan.specs.declared.part.Part.{Part}
 use Rattle.download_plan.specs.declared.part.Part.TheVariants.{ShareHashes, BlockTree, CiphertextTree, Data}
 use Rattle.download_trees.specs.Offers.{nodes_offered}
-use Rattle.download_trees.specs.Trees.{FileTreesState, IsBlockRoot}
+use Rattle.download_trees.specs.Trees.{IsBlockRoot}
 use Rattle.download_source.specs.Cursors.{passed, piece_passed}
-use Rattle.download_source.specs.Laws.{KnowsPiece}
 use Rattle.download_source.specs.Source.{IsSource, SourceState, first_of}
-use Rattle.download_source.specs.Taking.{IsDue, TakesPiece, holds_more, with_taken}
+use Rattle.download_source.specs.Taking.{TakesPiece, holds_more, with_taken}
 use Rattle.download_source.proofs.TakingLemmas.{kept_known, offered_known}
 use Rattle.download_segments.specs.State.{HandoutState, IsHandout, TreesGrow, with_trees}
 use Rattle.download_segments.proofs.TreeLemmas.{grow_none}
 use Rattle.download_file.specs.State.{ReaderState}
-use Rattle.download_file.specs.Steps.{IsTaker, TakesPart, held_with}
+use Rattle.download_file.specs.Steps.{IsTaker, TakesPart}
 use Rattle.download_file.specs.declared.reader.Waiting.{Waiting}
 
 -- the same tree

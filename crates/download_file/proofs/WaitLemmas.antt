@@ -1,23 +1,20 @@
 -- Why no segment is made now.
-use Rattle.std.proofs.Common.{◌≡◌, ◌≢◌, ℕ, zero, suc, ◌+◌, ◌-◌, ◌*◌, ◌/◌, ◌<◌, ◌≤◌, ◌⊎◌, inl, inr, Bool, true, false, Contains, List, [], ◌∷◌, length, get_or, Option, Some, None, is_some, refl, sym, ap, subst, ◌∙◌, arith}
+use Rattle.std.proofs.Common.{◌≡◌, ◌≢◌, ℕ, ◌+◌, ◌/◌, ◌<◌, ◌≤◌, inl, inr, Bool, true, false, List, [], ◌∷◌, length, Option, Some, None, is_some, refl, sym, ap, subst, ◌∙◌, arith}
 use Rattle.std.specs.Prelude.{slice_get, nat_lt, if◌then◌else◌}
 use Rattle.std.proofs.lemmas.List.Elements.{All-contains}
 use Rattle.std.proofs.lemmas.Bool.{cases_lt, false≢true, ltb-false}
 use Rattle.share_layout.specs.Geometry.{Geometry, segment_count}
-use Rattle.merkle.specs.Partial.{PartialState}
 use Rattle.download_plan.specs.Plan.{IsNodePiece}
-use Rattle.download_plan.specs.declared.part.NodePiece.{NodePiece}
 use Rattle.download_plan.specs.declared.part.Part.{Part}
 use Rattle.download_plan.specs.declared.part.Part.TheVariants.{CiphertextTree}
 use Rattle.download_trees.specs.Trees.{LeadTo, known_leaf}
-use Rattle.download_source.specs.Asking.{IsAsked, IsWanted}
+use Rattle.download_source.specs.Asking.{IsAsked}
 use Rattle.download_source.specs.Blocks.{IsReady}
 use Rattle.download_source.specs.Cursors.{IsPassed, LeadOn, cursor_at}
-use Rattle.download_source.specs.Laws.{KnowsPiece}
 use Rattle.download_source.specs.declared.cursors.Cursors.{Cursors}
 use Rattle.download_source.proofs.LawLemmas.{all_ready, leaf_known}
 use Rattle.download_segments.specs.Handout.{next_segment}
-use Rattle.download_segments.specs.State.{HandoutState, IsHandout}
+use Rattle.download_segments.specs.State.{IsHandout}
 use Rattle.download_file.specs.State.{FileState, IsComplete, IsLive, IsReader, ReaderState, first_place, giver, waiting_in, waiting_parts}
 use Rattle.download_file.specs.Asked.{IsAskedUp}
 use Rattle.download_file.specs.Making.{CanNotGoOn, SomeWaits}
@@ -25,7 +22,7 @@ use Rattle.download_file.specs.Right.{IsFile}
 use Rattle.download_file.specs.Steps.{LacksSome, lacks_block, lacks_hash, lacks_readers}
 use Rattle.download_file.specs.declared.reader.Waiting.{Waiting}
 use Rattle.download_file.proofs.GrowLemmas.{reader_there}
-use Rattle.download_file.proofs.LiveLemmas.{first_live, something_first}
+use Rattle.download_file.proofs.LiveLemmas.{first_live}
 use Rattle.download_file.proofs.WantedLemmas.{asked_passed}
 
 -- ---- all that is wanted was made

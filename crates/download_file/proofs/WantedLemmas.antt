@@ -1,29 +1,25 @@
 -- A file of which a reader is asked for more.
-use Rattle.std.proofs.Common.{◌≡◌, ◌≢◌, ◌↔◌, ℕ, zero, suc, ◌+◌, ◌-◌, ◌<◌, ◌≤◌, ◌⊎◌, inl, inr, All, AllPairs, Bool, true, false, Contains, List, [], ◌∷◌, ◌++◌, length, map, get_or, Option, Some, None, IfSome, refl, sym, ap, subst, ◌∙◌, arith}
+use Rattle.std.proofs.Common.{◌≡◌, ◌≢◌, ℕ, ◌+◌, ◌<◌, ◌≤◌, ◌⊎◌, inl, inr, All, Bool, true, false, Contains, List, [], ◌∷◌, ◌++◌, length, get_or, Option, Some, IfSome, refl, sym, ap, subst, ◌∙◌, arith}
 use Rattle.std.specs.Prelude.{slice_get, slice_set}
-use Rattle.std.proofs.lemmas.Bool.{cases_lt}
 use Rattle.std.proofs.Math.ListN.{get_or-map}
 use Rattle.std.proofs.lemmas.List.{append-nil, length-map, length-set, map-append}
-use Rattle.std.proofs.lemmas.List.Elements.{All-append, All-contains, All-nil, All-weaker, Contains-get_or}
-use Rattle.request_record.specs.declared.requests.Request.{Request}
+use Rattle.std.proofs.lemmas.List.Elements.{All-append, All-contains, All-weaker}
 use Rattle.share_layout.specs.Geometry.{Geometry}
 use Rattle.download_plan.specs.Laws.{AreApart}
 use Rattle.download_plan.specs.Plan.{IsPlanned, length_of, max_read, place_of}
-use Rattle.download_plan.specs.declared.part.NodePiece.{NodePiece}
 use Rattle.download_plan.specs.declared.part.Part.{Part}
 use Rattle.download_plan.specs.declared.part.Part.TheVariants.{ShareHashes, BlockTree, CiphertextTree, Data}
 use Rattle.download_trees.specs.Trees.{IsBlockRoot}
-use Rattle.download_source.specs.Asking.{AsksNow, IsAsked, IsReadOf, IsWanted, IsWantedCiphertext, OnlyAsks, parts_of}
+use Rattle.download_source.specs.Asking.{IsAsked, IsReadOf, IsWanted, IsWantedCiphertext, OnlyAsks, parts_of}
 use Rattle.download_source.specs.Cursors.{IsPassed, LeadOn}
 use Rattle.download_source.specs.Source.{IsPartOf, IsSource, SourceState, first_of}
 use Rattle.download_source.specs.declared.cursors.Cursors.{Cursors}
 use Rattle.download_source.specs.declared.wanted.Wanted.{Wanted}
 use Rattle.download_source.proofs.LawLemmas.{lead_append, parts_apart, plans_grow}
 use Rattle.download_segments.specs.Handout.{next_segment}
-use Rattle.download_segments.specs.State.{HandoutState}
 use Rattle.download_segments.proofs.TreeLemmas.{grow_none}
 use Rattle.download_file.specs.State.{FileState, IsLive, IsReader, ReaderState, giver, placed, shares, waiting_at, waiting_in, waiting_parts}
-use Rattle.download_file.specs.Answers.{HoldsAnswers, IsRead}
+use Rattle.download_file.specs.Answers.{HoldsAnswers}
 use Rattle.download_file.specs.Asked.{AsksParts, HasAsked, IsAskedUp, IsOneOf, IsPlannedRead}
 use Rattle.download_file.specs.Changes.{OthersWait, StaysAskedUp, StaysRead}
 use Rattle.download_file.specs.Right.{AreLive, IsFile, IsGroup, IsReaderOf}
@@ -330,12 +326,15 @@ module _ (f : FileState) (reader : ℕ) (r r' : ReaderState) (gives : Bool) (las
             | inr new ↦
                 let w = from_map (λ (x : Wanted). x.part) wanted has.part new in
                 let read = All-contains (IsReadOf r.source) wanted w.0 asks.now.reads w.1 in
-                inr (k.0, record {
-                  one = w.0;
-                  among = w.1;
-                  place = place_is ∙ sym (read.place ∙ ap (λ (p : Part). place_of r.source.geometry (first_of r.source p) r.source.end p) w.2);
-                  long = long_is ∙ sym (read.length ∙ ap (λ (p : Part). length_of r.source.geometry (first_of r.source p) r.source.end p) w.2);
-                })
+                inr (
+                  k.0,
+                  record {
+                    one = w.0;
+                    among = w.1;
+                    place = place_is ∙ sym (read.place ∙ ap (λ (p : Part). place_of r.source.geometry (first_of r.source p) r.source.end p) w.2);
+                    long = long_is ∙ sym (read.length ∙ ap (λ (p : Part). length_of r.source.geometry (first_of r.source p) r.source.end p) w.2);
+                  },
+                )
           ]
     ]
 

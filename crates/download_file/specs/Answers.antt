@@ -56,7 +56,8 @@ blocks_of entries readers number places =
 -- each piece of the data that the source holds is an answer of its length
 abbrev pub HoldsAnswers : List Request → SourceState → Type 0
 HoldsAnswers entries s = (k : ℕ) → k < length s.held
-    → IsAnswered entries (slice_index_or s.held k 0) (length_of s.geometry s.first s.end (parts.Data k))
+    → IsAnswered entries (slice_index_or s.held k 0)
+    (length_of s.geometry s.first s.end (parts.Data k))
 
 -- the blocks of a segment that the readers of a group hold decode to what is proved
 pub record IsMade (entries : List Request) (h : HandoutState) (readers : List ReaderState)

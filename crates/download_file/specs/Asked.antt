@@ -1,6 +1,5 @@
 -- What was asked of the readers of a file.
 use Rattle.std.specs.Prelude.{◌≡◌, ◌⊎◌, ◌↔◌, ℕ, ◌<◌, ◌≤◌, List, All, AllPairs, Contains, Some}
-use Rattle.share_layout.specs.Geometry.{Geometry}
 use Rattle.download_plan.specs.Laws.{AreApart}
 use Rattle.download_plan.specs.Plan.{IsPlanned, length_of, max_read, place_of}
 use Rattle.download_plan.specs.declared.part.Part.{Part}

@@ -1,5 +1,5 @@
 -- How the calls change a file.
-use Rattle.std.specs.Prelude.{◌≡◌, ◌≢◌, ℕ, List, ◌++◌, Some}
+use Rattle.std.specs.Prelude.{◌≡◌, ◌≢◌, ℕ, List}
 use Rattle.request_record.specs.declared.requests.Request.{Request}
 use Rattle.download_segments.specs.State.{with_trees}
 use Rattle.download_file.specs.State.{FileState, waiting_at}

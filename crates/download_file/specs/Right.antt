@@ -1,6 +1,6 @@
 -- What holds of each file that is read.
-use Rattle.std.specs.Prelude.{◌≡◌, ◌≢◌, ℕ, ◌+◌, ◌-◌, ◌/◌, ◌<◌, ◌≤◌, List, [], ◌∷◌, length, map}
-use Rattle.std.specs.Prelude.{Some, IfSome, All, unwrap_or, slice_get}
+use Rattle.std.specs.Prelude.{◌≡◌, ◌≢◌, ℕ, ◌+◌, ◌-◌, ◌/◌, ◌<◌, ◌≤◌, List, [], ◌∷◌, length}
+use Rattle.std.specs.Prelude.{Some, IfSome, All, unwrap_or}
 use Rattle.download_plan.specs.Plan.{IsNodePiece}
 use Rattle.download_plan.specs.Range.{IsRange}
 use Rattle.download_plan.specs.declared.part.NodePiece.{NodePiece}

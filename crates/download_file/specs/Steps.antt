@@ -1,7 +1,7 @@
 -- Words of private clauses: readers and groups of a list.
-use Rattle.std.specs.Prelude.{◌≡◌, ◌≢◌, ◌⊎◌, ℕ, ◌+◌, ◌-◌, ◌*◌, ◌<◌, ◌≤◌, List, [], ◌∷◌, ◌++◌, length}
-use Rattle.std.specs.Prelude.{take, drop, map, Some, None, slice_get, slice_set, Contains, All}
-use Rattle.std.specs.Prelude.{Bool, IfSome, IsSome, is_some, true}
+use Rattle.std.specs.Prelude.{◌≡◌, ◌≢◌, ◌⊎◌, ℕ, ◌+◌, ◌-◌, ◌*◌, ◌<◌, ◌≤◌, List, [], ◌∷◌, ◌++◌}
+use Rattle.std.specs.Prelude.{length, take, drop, map, Some, None, slice_get, slice_set}
+use Rattle.std.specs.Prelude.{All, Contains, Bool, IfSome, IsSome, is_some, true}
 use Rattle.merkle.specs.Partial.{PartialState, known_at}
 use Rattle.std.specs.List.{range_with_len}
 use Rattle.ueb.specs.Shape.{Contents}

@@ -14,8 +14,8 @@ use Rattle.download_segments.specs.State.{HandoutState}
 use Rattle.download_file.specs.State.{FileState, IsReader, ReaderState}
 use Rattle.download_file.specs.declared.reader.Waiting.{Waiting}
 
--- Bytes that have the length of a part of the plan for the segments `a` to before `b` do not pass the
--- check of what they are part of.
+-- Bytes that have the length of a part of the plan for the segments `a` to before `b` do not pass
+-- the check of what they are part of.
 abbrev pub RefutesPart : HandoutState → ℕ → ℕ → ReaderState → Part → List ℕ → Check → Type 0
 RefutesPart h a b r ShareHashes bytes check = IsHashesRefusal h.trees r.share bytes check
 RefutesPart h a b r (BlockTree p) bytes check =

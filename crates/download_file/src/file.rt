@@ -345,7 +345,13 @@ impl File {
             &self.live,
             number,
         )?;
-        if !make_segment(self.alloc, &mut self.handout, &mut self.groups, number, &joined)? {
+        if !make_segment(
+            self.alloc,
+            &mut self.handout,
+            &mut self.groups,
+            number,
+            &joined,
+        )? {
             return Ok(Made::Inconsistent);
         }
         Ok(Made::Ready)

@@ -1,8 +1,8 @@
 //! A share that is read.
 
 ghost use Rattle.std.specs.Prelude.{◌≡◌, ◌<◌, ◌≤◌, ◌↔◌, ◌++◌, ℕ, [], true, false, All, Contains};
-ghost use Rattle.std.specs.Prelude.{Err, IfOk, IfSome, None, OnErr, OnOk, Some, drop, length, slice_get};
-ghost use Rattle.std.specs.Prelude.{slice_set};
+ghost use Rattle.std.specs.Prelude.{Err, IfOk, IfSome, None, OnErr, OnOk, Some, drop, length};
+ghost use Rattle.std.specs.Prelude.{slice_get, slice_set};
 ghost use Rattle.share_layout.specs.Geometry.{segment_count};
 ghost use Rattle.download_plan.specs.Plan.{IsNodePiece, length_of};
 ghost use Rattle.download_trees.specs.Trees.{LeadTo};
@@ -286,8 +286,8 @@ fn drop_first(waiting: &mut VecDeque<Waiting>)
     let _ = waiting.pop_front();
 }
 
-/// A reader of the segments from `first` on of a share with this number, in a download by this plan.
-/// Where it gives the ciphertext tree, it does from what was taken on.
+/// A reader of the segments from `first` on of a share with this number, in a download by this
+/// plan. Where it gives the ciphertext tree, it does from what was taken on.
 pub(crate) fn begin_reader(
     alloc: Global,
     plan: &Plan,

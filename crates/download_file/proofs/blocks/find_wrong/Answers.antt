@@ -1,4 +1,4 @@
-use Rattle.std.proofs.Common.{◌≡◌, ◌∙◌, ◌+◌, ◌*◌, ◌<◌, List, ℕ, inl, inr, IsTrue, ◌↔◌, Bool, false, ap, arith, add-mul, refl, subst, sym, take, drop, get_or, length, slice_get, Some}
+use Rattle.std.proofs.Common.{◌≡◌, ◌∙◌, ◌*◌, ◌<◌, List, ℕ, inl, inr, ap, arith, add-mul, subst, sym, take, drop, get_or, slice_get, Some}
 use Rattle.std.proofs.lemmas.Bool.{cases_lt, true≢false}
 use Rattle.std.proofs.lemmas.List.{drop-drop}
 use Rattle.std.proofs.lemmas.List.Elements.{Contains-get_or}
@@ -53,7 +53,7 @@ loop-place-preserved c =
         | inr not ↦
             let same : j ≡ i = omega (arith, low, not) in
             let one : get_or places i 0 ≡ place = one_there (slice_get places j) (get_or places i 0) place
-                (ap (slice_get places) same ∙ slice_get-get_or places i 0 c.loop-place-test.true) is in
+            (ap (slice_get places) same ∙ slice_get-get_or places i 0 c.loop-place-test.true) is in
             let other : r ≡ s = one_there (slice_get readers place) r s (ap (slice_get readers) (sym one) ∙ at) there in
             subst (λ (t : ReaderState). IsProved t.source c.args.number (nth_block joined size j)) other
             (subst (λ (n : ℕ). IsProved r.source c.args.number (nth_block joined size n)) (sym same) proved)

@@ -1,6 +1,6 @@
-use Rattle.std.proofs.Common.{◌≡◌, ◌∙◌, ◌*◌, ◌<◌, ℕ, List, All, IsSome, Option, ap, subst, sym, length}
+use Rattle.std.proofs.Common.{◌≡◌, ◌∙◌, ◌*◌, ℕ, List, All, IsSome, Option, ap, subst, sym, length}
 use Rattle.std.proofs.lemmas.Bool.{false≢true}
-use Rattle.share_layout.specs.Geometry.{Geometry, IsGeometry, segment_count}
+use Rattle.share_layout.specs.Geometry.{Geometry}
 use Rattle.share_layout.specs.Pieces.{block_length}
 use Rattle.proved_parts.specs.declared.evidence.EvidencePart.{EvidencePart}
 use Rattle.download_segments.proofs.HandoutLemmas.{valid_of}

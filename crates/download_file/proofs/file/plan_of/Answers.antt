@@ -1,5 +1,4 @@
-use Rattle.std.proofs.Common.{◌≡◌, ◌+◌, ◌-◌, ◌*◌, ◌/◌, ◌<◌, ◌≤◌, ℕ, arith, ap, sym, ◌∙◌}
-use Rattle.share_layout.specs.Geometry.{IsGeometry, segment_count}
+use Rattle.std.proofs.Common.{◌≡◌, ◌-◌, ◌/◌, ℕ, arith, ap, ◌∙◌}
 use Rattle.download_file.proofs.RangeLemmas.{earlier, end_within, few_segments}
 use Rattle.download_file.proofs.file.plan_of.Goals as goal
 

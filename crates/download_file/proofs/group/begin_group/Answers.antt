@@ -1,4 +1,4 @@
-use Rattle.std.proofs.Common.{◌≡◌, ◌∙◌, ◌++◌, ◌∷◌, [], List, ℕ, ap, sym, get_or, slice_get, Some}
+use Rattle.std.proofs.Common.{◌≡◌, ◌∙◌, ◌++◌, ◌∷◌, [], sym, get_or, slice_get, Some}
 use Rattle.download_file.proofs.ListLemmas.{got}
 use Rattle.download_file.proofs.BlockLemmas.{numbers_more}
 use Rattle.download_file.proofs.group.begin_group.Goals as goal

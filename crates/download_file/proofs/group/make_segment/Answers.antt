@@ -1,5 +1,4 @@
-use Rattle.std.proofs.Common.{◌≡◌, ◌∙◌, ◌+◌, ◌-◌, ◌*◌, ◌<◌, ℕ, List, Ok, Option, Some, arith, ap, subst, sym, length, slice_get, slice_set, drop, take}
-use Rattle.ueb.specs.Limits.{max_segments}
+use Rattle.std.proofs.Common.{◌≡◌, ◌∙◌, ◌+◌, ◌-◌, ◌*◌, ◌<◌, ℕ, Ok, Some, arith, ap, subst, sym, length, slice_get, slice_set}
 use Rattle.share_layout.specs.Geometry.{Geometry, IsGeometry, segment_count}
 use Rattle.share_layout.specs.Pieces.{block_length, segment_length}
 use Rattle.download_segments.proofs.HandoutLemmas.{next_within}

@@ -1,6 +1,6 @@
-use Rattle.std.proofs.Common.{◌≡◌, ◌∙◌, ◌<◌, ℕ, List, IfSome, Option, Some, ap, subst, sym, length, slice_get, slice_set}
+use Rattle.std.proofs.Common.{◌≡◌, ◌∙◌, ◌<◌, ℕ, IfSome, Option, Some, ap, subst, sym, length, slice_get, slice_set}
 use Rattle.download_file.specs.State.{ReaderState}
-use Rattle.download_file.specs.Steps.{CanGive, giving}
+use Rattle.download_file.specs.Steps.{giving}
 use Rattle.download_file.proofs.ListLemmas.{got, one_there}
 use Rattle.download_file.proofs.reader.give_next.Goals as goal
 

@@ -1,4 +1,4 @@
-use Rattle.std.proofs.Common.{◌≡◌, ◌+◌, arith}
+use Rattle.std.proofs.Common.{arith}
 use Rattle.download_file.proofs.AskLemmas.{by_iff, waits_more}
 use Rattle.download_file.proofs.reader.wait_for.Goals as goal
 

@@ -1,8 +1,6 @@
-use Rattle.std.proofs.Common.{◌≡◌, ◌∙◌, ℕ, List, ap, subst, sym, Err, rules}
-use Rattle.merkle.specs.Partial.{PartialState}
+use Rattle.std.proofs.Common.{◌≡◌, ◌∙◌, ℕ, ap, subst, sym, Err, rules}
 use Rattle.download_plan.specs.declared.part.Part.{Part}
 use Rattle.download_trees.specs.Trees.{IsBlockRoot}
-use Rattle.share_verify.specs.declared.check.Check.{Check}
 use Rattle.download_trees.specs.declared.error.TreeFault.TheVariants as faults
 use Rattle.download_file.specs.Steps.{TakesPart}
 use Rattle.download_file.specs.Taking.{RefutesPart}

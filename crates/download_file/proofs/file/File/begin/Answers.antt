@@ -1,34 +1,33 @@
-use Rattle.std.proofs.Common.{◌≡◌, ◌≢◌, ◌∙◌, ◌++◌, ◌∷◌, ◌<◌, [], ℕ, List, Bool, true, ap, subst, sym, length, refl, rules}
-use Rattle.std.specs.Prelude.{◌==◌}
+use Rattle.std.proofs.Common.{◌≡◌, ◌≢◌, ◌∙◌, ◌++◌, ◌∷◌, ◌<◌, [], ℕ, List, true, ap, subst, sym, length, rules}
 use Rattle.std.proofs.lemmas.Bool.{eq-eqb}
 use Rattle.share_layout.specs.Geometry.{Geometry}
-use Rattle.download_file.specs.State.{FileState, IsLive, IsReader, ReaderState, waiting_at}
+use Rattle.download_file.specs.State.{FileState, IsLive, IsReader, ReaderState}
 use Rattle.download_file.specs.Steps.{IsBegun}
 use Rattle.download_file.proofs.BeginLemmas.{HasBegun, has_begun}
 use Rattle.download_file.proofs.file.File.begin.Goals as goal
 
 abbrev then : goal.After-push_reserved → FileState
 then c = record {
-    handout = c.self.inside.handout;
-    first = c.self.inside.plan.first;
-    end = c.self.inside.plan.end;
-    taken = c.self.inside.taken;
-    readers = c.push_reserved.new.self.items;
-    live = c.push.new.self.items;
-    groups = c.self.inside.groups.items;
-  }
+  handout = c.self.inside.handout;
+  first = c.self.inside.plan.first;
+  end = c.self.inside.plan.end;
+  taken = c.self.inside.taken;
+  readers = c.push_reserved.new.self.items;
+  live = c.push.new.self.items;
+  groups = c.self.inside.groups.items;
+}
 
 begun : (c : goal.After-push_reserved) → HasBegun c.args.self.now c.args.share (then c)
 begun c =
     let f : FileState = record {
-    handout = c.self.inside.handout;
-    first = c.self.inside.plan.first;
-    end = c.self.inside.plan.end;
-    taken = c.self.inside.taken;
-    readers = c.self.inside.readers.items;
-    live = c.self.inside.live.items;
-    groups = c.self.inside.groups.items;
-  } in
+      handout = c.self.inside.handout;
+      first = c.self.inside.plan.first;
+      end = c.self.inside.plan.end;
+      taken = c.self.inside.taken;
+      readers = c.self.inside.readers.items;
+      live = c.self.inside.live.items;
+      groups = c.self.inside.groups.items;
+    } in
     let x : ReaderState = c.begin_reader-begun.result in
     let k : IsBegun f.handout.geometry f.first c.in-Some.next f.end c.args.share c.is_empty-gives.result f.taken x =
     subst (λ (g : Geometry). IsBegun g f.first c.in-Some.next f.end c.args.share c.is_empty-gives.result f.taken x) c.self.invariant.1 c.begin_reader-begun.ensures in

@@ -1,6 +1,5 @@
-use Rattle.std.proofs.Common.{◌≡◌, ◌∙◌, ◌-◌, ℕ, All, List, IfOk, Result, Ok, Err, ap, map, subst, sym}
+use Rattle.std.proofs.Common.{◌≡◌, ◌∙◌, ◌-◌, All, List, IfOk, Result, Ok, Err, ap, subst, sym}
 use Rattle.std.specs.List.{flat_map, range_with_len}
-use Rattle.proved_parts.specs.declared.evidence.EvidencePart.{EvidencePart}
 use Rattle.download_file.specs.State.{FileState, GroupState, ReaderState}
 use Rattle.download_file.specs.Answers.{IsRead}
 use Rattle.download_file.specs.Right.{made_end}
@@ -11,28 +10,28 @@ use Rattle.download_file.proofs.file.File.evidence_parts.Goals as goal
 pub evidence_of-requires-clause-file : goal.evidence_of-requires-clause-file
 evidence_of-requires-clause-file c =
     let f : FileState = record {
-    handout = c.self.inside.handout;
-    first = c.self.inside.plan.first;
-    end = c.self.inside.plan.end;
-    taken = c.self.inside.taken;
-    readers = c.self.inside.readers.items;
-    live = c.self.inside.live.items;
-    groups = c.self.inside.groups.items;
-  } in
+      handout = c.self.inside.handout;
+      first = c.self.inside.plan.first;
+      end = c.self.inside.plan.end;
+      taken = c.self.inside.taken;
+      readers = c.self.inside.readers.items;
+      live = c.self.inside.live.items;
+      groups = c.self.inside.groups.items;
+    } in
     subst (λ (rs : List ReaderState). AreOfFile c.args.requests.now.entries c.self.inside.handout.geometry rs) (sym c.deref.ensures.value)
     (readers_of c.args.requests.now.entries f c.self.invariant.0 (subst (IsRead c.args.requests.now.entries) (sym c.self.view_is) c.requires.reads))
 
 pub evidence_of-requires-clause-made : goal.evidence_of-requires-clause-made
 evidence_of-requires-clause-made c =
     let f : FileState = record {
-    handout = c.self.inside.handout;
-    first = c.self.inside.plan.first;
-    end = c.self.inside.plan.end;
-    taken = c.self.inside.taken;
-    readers = c.self.inside.readers.items;
-    live = c.self.inside.live.items;
-    groups = c.self.inside.groups.items;
-  } in
+      handout = c.self.inside.handout;
+      first = c.self.inside.plan.first;
+      end = c.self.inside.plan.end;
+      taken = c.self.inside.taken;
+      readers = c.self.inside.readers.items;
+      live = c.self.inside.live.items;
+      groups = c.self.inside.groups.items;
+    } in
     subst (λ (rs : List ReaderState). All (IsMadeGroup c.args.requests.now.entries c.self.inside.handout rs) c.deref-2.result.now) (sym c.deref.ensures.value)
     (subst (λ (gs : List GroupState). All (IsMadeGroup c.args.requests.now.entries c.self.inside.handout c.self.inside.readers.items) gs) (sym c.deref-2.ensures.value)
     (all_made c.args.requests.now.entries f c.self.invariant.0 (subst (IsRead c.args.requests.now.entries) (sym c.self.view_is) c.requires.reads)))
@@ -44,14 +43,14 @@ on_ok (Err e) P Q is more = tt
 pub returns-clause-all : goal.returns-clause-all
 returns-clause-all c =
     let f : FileState = record {
-    handout = c.self.inside.handout;
-    first = c.self.inside.plan.first;
-    end = c.self.inside.plan.end;
-    taken = c.self.inside.taken;
-    readers = c.self.inside.readers.items;
-    live = c.self.inside.live.items;
-    groups = c.self.inside.groups.items;
-  } in
+      handout = c.self.inside.handout;
+      first = c.self.inside.plan.first;
+      end = c.self.inside.plan.end;
+      taken = c.self.inside.taken;
+      readers = c.self.inside.readers.items;
+      live = c.self.inside.live.items;
+      groups = c.self.inside.groups.items;
+    } in
     let all : flat_map segments_in c.deref-2.result.now ≡ range_with_len c.args.self.now.first (made_end c.args.self.now - c.args.self.now.first) =
     ap (flat_map segments_in) c.deref-2.ensures.value ∙ all_segments f.first (made_end f) f.groups c.self.invariant.0.in_order
     ∙ ap (λ (s : FileState). range_with_len s.first (made_end s - s.first)) c.self.view_is in

@@ -1,4 +1,4 @@
-use Rattle.std.proofs.Common.{◌≡◌, ◌≢◌, ◌∙◌, ◌*◌, ◌<◌, ℕ, All, Bool, IsNone, List, Contains, Ok, Err, Option, Some, None, ap, subst, sym, length, refl, slice_get, true, false, rules}
+use Rattle.std.proofs.Common.{◌≡◌, ◌∙◌, ◌*◌, ◌<◌, ℕ, All, List, Ok, Some, ap, subst, sym, length, refl, true}
 use Rattle.std.proofs.lemmas.Bool.{true≢false}
 use Rattle.std.proofs.lemmas.List.Elements.{All-contains}
 use Rattle.share_layout.specs.Geometry.{Geometry}
@@ -8,10 +8,9 @@ use Rattle.download_segments.specs.Decoding.{AreShareNumbers, blocks_in}
 use Rattle.download_segments.specs.Handout.{next_segment}
 use Rattle.download_segments.specs.NoCodeWord.{IsNoCodeWord}
 use Rattle.download_segments.specs.State.{HandoutState}
-use Rattle.download_file.specs.State.{FileState, GroupState, ReaderState, numbers_of}
+use Rattle.download_file.specs.State.{FileState, ReaderState, numbers_of}
 use Rattle.download_file.specs.Answers.{IsRead, blocks_of}
-use Rattle.download_file.specs.Changes.{IsSameFile, StaysAskedUp}
-use Rattle.download_file.specs.Making.{CanNotGoOn, MakesNext, RefutesReader}
+use Rattle.download_file.specs.Making.{CanNotGoOn, RefutesReader}
 use Rattle.download_file.specs.Right.{IsFile, IsGroup}
 use Rattle.download_file.specs.Steps.{AreProved, AreReady, BeginsGroup, HasAll, HasBlock, IsWrong, LacksSome, RefutesBlocks}
 use Rattle.download_file.proofs.ListLemmas.{contains_at}
@@ -24,14 +23,14 @@ pub returns-then-not-has_all-clause-waits : goal.returns-then-not-has_all-clause
 returns-then-not-has_all-clause-waits c = λ _.
     let entries = c.args.requests.now.entries in
     let f : FileState = record {
-    handout = c.self.inside.handout;
-    first = c.self.inside.plan.first;
-    end = c.self.inside.plan.end;
-    taken = c.self.inside.taken;
-    readers = c.self.inside.readers.items;
-    live = c.self.inside.live.items;
-    groups = c.self.inside.groups.items;
-  } in
+      handout = c.self.inside.handout;
+      first = c.self.inside.plan.first;
+      end = c.self.inside.plan.end;
+      taken = c.self.inside.taken;
+      readers = c.self.inside.readers.items;
+      live = c.self.inside.live.items;
+      groups = c.self.inside.groups.items;
+    } in
     let is : IsFile f = c.self.invariant.0 in
     let number : ℕ = c.in-Some.number in
     let next : next_segment f.handout ≡ Some number = sym c.in-Some.ensures.value in
@@ -44,14 +43,14 @@ pub join_blocks-requires : goal.join_blocks-requires
 join_blocks-requires c =
     let entries = c.args.requests.now.entries in
     let f : FileState = record {
-    handout = c.self.inside.handout;
-    first = c.self.inside.plan.first;
-    end = c.self.inside.plan.end;
-    taken = c.self.inside.taken;
-    readers = c.self.inside.readers.items;
-    live = c.self.inside.live.items;
-    groups = c.self.inside.groups.items;
-  } in
+      handout = c.self.inside.handout;
+      first = c.self.inside.plan.first;
+      end = c.self.inside.plan.end;
+      taken = c.self.inside.taken;
+      readers = c.self.inside.readers.items;
+      live = c.self.inside.live.items;
+      groups = c.self.inside.groups.items;
+    } in
     let is : IsFile f = c.self.invariant.0 in
     let number : ℕ = c.in-Some.number in
     let next : next_segment f.handout ≡ Some number = sym c.in-Some.ensures.value in
@@ -68,14 +67,14 @@ pub find_wrong-requires-clause-there : goal.find_wrong-requires-clause-there
 find_wrong-requires-clause-there c =
     let entries = c.args.requests.now.entries in
     let f : FileState = record {
-    handout = c.self.inside.handout;
-    first = c.self.inside.plan.first;
-    end = c.self.inside.plan.end;
-    taken = c.self.inside.taken;
-    readers = c.self.inside.readers.items;
-    live = c.self.inside.live.items;
-    groups = c.self.inside.groups.items;
-  } in
+      handout = c.self.inside.handout;
+      first = c.self.inside.plan.first;
+      end = c.self.inside.plan.end;
+      taken = c.self.inside.taken;
+      readers = c.self.inside.readers.items;
+      live = c.self.inside.live.items;
+      groups = c.self.inside.groups.items;
+    } in
     let is : IsFile f = c.self.invariant.0 in
     let number : ℕ = c.in-Some.number in
     let next : next_segment f.handout ≡ Some number = sym c.in-Some.ensures.value in
@@ -86,14 +85,14 @@ pub find_wrong-requires-clause-ready : goal.find_wrong-requires-clause-ready
 find_wrong-requires-clause-ready c =
     let entries = c.args.requests.now.entries in
     let f : FileState = record {
-    handout = c.self.inside.handout;
-    first = c.self.inside.plan.first;
-    end = c.self.inside.plan.end;
-    taken = c.self.inside.taken;
-    readers = c.self.inside.readers.items;
-    live = c.self.inside.live.items;
-    groups = c.self.inside.groups.items;
-  } in
+      handout = c.self.inside.handout;
+      first = c.self.inside.plan.first;
+      end = c.self.inside.plan.end;
+      taken = c.self.inside.taken;
+      readers = c.self.inside.readers.items;
+      live = c.self.inside.live.items;
+      groups = c.self.inside.groups.items;
+    } in
     let is : IsFile f = c.self.invariant.0 in
     let number : ℕ = c.in-Some.number in
     let next : next_segment f.handout ≡ Some number = sym c.in-Some.ensures.value in
@@ -110,14 +109,14 @@ pub find_wrong-requires-clause-long : goal.find_wrong-requires-clause-long
 find_wrong-requires-clause-long c =
     let entries = c.args.requests.now.entries in
     let f : FileState = record {
-    handout = c.self.inside.handout;
-    first = c.self.inside.plan.first;
-    end = c.self.inside.plan.end;
-    taken = c.self.inside.taken;
-    readers = c.self.inside.readers.items;
-    live = c.self.inside.live.items;
-    groups = c.self.inside.groups.items;
-  } in
+      handout = c.self.inside.handout;
+      first = c.self.inside.plan.first;
+      end = c.self.inside.plan.end;
+      taken = c.self.inside.taken;
+      readers = c.self.inside.readers.items;
+      live = c.self.inside.live.items;
+      groups = c.self.inside.groups.items;
+    } in
     let is : IsFile f = c.self.invariant.0 in
     let number : ℕ = c.in-Some.number in
     let next : next_segment f.handout ≡ Some number = sym c.in-Some.ensures.value in
@@ -136,14 +135,14 @@ pub returns-in-Some-find_wrong-clause-wrong : goal.returns-in-Some-find_wrong-cl
 returns-in-Some-find_wrong-clause-wrong c = λ reader is_wrong.
     let entries = c.args.requests.now.entries in
     let f : FileState = record {
-    handout = c.self.inside.handout;
-    first = c.self.inside.plan.first;
-    end = c.self.inside.plan.end;
-    taken = c.self.inside.taken;
-    readers = c.self.inside.readers.items;
-    live = c.self.inside.live.items;
-    groups = c.self.inside.groups.items;
-  } in
+      handout = c.self.inside.handout;
+      first = c.self.inside.plan.first;
+      end = c.self.inside.plan.end;
+      taken = c.self.inside.taken;
+      readers = c.self.inside.readers.items;
+      live = c.self.inside.live.items;
+      groups = c.self.inside.groups.items;
+    } in
     let is : IsFile f = c.self.invariant.0 in
     let number : ℕ = c.in-Some.number in
     let next : next_segment f.handout ≡ Some number = sym c.in-Some.ensures.value in
@@ -167,14 +166,14 @@ pub begin_group-requires-clause-there : goal.begin_group-requires-clause-there
 begin_group-requires-clause-there c =
     let entries = c.args.requests.now.entries in
     let f : FileState = record {
-    handout = c.self.inside.handout;
-    first = c.self.inside.plan.first;
-    end = c.self.inside.plan.end;
-    taken = c.self.inside.taken;
-    readers = c.self.inside.readers.items;
-    live = c.self.inside.live.items;
-    groups = c.self.inside.groups.items;
-  } in
+      handout = c.self.inside.handout;
+      first = c.self.inside.plan.first;
+      end = c.self.inside.plan.end;
+      taken = c.self.inside.taken;
+      readers = c.self.inside.readers.items;
+      live = c.self.inside.live.items;
+      groups = c.self.inside.groups.items;
+    } in
     let is : IsFile f = c.self.invariant.0 in
     let number : ℕ = c.in-Some.number in
     let next : next_segment f.handout ≡ Some number = sym c.in-Some.ensures.value in
@@ -185,14 +184,14 @@ pub begin_group-requires-clause-shares : goal.begin_group-requires-clause-shares
 begin_group-requires-clause-shares c =
     let entries = c.args.requests.now.entries in
     let f : FileState = record {
-    handout = c.self.inside.handout;
-    first = c.self.inside.plan.first;
-    end = c.self.inside.plan.end;
-    taken = c.self.inside.taken;
-    readers = c.self.inside.readers.items;
-    live = c.self.inside.live.items;
-    groups = c.self.inside.groups.items;
-  } in
+      handout = c.self.inside.handout;
+      first = c.self.inside.plan.first;
+      end = c.self.inside.plan.end;
+      taken = c.self.inside.taken;
+      readers = c.self.inside.readers.items;
+      live = c.self.inside.live.items;
+      groups = c.self.inside.groups.items;
+    } in
     let is : IsFile f = c.self.invariant.0 in
     let number : ℕ = c.in-Some.number in
     let next : next_segment f.handout ≡ Some number = sym c.in-Some.ensures.value in
@@ -210,14 +209,14 @@ pub make_segment-requires-clause-some : goal.make_segment-requires-clause-some
 make_segment-requires-clause-some c =
     let entries = c.args.requests.now.entries in
     let f : FileState = record {
-    handout = c.self.inside.handout;
-    first = c.self.inside.plan.first;
-    end = c.self.inside.plan.end;
-    taken = c.self.inside.taken;
-    readers = c.self.inside.readers.items;
-    live = c.self.inside.live.items;
-    groups = c.self.inside.groups.items;
-  } in
+      handout = c.self.inside.handout;
+      first = c.self.inside.plan.first;
+      end = c.self.inside.plan.end;
+      taken = c.self.inside.taken;
+      readers = c.self.inside.readers.items;
+      live = c.self.inside.live.items;
+      groups = c.self.inside.groups.items;
+    } in
     let is : IsFile f = c.self.invariant.0 in
     let number : ℕ = c.in-Some.number in
     let next : next_segment f.handout ≡ Some number = sym c.in-Some.ensures.value in
@@ -241,14 +240,14 @@ pub make_segment-requires-clause-geometry : goal.make_segment-requires-clause-ge
 make_segment-requires-clause-geometry c = λ group at.
     let entries = c.args.requests.now.entries in
     let f : FileState = record {
-    handout = c.self.inside.handout;
-    first = c.self.inside.plan.first;
-    end = c.self.inside.plan.end;
-    taken = c.self.inside.taken;
-    readers = c.self.inside.readers.items;
-    live = c.self.inside.live.items;
-    groups = c.self.inside.groups.items;
-  } in
+      handout = c.self.inside.handout;
+      first = c.self.inside.plan.first;
+      end = c.self.inside.plan.end;
+      taken = c.self.inside.taken;
+      readers = c.self.inside.readers.items;
+      live = c.self.inside.live.items;
+      groups = c.self.inside.groups.items;
+    } in
     let is : IsFile f = c.self.invariant.0 in
     let number : ℕ = c.in-Some.number in
     let next : next_segment f.handout ≡ Some number = sym c.in-Some.ensures.value in
@@ -272,14 +271,14 @@ pub make_segment-requires-clause-long : goal.make_segment-requires-clause-long
 make_segment-requires-clause-long c =
     let entries = c.args.requests.now.entries in
     let f : FileState = record {
-    handout = c.self.inside.handout;
-    first = c.self.inside.plan.first;
-    end = c.self.inside.plan.end;
-    taken = c.self.inside.taken;
-    readers = c.self.inside.readers.items;
-    live = c.self.inside.live.items;
-    groups = c.self.inside.groups.items;
-  } in
+      handout = c.self.inside.handout;
+      first = c.self.inside.plan.first;
+      end = c.self.inside.plan.end;
+      taken = c.self.inside.taken;
+      readers = c.self.inside.readers.items;
+      live = c.self.inside.live.items;
+      groups = c.self.inside.groups.items;
+    } in
     let is : IsFile f = c.self.invariant.0 in
     let number : ℕ = c.in-Some.number in
     let next : next_segment f.handout ≡ Some number = sym c.in-Some.ensures.value in
@@ -298,27 +297,27 @@ make_segment-requires-clause-long c =
 
 abbrev refused : goal.After-drop-joined-in_err-make_segment → FileState
 refused c = record {
-    handout = c.make_segment.new.handout;
-    first = c.self.inside.plan.first;
-    end = c.self.inside.plan.end;
-    taken = c.self.inside.taken;
-    readers = c.self.inside.readers.items;
-    live = c.self.inside.live.items;
-    groups = c.make_segment.new.groups.items;
-  }
+  handout = c.make_segment.new.handout;
+  first = c.self.inside.plan.first;
+  end = c.self.inside.plan.end;
+  taken = c.self.inside.taken;
+  readers = c.self.inside.readers.items;
+  live = c.self.inside.live.items;
+  groups = c.make_segment.new.groups.items;
+}
 
 at_refusal : (c : goal.After-drop-joined-in_err-make_segment) → HasGroups c.args.requests.now.entries c.args.self.now (refused c)
 at_refusal c =
     let entries = c.args.requests.now.entries in
     let f : FileState = record {
-    handout = c.self.inside.handout;
-    first = c.self.inside.plan.first;
-    end = c.self.inside.plan.end;
-    taken = c.self.inside.taken;
-    readers = c.self.inside.readers.items;
-    live = c.self.inside.live.items;
-    groups = c.self.inside.groups.items;
-  } in
+      handout = c.self.inside.handout;
+      first = c.self.inside.plan.first;
+      end = c.self.inside.plan.end;
+      taken = c.self.inside.taken;
+      readers = c.self.inside.readers.items;
+      live = c.self.inside.live.items;
+      groups = c.self.inside.groups.items;
+    } in
     let is : IsFile f = c.self.invariant.0 in
     let number : ℕ = c.in-Some.number in
     let next : next_segment f.handout ≡ Some number = sym c.in-Some.ensures.value in
@@ -362,27 +361,27 @@ returns-in_err-make_segment-clause-right c = (at_refusal c).right
 
 abbrev refuted : goal.After-drop-joined-then-not-branch → FileState
 refuted c = record {
-    handout = c.make_segment.new.handout;
-    first = c.self.inside.plan.first;
-    end = c.self.inside.plan.end;
-    taken = c.self.inside.taken;
-    readers = c.self.inside.readers.items;
-    live = c.self.inside.live.items;
-    groups = c.make_segment.new.groups.items;
-  }
+  handout = c.make_segment.new.handout;
+  first = c.self.inside.plan.first;
+  end = c.self.inside.plan.end;
+  taken = c.self.inside.taken;
+  readers = c.self.inside.readers.items;
+  live = c.self.inside.live.items;
+  groups = c.make_segment.new.groups.items;
+}
 
 at_refuted : (c : goal.After-drop-joined-then-not-branch) → HasGroups c.args.requests.now.entries c.args.self.now (refuted c)
 at_refuted c =
     let entries = c.args.requests.now.entries in
     let f : FileState = record {
-    handout = c.self.inside.handout;
-    first = c.self.inside.plan.first;
-    end = c.self.inside.plan.end;
-    taken = c.self.inside.taken;
-    readers = c.self.inside.readers.items;
-    live = c.self.inside.live.items;
-    groups = c.self.inside.groups.items;
-  } in
+      handout = c.self.inside.handout;
+      first = c.self.inside.plan.first;
+      end = c.self.inside.plan.end;
+      taken = c.self.inside.taken;
+      readers = c.self.inside.readers.items;
+      live = c.self.inside.live.items;
+      groups = c.self.inside.groups.items;
+    } in
     let is : IsFile f = c.self.invariant.0 in
     let number : ℕ = c.in-Some.number in
     let next : next_segment f.handout ≡ Some number = sym c.in-Some.ensures.value in
@@ -420,14 +419,14 @@ pub returns-then-not-branch-clause-inconsistent : goal.returns-then-not-branch-c
 returns-then-not-branch-clause-inconsistent c = λ _.
     let entries = c.args.requests.now.entries in
     let f : FileState = record {
-    handout = c.self.inside.handout;
-    first = c.self.inside.plan.first;
-    end = c.self.inside.plan.end;
-    taken = c.self.inside.taken;
-    readers = c.self.inside.readers.items;
-    live = c.self.inside.live.items;
-    groups = c.self.inside.groups.items;
-  } in
+      handout = c.self.inside.handout;
+      first = c.self.inside.plan.first;
+      end = c.self.inside.plan.end;
+      taken = c.self.inside.taken;
+      readers = c.self.inside.readers.items;
+      live = c.self.inside.live.items;
+      groups = c.self.inside.groups.items;
+    } in
     let is : IsFile f = c.self.invariant.0 in
     let number : ℕ = c.in-Some.number in
     let next : next_segment f.handout ≡ Some number = sym c.in-Some.ensures.value in
@@ -463,27 +462,27 @@ returns-then-not-branch-clause-inconsistent c = λ _.
 
 abbrev made : goal.After-drop-joined-2 → FileState
 made c = record {
-    handout = c.make_segment.new.handout;
-    first = c.self.inside.plan.first;
-    end = c.self.inside.plan.end;
-    taken = c.self.inside.taken;
-    readers = c.self.inside.readers.items;
-    live = c.self.inside.live.items;
-    groups = c.make_segment.new.groups.items;
-  }
+  handout = c.make_segment.new.handout;
+  first = c.self.inside.plan.first;
+  end = c.self.inside.plan.end;
+  taken = c.self.inside.taken;
+  readers = c.self.inside.readers.items;
+  live = c.self.inside.live.items;
+  groups = c.make_segment.new.groups.items;
+}
 
 at_made : (c : goal.After-drop-joined-2) → HasMade c.args.requests.now.entries c.args.self.now (made c)
 at_made c =
     let entries = c.args.requests.now.entries in
     let f : FileState = record {
-    handout = c.self.inside.handout;
-    first = c.self.inside.plan.first;
-    end = c.self.inside.plan.end;
-    taken = c.self.inside.taken;
-    readers = c.self.inside.readers.items;
-    live = c.self.inside.live.items;
-    groups = c.self.inside.groups.items;
-  } in
+      handout = c.self.inside.handout;
+      first = c.self.inside.plan.first;
+      end = c.self.inside.plan.end;
+      taken = c.self.inside.taken;
+      readers = c.self.inside.readers.items;
+      live = c.self.inside.live.items;
+      groups = c.self.inside.groups.items;
+    } in
     let is : IsFile f = c.self.invariant.0 in
     let number : ℕ = c.in-Some.number in
     let next : next_segment f.handout ≡ Some number = sym c.in-Some.ensures.value in

@@ -1,4 +1,4 @@
-use Rattle.std.proofs.Common.{◌≡◌, ◌∙◌, ℕ, List, [], ◌∷◌, ap, subst, sym}
+use Rattle.std.proofs.Common.{◌≡◌, ◌∙◌, List, [], ◌∷◌, ap, subst, sym}
 use Rattle.request_record.specs.declared.requests.Request.{Request}
 use Rattle.download_segments.specs.State.{HandoutState, IsHandout}
 use Rattle.download_file.specs.State.{FileState, new_file}
@@ -9,25 +9,25 @@ use Rattle.download_file.proofs.file.File.new.Goals as goal
 
 abbrev made : goal.After-new-4 → FileState
 made c = record {
-    handout = c.in_ok-new.field-0;
-    first = c.plan_of.result.first;
-    end = c.plan_of.result.end;
-    taken = 0 ∷ 0 ∷ 0 ∷ [];
-    readers = c.new-2.result.items;
-    live = c.new-3.result.items;
-    groups = c.new-4.result.items;
-  }
+  handout = c.in_ok-new.field-0;
+  first = c.plan_of.result.first;
+  end = c.plan_of.result.end;
+  taken = 0 ∷ 0 ∷ 0 ∷ [];
+  readers = c.new-2.result.items;
+  live = c.new-3.result.items;
+  groups = c.new-4.result.items;
+}
 
 is_new : (c : goal.After-new-4) → made c ≡ new_file c.args.key.now c.args.ueb.now c.args.geometry.now c.args.from c.args.to
 is_new c = λ i. record {
-    handout = c.in_ok-new.ensures.handout i;
-    first = c.plan_of.ensures.first i;
-    end = c.plan_of.ensures.end i;
-    taken = 0 ∷ 0 ∷ 0 ∷ [];
-    readers = c.new-2.ensures.items i;
-    live = c.new-3.ensures.items i;
-    groups = c.new-4.ensures.items i;
-  }
+  handout = c.in_ok-new.ensures.handout i;
+  first = c.plan_of.ensures.first i;
+  end = c.plan_of.ensures.end i;
+  taken = 0 ∷ 0 ∷ 0 ∷ [];
+  readers = c.new-2.ensures.items i;
+  live = c.new-3.ensures.items i;
+  groups = c.new-4.ensures.items i;
+}
 
 right : (c : goal.After-new-4) → IsFile (made c)
 right c = subst IsFile (sym (is_new c))

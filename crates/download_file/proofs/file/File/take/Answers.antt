@@ -1,7 +1,6 @@
-use Rattle.std.proofs.Common.{◌≡◌, ◌≢◌, ◌∙◌, ◌<◌, ◌↔◌, inl, inr, ℕ, List, Err, Some, ap, subst, sym, length, refl, slice_get, slice_set, rules}
+use Rattle.std.proofs.Common.{◌≡◌, ◌∙◌, ◌<◌, inr, ℕ, List, Err, Some, ap, subst, sym, length, slice_get, slice_set, rules}
 use Rattle.std.proofs.lemmas.List.Elements.{All-contains}
 use Rattle.request_record.specs.declared.requests.Request.{Request}
-use Rattle.share_verify.specs.declared.check.Check.{Check}
 use Rattle.download_trees.specs.declared.error.TreeFault.TheVariants as faults
 use Rattle.download_segments.specs.State.{HandoutState}
 use Rattle.download_file.specs.State.{FileState, IsLive, ReaderState, first_waiting}
@@ -17,14 +16,14 @@ use Rattle.download_file.proofs.file.File.take.Goals as goal
 pub take_part-requires-clause-taker : goal.take_part-requires-clause-taker
 take_part-requires-clause-taker c =
     let f : FileState = record {
-    handout = c.self.inside.handout;
-    first = c.self.inside.plan.first;
-    end = c.self.inside.plan.end;
-    taken = c.self.inside.taken;
-    readers = c.self.inside.readers.items;
-    live = c.self.inside.live.items;
-    groups = c.self.inside.groups.items;
-  } in
+      handout = c.self.inside.handout;
+      first = c.self.inside.plan.first;
+      end = c.self.inside.plan.end;
+      taken = c.self.inside.taken;
+      readers = c.self.inside.readers.items;
+      live = c.self.inside.live.items;
+      groups = c.self.inside.groups.items;
+    } in
     let live : IsLive f c.args.reader = subst (λ (s : FileState). IsLive s c.args.reader) (sym c.self.view_is) c.requires.live in
     let low : c.args.reader < length f.readers = All-contains (λ place. place < length f.readers) f.live c.args.reader c.self.invariant.0.live.there live in
     let r : ReaderState = c.index_mut.result.now in
@@ -37,26 +36,26 @@ take_part-requires-clause-taker c =
 
 abbrev then : goal.In_ok-take_part → FileState
 then c = record {
-    handout = c.take_part.new.handout;
-    first = c.self.inside.plan.first;
-    end = c.self.inside.plan.end;
-    taken = c.take_part.new.taken;
-    readers = slice_set c.self.inside.readers.items c.args.reader c.take_part.new.reader;
-    live = c.self.inside.live.items;
-    groups = c.self.inside.groups.items;
-  }
+  handout = c.take_part.new.handout;
+  first = c.self.inside.plan.first;
+  end = c.self.inside.plan.end;
+  taken = c.take_part.new.taken;
+  readers = slice_set c.self.inside.readers.items c.args.reader c.take_part.new.reader;
+  live = c.self.inside.live.items;
+  groups = c.self.inside.groups.items;
+}
 
 taken : (c : goal.In_ok-take_part) → HasTaken c.args.self.now c.args.reader c.args.bytes.now (then c)
 taken c =
     let f : FileState = record {
-    handout = c.self.inside.handout;
-    first = c.self.inside.plan.first;
-    end = c.self.inside.plan.end;
-    taken = c.self.inside.taken;
-    readers = c.self.inside.readers.items;
-    live = c.self.inside.live.items;
-    groups = c.self.inside.groups.items;
-  } in
+      handout = c.self.inside.handout;
+      first = c.self.inside.plan.first;
+      end = c.self.inside.plan.end;
+      taken = c.self.inside.taken;
+      readers = c.self.inside.readers.items;
+      live = c.self.inside.live.items;
+      groups = c.self.inside.groups.items;
+    } in
     let live : IsLive f c.args.reader = subst (λ (s : FileState). IsLive s c.args.reader) (sym c.self.view_is) c.requires.live in
     let low : c.args.reader < length f.readers = All-contains (λ place. place < length f.readers) f.live c.args.reader c.self.invariant.0.live.there live in
     let r : ReaderState = c.index_mut.result.now in
@@ -95,26 +94,26 @@ returns-clause-reads c = (taken c).reads
 
 abbrev still : goal.After-from_residual → FileState
 still c = record {
-    handout = c.take_part.new.handout;
-    first = c.self.inside.plan.first;
-    end = c.self.inside.plan.end;
-    taken = c.take_part.new.taken;
-    readers = slice_set c.self.inside.readers.items c.args.reader c.take_part.new.reader;
-    live = c.self.inside.live.items;
-    groups = c.self.inside.groups.items;
-  }
+  handout = c.take_part.new.handout;
+  first = c.self.inside.plan.first;
+  end = c.self.inside.plan.end;
+  taken = c.take_part.new.taken;
+  readers = slice_set c.self.inside.readers.items c.args.reader c.take_part.new.reader;
+  live = c.self.inside.live.items;
+  groups = c.self.inside.groups.items;
+}
 
 same : (c : goal.After-from_residual) → still c ≡ c.args.self.now
 same c =
     let f : FileState = record {
-    handout = c.self.inside.handout;
-    first = c.self.inside.plan.first;
-    end = c.self.inside.plan.end;
-    taken = c.self.inside.taken;
-    readers = c.self.inside.readers.items;
-    live = c.self.inside.live.items;
-    groups = c.self.inside.groups.items;
-  } in
+      handout = c.self.inside.handout;
+      first = c.self.inside.plan.first;
+      end = c.self.inside.plan.end;
+      taken = c.self.inside.taken;
+      readers = c.self.inside.readers.items;
+      live = c.self.inside.live.items;
+      groups = c.self.inside.groups.items;
+    } in
     let live : IsLive f c.args.reader = subst (λ (s : FileState). IsLive s c.args.reader) (sym c.self.view_is) c.requires.live in
     let low : c.args.reader < length f.readers = All-contains (λ place. place < length f.readers) f.live c.args.reader c.self.invariant.0.live.there live in
     let r : ReaderState = c.index_mut.result.now in
@@ -147,14 +146,14 @@ returns-in_err-take_part-clause-reads c =
 pub returns-in_err-take_part-clause-refused : goal.returns-in_err-take_part-clause-refused
 returns-in_err-take_part-clause-refused c = λ check is.
     let f : FileState = record {
-    handout = c.self.inside.handout;
-    first = c.self.inside.plan.first;
-    end = c.self.inside.plan.end;
-    taken = c.self.inside.taken;
-    readers = c.self.inside.readers.items;
-    live = c.self.inside.live.items;
-    groups = c.self.inside.groups.items;
-  } in
+      handout = c.self.inside.handout;
+      first = c.self.inside.plan.first;
+      end = c.self.inside.plan.end;
+      taken = c.self.inside.taken;
+      readers = c.self.inside.readers.items;
+      live = c.self.inside.live.items;
+      groups = c.self.inside.groups.items;
+    } in
     let live : IsLive f c.args.reader = subst (λ (s : FileState). IsLive s c.args.reader) (sym c.self.view_is) c.requires.live in
     let low : c.args.reader < length f.readers = All-contains (λ place. place < length f.readers) f.live c.args.reader c.self.invariant.0.live.there live in
     let r : ReaderState = c.index_mut.result.now in

@@ -1,35 +1,30 @@
-use Rattle.std.proofs.Common.{◌≡◌, ◌∙◌, ℕ, List, ap, subst, sym}
-use Rattle.download_segments.specs.declared.piece.Piece.{Piece}
-use Rattle.download_segments.specs.State.{HandoutState, IsHandout}
+use Rattle.std.proofs.Common.{◌∙◌, subst, sym}
 use Rattle.download_file.specs.State.{FileState}
-use Rattle.download_file.specs.Changes.{StaysAskedUp, StaysRead}
-use Rattle.download_file.specs.Asked.{AsksNoMore}
-use Rattle.download_file.specs.Right.{IsFile}
 use Rattle.download_file.proofs.NewLemmas.{HasPieces, has_geometry, has_pieces}
 use Rattle.download_file.proofs.file.File.take_piece.Goals as goal
 
 abbrev then : goal.After-take → FileState
 then c = record {
-    handout = c.take.new.self;
-    first = c.self.inside.plan.first;
-    end = c.self.inside.plan.end;
-    taken = c.self.inside.taken;
-    readers = c.self.inside.readers.items;
-    live = c.self.inside.live.items;
-    groups = c.self.inside.groups.items;
-  }
+  handout = c.take.new.self;
+  first = c.self.inside.plan.first;
+  end = c.self.inside.plan.end;
+  taken = c.self.inside.taken;
+  readers = c.self.inside.readers.items;
+  live = c.self.inside.live.items;
+  groups = c.self.inside.groups.items;
+}
 
 taken : (c : goal.After-take) → HasPieces c.args.self.now (then c)
 taken c =
     let f : FileState = record {
-    handout = c.self.inside.handout;
-    first = c.self.inside.plan.first;
-    end = c.self.inside.plan.end;
-    taken = c.self.inside.taken;
-    readers = c.self.inside.readers.items;
-    live = c.self.inside.live.items;
-    groups = c.self.inside.groups.items;
-  } in
+      handout = c.self.inside.handout;
+      first = c.self.inside.plan.first;
+      end = c.self.inside.plan.end;
+      taken = c.self.inside.taken;
+      readers = c.self.inside.readers.items;
+      live = c.self.inside.live.items;
+      groups = c.self.inside.groups.items;
+    } in
     subst (λ (s : FileState). HasPieces s (then c)) c.self.view_is
     (has_pieces f c.take.new.self c.take.result c.self.invariant.0 c.take.ensures.right c.take.ensures.taken)
 

@@ -1,10 +1,8 @@
-use Rattle.std.proofs.Common.{◌≡◌, ◌≢◌, ◌∙◌, ◌<◌, [], ℕ, List, All, Bool, true, false, Some, ap, subst, sym, length, refl, slice_get, slice_set, arith}
+use Rattle.std.proofs.Common.{◌≡◌, ◌≢◌, ◌∙◌, ◌<◌, ℕ, List, true, false, Some, ap, subst, sym, length, slice_get, slice_set, arith}
 use Rattle.std.proofs.lemmas.List.{length-set}
 use Rattle.std.proofs.lemmas.List.Elements.{All-contains, All-weaker}
-use Rattle.download_source.specs.declared.wanted.Wanted.{Wanted}
 use Rattle.download_segments.specs.Handout.{next_segment}
-use Rattle.download_file.specs.State.{FileState, IsLive, ReaderState, giver, without}
-use Rattle.download_file.specs.Steps.{AsksNoTree}
+use Rattle.download_file.specs.State.{FileState, IsLive, ReaderState, giver}
 use Rattle.download_file.proofs.ListLemmas.{get_other, got}
 use Rattle.download_file.proofs.EndLemmas.{next_left, option_is_false, option_is_true}
 use Rattle.download_file.proofs.EndFileLemmas.{HasEnded, can_give, has_ended}
@@ -13,26 +11,26 @@ use Rattle.download_file.proofs.file.File.wanted.Goals as goal
 
 abbrev asked : goal.In-Ok → FileState
 asked c = record {
-    handout = c.self.inside.handout;
-    first = c.self.inside.plan.first;
-    end = c.self.inside.plan.end;
-    taken = c.self.inside.taken;
-    readers = slice_set c.self.inside.readers.items c.args.reader c.ask.new.self;
-    live = c.self.inside.live.items;
-    groups = c.self.inside.groups.items;
-  }
+  handout = c.self.inside.handout;
+  first = c.self.inside.plan.first;
+  end = c.self.inside.plan.end;
+  taken = c.self.inside.taken;
+  readers = slice_set c.self.inside.readers.items c.args.reader c.ask.new.self;
+  live = c.self.inside.live.items;
+  groups = c.self.inside.groups.items;
+}
 
 wanted : (c : goal.In-Ok) → HasWanted c.args.self.now c.args.reader c.args.place c.last_asked-last.result c.in-Ok.wanted.items (asked c)
 wanted c =
     let f : FileState = record {
-    handout = c.self.inside.handout;
-    first = c.self.inside.plan.first;
-    end = c.self.inside.plan.end;
-    taken = c.self.inside.taken;
-    readers = c.self.inside.readers.items;
-    live = c.self.inside.live.items;
-    groups = c.self.inside.groups.items;
-  } in
+      handout = c.self.inside.handout;
+      first = c.self.inside.plan.first;
+      end = c.self.inside.plan.end;
+      taken = c.self.inside.taken;
+      readers = c.self.inside.readers.items;
+      live = c.self.inside.live.items;
+      groups = c.self.inside.groups.items;
+    } in
     let live : IsLive f c.args.reader = subst (λ (s : FileState). IsLive s c.args.reader) (sym c.self.view_is) c.requires.live in
     let low : c.args.reader < length f.readers = All-contains (λ place. place < length f.readers) f.live c.args.reader c.self.invariant.0.live.there live in
     let r : ReaderState = c.index_mut.result.now in
@@ -84,40 +82,40 @@ end_reader-requires-clause-there c =
 pub end_reader-requires-clause-gives : goal.end_reader-requires-clause-gives
 end_reader-requires-clause-gives c = λ gave next s first at.
     let f : FileState = record {
-    handout = c.self.inside.handout;
-    first = c.self.inside.plan.first;
-    end = c.self.inside.plan.end;
-    taken = c.self.inside.taken;
-    readers = c.self.inside.readers.items;
-    live = c.self.inside.live.items;
-    groups = c.self.inside.groups.items;
-  } in
+      handout = c.self.inside.handout;
+      first = c.self.inside.plan.first;
+      end = c.self.inside.plan.end;
+      taken = c.self.inside.taken;
+      readers = c.self.inside.readers.items;
+      live = c.self.inside.live.items;
+      groups = c.self.inside.groups.items;
+    } in
     let left = next_left f.live c.args.reader next first in
     can_give f c.args.reader c.self.invariant.0 (subst (λ (s : FileState). IsLive s c.args.reader) (sym c.self.view_is) c.requires.live) gave next s first
     (sym (get_other f.readers c.args.reader next c.ask.new.self left.1) ∙ at)
 
 abbrev then : goal.After-end_reader → FileState
 then c = record {
-    handout = c.self.inside.handout;
-    first = c.self.inside.plan.first;
-    end = c.self.inside.plan.end;
-    taken = c.self.inside.taken;
-    readers = c.end_reader.new.readers.items;
-    live = c.end_reader.new.live.items;
-    groups = c.self.inside.groups.items;
-  }
+  handout = c.self.inside.handout;
+  first = c.self.inside.plan.first;
+  end = c.self.inside.plan.end;
+  taken = c.self.inside.taken;
+  readers = c.end_reader.new.readers.items;
+  live = c.end_reader.new.live.items;
+  groups = c.self.inside.groups.items;
+}
 
 ended : (c : goal.After-end_reader) → HasEnded c.args.self.now c.args.reader c.index_mut.result.now.source c.ask.new.self.source (then c)
 ended c =
     let f : FileState = record {
-    handout = c.self.inside.handout;
-    first = c.self.inside.plan.first;
-    end = c.self.inside.plan.end;
-    taken = c.self.inside.taken;
-    readers = c.self.inside.readers.items;
-    live = c.self.inside.live.items;
-    groups = c.self.inside.groups.items;
-  } in
+      handout = c.self.inside.handout;
+      first = c.self.inside.plan.first;
+      end = c.self.inside.plan.end;
+      taken = c.self.inside.taken;
+      readers = c.self.inside.readers.items;
+      live = c.self.inside.live.items;
+      groups = c.self.inside.groups.items;
+    } in
     let live : IsLive f c.args.reader = subst (λ (s : FileState). IsLive s c.args.reader) (sym c.self.view_is) c.requires.live in
     let low : c.args.reader < length f.readers = All-contains (λ place. place < length f.readers) f.live c.args.reader c.self.invariant.0.live.there live in
     let r : ReaderState = c.index_mut.result.now in
