@@ -134,7 +134,7 @@ module _ (s : HoldingsState) (right : IsRight s) (r : RequestsState) (u : TableS
 -- ---- answers
 
 -- what stands at a place after a message: what stood there, or the request that it answers
-message_cases : (from : ℕ) (m : Message) (now : ℕ) (r : RequestsState) (k : ℕ) (n : Request) → slice_get (after_message from m now r).entries k ≡ Some n → (slice_get r.entries k ≡ Some n) ⊎ ((counts_at from m r ≡ Some k) × (n.outcome ≡ Answered m.body))
+pub message_cases : (from : ℕ) (m : Message) (now : ℕ) (r : RequestsState) (k : ℕ) (n : Request) → slice_get (after_message from m now r).entries k ≡ Some n → (slice_get r.entries k ≡ Some n) ⊎ ((counts_at from m r ≡ Some k) × (n.outcome ≡ Answered m.body))
 message_cases from m now r k n e = by (counts_at from m (at now r)) refl e
   where
     by : (o : Option ℕ) → counts_at from m (at now r) ≡ o → slice_get (counted_at m (at now r) o).entries k ≡ Some n → (slice_get r.entries k ≡ Some n) ⊎ ((counts_at from m r ≡ Some k) × (n.outcome ≡ Answered m.body))

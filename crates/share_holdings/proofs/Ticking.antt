@@ -28,7 +28,7 @@ use Rattle.share_holdings.proofs.Records.{AskedAlike, StaysTo, alike_tick, stays
 -- ---- which requests a tick finds lost
 
 -- a place is listed where the request there passes the test
-listed : (test : Request → Bool) (es : List Request) (base i : ℕ) (q : Request) → slice_get es i ≡ Some q → test q ≡ true → Contains (places_from test base es) (base + i)
+pub listed : (test : Request → Bool) (es : List Request) (base i : ℕ) (q : Request) → slice_get es i ≡ Some q → test q ≡ true → Contains (places_from test base es) (base + i)
 listed test [] base i q e pass = absurd cc
 listed test (x ∷ xs) base zero q e pass = let is : x ≡ q = cc in by (test x) refl
   where
@@ -61,18 +61,18 @@ unlisted test (x ∷ xs) base p c = by (test x) refl c (unlisted test xs (base +
     ]
     by false t d rest = later (rest d)
 
-get_map : (f : Request → Request) (es : List Request) (i : ℕ) (q : Request) → slice_get es i ≡ Some q → slice_get (map f es) i ≡ Some (f q)
+pub get_map : (f : Request → Request) (es : List Request) (i : ℕ) (q : Request) → slice_get es i ≡ Some q → slice_get (map f es) i ≡ Some (f q)
 get_map f [] i q e = absurd cc
 get_map f (x ∷ xs) zero q e = let is : x ≡ q = cc in ap (λ (y : Request). Some (f y)) is
 get_map f (x ∷ xs) (suc i) q e = get_map f xs i q e
 
-from_map : (f : Request → Request) (es : List Request) (i : ℕ) (n : Request) → slice_get (map f es) i ≡ Some n → (q : Request) × (slice_get es i ≡ Some q) × (f q ≡ n)
+pub from_map : (f : Request → Request) (es : List Request) (i : ℕ) (n : Request) → slice_get (map f es) i ≡ Some n → (q : Request) × (slice_get es i ≡ Some q) × (f q ≡ n)
 from_map f [] i n e = absurd cc
 from_map f (x ∷ xs) zero n e = let is : f x ≡ n = cc in (x, refl, is)
 from_map f (x ∷ xs) (suc i) n e = from_map f xs i n e
 
 -- a request after a tick is lost now, or has the outcome that it had
-ticked_cases : (now : ℕ) (q : Request) → (is_lost_at now q ≡ true) ⊎ ((ticked_one now q).outcome ≡ q.outcome)
+pub ticked_cases : (now : ℕ) (q : Request) → (is_lost_at now q ≡ true) ⊎ ((ticked_one now q).outcome ≡ q.outcome)
 ticked_cases now q = by (is_lost_at now q) (is_resent_at now q) refl
   where
     by : (lost again : Bool) → is_lost_at now q ≡ lost → (lost ≡ true) ⊎ ((cond lost (with_outcome q Lost) (cond again (resent_one now q) q)).outcome ≡ q.outcome)
@@ -105,7 +105,7 @@ lost_at now r place c =
     is_lost q true e = refl
     is_lost q false e = absurd (true≢false (sym e))
 
-tick_goes : (now : ℕ) (r : RequestsState) → GoesAlike r.entries (after_tick now r).entries
+pub tick_goes : (now : ℕ) (r : RequestsState) → GoesAlike r.entries (after_tick now r).entries
 tick_goes now r = record { stays = stays_tick now r; alike = alike_tick now r; long = length-map r.entries (ticked_one (max r.clock now)) }
 
 -- ---- holdings are retired, one after another

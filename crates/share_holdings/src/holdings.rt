@@ -14,8 +14,8 @@ ghost use Rattle.share_holdings.specs.Moves.{IsAmong, IsSame, RetiresAll, Tells,
 ghost use Rattle.share_holdings.specs.Right.{AreAllHeld, IsReadOf, IsRight};
 ghost use Rattle.share_holdings.specs.Numbers.{is_at, read_count};
 ghost use Rattle.share_holdings.specs.State.{NumberState};
-ghost use Rattle.share_holdings.specs.Table.{IsFree, IsHolding, IsNumber, NoneIsFree, Releases};
-ghost use Rattle.share_holdings.specs.Table.{Retires, Suspends, TakesUp};
+ghost use Rattle.share_holdings.specs.Table.{IsFree, IsHolding, IsNumber, IsTable, NoneIsFree};
+ghost use Rattle.share_holdings.specs.Table.{Releases, Retires, Suspends, TakesUp};
 ghost use Rattle.share_holdings.specs.declared.holding.Holding.{Holding};
 
 use crate::holding::{Blame, Holding};
@@ -109,6 +109,7 @@ impl Holdings {
     pub fn holdings(&self) -> &[Holding]
         ensures value { result.now ≡ self.now.table.holdings }
         ensures right { IsRight self.now }
+        ensures table { IsTable self.now.table }
     {
         self.table.holdings()
     }

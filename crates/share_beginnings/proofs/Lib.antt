@@ -1,0 +1,13 @@
+pub mod Results
+pub mod Entries
+pub mod Reading
+pub mod Falling
+pub mod Knowing
+pub mod Asking
+pub mod Openings
+pub mod Hearing
+pub mod Comparing
+pub mod Ticking
+pub mod Beginning
+pub mod Opened
+pub mod Going

@@ -1,0 +1,14 @@
+use Rattle.std.proofs.Common.{rules, ◌≡◌, ◌∙◌, ℕ, ◌+◌, ◌-◌, ◌<◌, ◌≤◌, ◌⊎◌, inl, inr, List, [], ◌∷◌, ◌++◌, length, replicate, Option, Some, None, Result, Ok, Err, OnOk, OnErr, IfOk, true, false, refl, sym, subst, ap, arith}
+use Rattle.share_beginnings.specs.State.{BeginningsState}
+use Rattle.share_beginnings.proofs.Beginning.{known_first, opening_first}
+use Rattle.share_beginnings.proofs.beginnings.Beginnings.begin.Goals as goal
+
+pub returns-clause-known : goal.returns-clause-known
+returns-clause-known c =
+    let s : BeginningsState = record { holdings = c.in_ok-begin.field-0; begun = c.new.result.items } in
+    known_first c.args.total c.args.servers.now c.args.session c.args.now s c.in_ok-begin.ensures.begins c.new.ensures.items c.in_ok-begin.ensures.right
+
+pub returns-clause-opening : goal.returns-clause-opening
+returns-clause-opening c =
+    let s : BeginningsState = record { holdings = c.in_ok-begin.field-0; begun = c.new.result.items } in
+    opening_first c.args.total c.args.servers.now c.args.session c.args.now s c.in_ok-begin.ensures.begins c.new.ensures.items

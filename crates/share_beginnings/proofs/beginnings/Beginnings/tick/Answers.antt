@@ -1,0 +1,18 @@
+use Rattle.std.proofs.Common.{rules, ◌≡◌, ◌∙◌, ℕ, ◌+◌, ◌-◌, ◌<◌, ◌≤◌, ◌⊎◌, inl, inr, List, [], ◌∷◌, ◌++◌, length, replicate, Option, Some, None, Result, Ok, Err, OnOk, OnErr, IfOk, true, false, refl, sym, subst, ap, arith}
+use Rattle.share_beginnings.specs.Known.{AreBegun}
+use Rattle.share_beginnings.specs.Opening.{AreOpening, nobody}
+use Rattle.share_beginnings.specs.State.{BeginningsState}
+use Rattle.share_beginnings.proofs.Ticking.{known_ticked, opening_ticked}
+use Rattle.share_beginnings.proofs.beginnings.Beginnings.tick.Goals as goal
+
+pub returns-clause-known : goal.returns-clause-known
+returns-clause-known c known =
+    let s : BeginningsState = record { holdings = c.self.inside.holdings; begun = c.self.inside.begun.items } in
+    let u : BeginningsState = record { holdings = c.tick.new.self; begun = c.self.inside.begun.items } in
+    known_ticked s u c.args.now (subst AreBegun (sym c.self.view_is) known) c.in_ok-tick.ensures.ok refl c.in_ok-tick.ensures.right
+
+pub returns-clause-opening : goal.returns-clause-opening
+returns-clause-opening c known opening =
+    let s : BeginningsState = record { holdings = c.self.inside.holdings; begun = c.self.inside.begun.items } in
+    let u : BeginningsState = record { holdings = c.tick.new.self; begun = c.self.inside.begun.items } in
+    opening_ticked s u c.args.now (subst AreBegun (sym c.self.view_is) known) c.in_ok-tick.ensures.ok refl (subst (AreOpening nobody) (sym c.self.view_is) opening) c.know_table.ensures

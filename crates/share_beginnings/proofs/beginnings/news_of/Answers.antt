@@ -1,0 +1,14 @@
+use Rattle.std.proofs.Common.{rules, ◌≡◌, ◌∙◌, ℕ, ◌+◌, ◌-◌, ◌<◌, ◌≤◌, ◌⊎◌, inl, inr, List, [], ◌∷◌, ◌++◌, length, replicate, Option, Some, None, Result, Ok, Err, OnOk, OnErr, IfOk, true, false, refl, sym, subst, ap, arith}
+use Rattle.std.proofs.lemmas.Bool.{false≢true}
+use Rattle.share_beginnings.proofs.beginnings.news_of.Goals as goal
+use Rattle.share_beginnings.specs.Moves.{IsNewsOf, WaitsAt}
+use Rattle.share_beginnings.specs.State.{BeginningsState}
+use Rattle.share_beginnings.specs.declared.beginnings.News.{News}
+use Rattle.share_beginnings.specs.declared.beginnings.News.TheVariants as news
+use Rattle.share_holdings.specs.declared.holdings.Heard.{Heard}
+
+pub returns-then-waits_at : goal.returns-then-waits_at
+returns-then-waits_at c s same = subst (λ (h : Heard). IsNewsOf s h (news.Beginning c.in-Bytes.holding c.in-Bytes.place)) (sym c.in-Bytes.is) (inl (refl, (c.waits_at.ensures s same).0 c.if-waits_at.true))
+
+pub returns-else-waits_at : goal.returns-else-waits_at
+returns-else-waits_at c s same = subst (λ (h : Heard). IsNewsOf s h (news.Bytes c.in-Bytes.holding c.in-Bytes.place)) (sym c.in-Bytes.is) (inr (refl, λ w. false≢true (sym c.if-waits_at.false ∙ (c.waits_at.ensures s same).1 w)))

@@ -1,0 +1,6 @@
+-- what public contracts rest on
+pub mod State
+pub mod Reads
+pub mod Known
+pub mod Opening
+pub mod Moves
