@@ -11,3 +11,5 @@ pub mod Ticking
 pub mod Beginning
 pub mod Opened
 pub mod Going
+pub mod Accepting
+pub mod Bringing

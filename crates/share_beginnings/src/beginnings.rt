@@ -1,12 +1,12 @@
 //! The shares that servers hold, and how far the beginning of each is read.
 
-ghost use Rattle.std.specs.Prelude.{◌≡◌, ◌↔◌, ◌<◌, ◌+◌, ℕ, List, [], IfErr, IfOk};
-ghost use Rattle.std.specs.Prelude.{IfSome, IfNone};
+ghost use Rattle.std.specs.Prelude.{◌≡◌, ◌↔◌, ◌<◌, ◌+◌, ℕ, List, [], IfErr, IfOk, false, true};
+ghost use Rattle.std.specs.Prelude.{IfSome, IfNone, None};
 ghost use Rattle.std.specs.Prelude.{IsTrue, OnErr, OnOk, length, nat_eq};
 ghost use Rattle.std.specs.List.{IsDistinct};
 ghost use Rattle.wire.specs.declared.message.Body.TheVariants.{Data};
 ghost use Rattle.share_layout.specs.Geometry.{IsGeometry};
-ghost use Rattle.share_opening.specs.Opening.{Advances, next_length, next_place};
+ghost use Rattle.share_opening.specs.Opening.{Advances, Agrees, next_length, next_place};
 ghost use Rattle.share_opening.specs.Refusal.{IsRefused};
 ghost use Rattle.share_opening.specs.declared.opening.Opening.{Opening};
 ghost use Rattle.request_record.specs.Asking.{after_message};
@@ -119,7 +119,8 @@ impl Beginnings {
             ≡ after_message from message now self.old.holdings.requests }
         ensures same { holdings.IsSame self.old.holdings self.new.holdings }
         ensures hears { IfOk result (HearsNews from message now self.old self.new) }
-        ensures bytes { IfOk result (BringsBytes self.new.holdings.requests.entries) }
+        ensures bytes { AreBegun self.old
+            → IfOk result (BringsBytes self.new.holdings.requests.entries) }
         ensures known { AreBegun self.old → IfOk result (λ _. AreBegun self.new) }
         ensures opening { AreBegun self.old → AreOpening nobody self.old
             → IfOk result (λ news. AreOpening (IsToldOf news) self.new) }
@@ -235,11 +236,10 @@ impl Beginnings {
         let Some(opening) = begun.opening else {
             return Ok(());
         };
-        if left && !opening.agrees(geometry) {
+        if left && differs(&opening, geometry) {
             return self.holdings.blame(holding, Check::Layout);
         }
-        let out = begun.waiting.is_some() && is_header_out(&opening);
-        self.holdings.suspend(holding, out);
+        self.holdings.suspend(holding, is_header_out(&begun));
         Ok(())
     }
 
@@ -416,9 +416,22 @@ fn length_of(opening: &Opening) -> ReadLength
     ReadLength::new(opening.next_length()).unwrap()
 }
 
-// Whether the next read of an opening is one of the header.
-fn is_header_out(opening: &Opening) -> bool {
-    matches!(opening, Opening::Start | Opening::Second(_))
+// Whether the header that was read is another than that of a file with this geometry.
+fn differs(opening: &Opening, geometry: &Geometry) -> bool
+    ensures { result ≡ false → Agrees geometry.now opening.now }
+{
+    !opening.agrees(geometry)
+}
+
+// Whether a read of the header waits for its answer.
+fn is_header_out(begun: &Begun) -> bool
+    ensures some { result ≡ true → begun.now.opening ≡ None → ⊥ }
+    ensures waits { result ≡ true → begun.now.waiting ≡ None → ⊥ }
+{
+    match begun.opening {
+        Some(Opening::Start | Opening::Second(_)) => begun.waiting.is_some(),
+        _ => false,
+    }
 }
 
 // What is told of what was heard.

@@ -1,0 +1,15 @@
+use Rattle.std.proofs.Common.{◌≡◌, ◌≤◌, length}
+use Rattle.share_beginnings.specs.Known.{AreBegun}
+use Rattle.share_beginnings.specs.Moves.{GoesOn}
+use Rattle.share_beginnings.specs.Opening.{AreComparedUpTo}
+use Rattle.share_beginnings.proofs.beginnings.Beginnings.accept.Given as goal
+
+-- those before this one are compared
+abbrev pub invariant-loop-holding : goal.invariant-loop-holding
+invariant-loop-holding l = record {
+  known : AreBegun l.self;
+  compared : AreComparedUpTo l.geometry l.found l.holding l.self;
+  begun : l.self.begun ≡ l.initial.self.begun;
+  requests : l.self.holdings.requests ≡ l.initial.self.holdings.requests;
+  goes : GoesOn l.initial.self l.self;
+}

@@ -1,0 +1,89 @@
+use Rattle.std.proofs.Common.{rules, ◌≡◌, ◌∙◌, ℕ, zero, suc, ◌+◌, ◌-◌, ◌<◌, ◌≤◌, ◌⊎◌, inl, inr, List, [], ◌∷◌, ◌++◌, length, replicate, get_or, Option, Some, None, Bool, Result, Ok, Err, OnOk, OnErr, IfOk, true, false, true≢false, refl, sym, subst, ap, arith}
+use Rattle.std.specs.Prelude.{slice_get}
+use Rattle.std.proofs.lemmas.Option.{slice_get-get_or, slice_get_within}
+use Rattle.share_holdings.specs.Moves.{Blames}
+use Rattle.share_holdings.specs.State.{HoldingsState, TableState}
+use Rattle.share_holdings.specs.Table.{IsHolding, Suspends}
+use Rattle.share_holdings.specs.declared.holding.Holding.{Holding}
+use Rattle.share_beginnings.specs.Known.{AreBegun}
+use Rattle.share_beginnings.specs.Moves.{Compares, GoesOn}
+use Rattle.share_beginnings.specs.State.{BeginningsState}
+use Rattle.share_beginnings.proofs.Falling.{falls_one}
+use Rattle.share_beginnings.proofs.Going.{goes_on_from, rested_goes, rested_known}
+use Rattle.share_beginnings.proofs.Knowing.{keeps_same, known_blamed, known_same, shares_suspended}
+use Rattle.share_beginnings.proofs.Opened.{goes_blamed, goes_none}
+use Rattle.share_beginnings.proofs.Results.{by_result, on_ok}
+use Rattle.share_beginnings.proofs.beginnings.Beginnings.compare.Goals as goal
+
+pub returns-then-not-holdings-holding-clause-known : goal.returns-then-not-holdings-holding-clause-known
+returns-then-not-holdings-holding-clause-known c = rested_known c.args.self.now c.take_waiting.new.self c.args.holding c.requires.known c.take_waiting.ensures.rests
+
+pub returns-then-not-holdings-holding-clause-goes : goal.returns-then-not-holdings-holding-clause-goes
+returns-then-not-holdings-holding-clause-goes c = rested_goes c.args.self.now c.take_waiting.new.self c.args.holding c.requires.known c.take_waiting.ensures.rests
+
+pub returns-then-not-holdings-holding-clause-compares : goal.returns-then-not-holdings-holding-clause-compares
+returns-then-not-holdings-holding-clause-compares c =
+    let s = c.args.self.now in
+    let w = c.take_waiting.new.self in
+    let a = c.requires.awaits.1 in
+    let list : c.holdings.result.now ≡ w.holdings.table.holdings = c.holdings.ensures.value ∙ ap (λ (x : BeginningsState). x.holdings.table.holdings) c.self.view_is in
+    let d : Holding = record { server = 0; share = 0; left = false; suspended = false } in
+    let same = ap (λ (x : BeginningsState). x.holdings.table.holdings) c.take_waiting.ensures.rests.is in
+    let lt : c.args.holding < length w.holdings.table.holdings = (let k = slice_get_within s.holdings.table.holdings c.args.holding a.held a.is in let e = ap length same in omega (arith, k, e)) in
+    let at : slice_get w.holdings.table.holdings c.args.holding ≡ Some (get_or w.holdings.table.holdings c.args.holding d) = slice_get-get_or w.holdings.table.holdings c.args.holding d lt in
+    let gone : (get_or w.holdings.table.holdings c.args.holding d).left ≡ false = sym (ap (λ (l : List Holding). (get_or l c.args.holding d).left) list) ∙ c.if-not-holdings-holding.true in
+    record {
+      rested_first = (w, c.take_waiting.ensures.rests);
+      begun = refl;
+      settles = inl (get_or w.holdings.table.holdings c.args.holding d, sym (ap (λ (l : List Holding). slice_get l c.args.holding) same) ∙ at, gone, ap (λ (x : BeginningsState). x.holdings) c.take_waiting.ensures.rests.is);
+    }
+
+module _ (c : goal.After-blame) where
+  abbrev pub w0 : BeginningsState
+  w0 = record { holdings = c.self.inside.holdings; begun = c.self.inside.begun.items }
+
+  abbrev pub u0 : BeginningsState
+  u0 = record { holdings = c.blame.new.self; begun = c.self.inside.begun.items }
+
+pub returns-in-Some-compared-clause-known : goal.returns-in-Some-compared-clause-known
+returns-in-Some-compared-clause-known c =
+    on_ok c.blame.result _ (AreBegun (u0 c)) c.blame.ensures.ok
+    (λ b. known_blamed (w0 c) (u0 c) c.args.holding c.in-Some-compared.check (subst AreBegun (sym c.self.view_is) (rested_known c.args.self.now c.take_waiting.new.self c.args.holding c.requires.known c.take_waiting.ensures.rests)) b (falls_one c.args.holding (w0 c).holdings.table (u0 c).holdings.table b.retired) c.blame.ensures.right refl)
+
+pub returns-in-Some-compared-clause-compares : goal.returns-in-Some-compared-clause-compares
+returns-in-Some-compared-clause-compares c =
+    on_ok c.blame.result _ _ c.blame.ensures.ok
+    (λ b. record {
+      rested_first = (c.take_waiting.new.self, c.take_waiting.ensures.rests);
+      begun = ap (λ (x : BeginningsState). x.begun) c.self.view_is;
+      settles = inr (inl (c.in-Some-compared.check, subst (λ (h : HoldingsState). Blames c.args.holding c.in-Some-compared.check h c.blame.new.self) (ap (λ (x : BeginningsState). x.holdings) c.self.view_is ∙ ap (λ (x : BeginningsState). x.holdings) c.take_waiting.ensures.rests.is) b));
+    })
+
+pub returns-in-Some-compared-clause-goes : goal.returns-in-Some-compared-clause-goes
+returns-in-Some-compared-clause-goes c =
+    goes_on_from c.args.self.now c.take_waiting.new.self c.args.holding c.requires.known c.take_waiting.ensures.rests (u0 c)
+    (subst (λ (x : BeginningsState). GoesOn x (u0 c)) c.self.view_is
+    (by_result c.blame.result _ _ (GoesOn (w0 c) (u0 c)) c.blame.ensures.ok c.blame.ensures.err
+    (λ b. goes_blamed (w0 c) (u0 c) c.args.holding c.in-Some-compared.check b)
+    (λ e. goes_none (w0 c) (u0 c) (ap (λ (x : HoldingsState). x.requests) e) (ap (λ (x : HoldingsState). x.blamed) e))))
+
+pub returns-in-None-clause-known : goal.returns-in-None-clause-known
+returns-in-None-clause-known c =
+    let w : BeginningsState = record { holdings = c.self.inside.holdings; begun = c.self.inside.begun.items } in
+    let u : BeginningsState = record { holdings = c.suspend.new.self; begun = c.self.inside.begun.items } in
+    known_same w u (subst AreBegun (sym c.self.view_is) (rested_known c.args.self.now c.take_waiting.new.self c.args.holding c.requires.known c.take_waiting.ensures.rests)) (ap (λ (x : HoldingsState). x.requests) c.suspend.ensures.others)
+    (shares_suspended false c.args.holding w.holdings.table u.holdings.table c.suspend.ensures.suspends) c.suspend.ensures.right refl (keeps_same w.begun u.begun refl)
+
+pub returns-in-None-clause-compares : goal.returns-in-None-clause-compares
+returns-in-None-clause-compares c = record {
+  rested_first = (c.take_waiting.new.self, c.take_waiting.ensures.rests);
+  begun = ap (λ (x : BeginningsState). x.begun) c.self.view_is;
+  settles = inr (inr (subst (λ (h : HoldingsState). Suspends false c.args.holding h.table c.suspend.new.self.table × (c.suspend.new.self ≡ record h { table = c.suspend.new.self.table })) (ap (λ (x : BeginningsState). x.holdings) c.self.view_is ∙ ap (λ (x : BeginningsState). x.holdings) c.take_waiting.ensures.rests.is) (c.suspend.ensures.suspends, c.suspend.ensures.others)));
+}
+
+pub returns-in-None-clause-goes : goal.returns-in-None-clause-goes
+returns-in-None-clause-goes c =
+    let w : BeginningsState = record { holdings = c.self.inside.holdings; begun = c.self.inside.begun.items } in
+    let u : BeginningsState = record { holdings = c.suspend.new.self; begun = c.self.inside.begun.items } in
+    goes_on_from c.args.self.now c.take_waiting.new.self c.args.holding c.requires.known c.take_waiting.ensures.rests u
+    (subst (λ (x : BeginningsState). GoesOn x u) c.self.view_is (goes_none w u (ap (λ (x : HoldingsState). x.requests) c.suspend.ensures.others) (ap (λ (x : HoldingsState). x.blamed) c.suspend.ensures.others)))

@@ -1,0 +1,111 @@
+use Rattle.std.proofs.Common.{rules, ◌≡◌, ◌∙◌, ℕ, zero, suc, ◌+◌, ◌-◌, ◌<◌, ◌≤◌, ◌⊎◌, inl, inr, List, [], ◌∷◌, ◌++◌, length, replicate, get_or, Option, Some, None, Bool, Result, Ok, Err, OnOk, OnErr, IfOk, true, false, true≢false, refl, sym, subst, ap, arith}
+use Rattle.std.specs.Prelude.{slice_get, slice_index_or}
+use Rattle.share_opening.specs.Opening.{Agrees}
+use Rattle.share_opening.specs.declared.opening.Opening.{Opening}
+use Rattle.share_holdings.proofs.Lists.{got}
+use Rattle.share_holdings.specs.State.{HoldingsState, TableState}
+use Rattle.share_holdings.specs.declared.holding.Holding.{Holding}
+use Rattle.share_verify.specs.declared.check.Check.TheVariants as checks
+use Rattle.share_beginnings.specs.Known.{AreBegun}
+use Rattle.share_beginnings.specs.Moves.{GoesOn}
+use Rattle.share_beginnings.specs.Opening.{AreComparedUpTo}
+use Rattle.share_beginnings.specs.State.{BeginningsState, IsBegun}
+use Rattle.share_beginnings.specs.declared.begun.Begun.{Begun}
+use Rattle.share_beginnings.proofs.Accepting.{refused_compared, refused_goes, refused_known, released_goes, released_known, released_requests, released_blamed, suspended_compared, suspended_goes, suspended_known, unopened_compared}
+use Rattle.share_beginnings.proofs.Opened.{goes_from, goes_none}
+use Rattle.share_beginnings.proofs.Results.{by_result, on_ok}
+use Rattle.share_beginnings.proofs.beginnings.Beginnings.compare_one.Goals.{else-left-via-then-left+else-differs, else-left-via-else-left}
+use Rattle.share_beginnings.proofs.beginnings.Beginnings.compare_one.Goals as goal
+use Rattle.std.proofs.lemmas.Option.{get_or_from_slice_get}
+
+pub returns-in_default-clause-compared : goal.returns-in_default-clause-compared
+returns-in_default-clause-compared c found before =
+    let s : BeginningsState = record { holdings = c.self.inside.holdings; begun = c.self.inside.begun.items } in
+    let known : AreBegun s = subst AreBegun (sym c.self.view_is) c.requires.known in
+    let b = c.index.result.now in
+    let at : IsBegun s c.args.holding b = got s.begun c.args.holding b (subst (λ (x : BeginningsState). c.args.holding < length x.begun) (sym c.self.view_is) c.requires.there) c.index.ensures in
+    unopened_compared c.args.geometry.now c.args.holding c.requires.valid s known b at c.release.new.self c.release.ensures.releases c.release.ensures.others c.release.ensures.right c.holdings.ensures.table c.in_default.is found (subst (λ (x : BeginningsState). AreComparedUpTo c.args.geometry.now found c.args.holding x) (sym c.self.view_is) before)
+
+pub returns-in_default-clause-known : goal.returns-in_default-clause-known
+returns-in_default-clause-known c =
+    let s : BeginningsState = record { holdings = c.self.inside.holdings; begun = c.self.inside.begun.items } in
+    let known : AreBegun s = subst AreBegun (sym c.self.view_is) c.requires.known in
+    let b = c.index.result.now in
+    let at : IsBegun s c.args.holding b = got s.begun c.args.holding b (subst (λ (x : BeginningsState). c.args.holding < length x.begun) (sym c.self.view_is) c.requires.there) c.index.ensures in
+    released_known c.args.geometry.now c.args.holding c.requires.valid s known b at c.release.new.self c.release.ensures.releases c.release.ensures.others c.release.ensures.right c.holdings.ensures.table
+
+pub returns-in_default-clause-goes : goal.returns-in_default-clause-goes
+returns-in_default-clause-goes c =
+    let s : BeginningsState = record { holdings = c.self.inside.holdings; begun = c.self.inside.begun.items } in
+    let known : AreBegun s = subst AreBegun (sym c.self.view_is) c.requires.known in
+    let b = c.index.result.now in
+    let at : IsBegun s c.args.holding b = got s.begun c.args.holding b (subst (λ (x : BeginningsState). c.args.holding < length x.begun) (sym c.self.view_is) c.requires.there) c.index.ensures in
+    subst (λ (x : BeginningsState). GoesOn x (record { holdings = c.release.new.self; begun = s.begun })) c.self.view_is (released_goes c.args.geometry.now c.args.holding c.requires.valid s known b at c.release.new.self c.release.ensures.releases c.release.ensures.others c.release.ensures.right c.holdings.ensures.table)
+
+pub returns-then-differs-clause-compared : goal.returns-then-differs-clause-compared
+returns-then-differs-clause-compared c found before =
+    let s : BeginningsState = record { holdings = c.self.inside.holdings; begun = c.self.inside.begun.items } in
+    let known : AreBegun s = subst AreBegun (sym c.self.view_is) c.requires.known in
+    let b = c.index.result.now in
+    let at : IsBegun s c.args.holding b = got s.begun c.args.holding b (subst (λ (x : BeginningsState). c.args.holding < length x.begun) (sym c.self.view_is) c.requires.there) c.index.ensures in
+    on_ok c.blame.result _ _ c.blame.ensures.ok (λ k. refused_compared c.args.geometry.now c.args.holding c.requires.valid s known b at c.release.new.self c.release.ensures.releases c.release.ensures.others c.release.ensures.right c.holdings.ensures.table checks.Layout c.blame.new.self k c.blame.ensures.right found (subst (λ (x : BeginningsState). AreComparedUpTo c.args.geometry.now found c.args.holding x) (sym c.self.view_is) before))
+
+pub returns-then-differs-clause-known : goal.returns-then-differs-clause-known
+returns-then-differs-clause-known c =
+    let s : BeginningsState = record { holdings = c.self.inside.holdings; begun = c.self.inside.begun.items } in
+    let known : AreBegun s = subst AreBegun (sym c.self.view_is) c.requires.known in
+    let b = c.index.result.now in
+    let at : IsBegun s c.args.holding b = got s.begun c.args.holding b (subst (λ (x : BeginningsState). c.args.holding < length x.begun) (sym c.self.view_is) c.requires.there) c.index.ensures in
+    on_ok c.blame.result _ _ c.blame.ensures.ok (λ k. refused_known c.args.geometry.now c.args.holding c.requires.valid s known b at c.release.new.self c.release.ensures.releases c.release.ensures.others c.release.ensures.right c.holdings.ensures.table checks.Layout c.blame.new.self k c.blame.ensures.right)
+
+pub returns-then-differs-clause-goes : goal.returns-then-differs-clause-goes
+returns-then-differs-clause-goes c =
+    let s : BeginningsState = record { holdings = c.self.inside.holdings; begun = c.self.inside.begun.items } in
+    let known : AreBegun s = subst AreBegun (sym c.self.view_is) c.requires.known in
+    let b = c.index.result.now in
+    let at : IsBegun s c.args.holding b = got s.begun c.args.holding b (subst (λ (x : BeginningsState). c.args.holding < length x.begun) (sym c.self.view_is) c.requires.there) c.index.ensures in
+    let u : BeginningsState = record { holdings = c.blame.new.self; begun = s.begun } in
+    let t : BeginningsState = record { holdings = c.release.new.self; begun = s.begun } in
+    subst (λ (x : BeginningsState). GoesOn x u) c.self.view_is
+    (by_result c.blame.result _ _ (GoesOn s u) c.blame.ensures.ok c.blame.ensures.err
+    (λ k. refused_goes c.args.geometry.now c.args.holding c.requires.valid s known b at c.release.new.self c.release.ensures.releases c.release.ensures.others c.release.ensures.right c.holdings.ensures.table checks.Layout c.blame.new.self k c.blame.ensures.right)
+    (λ e. goes_from s t u (released_requests c.args.geometry.now c.args.holding c.requires.valid s known b at c.release.new.self c.release.ensures.releases c.release.ensures.others c.release.ensures.right c.holdings.ensures.table) (released_blamed c.args.geometry.now c.args.holding c.requires.valid s known b at c.release.new.self c.release.ensures.releases c.release.ensures.others c.release.ensures.right c.holdings.ensures.table) (goes_none t u (ap (λ (x : HoldingsState). x.requests) e) (ap (λ (x : HoldingsState). x.blamed) e))))
+
+-- what was read of a share that is left agrees
+agrees : (c : goal.After-suspend) → (h : Holding) → slice_get c.release.new.self.table.holdings c.args.holding ≡ Some h → h.left ≡ true → (o : Opening) → c.index.result.now.opening ≡ Some o → Agrees c.args.geometry.now o
+agrees c h is left o e = elim c.else-left.branch [
+  | else-left-via-then-left+else-differs w ↦ (
+      let two : Some c.in-Some.opening ≡ Some o = sym c.in-Some.is ∙ e in
+      let one : c.in-Some.opening ≡ o = cc in
+      subst (Agrees c.args.geometry.now) one (w.differs.ensures w.if-differs.false))
+  | else-left-via-else-left w ↦ (
+      let d : Holding = record { server = 0; share = 0; left = false; suspended = false } in
+      let same : get_or c.release.new.self.table.holdings c.args.holding d ≡ h = get_or_from_slice_get c.release.new.self.table.holdings c.args.holding h d is in
+      absurd (true≢false (sym left ∙ sym (ap (λ (x : Holding). x.left) same) ∙ sym (ap (λ (l : List Holding). (get_or l c.args.holding d).left) c.holdings.ensures.value) ∙ w.if-left.false)))
+]
+
+pub returns-clause-compared : goal.returns-clause-compared
+returns-clause-compared c found before =
+    let s : BeginningsState = record { holdings = c.self.inside.holdings; begun = c.self.inside.begun.items } in
+    let known : AreBegun s = subst AreBegun (sym c.self.view_is) c.requires.known in
+    let b = c.index.result.now in
+    let at : IsBegun s c.args.holding b = got s.begun c.args.holding b (subst (λ (x : BeginningsState). c.args.holding < length x.begun) (sym c.self.view_is) c.requires.there) c.index.ensures in
+    suspended_compared c.args.geometry.now c.args.holding c.requires.valid s known b at c.release.new.self c.release.ensures.releases c.release.ensures.others c.release.ensures.right c.holdings.ensures.table c.is_header_out.result c.suspend.new.self c.suspend.ensures.suspends c.suspend.ensures.others c.suspend.ensures.right
+    (λ h is left o e. agrees c h is left o e)
+    (λ e. (c.is_header_out.ensures.some e, c.is_header_out.ensures.waits e)) found (subst (λ (x : BeginningsState). AreComparedUpTo c.args.geometry.now found c.args.holding x) (sym c.self.view_is) before)
+
+pub returns-clause-known : goal.returns-clause-known
+returns-clause-known c =
+    let s : BeginningsState = record { holdings = c.self.inside.holdings; begun = c.self.inside.begun.items } in
+    let known : AreBegun s = subst AreBegun (sym c.self.view_is) c.requires.known in
+    let b = c.index.result.now in
+    let at : IsBegun s c.args.holding b = got s.begun c.args.holding b (subst (λ (x : BeginningsState). c.args.holding < length x.begun) (sym c.self.view_is) c.requires.there) c.index.ensures in
+    suspended_known c.args.geometry.now c.args.holding c.requires.valid s known b at c.release.new.self c.release.ensures.releases c.release.ensures.others c.release.ensures.right c.holdings.ensures.table c.is_header_out.result c.suspend.new.self c.suspend.ensures.suspends c.suspend.ensures.others c.suspend.ensures.right
+
+pub returns-clause-goes : goal.returns-clause-goes
+returns-clause-goes c =
+    let s : BeginningsState = record { holdings = c.self.inside.holdings; begun = c.self.inside.begun.items } in
+    let known : AreBegun s = subst AreBegun (sym c.self.view_is) c.requires.known in
+    let b = c.index.result.now in
+    let at : IsBegun s c.args.holding b = got s.begun c.args.holding b (subst (λ (x : BeginningsState). c.args.holding < length x.begun) (sym c.self.view_is) c.requires.there) c.index.ensures in
+    subst (λ (x : BeginningsState). GoesOn x (record { holdings = c.suspend.new.self; begun = s.begun })) c.self.view_is (suspended_goes c.args.geometry.now c.args.holding c.requires.valid s known b at c.release.new.self c.release.ensures.releases c.release.ensures.others c.release.ensures.right c.holdings.ensures.table c.is_header_out.result c.suspend.new.self c.suspend.ensures.suspends c.suspend.ensures.others c.suspend.ensures.right)
