@@ -82,8 +82,8 @@ pub record IsUploaded (w : WorldState) (file secret : List ℕ) (p : UploadParam
 abbrev pub goal : List ℕ → List ℕ → UploadParameters → Goal
 goal file secret p = goal_of (prepared_of file secret p)
 
--- An answer that acknowledges a pair to an upload of this file was sent, whether it was delivered or
--- not.
+-- An answer that acknowledges a pair to an upload of this file was sent, whether it was delivered
+-- or not.
 pub record IsAcknowledgement (w : WorldState) (file secret : List ℕ) (p : UploadParameters)
     (pair : Pair) : Type 0 where
   pub frame : Sent

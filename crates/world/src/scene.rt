@@ -1,6 +1,7 @@
 //! The state of a world, and how each kind of event changes it.
 
-ghost use Rattle.std.specs.Prelude.{◌≡◌, ◌↔◌, ◌+◌, ◌<◌, ◌≤◌, ◌++◌, ◌∷◌, [], IfOk, IsErrOf, OnOk, Some};
+ghost use Rattle.std.specs.Prelude.{◌≡◌, ◌↔◌, ◌+◌, ◌<◌, ◌≤◌, ◌++◌, ◌∷◌, [], IfOk, IsErrOf, OnOk};
+ghost use Rattle.std.specs.Prelude.{Some};
 ghost use Rattle.std.specs.Prelude.{Contains, List, length, map, nat_eq, slice_get, slice_set};
 ghost use Rattle.std.specs.Prelude.{IsTrue, vec_len};
 ghost use Rattle.wire.specs.Frames.{IsBodyOf};
@@ -13,7 +14,8 @@ ghost use Rattle.world.specs.Consistent.{Preserves};
 ghost use Rattle.world.specs.State.{nodes_of, servers_of, state_of};
 ghost use Rattle.world.specs.declared.event.Event.TheVariants.{FailStore, Refuse};
 ghost use Rattle.world.specs.Step.{Delivers, HaveTicked, IsRunning, RestartsAt, ServerGets};
-ghost use Rattle.world.specs.Step.{Starts, Step, TaskGets, TicksAt, later_by, with_heard, with_sent};
+ghost use Rattle.world.specs.Step.{Starts, Step, TaskGets, TicksAt, later_by, with_heard};
+ghost use Rattle.world.specs.Step.{with_sent};
 
 use crate::liar::Heard;
 use crate::nodes::{nodes_up_to, servers_at};

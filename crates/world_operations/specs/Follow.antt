@@ -1,5 +1,5 @@
--- How an operation's machine goes on, whatever it is: what was asked stays at its place, and what is
--- answered was answered before, or is by the message that came.
+-- How an operation's machine goes on, whatever it is: what was asked stays at its place, and what
+-- is answered was answered before, or is by the message that came.
 use Rattle.std.specs.Prelude.{◌≡◌, ◌⊎◌, ℕ, ◌+◌, List, ◌++◌, Some, true, slice_get, Contains}
 use Rattle.placement.specs.Matching.{Pair}
 use Rattle.wire.specs.declared.message.Body.{Body}

@@ -1,7 +1,7 @@
 //! Operations of a world's nodes: uploads, downloads and checks as one type, each with what it was
 //! started for and what it handed out.
 //!
-//! Each call of an operation is one call of its machine, after which the pieces that a download made
+//! Each call of an operation is one call of its machine. After it the pieces that a download made
 //! are handed out, and all that the machine has to send is sent.
 #![tactic(auto)]
 
