@@ -54,7 +54,13 @@ impl Scene {
         ensures keeps { (x : Sent) → x.from ≡ from → x.to ≡ to → Contains self.old.sent.items x
             → IsBodyOf message.now x.body → Preserves (state_of self.old) (state_of self.new) }
     {
-        match serve_at(&mut self.servers, usize::from(to), from, message, self.clock) {
+        match serve_at(
+            &mut self.servers,
+            usize::from(to),
+            from,
+            message,
+            self.clock,
+        ) {
             Ok(Some(answer)) => push_sent(&mut self.sent, spell(self.alloc, to, from, &answer)?),
             Ok(None) | Err(ServerFault::StoreFault) => Ok(()),
             Err(ServerFault::OutOfMemory) => Err(AllocError),

@@ -127,11 +127,7 @@ impl Scene {
     }
 
     // A liar sends what it likes, or nothing.
-    fn take_turn(
-        &mut self,
-        liars: &mut Vec<Box<dyn Liar>>,
-        node: NodeId,
-    ) -> Result<(), StartError>
+    fn take_turn(&mut self, liars: &mut Vec<Box<dyn Liar>>, node: NodeId) -> Result<(), StartError>
         requires { length self.old.servers.items + length self.old.heard.items ≤ 256 }
         ensures taken { IsTaken (state_of self.old) (Turn node) result (state_of self.new) }
         ensures keeps { Preserves (state_of self.old) (state_of self.new) }

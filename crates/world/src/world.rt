@@ -72,11 +72,7 @@ fn new_heard(alloc: Global, count: usize) -> Result<Vec<Heard>, AllocError>
 impl World {
     /// So many honest nodes with empty stores, from number 0 on, and then these liars. There is one
     /// honest node at least, and there are at most 256 nodes.
-    pub fn new(
-        alloc: Global,
-        honest: u16,
-        liars: Vec<Box<dyn Liar>>,
-    ) -> Result<World, AllocError>
+    pub fn new(alloc: Global, honest: u16, liars: Vec<Box<dyn Liar>>) -> Result<World, AllocError>
         requires some { 0 < honest }
         requires few { honest + vec_len liars ≤ 256 }
         ensures value { IfOk result (λ world. world

@@ -145,14 +145,18 @@ on_ok (Err e) P Q f p = p
 pub flushed : (old : Operation) (handed last : Task) (given : List Piece) (before after : List Sent) → (pieces : List Piece) × (given ≡ old.given ++ pieces) × HandsOut old.task pieces handed
     → (more : List Sent) × (after ≡ before ++ more) × SendsAll old.node handed more last
     → (more : List Sent) × (after ≡ before ++ more) × IsFlushed old more (record old { task = last; given = given })
-flushed old handed last given before after h s = (s.0, s.1, record {
-  pieces = h.0;
-  handed = handed;
-  last = last;
-  hands = h.2;
-  sends = s.2;
-  is = ap (λ (g : List Piece). record old { task = last; given = g }) h.1;
-})
+flushed old handed last given before after h s = (
+  s.0,
+  s.1,
+  record {
+    pieces = h.0;
+    handed = handed;
+    last = last;
+    hands = h.2;
+    sends = s.2;
+    is = ap (λ (g : List Piece). record old { task = last; given = g }) h.1;
+  },
+)
 
 -- first it goes on, and then it hands out and sends
 pub moves_by : (New : Said) (number : ℕ) (old new : Operation) (mid : Task) (before after : List Sent) → GoesOn New old.task mid → IsSameOperation (record old { task = mid }) new

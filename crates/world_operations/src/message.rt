@@ -40,12 +40,7 @@ pub fn copied(alloc: Global, bytes: &Bytes) -> Result<Bytes, AllocError>
 }
 
 /// What is sent where a node sends this message.
-pub fn spell(
-    alloc: Global,
-    from: NodeId,
-    to: NodeId,
-    message: &Message,
-) -> Result<Sent, AllocError>
+pub fn spell(alloc: Global, from: NodeId, to: NodeId, message: &Message) -> Result<Sent, AllocError>
     ensures value { IfOk result (λ sent. sent ≡ sent_to from to message.now) }
     ensures right { IsMessage message.now }
 {

@@ -50,13 +50,7 @@ pub struct Operation {
 
 impl Operation {
     /// An operation that begins, whose machine has not sent anything yet.
-    pub fn new(
-        alloc: Global,
-        node: NodeId,
-        job: Job,
-        sent_before: usize,
-        task: Task,
-    ) -> Operation
+    pub fn new(alloc: Global, node: NodeId, job: Job, sent_before: usize, task: Task) -> Operation
         ensures { result ≡ record {
           node = node;
           job = job;
@@ -174,7 +168,6 @@ fn send_all(
     while send_one(alloc, node, task, sent)? {}
     Ok(())
 }
-
 
 // Hands out the next piece that a machine made, if there is one, and says whether there was.
 fn hand_one(task: &mut Task, given: &mut PieceList) -> Result<bool, AllocError>

@@ -74,7 +74,10 @@ fn three_nodes(alloc: Global) -> Option<(usize, usize)> {
     let mut world = World::new(alloc, 3, Vec::new(alloc)).ok()?;
     world.step(&Event::Start(0, upload(alloc, 1, 3, 3)?)).ok()?;
     let delivered = drain(&mut world, 0)?;
-    Some((happiness(world.operations().first()?)?, delivered.checked_add(1)?))
+    Some((
+        happiness(world.operations().first()?)?,
+        delivered.checked_add(1)?,
+    ))
 }
 
 #[test]
@@ -146,8 +149,12 @@ fn all_at_once(alloc: Global) -> Option<(usize, usize, usize)> {
     world.step(&Event::Start(1, upload(alloc, 1, 3, 3)?)).ok()?;
     let first = drain(&mut world, 0)?;
     let cap = read_cap(alloc)?;
-    world.step(&Event::Start(1, Job::Download(cap, 0, 56))).ok()?;
-    world.step(&Event::Start(2, Job::Download(cap, 10, 20))).ok()?;
+    world
+        .step(&Event::Start(1, Job::Download(cap, 0, 56)))
+        .ok()?;
+    world
+        .step(&Event::Start(2, Job::Download(cap, 10, 20)))
+        .ok()?;
     drain(&mut world, first)?;
     let happy = happiness(world.operations().first()?)?;
     let whole = handed_out(world.operations().get(2)?)?;
