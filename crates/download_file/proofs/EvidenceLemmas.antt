@@ -15,7 +15,7 @@ use Rattle.download_segments.specs.Decoding.{AreShareNumbers, blocks_in}
 use Rattle.download_segments.specs.State.{HandoutState, ProvesSegment}
 use Rattle.download_segments.proofs.DecodingLemmas.{unique}
 use Rattle.download_file.specs.State.{FileState, GroupState, ReaderState, share_in}
-use Rattle.download_file.specs.Answers.{HoldsAnswers, IsMade, IsRead, answer_at, block_in, block_of, blocks_of}
+use Rattle.download_file.specs.Answers.{AnsweredWith, HoldsAnswers, IsMade, IsRead, answer_at, block_in, block_of, blocks_of}
 use Rattle.download_segments.specs.Handout.{next_segment}
 use Rattle.download_file.specs.Right.{AreConsecutive, IsFile, IsGroup, made_end}
 use Rattle.download_file.specs.Steps.{AreOfFile, HasBlock, IsMadeGroup, segments_in}
@@ -87,6 +87,11 @@ piece_at f (x ∷ xs) zero (suc n) (suc k) low within = piece_at f xs 0 n k (ome
 piece_at f (x ∷ xs) zero zero k low within = absurd (omega (arith, low))
 piece_at f (x ∷ xs) (suc a) n k low within = piece_at f xs a n k low (omega (arith, within)) ∙ (let e : suc a + k ≡ suc (a + k) = omega arith in sym (ap (λ (m : ℕ). f (get_or (x ∷ xs) m 0)) e))
 
+piece_long : (entries : List Request) (xs : List ℕ) (a n k : ℕ) → k < n → a + n ≤ length xs → (bytes : List ℕ) → AnsweredWith entries (get_or xs (a + k) 0) bytes
+    → length (get_or (map (answer_at entries) (take n (drop a xs))) k []) ≡ length bytes
+piece_long entries xs a n k low within bytes answered =
+    ap length (piece_at (answer_at entries) xs a n k low within ∙ answer_is entries (get_or xs (a + k) 0) bytes answered)
+
 pub block_long : (entries : List Request) (s : SourceState) (number : ℕ) → IsSource s → IsHeld s number → HoldsAnswers entries s
     → length (block_of entries s number) ≡ block_length s.geometry number
 block_long entries s number is held holds =
@@ -100,7 +105,7 @@ block_long entries s number is held holds =
     joined_long s.geometry s.first s.end number (map f places) is.range held.within.from held.within.before count (λ k low.
     let there : a + k < length s.held = omega (arith, low, count, within, order) in
     let one = holds (a + k) there in
-    ap length (piece_at f s.held a (b - a) k (omega (arith, low, count)) (omega (arith, within, order)) ∙ answer_is entries (get_or s.held (a + k) 0) one.0 one.1) ∙ one.2)
+    piece_long entries s.held a (b - a) k (omega (arith, low, count)) (omega (arith, within, order)) one.0 one.1 ∙ one.2)
 
 pub blocks_long : (entries : List Request) (g : Geometry) (readers : List ReaderState) (places : List ℕ) (number : ℕ) → AreOfFile entries g readers
     → ((place : ℕ) → Contains places place → (r : ReaderState) × (slice_get readers place ≡ Some r) × IsHeld r.source number)
