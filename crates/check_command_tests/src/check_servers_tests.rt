@@ -72,7 +72,12 @@ fn puts(rt: &HostRuntime) -> io::Result<bool> {
     let file = format!(in rt.alloc(); "{root}/file")?;
     fs::write(rt, file.as_str(), bytes.as_slice())?;
     let line = format!(in rt.alloc(); "grid put {root}/file --grid {root}/grid")?;
-    Ok(run(rt, line.as_str())?.out.as_slice().ends_with(b"\nhappiness 10\n"))
+    Ok(
+        run(rt, line.as_str())?
+            .out
+            .as_slice()
+            .ends_with(b"\nhappiness 10\n"),
+    )
 }
 
 // Does this to the shares of these servers.
@@ -120,9 +125,11 @@ fn check_gives(
 ) -> Result<bool, AllocError> {
     let line = check_line(rt, cap)?;
     let ended = run(rt, line.as_str())?;
-    Ok(ended.status == status
-        && ended.out.as_slice() == out.as_bytes()
-        && ended.err.as_slice() == err.as_bytes())
+    Ok(
+        ended.status == status
+            && ended.out.as_slice() == out.as_bytes()
+            && ended.err.as_slice() == err.as_bytes(),
+    )
 }
 
 // Damage to the shares of some servers, the verdict on them, the last line, and the status.
@@ -136,8 +143,10 @@ fn tells(rt: &HostRuntime, row: &Row) -> io::Result<bool> {
     }
     damage_each(rt, servers, what)?;
     let told = lines(rt, servers, verdict, last)?;
-    Ok(check_gives(rt, CAP, status, told.as_str(), "")?
-        && check_gives(rt, VERIFY_CAP, status, told.as_str(), "")?)
+    Ok(
+        check_gives(rt, CAP, status, told.as_str(), "")?
+            && check_gives(rt, VERIFY_CAP, status, told.as_str(), "")?,
+    )
 }
 
 const ALL_GOOD: &str = "healthy yes recoverable yes happiness 10\n";
@@ -194,7 +203,10 @@ fn tells_of_byte(rt: &HostRuntime, place: usize, verdict: &'static str) -> io::R
 #[test]
 fn a_bit_is_told_with_its_section(rt: HostRuntime) {
     for &(place, verdict) in &SECTIONS {
-        assert!(rt; matches!(tells_of_byte(&rt, place, verdict), Ok(true)), "{place}");
+        assert!(rt;
+            matches!(tells_of_byte(&rt, place, verdict), Ok(true)),
+            "{place}"
+        );
     }
     assert!(rt; remove(&rt).is_ok());
 }
@@ -204,7 +216,13 @@ const SHAPES: [Row; 6] = [
     (&[6], Damage::Grown, "good", ALL_GOOD, 0),
     (ALL, Damage::Grown, "good", ALL_GOOD, 0),
     (&[9], Damage::NoBlock, "corrupt ueb", NINE_GOOD, 0),
-    (&[0, 4], Damage::SecondLayout, "corrupt layout", EIGHT_GOOD, 0),
+    (
+        &[0, 4],
+        Damage::SecondLayout,
+        "corrupt layout",
+        EIGHT_GOOD,
+        0,
+    ),
     (&[5], Damage::Cut(632), "corrupt layout", NINE_GOOD, 0),
     (ALL, Damage::Cut(0), "corrupt layout", NONE_GOOD, 5),
 ];
@@ -255,8 +273,10 @@ fn refuses_no_grid(rt: &HostRuntime) -> io::Result<bool> {
     remove(rt)?;
     let grid = path(rt, "/grid")?;
     let told = format!(in rt.alloc(); "grid: 90 FileFault {grid}\n")?;
-    Ok(check_gives(rt, CAP, 7, "", told.as_str())?
-        && check_gives(rt, VERIFY_CAP, 7, "", told.as_str())?)
+    Ok(
+        check_gives(rt, CAP, 7, "", told.as_str())?
+            && check_gives(rt, VERIFY_CAP, 7, "", told.as_str())?,
+    )
 }
 
 #[test]

@@ -52,8 +52,8 @@ module _ (g : Geometry) (holding : ℕ) (valid : IsGeometry g) (s : BeginningsSt
       let unreads = unreads_released holding s.holdings.table t.table releases table in
       compared_next g found holding s released_state before released_requests refl unreads
       (λ h c is there. compared_kept g found holding s released_state before released_requests refl unreads h h c valid (held_before h is) there refl refl (λ l. l)
-        (λ left o e. (let two : None ≡ Some o = sym none ∙ ap (λ (x : Begun). x.opening) (begun_same c there) ∙ e in absurd cc))
-        (λ left suspended. absurd (true≢false (sym suspended ∙ (before.opening holding h c (held_before h is) there (omega arith)).choosable))))
+      (λ left o e. (let two : None ≡ Some o = sym none ∙ ap (λ (x : Begun). x.opening) (begun_same c there) ∙ e in absurd cc))
+      (λ left suspended. absurd (true≢false (sym suspended ∙ (before.opening holding h c (held_before h is) there (omega arith)).choosable))))
 
   -- it is blamed
   module _ (check : Check) (u : HoldingsState) (blames : Blames holding check t u) (right2 : IsRight u) where
@@ -103,5 +103,5 @@ module _ (g : Geometry) (holding : ℕ) (valid : IsGeometry g) (s : BeginningsSt
             (ap (λ (x : Holding). x.server) (sym now)) (ap (λ (x : Holding). x.share) (sym now)) (λ l. ap (λ (x : Holding). x.left) now ∙ l)
             (λ left o e. agrees y suspends.1.1.is (ap (λ (x : Holding). x.left) now ∙ left) o (ap (λ (x : Begun). x.opening) (begun_same c there) ∙ e))
             (λ left suspended. (
-              let k = outs (ap (λ (x : Holding). x.suspended) now ∙ suspended) in
-              ((λ e. k.0 (ap (λ (x : Begun). x.opening) (begun_same c there) ∙ e)), (λ e. k.1 (ap (λ (x : Begun). x.waiting) (begun_same c there) ∙ e)))))
+            let k = outs (ap (λ (x : Holding). x.suspended) now ∙ suspended) in
+            ((λ e. k.0 (ap (λ (x : Begun). x.opening) (begun_same c there) ∙ e)), (λ e. k.1 (ap (λ (x : Begun). x.waiting) (begun_same c there) ∙ e)))))

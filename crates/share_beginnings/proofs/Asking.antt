@@ -64,11 +64,11 @@ pub unasked_next : (s : BeginningsState) (verify : VerifyCapValue) (holding : â„
 unasked_next s verify holding b old new bytes a reads =
     unasked_by s.holdings holding (next_place new) (next_length new)
     (Î» h i place len is read. inl (
-      let e = ends old place len (reads h i place len is read) in
-      let k = rise verify old new bytes a in
-      let f = k.0 in
-      let g = k.1 in
-      omega (arith, e, f, g)))
+    let e = ends old place len (reads h i place len is read) in
+    let k = rise verify old new bytes a in
+    let f = k.0 in
+    let g = k.1 in
+    omega (arith, e, f, g)))
 
 -- ---- it is asked
 

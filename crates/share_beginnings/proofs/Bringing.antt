@@ -73,12 +73,14 @@ module _ (s u : BeginningsState) (from : ℕ) (m : Message) (now : ℕ) (what : 
       let at : s.holdings.servers + (place - s.holdings.servers) ≡ place = omega (arith, le) in
       let same : o.request ≡ f.0 = same_of (slice_get s.holdings.requests.entries place) o.request f.0 (ap (slice_get s.holdings.requests.entries) (sym at) ∙ o.there) f.1 in
       let asks : f.0.asked ≡ Reading o.held.share o.read.offset o.read.len = sym (ap (λ (q : Request). q.asked) same) ∙ o.read.asked in
-      let d = fits_data o.held.share o.read.offset o.read.len m.body (subst (λ (a : Asked). fits a m.body ≡ true) asks f.2) b.3 in
-      (d.0, record {
-        request = with_outcome f.0 (Answered m.body);
-        there = ap (λ (r : RequestsState). slice_get r.entries place) hears.requests ∙ answered_at from m now s.holdings.requests place f.0 counts f.1;
-        answer = ap Answered d.1;
-      })
+      let d = fits_data o.held.share o.read.offset o.read.len m.body (subst (λ (a : Asked). fits a m.body ≡ true) asks f.2) b.3 in (
+        d.0,
+        record {
+          request = with_outcome f.0 (Answered m.body);
+          there = ap (λ (r : RequestsState). slice_get r.entries place) hears.requests ∙ answered_at from m now s.holdings.requests place f.0 counts f.1;
+          answer = ap Answered d.1;
+        },
+      )
 
   pub brings_bytes : (told : News) → IsNewsOf u what told → BringsBytes u.holdings.requests.entries told
   brings_bytes told tells = by (counts_at from m s.holdings.requests) refl hears.heard

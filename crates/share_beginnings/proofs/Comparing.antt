@@ -224,10 +224,13 @@ pub compared_none : (g : Geometry) (found : ℕ) (s : BeginningsState) → IsFou
 compared_none g found s f = record {
   compared = λ place h b is there lt. absurd (omega (arith, lt));
   opening = λ place h b is there le. f.others.each place h b is there;
-  works = λ share place n is reads. (omega arith, elim (cases_eq place found) [
-    | inl here ↦ inl here
-    | inr other ↦ inr (f.others.works share place n is reads other)
-  ]);
+  works = λ share place n is reads. (
+    omega arith,
+    elim (cases_eq place found) [
+      | inl here ↦ inl here
+      | inr other ↦ inr (f.others.works share place n is reads other)
+    ],
+  );
   quiet = f.quiet;
 }
 

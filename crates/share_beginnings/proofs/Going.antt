@@ -81,8 +81,8 @@ module _ (s w : BeginningsState) (holding : ℕ) (known : AreBegun s) (rests : R
     pub gone_opening : (h : Holding) → IsTable w.holdings.table → IsHolding w.holdings.table holding h → h.left ≡ false → AreOpening nobody w
     gone_opening h table is gone = narrowed w holding rested_opening
         (λ share m at reads. (
-          let p = table.places share holding m at (table.reading share holding m at reads) in
-          true≢false (sym p.3 ∙ ap (λ (x : Holding). x.left) (same_of (slice_get w.holdings.table.holdings holding) p.0 h p.1 is) ∙ gone)))
+        let p = table.places share holding m at (table.reading share holding m at reads) in
+        true≢false (sym p.3 ∙ ap (λ (x : Holding). x.left) (same_of (slice_get w.holdings.table.holdings holding) p.0 h p.1 is) ∙ gone)))
 
     pub blamed_known : (u : BeginningsState) (check : Check) → Blames holding check w.holdings u.holdings → IsRight u.holdings → u.begun ≡ w.begun → AreBegun u
     blamed_known u check b right same = known_blamed w u holding check rested_known b (falls_one holding w.holdings.table u.holdings.table b.retired) right same
@@ -145,11 +145,11 @@ module _ (s w : BeginningsState) (holding : ℕ) (known : AreBegun s) (rests : R
           (subst (λ (x : Holding). (x.left ≡ false) ⊎ IsTaken s.holdings.table holding x) (held_now h is)
           ((opening.each holding awaits.held awaits.begun awaits.is awaits.there).taken (λ e. (let two : Some o ≡ None = sym awaits.of_opening ∙ e in cc)))))
           (λ h is. (
-            let old = opening.each holding awaits.held awaits.begun awaits.is awaits.there in
-            let now : slice_get w.begun holding ≡ Some (rested rests.begun) = ap (λ (x : BeginningsState). slice_get x.begun holding) rests.is ∙ get_set s.begun holding (rested rests.begun) rests.begun rests.there in
-            let one : asks.begun ≡ rested rests.begun = same_of (slice_get w.begun holding) asks.begun (rested rests.begun) asks.there now in
-            let two : rests.begun ≡ awaits.begun = same_of (slice_get s.begun holding) rests.begun awaits.begun rests.there awaits.there in
-            (ap (λ (x : Holding). x.suspended) (sym (held_now h is)) ∙ old.choosable, ap (λ (x : Begun). x.reader) one ∙ ap (λ (x : Begun). x.reader) two ∙ old.unread)))
+          let old = opening.each holding awaits.held awaits.begun awaits.is awaits.there in
+          let now : slice_get w.begun holding ≡ Some (rested rests.begun) = ap (λ (x : BeginningsState). slice_get x.begun holding) rests.is ∙ get_set s.begun holding (rested rests.begun) rests.begun rests.there in
+          let one : asks.begun ≡ rested rests.begun = same_of (slice_get w.begun holding) asks.begun (rested rests.begun) asks.there now in
+          let two : rests.begun ≡ awaits.begun = same_of (slice_get s.begun holding) rests.begun awaits.begun rests.there awaits.there in
+          (ap (λ (x : Holding). x.suspended) (sym (held_now h is)) ∙ old.choosable, ap (λ (x : Begun). x.reader) one ∙ ap (λ (x : Begun). x.reader) two ∙ old.unread)))
 
       pub block_at : (done : Opened) → Advances verify o bytes (Done done) → IsBlockAt verify w.holdings.requests.entries place done
       block_at done a = subst (λ (r : RequestsState). IsBlockAt verify r.entries place done) (sym rested_requests) (by o a next_at)

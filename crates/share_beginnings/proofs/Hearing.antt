@@ -167,10 +167,13 @@ module _ (s u : BeginningsState) (from : ℕ) (m : Message) (now : ℕ) (what : 
           let n = o.number in
           let j = told_has (length s.holdings.table.numbers) b.1.request.server o.held o.index o.listed o.among (omega (arith, below, c, n)) in
           let at : slice_get (told (length s.holdings.table.numbers) b.1.request.server (take (length (held_by (Answered m.body))) (held_by (Answered m.body)))) j.0 ≡ Some (told_one b.1.request.server o.listed.share) =
-          ap (λ (l : List HeldShare). slice_get (told (length s.holdings.table.numbers) b.1.request.server l) j.0) all ∙ j.1 in
-          (length s.holdings.table.holdings + j.0, told_one b.1.request.server o.listed.share,
+          ap (λ (l : List HeldShare). slice_get (told (length s.holdings.table.numbers) b.1.request.server l) j.0) all ∙ j.1 in (
+            length s.holdings.table.holdings + j.0,
+            told_one b.1.request.server o.listed.share,
             ap (λ (l : List Holding). slice_get l (length s.holdings.table.holdings + j.0)) t.holdings ∙ append_back s.holdings.table.holdings _ j.0 _ at,
-            ap (λ (q : Request). q.server) (sym same) ∙ was.of_server ∙ o.of_server, o.number)
+            ap (λ (q : Request). q.server) (sym same) ∙ was.of_server ∙ o.of_server,
+            o.number,
+          )
       new (heard.Gone holding) b e = (let was = alike o.place o.request o.there in absurd (reads_owned s.holdings known.right o.place holding was.request b.0 b.1 was.there (was.same ∙ o.asked)))
       new (heard.Bytes holding at) b e = (let was = alike o.place o.request o.there in absurd (reads_owned s.holdings known.right o.place holding was.request b.0 b.2 was.there (was.same ∙ o.asked)))
 

@@ -149,10 +149,12 @@ shares_suspended suspended holding t u k = record {
   pairs = record {
     forth = λ place h e. elim (cases place) [
       | inl same ↦ (
-          let is : h ≡ k.1.0 = same_of (slice_get t.holdings place) h k.1.0 e (ap (slice_get t.holdings) same ∙ k.1.1.is) in
-          (record k.1.0 { suspended = suspended },
+          let is : h ≡ k.1.0 = same_of (slice_get t.holdings place) h k.1.0 e (ap (slice_get t.holdings) same ∙ k.1.1.is) in (
+            record k.1.0 { suspended = suspended },
             ap (λ (l : List Holding). slice_get l place) k.1.1.holdings ∙ ap (slice_get (slice_set t.holdings holding (record k.1.0 { suspended = suspended }))) same ∙ get_set t.holdings holding (record k.1.0 { suspended = suspended }) k.1.0 k.1.1.is,
-            ap (λ (x : Holding). x.server) (sym is), ap (λ (x : Holding). x.share) (sym is)))
+            ap (λ (x : Holding). x.server) (sym is),
+            ap (λ (x : Holding). x.share) (sym is),
+          ))
       | inr other ↦ (h, ap (λ (l : List Holding). slice_get l place) k.1.1.holdings ∙ get_other t.holdings holding place (record k.1.0 { suspended = suspended }) other ∙ e, refl, refl)
     ];
     back = λ place g e. elim (set_cases t.holdings holding place (record k.1.0 { suspended = suspended }) g (sym (ap (λ (l : List Holding). slice_get l place) k.1.1.holdings) ∙ e)) [
@@ -187,9 +189,9 @@ known_goes s u known grows offered shares right long keeps =
     known_follows s u known grows right (held_follows s.holdings u.holdings known.held offered shares.count shares.pairs.forth)
     (long ∙ known.counted ∙ sym shares.long)
     (λ place g b is there. inr (
-      let h = shares.pairs.back place g is in
-      let a = keeps place b there in
-      record { held = h.0; is = h.1; of_server = h.2; of_share = h.3; begun = a.0; there = a.1; opening = a.2; waiting = a.3 }))
+    let h = shares.pairs.back place g is in
+    let a = keeps place b there in
+    record { held = h.0; is = h.1; of_server = h.2; of_share = h.3; begun = a.0; there = a.1; opening = a.2; waiting = a.3 }))
 
 -- the record stays
 pub known_same : (s u : BeginningsState) → AreBegun s → u.holdings.requests ≡ s.holdings.requests → SameShares s.holdings.table u.holdings.table → IsRight u.holdings

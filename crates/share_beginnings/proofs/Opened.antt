@@ -109,10 +109,10 @@ module _ (s t : BeginningsState) (holding : ℕ) (h : Holding) (known : AreBegun
       (λ g i offset len e read. absurd (none_read g i offset len e read))
       (λ g e. inr (record { number = now; there = number_there g e; reading = ap (taken_up holding) unread }))
       (λ g e. (
-        let b = begun_at in
-        let o = opening.each holding h b.0 is b.1 in
-        let one : a.begun ≡ b.0 = same_of (slice_get s.begun holding) a.begun b.0 (sym (ap (λ (l : List Begun). slice_get l holding) same) ∙ a.there) b.1 in
-        (ap (λ (x : Holding). x.suspended) (held_same g e) ∙ o.choosable, ap (λ (x : Begun). x.reader) one ∙ o.unread)))
+      let b = begun_at in
+      let o = opening.each holding h b.0 is b.1 in
+      let one : a.begun ≡ b.0 = same_of (slice_get s.begun holding) a.begun b.0 (sym (ap (λ (l : List Begun). slice_get l holding) same) ∙ a.there) b.1 in
+      (ap (λ (x : Holding). x.suspended) (held_same g e) ∙ o.choosable, ap (λ (x : Begun). x.reader) one ∙ o.unread)))
     where
       unread : takes.3.number.reading ≡ None
       unread =

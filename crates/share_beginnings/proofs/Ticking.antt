@@ -126,5 +126,5 @@ module _ (s u : BeginningsState) (now : ℕ) (known : AreBegun s) (ticks : Ticks
   opening_ticked opening table =
       opening_falls s u nobody nobody opening alike_ticked ticked_falls same (λ place b. b)
       (λ share place m is reads none out. (
-        let p = table.places share place m is (table.reading share place m is reads) in
-        out_ticked place p.0 p.1 p.3 out))
+      let p = table.places share place m is (table.reading share place m is reads) in
+      out_ticked place p.0 p.1 p.3 out))

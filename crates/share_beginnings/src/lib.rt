@@ -6,8 +6,8 @@
 //! for, and what is read of shares is another's task.
 #![tactic(auto)]
 
-pub mod begun;
 pub mod beginnings;
+pub mod begun;
 
-pub use begun::Begun;
 pub use beginnings::{Beginnings, News};
+pub use begun::Begun;

@@ -72,7 +72,6 @@ returns-in_err-ask_next-in-Ok-Next-clause-goes c =
     goes_on_from c.args.self.now c.take_waiting.new.self c.args.holding c.requires.known c.take_waiting.ensures.rests c.ask_next.new.self
     (goes_none c.take_waiting.new.self c.ask_next.new.self (ap (λ (x : BeginningsState). x.holdings.requests) c.in_err-ask_next-in-Ok-Next.ensures.err) (ap (λ (x : BeginningsState). x.holdings.blamed) c.in_err-ask_next-in-Ok-Next.ensures.err))
 
-
 pub returns-in_ok-blame-in-Err-clause-known : goal.returns-in_ok-blame-in-Err-clause-known
 returns-in_ok-blame-in-Err-clause-known c =
     let u : BeginningsState = record { holdings = c.blame.new.self; begun = c.self.inside.begun.items } in
