@@ -1,14 +1,13 @@
 -- One header is compared.
-use Rattle.std.proofs.Common.{◌≡◌, ℕ, zero, suc, ◌+◌, ◌<◌, ◌≤◌, ◌⊎◌, inl, inr, Bool, true, false, List, [], ◌∷◌, ◌++◌, length, Option, Some, None, refl, sym, ap, subst, ◌∙◌, arith, true≢false}
-use Rattle.std.specs.Prelude.{slice_get, slice_index_or, slice_set}
-use Rattle.std.proofs.lemmas.Option.{slice_get-get_or, slice_get_within}
+use Rattle.std.proofs.Common.{◌≡◌, ℕ, ◌+◌, inr, Bool, true, List, Some, None, refl, sym, ap, ◌∙◌, arith, true≢false}
+use Rattle.std.specs.Prelude.{slice_get}
 use Rattle.share_layout.specs.Geometry.{Geometry, IsGeometry}
 use Rattle.share_opening.specs.Opening.{Agrees}
 use Rattle.share_opening.specs.declared.opening.Opening.{Opening}
 use Rattle.share_holdings.specs.Moves.{Blames}
 use Rattle.share_holdings.specs.Right.{IsRight}
-use Rattle.share_holdings.specs.State.{HoldingsState, NumberState, TableState}
-use Rattle.share_holdings.specs.Table.{IsHolding, IsTable, Releases, Retires, Suspends}
+use Rattle.share_holdings.specs.State.{HoldingsState}
+use Rattle.share_holdings.specs.Table.{IsHolding, IsTable, Releases, Suspends}
 use Rattle.share_holdings.specs.declared.holding.Holding.{Holding}
 use Rattle.share_holdings.proofs.Lists.{get_set}
 use Rattle.share_verify.specs.declared.check.Check.{Check}

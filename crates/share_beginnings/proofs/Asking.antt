@@ -1,38 +1,36 @@
 -- A share is asked for what its opening reads next.
-use Rattle.std.proofs.Common.{◌≡◌, ℕ, zero, suc, ◌+◌, ◌-◌, ◌<◌, ◌≤◌, ◌⊎◌, inl, inr, Bool, true, false, List, [], ◌∷◌, ◌++◌, Contains, length, Option, Some, None, refl, sym, ap, subst, ◌∙◌, arith, length-append, true≢false}
-use Rattle.std.specs.Prelude.{slice_get, slice_index_or, slice_set}
+use Rattle.std.proofs.Common.{◌≡◌, ℕ, ◌+◌, ◌<◌, ◌≤◌, ◌⊎◌, inl, inr, false, List, [], ◌∷◌, ◌++◌, length, Option, Some, None, refl, sym, ap, subst, ◌∙◌, arith}
+use Rattle.std.specs.Prelude.{slice_get, slice_set}
 use Rattle.std.proofs.lemmas.Bool.{cases_eq, cases_lt}
 use Rattle.std.proofs.lemmas.List.{length-set}
-use Rattle.std.proofs.lemmas.Option.{slice_get-get_or, slice_get_within}
 use Rattle.cap_text.specs.Cap.{VerifyCapValue}
 use Rattle.share_opening.specs.Opening.{Advances, next_length, next_place}
-use Rattle.share_opening.specs.Reads.{Brought, IsLedToBy}
+use Rattle.share_opening.specs.Reads.{IsLedToBy}
 use Rattle.share_opening.specs.declared.opening.Opening.{Opening}
 use Rattle.share_opening.specs.declared.opening.Opening.TheVariants.{Start}
 use Rattle.share_opening.specs.declared.opening.Progress.TheVariants.{Next}
-use Rattle.share_opening.proofs.ReadLemmas.{lead_on, rise}
+use Rattle.share_opening.proofs.ReadLemmas.{rise}
 use Rattle.request_record.specs.declared.requests.Asked.{Asked}
 use Rattle.request_record.specs.declared.requests.Asked.TheVariants.{Holdings, Allocation, Writing, Closing, Reading, Aborting}
 use Rattle.request_record.specs.declared.requests.Request.{Request}
 use Rattle.request_record.specs.Asking.{AreApart}
-use Rattle.request_record.specs.Record.{RequestsState, asked_more, first_request}
+use Rattle.request_record.specs.Record.{first_request}
 use Rattle.request_record.proofs.RecordLaws.{get_last}
-use Rattle.share_holdings.specs.Left.{IsOffered}
-use Rattle.share_holdings.specs.Moves.{Asks, IsUnasked}
-use Rattle.share_holdings.specs.Right.{AreAllHeld, IsRight}
+use Rattle.share_holdings.specs.Moves.{IsUnasked}
+use Rattle.share_holdings.specs.Right.{IsRight}
 use Rattle.share_holdings.specs.State.{HoldingsState, NumberState, TableState}
-use Rattle.share_holdings.specs.Table.{IsFree, IsHolding, IsNumber, TakesUp}
+use Rattle.share_holdings.specs.Table.{IsHolding, IsNumber}
 use Rattle.share_holdings.specs.declared.holding.Holding.{Holding}
 use Rattle.share_holdings.proofs.Lists.{get_other, get_set, set_cases}
 use Rattle.share_beginnings.specs.Known.{AreBegun, IsBegunBy, IsNextAt}
-use Rattle.share_beginnings.specs.Moves.{AsksNext, Awaits}
+use Rattle.share_beginnings.specs.Moves.{AsksNext}
 use Rattle.share_beginnings.specs.Opening.{AreOpening, IsOpening, IsOut, IsTaken, nobody}
-use Rattle.share_beginnings.specs.Reads.{IsAnsweredBy, IsBeginning, IsOutAt, IsReadAt, IsReadUpTo, brought_of}
-use Rattle.share_beginnings.specs.State.{BeginningsState, IsBegun, unbegun}
+use Rattle.share_beginnings.specs.Reads.{IsBeginning, IsOutAt, IsReadAt, IsReadUpTo, brought_of}
+use Rattle.share_beginnings.specs.State.{BeginningsState, IsBegun}
 use Rattle.share_beginnings.specs.declared.begun.Begun.{Begun}
-use Rattle.share_beginnings.proofs.Entries.{Grows, IsBroughtBy, brought_has, grows_none, grows_push, out_pushed, pushed, read_pushed, same_of}
-use Rattle.share_beginnings.proofs.Knowing.{SameShares, WasBegun, begun_by, grows_asks, held_follows, known_follows, led_grows, offered_asks, shares_same, table_asks}
-use Rattle.share_beginnings.proofs.Reading.{ends, goes_on, next_is}
+use Rattle.share_beginnings.proofs.Entries.{out_pushed, read_pushed, same_of}
+use Rattle.share_beginnings.proofs.Knowing.{begun_by, grows_asks, held_follows, led_grows, offered_asks}
+use Rattle.share_beginnings.proofs.Reading.{ends, next_is}
 
 -- ---- nothing of it was asked
 

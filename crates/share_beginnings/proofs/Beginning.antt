@@ -1,5 +1,5 @@
 -- Nothing is known yet but whom to ask.
-use Rattle.std.proofs.Common.{◌≡◌, ℕ, zero, suc, ◌+◌, ◌<◌, List, [], ◌∷◌, ◌++◌, All, length, map, Option, Some, None, refl, sym, ap, subst, ◌∙◌, arith}
+use Rattle.std.proofs.Common.{◌≡◌, ℕ, zero, suc, List, [], ◌∷◌, length, map, Some, None, sym, ap, ◌∙◌}
 use Rattle.std.specs.Prelude.{slice_get, slice_index_or}
 use Rattle.std.proofs.lemmas.Option.{get_or_from_slice_get, slice_get_within}
 use Rattle.wire.specs.declared.message.Body.TheVariants.{Have}
@@ -7,20 +7,16 @@ use Rattle.request_record.specs.declared.requests.Asked.TheVariants.{Holdings}
 use Rattle.request_record.specs.declared.requests.Outcome.TheVariants.{Answered, Outstanding}
 use Rattle.request_record.specs.declared.requests.Request.{Request}
 use Rattle.request_record.specs.Record.{RequestsState, first_request}
-use Rattle.request_record.specs.Asking.{begun}
-use Rattle.share_holdings.specs.Left.{IsOffered}
 use Rattle.share_holdings.specs.Moves.{Begins}
 use Rattle.share_holdings.specs.Numbers.{no_holding}
 use Rattle.share_holdings.specs.Right.{IsRight}
 use Rattle.share_holdings.specs.State.{NumberState}
-use Rattle.share_holdings.specs.Table.{IsHolding, IsNumber}
+use Rattle.share_holdings.specs.Table.{IsHolding}
 use Rattle.share_holdings.specs.declared.holding.Holding.{Holding}
 use Rattle.share_holdings.proofs.Begun.{begun_entries}
 use Rattle.share_beginnings.specs.Known.{AreBegun}
 use Rattle.share_beginnings.specs.Opening.{AreOpening, nobody}
 use Rattle.share_beginnings.specs.State.{BeginningsState}
-use Rattle.share_beginnings.specs.declared.begun.Begun.{Begun}
-use Rattle.share_beginnings.proofs.Entries.{same_of}
 
 one_of : (now : ℕ) (servers : List ℕ) (i : ℕ) (r : Request) → slice_get (map (λ server. first_request server Holdings now) servers) i ≡ Some r → r.outcome ≡ Outstanding
 one_of now [] i r e = absurd cc

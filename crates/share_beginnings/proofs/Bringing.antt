@@ -1,5 +1,5 @@
 -- The bytes that a message brings are there.
-use Rattle.std.proofs.Common.{◌≡◌, ℕ, zero, suc, ◌+◌, ◌-◌, ◌<◌, ◌≤◌, ◌⊎◌, inl, inr, Bool, true, false, cond, List, Option, Some, None, refl, sym, ap, subst, ◌∙◌, arith, true≢false}
+use Rattle.std.proofs.Common.{◌≡◌, ℕ, ◌+◌, ◌-◌, inl, inr, Bool, true, false, cond, List, Option, Some, None, refl, sym, ap, subst, ◌∙◌, arith}
 use Rattle.std.specs.Prelude.{◌==◌, ◌&&◌, not, slice_get}
 use Rattle.std.proofs.lemmas.Bool.{false≢true}
 use Rattle.wire.specs.declared.message.Body.{Body}
@@ -10,10 +10,8 @@ use Rattle.request_record.specs.declared.requests.Asked.TheVariants.{Reading}
 use Rattle.request_record.specs.declared.requests.Outcome.TheVariants.{Answered}
 use Rattle.request_record.specs.declared.requests.Request.{Request}
 use Rattle.request_record.specs.Record.{RequestsState, awaits_at, counts_at, fits, is_outstanding, with_outcome}
-use Rattle.request_record.specs.Asking.{after_message}
 use Rattle.share_holdings.specs.Moves.{Brings, Hears, HearsAt}
 use Rattle.share_holdings.specs.Right.{IsRight}
-use Rattle.share_holdings.specs.State.{HoldingsState}
 use Rattle.share_holdings.specs.declared.holdings.Heard.{Heard}
 use Rattle.share_holdings.specs.declared.holdings.Heard.TheVariants as heard
 use Rattle.share_holdings.proofs.Goes.{answered_at}

@@ -1,28 +1,25 @@
 -- An extension block is accepted: what was read of each header is compared.
-use Rattle.std.proofs.Common.{◌≡◌, ℕ, zero, suc, ◌+◌, ◌-◌, ◌<◌, ◌≤◌, ◌⊎◌, inl, inr, Bool, true, false, cond, ◌&&◌, List, [], ◌∷◌, ◌++◌, length, Option, Some, None, refl, sym, ap, subst, ◌∙◌, arith, true≢false}
-use Rattle.std.specs.Prelude.{◌≢◌, slice_get, slice_index_or, slice_set}
+use Rattle.std.proofs.Common.{◌≡◌, ℕ, ◌+◌, ◌<◌, ◌≤◌, ◌⊎◌, inl, inr, Bool, true, false, List, length, Option, Some, None, refl, sym, ap, subst, ◌∙◌, arith, true≢false}
+use Rattle.std.specs.Prelude.{slice_get, slice_set}
 use Rattle.std.proofs.lemmas.Bool.{cases_eq, cases_lt}
-use Rattle.std.proofs.lemmas.Option.{slice_get-get_or, slice_get_within}
+use Rattle.std.proofs.lemmas.Option.{slice_get_within}
 use Rattle.share_layout.specs.Geometry.{Geometry, IsGeometry}
 use Rattle.share_opening.specs.Opening.{Agrees}
 use Rattle.share_opening.specs.declared.opening.Opening.{Opening}
-use Rattle.request_record.specs.declared.requests.Request.{Request}
 use Rattle.request_record.specs.declared.requests.Asked.TheVariants.{Reading}
 use Rattle.request_record.specs.Record.{RequestsState}
 use Rattle.share_holdings.specs.Numbers.{released, without_place}
-use Rattle.share_holdings.specs.Right.{IsRight}
-use Rattle.share_holdings.specs.State.{HoldingsState, NumberState, TableState}
+use Rattle.share_holdings.specs.State.{NumberState, TableState}
 use Rattle.share_holdings.specs.Table.{IsHolding, IsNumber, IsTable, Releases, Retires, Suspends}
 use Rattle.share_holdings.specs.declared.holding.Holding.{Holding}
 use Rattle.share_holdings.proofs.Lists.{get_other, get_set, released_at, released_else, set_cases}
 use Rattle.share_beginnings.specs.Known.{AreBegun}
-use Rattle.share_beginnings.specs.Opening.{AreCompared, AreComparedUpTo, AreOpening, IsCompared, IsFound, IsOpening, IsOut, IsTaken}
-use Rattle.share_beginnings.specs.Reads.{IsBeginning, IsBeside, IsOutAt, IsReadAt, IsReadUpTo}
+use Rattle.share_beginnings.specs.Opening.{AreCompared, AreComparedUpTo, IsCompared, IsFound, IsOut, IsTaken}
+use Rattle.share_beginnings.specs.Reads.{IsBeginning, IsBeside, IsOutAt, IsReadAt}
 use Rattle.share_beginnings.specs.State.{BeginningsState, IsBegun}
 use Rattle.share_beginnings.specs.declared.begun.Begun.{Begun}
 use Rattle.share_beginnings.proofs.Entries.{same_of}
-use Rattle.share_beginnings.proofs.Falling.{Falls, WasHolding, falls_one}
-use Rattle.share_beginnings.proofs.Openings.{not_left}
+use Rattle.share_beginnings.proofs.Falling.{falls_one}
 use Rattle.share_beginnings.proofs.Reading.{beside}
 
 -- one is not read any more, and the others are as they were

@@ -1,28 +1,25 @@
 -- The record goes on, and what was asked and brought stays.
-use Rattle.std.proofs.Common.{◌≡◌, ℕ, zero, suc, ◌+◌, ◌<◌, ◌≤◌, ◌⊎◌, inl, inr, Bool, true, false, cond, ◌&&◌, List, [], ◌∷◌, ◌++◌, Contains, length, map, max, Option, Some, None, refl, sym, ap, subst, ◌∙◌, arith, true≢false, eqb}
-use Rattle.std.specs.Prelude.{◌==◌, slice_get, slice_set}
+use Rattle.std.proofs.Common.{◌≡◌, ℕ, zero, suc, ◌⊎◌, inl, inr, Bool, true, false, cond, ◌&&◌, List, [], ◌∷◌, ◌++◌, Contains, length, Option, Some, refl, sym, ap, subst, ◌∙◌, true≢false}
+use Rattle.std.specs.Prelude.{◌==◌, slice_get}
 use Rattle.std.specs.List.{flat_map}
-use Rattle.std.proofs.lemmas.Bool.{eq-eqb, eqb-true}
+use Rattle.std.proofs.lemmas.Bool.{eq-eqb}
 use Rattle.std.proofs.lemmas.List.Elements.{Contains-append_cases, Contains-append_left, Contains-append_right}
 use Rattle.std.proofs.lemmas.Option.{slice_get_within}
-use Rattle.placement.proofs.Members.{Contains-cons, Contains-head, Contains-nil, Contains-uncons}
-use Rattle.wire.specs.declared.message.Body.{Body}
-use Rattle.wire.specs.declared.message.Body.TheVariants.{Data, Have}
-use Rattle.wire.specs.declared.message.Message.{Message}
+use Rattle.placement.proofs.Members.{Contains-head, Contains-nil}
+use Rattle.wire.specs.declared.message.Body.TheVariants.{Data}
 use Rattle.request_record.specs.declared.requests.Asked.{Asked}
 use Rattle.request_record.specs.declared.requests.Asked.TheVariants.{Holdings, Allocation, Writing, Closing, Reading, Aborting}
 use Rattle.request_record.specs.declared.requests.Outcome.{Outcome}
 use Rattle.request_record.specs.declared.requests.Outcome.TheVariants.{Unawaited, Outstanding, Answered, Lost}
 use Rattle.request_record.specs.declared.requests.Request.{Request}
-use Rattle.request_record.specs.Record.{RequestsState, asked_all, asked_more, first_request, is_lost_at, is_outstanding, is_resent_at, resent_one, ticked_one, with_outcome}
-use Rattle.request_record.specs.Asking.{after_message, after_tick}
-use Rattle.request_record.proofs.RecordLaws.{get_last, get_push}
+use Rattle.request_record.specs.Record.{first_request, is_outstanding}
+use Rattle.request_record.proofs.RecordLaws.{get_push}
 use Rattle.share_opening.specs.Reads.{Brought}
 use Rattle.share_holdings.specs.Left.{IsOffered}
 use Rattle.share_holdings.specs.declared.holding.Holding.{Holding}
-use Rattle.share_holdings.proofs.Goes.{GoesAlike, alike_forth, message_goes}
-use Rattle.share_holdings.proofs.Records.{AskedAlike, StaysTo, alike_message, alike_tick, stays_message, stays_tick}
-use Rattle.share_beginnings.specs.Reads.{IsAnsweredBy, IsOutAt, IsReadAt, brought_by, brought_in, brought_of, reads_share}
+use Rattle.share_holdings.proofs.Goes.{GoesAlike, alike_forth}
+use Rattle.share_holdings.proofs.Records.{AskedAlike, StaysTo}
+use Rattle.share_beginnings.specs.Reads.{IsOutAt, IsReadAt, brought_by, brought_in, brought_of, reads_share}
 
 -- ---- lists
 

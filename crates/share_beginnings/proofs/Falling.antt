@@ -1,6 +1,6 @@
 -- Holdings are retired: fewer are left and read.
-use Rattle.std.proofs.Common.{◌≡◌, ℕ, zero, suc, ◌+◌, ◌<◌, ◌≤◌, ◌⊎◌, inl, inr, Bool, true, false, cond, List, [], ◌∷◌, length, Option, Some, None, refl, sym, ap, subst, ◌∙◌, arith, true≢false}
-use Rattle.std.specs.Prelude.{◌==◌, slice_get, slice_index_or, slice_set}
+use Rattle.std.proofs.Common.{◌≡◌, ℕ, ◌⊎◌, inl, inr, true, false, List, length, Option, Some, None, refl, sym, ap, subst, ◌∙◌, arith, true≢false}
+use Rattle.std.specs.Prelude.{slice_get, slice_index_or}
 use Rattle.std.proofs.lemmas.Bool.{cases_eq}
 use Rattle.std.proofs.lemmas.List.{length-set}
 use Rattle.std.proofs.lemmas.Option.{slice_get-get_or, slice_get_within}
@@ -9,7 +9,7 @@ use Rattle.share_holdings.specs.Numbers.{released, without_place}
 use Rattle.share_holdings.specs.State.{NumberState, TableState}
 use Rattle.share_holdings.specs.Table.{IsHolding, IsNumber, Retires}
 use Rattle.share_holdings.specs.declared.holding.Holding.{Holding}
-use Rattle.share_holdings.proofs.Lists.{get_other, get_set, released_at, released_else, set_cases}
+use Rattle.share_holdings.proofs.Lists.{get_set, released_at, released_else, set_cases}
 use Rattle.share_beginnings.proofs.Entries.{same_of}
 
 -- a holding as it was

@@ -1,6 +1,6 @@
 -- The beginning of a share goes on.
-use Rattle.std.proofs.Common.{◌≡◌, ℕ, zero, suc, ◌+◌, ◌<◌, ◌⊎◌, inl, inr, List, [], ◌∷◌, ◌++◌, length, Option, Some, None, refl, sym, ap, subst, ◌∙◌, arith, true, false, true≢false}
-use Rattle.std.specs.Prelude.{slice_get, slice_index_or, slice_set}
+use Rattle.std.proofs.Common.{◌≡◌, ℕ, ◌⊎◌, inl, inr, List, length, Option, Some, None, refl, sym, ap, subst, ◌∙◌, arith, false, true≢false}
+use Rattle.std.specs.Prelude.{slice_get, slice_set}
 use Rattle.std.proofs.lemmas.Bool.{cases_eq}
 use Rattle.std.proofs.lemmas.List.{length-set}
 use Rattle.std.proofs.lemmas.Option.{slice_get_within}
@@ -20,19 +20,19 @@ use Rattle.share_holdings.specs.Right.{IsRight}
 use Rattle.share_holdings.specs.State.{HoldingsState, NumberState, TableState}
 use Rattle.share_holdings.specs.Table.{IsHolding, IsNumber, IsTable, Retires}
 use Rattle.share_holdings.specs.declared.holding.Holding.{Holding}
-use Rattle.share_holdings.proofs.Lists.{get_set, released_at, released_else, set_cases}
+use Rattle.share_holdings.proofs.Lists.{get_set, released_at, released_else}
 use Rattle.share_verify.specs.declared.check.Check.{Check}
 use Rattle.share_beginnings.specs.Known.{AreBegun, IsNextAt}
 use Rattle.share_beginnings.specs.Moves.{AsksNext, Awaits, GoesOn, IsBlockAt, Rests, rested}
 use Rattle.share_beginnings.specs.Opening.{AreOpening, IsFound, IsTaken, nobody}
 use Rattle.share_beginnings.specs.Reads.{IsAnsweredBy, IsBeginning, IsReadAt, IsReadUpTo, brought_of}
-use Rattle.share_beginnings.specs.State.{BeginningsState, IsBegun}
+use Rattle.share_beginnings.specs.State.{BeginningsState}
 use Rattle.share_beginnings.specs.declared.begun.Begun.{Begun}
 use Rattle.share_beginnings.proofs.Asking.{known_next, opening_next, unasked_next}
 use Rattle.share_beginnings.proofs.Entries.{brought_has, same_of}
 use Rattle.share_beginnings.proofs.Falling.{falls_one}
 use Rattle.share_beginnings.proofs.Knowing.{keeps_set, known_blamed, known_same, shares_same}
-use Rattle.share_beginnings.proofs.Opened.{goes_blamed, goes_from, goes_next, goes_none}
+use Rattle.share_beginnings.proofs.Opened.{goes_from, goes_none}
 use Rattle.share_beginnings.proofs.Openings.{narrowed, opening_blamed, opening_rests}
 use Rattle.share_beginnings.proofs.Reading.{goes_on}
 

@@ -1,16 +1,14 @@
 -- The beginnings of shares after a message.
-use Rattle.std.proofs.Common.{◌≡◌, ℕ, zero, suc, ◌+◌, ◌-◌, ◌<◌, ◌≤◌, ◌⊎◌, inl, inr, Bool, true, false, cond, List, [], ◌∷◌, ◌++◌, Contains, length, map, filter, take, Option, Some, None, refl, sym, ap, subst, ◌∙◌, arith, length-append, true≢false, replicate}
-use Rattle.std.specs.Prelude.{◌≢◌, slice_get, slice_index_or, slice_set, nat_lt}
-use Rattle.std.proofs.lemmas.Bool.{cases_eq, cases_lt}
-use Rattle.std.proofs.lemmas.List.{length-set, take_all}
+use Rattle.std.proofs.Common.{◌≡◌, ℕ, zero, suc, ◌+◌, ◌-◌, ◌<◌, ◌≤◌, ◌⊎◌, inl, inr, true, false, List, [], ◌∷◌, ◌++◌, length, map, filter, take, Option, Some, None, refl, sym, ap, subst, ◌∙◌, arith, length-append, replicate}
+use Rattle.std.specs.Prelude.{slice_get, slice_index_or, nat_lt}
+use Rattle.std.proofs.lemmas.Bool.{cases_lt}
+use Rattle.std.proofs.lemmas.List.{take_all}
 use Rattle.std.proofs.lemmas.Option.{slice_get-get_or, slice_get_within}
 use Rattle.wire.specs.declared.message.Body.{Body}
-use Rattle.wire.specs.declared.message.Body.TheVariants.{Have, NoShare}
+use Rattle.wire.specs.declared.message.Body.TheVariants.{Have}
 use Rattle.wire.specs.declared.message.HeldShare.{HeldShare}
 use Rattle.wire.specs.declared.message.Message.{Message}
-use Rattle.request_record.specs.declared.requests.Asked.{Asked}
 use Rattle.request_record.specs.declared.requests.Asked.TheVariants.{Holdings, Reading}
-use Rattle.request_record.specs.declared.requests.Outcome.{Outcome}
 use Rattle.request_record.specs.declared.requests.Outcome.TheVariants.{Answered}
 use Rattle.request_record.specs.declared.requests.Request.{Request}
 use Rattle.request_record.specs.Record.{RequestsState, counts_at, is_outstanding}
@@ -20,26 +18,25 @@ use Rattle.share_holdings.specs.Left.{IsOffered}
 use Rattle.share_holdings.specs.Moves.{Brings, Hears, HearsAt, Tells, held_by}
 use Rattle.share_holdings.specs.Right.{AreAllHeld, IsRight}
 use Rattle.share_holdings.specs.State.{HoldingsState, NumberState, TableState}
-use Rattle.share_holdings.specs.Table.{IsHolding, IsNumber, IsTable, Retires, told, told_one}
+use Rattle.share_holdings.specs.Table.{IsHolding, IsNumber, IsTable, told, told_one}
 use Rattle.share_holdings.specs.declared.holding.Holding.{Holding}
 use Rattle.share_holdings.specs.declared.holdings.Heard.{Heard}
 use Rattle.share_holdings.specs.declared.holdings.Heard.TheVariants as heard
-use Rattle.share_holdings.proofs.Goes.{alike_forth, message_cases, message_goes, only_owner}
+use Rattle.share_holdings.proofs.Goes.{message_cases, message_goes, only_owner}
 use Rattle.share_holdings.proofs.Records.{AskedAlike, alike_message}
 use Rattle.share_holdings.proofs.Telling.{append_cases, append_front, told_has}
-use Rattle.share_beginnings.specs.Known.{AreBegun, IsBegunBy, IsNextAt}
-use Rattle.share_beginnings.specs.Moves.{IsNewsOf, WaitsAt}
-use Rattle.share_beginnings.specs.Opening.{AreOpening, IsOpening, IsOut, IsTaken, IsToldOf, nobody}
-use Rattle.share_beginnings.specs.Reads.{IsBeginning, IsOutAt, IsReadAt}
+use Rattle.share_beginnings.specs.Known.{AreBegun, IsNextAt}
+use Rattle.share_beginnings.specs.Moves.{IsNewsOf}
+use Rattle.share_beginnings.specs.Opening.{AreOpening, IsOpening, IsOut, IsToldOf, nobody}
+use Rattle.share_beginnings.specs.Reads.{IsReadAt}
 use Rattle.share_beginnings.specs.State.{BeginningsState, IsBegun, unbegun}
 use Rattle.share_beginnings.specs.declared.begun.Begun.{Begun}
 use Rattle.share_beginnings.specs.declared.beginnings.News.{News}
-use Rattle.share_beginnings.specs.declared.beginnings.News.TheVariants as news
 use Rattle.share_beginnings.proofs.Asking.{distinct_places}
 use Rattle.share_beginnings.proofs.Entries.{Grows, grows_goes, read_alike, same_of}
 use Rattle.share_beginnings.proofs.Falling.{Falls, IsReadOn, WasHolding, falls_none, falls_one, retired_left}
-use Rattle.share_beginnings.proofs.Knowing.{WasBegun, begun_by, known_follows, new_by, shares_fall}
-use Rattle.share_beginnings.proofs.Openings.{not_left, opening_was}
+use Rattle.share_beginnings.proofs.Knowing.{WasBegun, known_follows, shares_fall}
+use Rattle.share_beginnings.proofs.Openings.{opening_was}
 
 -- ---- what becomes of the holdings
 

@@ -1,9 +1,8 @@
 -- What is kept of the beginnings of shares stays as the record says.
-use Rattle.std.proofs.Common.{◌≡◌, ℕ, zero, suc, ◌+◌, ◌-◌, ◌<◌, ◌≤◌, ◌⊎◌, inl, inr, Bool, true, false, List, [], ◌∷◌, ◌++◌, Contains, length, Option, Some, None, refl, sym, ap, subst, ◌∙◌, arith, length-append, replicate}
+use Rattle.std.proofs.Common.{◌≡◌, ℕ, ◌⊎◌, inl, inr, Bool, List, Contains, length, Option, Some, None, refl, sym, ap, subst, ◌∙◌, arith}
 use Rattle.std.specs.Prelude.{slice_get, slice_index_or, slice_set}
 use Rattle.std.proofs.lemmas.Bool.{cases_eq}
 use Rattle.std.proofs.lemmas.List.{length-set}
-use Rattle.std.proofs.lemmas.Option.{slice_get-get_or, slice_get_within}
 use Rattle.share_layout.specs.declared.layout.Layout.{Layout}
 use Rattle.share_layout.specs.declared.layout.Layout.TheVariants.{One, Two}
 use Rattle.share_opening.specs.Opening.{next_length, next_place, text_of}
@@ -13,23 +12,21 @@ use Rattle.share_opening.specs.declared.opening.Opening.TheVariants.{Start, Seco
 use Rattle.share_verify.specs.declared.check.Check.{Check}
 use Rattle.request_record.specs.declared.requests.Asked.TheVariants.{Reading}
 use Rattle.request_record.specs.declared.requests.Request.{Request}
-use Rattle.request_record.specs.Record.{RequestsState, asked_more, first_request}
-use Rattle.request_record.proofs.RecordLaws.{get_last}
+use Rattle.request_record.specs.Record.{RequestsState, first_request}
 use Rattle.share_holdings.specs.Left.{IsOffered}
 use Rattle.share_holdings.specs.Moves.{Asks, Blames}
 use Rattle.share_holdings.specs.Right.{AreAllHeld, IsRight}
-use Rattle.share_holdings.specs.State.{HoldingsState, NumberState, TableState}
-use Rattle.share_holdings.specs.Table.{IsHolding, IsNumber, Releases, Suspends, TakesUp}
+use Rattle.share_holdings.specs.State.{HoldingsState, TableState}
+use Rattle.share_holdings.specs.Table.{IsHolding, Releases, Suspends, TakesUp}
 use Rattle.share_holdings.specs.declared.holding.Holding.{Holding}
-use Rattle.share_holdings.proofs.Goes.{HaveSamePairs, same_pairs}
+use Rattle.share_holdings.proofs.Goes.{HaveSamePairs}
 use Rattle.share_holdings.proofs.Lists.{get_other, get_set, set_cases}
 use Rattle.share_holdings.proofs.Records.{StaysTo}
 use Rattle.share_beginnings.specs.Known.{AreBegun, IsBegunBy, IsNextAt}
-use Rattle.share_beginnings.specs.Moves.{AsksNext, Rests}
-use Rattle.share_beginnings.specs.Reads.{IsReadAt, brought_of}
+use Rattle.share_beginnings.specs.Reads.{brought_of}
 use Rattle.share_beginnings.specs.State.{BeginningsState, IsBegun, unbegun}
 use Rattle.share_beginnings.specs.declared.begun.Begun.{Begun}
-use Rattle.share_beginnings.proofs.Entries.{Grows, brought_grows, grows_none, grows_push, offered_pushed, pushed, read_grows, same_of}
+use Rattle.share_beginnings.proofs.Entries.{Grows, brought_grows, grows_none, grows_push, offered_pushed, read_grows, same_of}
 use Rattle.share_beginnings.proofs.Falling.{Falls, at_place}
 
 -- ---- one holding

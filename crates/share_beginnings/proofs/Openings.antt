@@ -1,49 +1,23 @@
 -- Shares are begun to be read still, as the holdings go on.
-use Rattle.std.proofs.Common.{◌≡◌, ℕ, zero, suc, ◌+◌, ◌-◌, ◌<◌, ◌≤◌, ◌⊎◌, inl, inr, Bool, true, false, List, [], ◌∷◌, ◌++◌, Contains, length, map, filter, take, Option, Some, None, refl, sym, ap, subst, ◌∙◌, arith, length-append, true≢false, replicate}
-use Rattle.std.specs.Prelude.{◌≢◌, slice_get, slice_index_or, slice_set, nat_lt}
-use Rattle.std.proofs.lemmas.Bool.{cases_eq, cases_lt}
-use Rattle.std.proofs.lemmas.List.{length-set, take_all}
-use Rattle.std.proofs.lemmas.Option.{slice_get-get_or, slice_get_within}
-use Rattle.wire.specs.declared.message.Body.{Body}
-use Rattle.wire.specs.declared.message.Body.TheVariants.{Have, NoShare}
-use Rattle.wire.specs.declared.message.HeldShare.{HeldShare}
-use Rattle.wire.specs.declared.message.Message.{Message}
-use Rattle.request_record.specs.declared.requests.Asked.{Asked}
-use Rattle.request_record.specs.declared.requests.Asked.TheVariants.{Holdings, Reading}
-use Rattle.request_record.specs.declared.requests.Outcome.{Outcome}
-use Rattle.request_record.specs.declared.requests.Outcome.TheVariants.{Answered}
+use Rattle.std.proofs.Common.{◌≡◌, ℕ, ◌+◌, ◌⊎◌, inl, inr, Bool, true, false, List, Option, Some, None, refl, sym, ap, subst, ◌∙◌, true≢false}
+use Rattle.std.specs.Prelude.{slice_get, slice_set}
 use Rattle.request_record.specs.declared.requests.Request.{Request}
-use Rattle.request_record.specs.Record.{RequestsState, counts_at, is_outstanding}
-use Rattle.request_record.specs.Asking.{after_message}
+use Rattle.request_record.specs.Record.{RequestsState}
 use Rattle.share_opening.specs.declared.opening.Opening.{Opening}
-use Rattle.share_opening.specs.declared.opening.Opening.TheVariants.{Start}
-use Rattle.share_holdings.specs.Left.{IsOffered}
-use Rattle.share_holdings.specs.Moves.{Brings, Hears, HearsAt, Tells, held_by}
-use Rattle.share_holdings.specs.Moves as holdings
 use Rattle.share_holdings.specs.Numbers.{read_count, taken_up}
-use Rattle.share_holdings.specs.Right.{AreAllHeld, IsRight}
-use Rattle.share_holdings.specs.State.{HoldingsState, NumberState, TableState}
-use Rattle.share_holdings.specs.Table.{IsFree, IsHolding, IsNumber, IsTable, TakesUp, told, told_one}
+use Rattle.share_holdings.specs.State.{NumberState, TableState}
+use Rattle.share_holdings.specs.Table.{IsFree, IsHolding, IsNumber, TakesUp}
 use Rattle.share_holdings.specs.declared.holding.Holding.{Holding}
-use Rattle.share_holdings.specs.declared.holdings.Heard.{Heard}
-use Rattle.share_holdings.specs.declared.holdings.Heard.TheVariants as heard
-use Rattle.share_holdings.proofs.Goes.{message_cases, message_goes, only_owner}
-use Rattle.share_holdings.proofs.Lists.{get_other, get_set, set_cases}
-use Rattle.share_holdings.proofs.Records.{AskedAlike, alike_message}
+use Rattle.share_holdings.proofs.Lists.{get_other, set_cases}
+use Rattle.share_holdings.proofs.Records.{AskedAlike}
 use Rattle.share_holdings.proofs.Tables.{count_taken}
-use Rattle.share_holdings.proofs.Telling.{append_cases, append_front, told_has}
-use Rattle.share_beginnings.specs.Known.{AreBegun, IsBegunBy, IsNextAt}
-use Rattle.share_beginnings.specs.Moves.{HearsNews, IsNewsOf, Rests, WaitsAt, rested}
-use Rattle.share_beginnings.specs.Opening.{AreOpening, IsOpening, IsOut, IsTaken, IsToldOf, nobody}
-use Rattle.share_beginnings.specs.Reads.{IsBeginning, IsOutAt, IsReadAt, IsReadUpTo}
-use Rattle.share_beginnings.specs.State.{BeginningsState, IsBegun, unbegun}
+use Rattle.share_beginnings.specs.Moves.{Rests, rested}
+use Rattle.share_beginnings.specs.Opening.{AreOpening, IsOpening, IsOut, IsTaken, nobody}
+use Rattle.share_beginnings.specs.Reads.{IsBeginning, IsOutAt, IsReadAt}
+use Rattle.share_beginnings.specs.State.{BeginningsState, IsBegun}
 use Rattle.share_beginnings.specs.declared.begun.Begun.{Begun}
-use Rattle.share_beginnings.specs.declared.beginnings.News.{News}
-use Rattle.share_beginnings.specs.declared.beginnings.News.TheVariants as news
-use Rattle.share_beginnings.proofs.Asking.{distinct_places}
-use Rattle.share_beginnings.proofs.Entries.{Grows, grows_goes, read_alike, same_of}
-use Rattle.share_beginnings.proofs.Falling.{Falls, IsReadOn, WasHolding, at_place, falls_none, falls_one}
-use Rattle.share_beginnings.proofs.Knowing.{SameShares, WasBegun, begun_by, known_follows, shares_fall}
+use Rattle.share_beginnings.proofs.Entries.{read_alike, same_of}
+use Rattle.share_beginnings.proofs.Falling.{Falls, IsReadOn, WasHolding}
 
 -- ---- fewer are left
 

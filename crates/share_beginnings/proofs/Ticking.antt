@@ -1,29 +1,27 @@
 -- The beginnings of shares after a tick.
-use Rattle.std.proofs.Common.{◌≡◌, ℕ, zero, suc, ◌+◌, ◌-◌, ◌<◌, ◌≤◌, ◌⊎◌, inl, inr, Bool, true, false, cond, List, [], ◌∷◌, Contains, length, map, max, Option, Some, None, refl, sym, ap, subst, ◌∙◌, arith, true≢false}
+use Rattle.std.proofs.Common.{◌≡◌, ℕ, ◌+◌, ◌-◌, ◌<◌, ◌≤◌, inl, inr, Bool, true, cond, List, Contains, length, max, Option, Some, None, sym, ap, subst, ◌∙◌, arith}
 use Rattle.std.specs.Prelude.{slice_get, slice_index_or}
 use Rattle.std.proofs.lemmas.Bool.{cases_lt}
 use Rattle.std.proofs.lemmas.Option.{slice_get-get_or, slice_get_within}
 use Rattle.wire.specs.declared.message.Body.TheVariants.{Have}
 use Rattle.request_record.specs.declared.requests.Asked.TheVariants.{Holdings, Reading}
-use Rattle.request_record.specs.declared.requests.Outcome.{Outcome}
 use Rattle.request_record.specs.declared.requests.Outcome.TheVariants.{Answered, Lost}
 use Rattle.request_record.specs.declared.requests.Request.{Request}
 use Rattle.request_record.specs.Record.{RequestsState, is_lost_at, is_outstanding, is_resent_at, resent_one, ticked_one, with_outcome}
 use Rattle.request_record.specs.Asking.{after_tick, lost_by_tick}
 use Rattle.share_opening.specs.declared.opening.Opening.{Opening}
 use Rattle.share_holdings.specs.Left.{IsOffered}
-use Rattle.share_holdings.specs.Moves.{IsAmong, RetiresAll, Ticks}
+use Rattle.share_holdings.specs.Moves.{IsAmong, Ticks}
 use Rattle.share_holdings.specs.Right.{IsRight}
-use Rattle.share_holdings.specs.State.{HoldingsState, NumberState, TableState}
-use Rattle.share_holdings.specs.Table.{IsHolding, IsNumber, IsTable}
+use Rattle.share_holdings.specs.Table.{IsHolding, IsTable}
 use Rattle.share_holdings.specs.declared.holding.Holding.{Holding}
 use Rattle.share_holdings.proofs.Goes.{only_owner}
 use Rattle.share_holdings.proofs.Records.{AskedAlike, alike_tick}
 use Rattle.share_holdings.proofs.Ticking.{from_map, get_map, listed, tick_goes, ticked_cases}
 use Rattle.share_beginnings.specs.Known.{AreBegun, IsNextAt}
 use Rattle.share_beginnings.specs.Opening.{AreOpening, IsOut, nobody}
-use Rattle.share_beginnings.specs.Reads.{IsOutAt, IsReadAt}
-use Rattle.share_beginnings.specs.State.{BeginningsState, IsBegun}
+use Rattle.share_beginnings.specs.Reads.{IsReadAt}
+use Rattle.share_beginnings.specs.State.{BeginningsState}
 use Rattle.share_beginnings.specs.declared.begun.Begun.{Begun}
 use Rattle.share_beginnings.proofs.Entries.{Grows, grows_goes, same_of}
 use Rattle.share_beginnings.proofs.Falling.{Falls, falls_all}

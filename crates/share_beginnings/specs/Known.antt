@@ -1,15 +1,13 @@
 -- What is kept of the beginnings of shares is as the record says.
-use Rattle.std.specs.Prelude.{◌≡◌, ◌≢◌, ◌⊎◌, ℕ, List, Option, Some, None, length, true, false}
-use Rattle.share_layout.specs.Geometry.{Geometry}
+use Rattle.std.specs.Prelude.{◌≡◌, ℕ, List, Option, Some, None, length}
 use Rattle.share_opening.specs.Opening.{next_length, next_place}
 use Rattle.share_opening.specs.Reads.{IsLedToBy}
 use Rattle.share_opening.specs.declared.opening.Opening.{Opening}
 use Rattle.request_record.specs.declared.requests.Request.{Request}
 use Rattle.share_holdings.specs.Right.{AreAllHeld, IsRight}
-use Rattle.share_holdings.specs.State.{HoldingsState, NumberState, TableState}
-use Rattle.share_holdings.specs.Table.{IsHolding, IsNumber, IsTable}
+use Rattle.share_holdings.specs.Table.{IsHolding}
 use Rattle.share_holdings.specs.declared.holding.Holding.{Holding}
-use Rattle.share_beginnings.specs.Reads.{IsBeginning, IsBeside, IsOutAt, IsReadAt, brought_of}
+use Rattle.share_beginnings.specs.Reads.{IsReadAt, brought_of}
 use Rattle.share_beginnings.specs.State.{BeginningsState, IsBegun}
 use Rattle.share_beginnings.specs.declared.begun.Begun.{Begun}
 

@@ -1,22 +1,15 @@
 -- What the calls on the beginnings of shares do.
-use Rattle.std.specs.Prelude.{◌≡◌, ◌≢◌, ◌⊎◌, ℕ, ◌≤◌, List, [], ◌++◌, Option, Some, None, true, false}
-use Rattle.std.specs.Prelude.{length, replicate, slice_get, slice_set, Result, Ok, Err}
+use Rattle.std.specs.Prelude.{◌≡◌, ◌⊎◌, ℕ, ◌≤◌, List, ◌++◌, Some, None, false}
+use Rattle.std.specs.Prelude.{length, replicate, slice_get, slice_set}
 use Rattle.cap_text.specs.Cap.{VerifyCapValue}
-use Rattle.share_layout.specs.Geometry.{Geometry}
 use Rattle.share_verify.specs.CapBlock.{IsUebFor, geometry_by}
 use Rattle.share_verify.specs.declared.check.Check.{Check}
-use Rattle.share_verify.specs.declared.check.Check.TheVariants as checks
 use Rattle.share_opening.specs.Opening.{next_length, next_place}
-use Rattle.share_opening.specs.Refusal.{IsRefused, check_of}
 use Rattle.share_opening.specs.declared.block.Opened.{Opened}
-use Rattle.share_opening.specs.declared.error.OpeningError.{OpeningError}
 use Rattle.share_opening.specs.declared.opening.Opening.{Opening}
-use Rattle.share_opening.specs.declared.opening.Progress.{Progress}
-use Rattle.share_opening.specs.declared.opening.Progress.TheVariants.{Next}
-use Rattle.wire.specs.declared.message.Body.TheVariants.{Data, NoShare}
+use Rattle.wire.specs.declared.message.Body.TheVariants.{Data}
 use Rattle.wire.specs.declared.message.Message.{Message}
-use Rattle.request_record.specs.Asking.{after_message}
-use Rattle.request_record.specs.Record.{RequestsState, asked_all, counts_at}
+use Rattle.request_record.specs.Record.{asked_all}
 use Rattle.request_record.specs.declared.requests.Asked.{Asked}
 use Rattle.request_record.specs.declared.requests.Asked.TheVariants.{Reading}
 use Rattle.request_record.specs.declared.requests.Outcome.TheVariants.{Answered}

@@ -1,7 +1,6 @@
 -- How shares are begun to be read, before and after an extension block is accepted.
-use Rattle.std.specs.Prelude.{◌≡◌, ◌≢◌, ◌⊎◌, ℕ, ◌<◌, ◌≤◌, length, Option, Some, None, true, false}
+use Rattle.std.specs.Prelude.{◌≡◌, ◌≢◌, ◌⊎◌, ℕ, ◌<◌, ◌≤◌, length, Some, None, true, false}
 use Rattle.share_layout.specs.Geometry.{Geometry}
-use Rattle.share_opening.specs.declared.opening.Opening.{Opening}
 use Rattle.share_holdings.specs.State.{NumberState, TableState}
 use Rattle.share_holdings.specs.Table.{IsHolding, IsNumber}
 use Rattle.share_holdings.specs.declared.holding.Holding.{Holding}

@@ -9,5 +9,5 @@
 pub mod beginnings;
 pub mod begun;
 
-pub use beginnings::{Beginnings, News};
+pub use beginnings::{Beginnings, News, bytes_at};
 pub use begun::Begun;

@@ -1,9 +1,7 @@
-use Rattle.std.proofs.Common.{rules, ◌≡◌, ◌∙◌, ℕ, ◌+◌, ◌-◌, ◌<◌, ◌≤◌, ◌⊎◌, inl, inr, List, [], ◌∷◌, ◌++◌, length, replicate, Option, Some, None, Result, Ok, Err, OnOk, OnErr, IfOk, true, false, refl, sym, subst, ap, arith}
+use Rattle.std.proofs.Common.{◌∙◌, inl, inr, refl, sym, subst}
 use Rattle.std.proofs.lemmas.Bool.{false≢true}
 use Rattle.share_beginnings.proofs.beginnings.news_of.Goals as goal
-use Rattle.share_beginnings.specs.Moves.{IsNewsOf, WaitsAt}
-use Rattle.share_beginnings.specs.State.{BeginningsState}
-use Rattle.share_beginnings.specs.declared.beginnings.News.{News}
+use Rattle.share_beginnings.specs.Moves.{IsNewsOf}
 use Rattle.share_beginnings.specs.declared.beginnings.News.TheVariants as news
 use Rattle.share_holdings.specs.declared.holdings.Heard.{Heard}
 

@@ -1,6 +1,5 @@
-use Rattle.std.proofs.Common.{rules, ◌≡◌, ◌∙◌, ℕ, zero, suc, ◌+◌, ◌-◌, ◌<◌, ◌≤◌, ◌⊎◌, inl, inr, List, [], ◌∷◌, ◌++◌, length, replicate, get_or, Option, Some, None, Bool, Result, Ok, Err, OnOk, OnErr, IfOk, true, false, true≢false, refl, sym, subst, ap, arith}
+use Rattle.std.proofs.Common.{◌≡◌, ◌∙◌, length, refl, ap, arith}
 use Rattle.share_beginnings.specs.State.{BeginningsState}
-use Rattle.share_beginnings.specs.declared.begun.Begun.{Begun}
 use Rattle.share_beginnings.proofs.Comparing.{compared_all, compared_none}
 use Rattle.share_beginnings.proofs.Opened.{goes_none}
 use Rattle.share_beginnings.proofs.beginnings.Beginnings.accept.Goals as goal

@@ -1,6 +1,6 @@
-use Rattle.std.proofs.Common.{rules, ◌≡◌, ◌∙◌, ℕ, ◌+◌, ◌-◌, ◌<◌, ◌≤◌, ◌⊎◌, inl, inr, List, [], ◌∷◌, ◌++◌, length, replicate, Option, Some, None, Result, Ok, Err, OnOk, OnErr, IfOk, true, false, refl, sym, subst, ap, arith}
-use Rattle.std.specs.Prelude.{slice_get, slice_set}
-use Rattle.share_opening.specs.Opening.{next_length, next_place}
+use Rattle.std.proofs.Common.{rules, ◌<◌, length, Some, subst, ap}
+use Rattle.std.specs.Prelude.{slice_set}
+use Rattle.share_opening.specs.Opening.{next_place}
 use Rattle.share_holdings.proofs.Lists.{got}
 use Rattle.share_holdings.specs.Moves.{Asks}
 use Rattle.share_beginnings.specs.Moves.{AsksNext}

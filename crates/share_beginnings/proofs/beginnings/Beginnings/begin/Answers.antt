@@ -1,4 +1,3 @@
-use Rattle.std.proofs.Common.{rules, ◌≡◌, ◌∙◌, ℕ, ◌+◌, ◌-◌, ◌<◌, ◌≤◌, ◌⊎◌, inl, inr, List, [], ◌∷◌, ◌++◌, length, replicate, Option, Some, None, Result, Ok, Err, OnOk, OnErr, IfOk, true, false, refl, sym, subst, ap, arith}
 use Rattle.share_beginnings.specs.State.{BeginningsState}
 use Rattle.share_beginnings.proofs.Beginning.{known_first, opening_first}
 use Rattle.share_beginnings.proofs.beginnings.Beginnings.begin.Goals as goal

@@ -1,12 +1,12 @@
-use Rattle.std.proofs.Common.{rules, ◌≡◌, ◌∙◌, ℕ, zero, suc, ◌+◌, ◌-◌, ◌<◌, ◌≤◌, ◌⊎◌, inl, inr, List, [], ◌∷◌, ◌++◌, length, replicate, get_or, Option, Some, None, Bool, Result, Ok, Err, OnOk, OnErr, IfOk, true, false, true≢false, refl, sym, subst, ap, arith}
+use Rattle.std.proofs.Common.{◌≡◌, ◌∙◌, ◌<◌, inl, inr, List, length, get_or, Some, false, refl, sym, subst, ap, arith}
 use Rattle.std.specs.Prelude.{slice_get}
 use Rattle.std.proofs.lemmas.Option.{slice_get-get_or, slice_get_within}
 use Rattle.share_holdings.specs.Moves.{Blames}
-use Rattle.share_holdings.specs.State.{HoldingsState, TableState}
-use Rattle.share_holdings.specs.Table.{IsHolding, Suspends}
+use Rattle.share_holdings.specs.State.{HoldingsState}
+use Rattle.share_holdings.specs.Table.{Suspends}
 use Rattle.share_holdings.specs.declared.holding.Holding.{Holding}
 use Rattle.share_beginnings.specs.Known.{AreBegun}
-use Rattle.share_beginnings.specs.Moves.{Compares, GoesOn}
+use Rattle.share_beginnings.specs.Moves.{GoesOn}
 use Rattle.share_beginnings.specs.State.{BeginningsState}
 use Rattle.share_beginnings.proofs.Falling.{falls_one}
 use Rattle.share_beginnings.proofs.Going.{goes_on_from, rested_goes, rested_known}

@@ -1,18 +1,15 @@
-use Rattle.std.proofs.Common.{rules, ◌≡◌, ◌∙◌, ℕ, zero, suc, ◌+◌, ◌-◌, ◌<◌, ◌≤◌, ◌⊎◌, inl, inr, List, [], ◌∷◌, ◌++◌, length, replicate, get_or, Option, Some, None, Result, Ok, Err, OnOk, OnErr, IfOk, true, false, refl, sym, subst, ap, arith}
-use Rattle.std.specs.Prelude.{slice_get, slice_index_or}
+use Rattle.std.proofs.Common.{◌≡◌, ◌∙◌, ℕ, ◌<◌, List, length, get_or, Some, false, sym, subst, ap, arith}
 use Rattle.std.proofs.lemmas.Option.{slice_get-get_or, slice_get_within}
-use Rattle.share_opening.specs.Opening.{Advances, next_length, next_place}
+use Rattle.share_opening.specs.Opening.{Advances}
 use Rattle.share_opening.specs.declared.opening.Opening.{Opening}
 use Rattle.share_opening.specs.declared.opening.Progress.{Progress}
-use Rattle.share_opening.specs.declared.opening.Progress.TheVariants.{Next, Done}
 use Rattle.share_holdings.specs.Moves.{Blames}
-use Rattle.share_holdings.specs.State.{HoldingsState, TableState}
+use Rattle.share_holdings.specs.State.{HoldingsState}
 use Rattle.share_holdings.specs.Table.{IsHolding, IsTable}
 use Rattle.share_holdings.specs.declared.holding.Holding.{Holding}
 use Rattle.share_beginnings.specs.Known.{AreBegun}
-use Rattle.share_beginnings.specs.Moves.{AsksNext, Awaits, GoesOn, IsBlockAt, Rests}
+use Rattle.share_beginnings.specs.Moves.{Awaits, GoesOn, Rests}
 use Rattle.request_record.specs.Record.{RequestsState}
-use Rattle.share_beginnings.specs.Opening.{AreOpening, nobody}
 use Rattle.share_beginnings.specs.Reads.{IsAnsweredBy}
 use Rattle.share_beginnings.specs.State.{BeginningsState, IsBegun}
 use Rattle.share_beginnings.specs.declared.begun.Begun.{Begun}

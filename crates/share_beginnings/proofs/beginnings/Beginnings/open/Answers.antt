@@ -1,21 +1,16 @@
-use Rattle.std.proofs.Common.{rules, ◌≡◌, ◌∙◌, ℕ, zero, suc, ◌+◌, ◌-◌, ◌<◌, ◌≤◌, ◌⊎◌, inl, inr, List, [], ◌∷◌, ◌++◌, length, replicate, Option, Some, None, Result, Ok, Err, OnOk, OnErr, IfOk, true, false, refl, sym, subst, ap, arith}
-use Rattle.std.proofs.lemmas.Option.{slice_get_within, slice_get-get_or}
-use Rattle.std.specs.Prelude.{slice_index_or}
+use Rattle.std.proofs.Common.{◌∙◌, ◌+◌, OnOk, refl, sym, subst, ap}
 use Rattle.share_opening.specs.Opening.{next_length, next_place}
 use Rattle.share_opening.specs.declared.opening.Opening.{Opening}
 use Rattle.share_opening.specs.declared.opening.Opening.TheVariants.{Start}
-use Rattle.request_record.specs.Record.{RequestsState}
 use Rattle.share_holdings.specs.Moves.{IsUnasked}
 use Rattle.share_holdings.specs.Numbers.{read_count}
-use Rattle.share_holdings.specs.Right.{IsRight}
-use Rattle.share_holdings.specs.State.{HoldingsState, TableState}
+use Rattle.share_holdings.specs.State.{HoldingsState}
 use Rattle.share_holdings.specs.Table.{IsFree, IsHolding}
 use Rattle.share_holdings.specs.declared.holding.Holding.{Holding}
 use Rattle.share_beginnings.specs.Known.{AreBegun}
 use Rattle.share_beginnings.specs.Moves.{AsksNext, GoesOn}
 use Rattle.share_beginnings.specs.Opening.{AreOpening, nobody}
-use Rattle.share_beginnings.specs.Reads.{IsReadAt}
-use Rattle.share_beginnings.specs.State.{BeginningsState, IsBegun, unbegun}
+use Rattle.share_beginnings.specs.State.{BeginningsState}
 use Rattle.share_beginnings.proofs.Opened.{goes_from, goes_next, goes_none, opened_count, opened_known, opened_opening, taken_unasked}
 use Rattle.share_beginnings.proofs.Results.{by_result, on_ok}
 use Rattle.share_beginnings.proofs.beginnings.Beginnings.open.Goals as goal

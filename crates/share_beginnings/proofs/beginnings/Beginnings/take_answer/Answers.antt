@@ -1,4 +1,4 @@
-use Rattle.std.proofs.Common.{rules, ◌≡◌, ◌∙◌, ℕ, zero, suc, ◌+◌, ◌-◌, ◌<◌, ◌≤◌, ◌⊎◌, inl, inr, List, [], ◌∷◌, ◌++◌, length, replicate, get_or, Option, Some, None, Bool, Result, Ok, Err, OnOk, OnErr, IfOk, true, false, true≢false, refl, sym, subst, ap, arith}
+use Rattle.std.proofs.Common.{◌≡◌, ◌∙◌, length, sym, subst, ap, arith}
 use Rattle.share_beginnings.specs.Known.{AreBegun}
 use Rattle.share_beginnings.specs.Opening.{AreOpening, nobody}
 use Rattle.share_beginnings.specs.State.{BeginningsState}

@@ -1,4 +1,4 @@
-use Rattle.std.proofs.Common.{rules, ◌≡◌, ◌∙◌, ℕ, ◌+◌, ◌-◌, ◌<◌, ◌≤◌, ◌⊎◌, inl, inr, List, [], ◌∷◌, ◌++◌, length, replicate, Option, Some, None, Result, Ok, Err, OnOk, OnErr, IfOk, true, false, refl, sym, subst, ap, arith}
+use Rattle.std.proofs.Common.{refl, sym, subst}
 use Rattle.share_beginnings.specs.Known.{AreBegun}
 use Rattle.share_beginnings.specs.Opening.{AreOpening, nobody}
 use Rattle.share_beginnings.specs.State.{BeginningsState}

@@ -1,0 +1,177 @@
+-- Fewer shares are left, or a file goes on, and the same is read.
+use Rattle.std.proofs.Common.{◌≡◌, ℕ, ◌⊎◌, inl, inr, Bool, true, false, List, Contains, length, map, Some, refl, sym, ap, subst, ◌∙◌, arith}
+use Rattle.std.specs.Prelude.{◌≢◌, Result, Ok, Err, slice_get, slice_index_or}
+use Rattle.std.specs.declared.alloc.AllocError.{AllocError}
+use Rattle.download_segments.specs.State.{HandoutState}
+use Rattle.download_file.specs.Making.{MakesNext}
+use Rattle.download_file.specs.declared.file.Made.{Made}
+use Rattle.download_file.specs.declared.file.Made.TheVariants as made_as
+use Rattle.std.proofs.lemmas.List.{length-map}
+use Rattle.request_record.specs.Record.{RequestsState}
+use Rattle.share_holdings.specs.State.{HoldingsState}
+use Rattle.share_layout.specs.Geometry.{Geometry}
+use Rattle.share_holdings.specs.Table.{IsHolding}
+use Rattle.share_holdings.specs.declared.holding.Holding.{Holding}
+use Rattle.share_holdings.proofs.Records.{AskedAlike}
+use Rattle.share_beginnings.specs.Known.{AreBegun}
+use Rattle.share_beginnings.specs.Reads.{IsBeside}
+use Rattle.share_beginnings.specs.State.{BeginningsState, IsBegun}
+use Rattle.share_beginnings.specs.declared.begun.Begun.{Begun}
+use Rattle.share_beginnings.proofs.Entries.{read_alike, same_of}
+use Rattle.share_beginnings.proofs.Falling.{Falls, at_place, falls_one}
+use Rattle.share_beginnings.proofs.Opened.{goes_blamed, goes_none}
+use Rattle.download_file.specs.Changes.{IsSameFile}
+use Rattle.share_holdings.specs.Moves.{Blames}
+use Rattle.share_verify.specs.declared.check.Check.{Check}
+use Rattle.download_reading.specs.Steps.{Continues}
+use Rattle.download_reading.proofs.Ended.{file_none}
+use Rattle.download_file.specs.Answers.{IsRead}
+use Rattle.download_file.specs.Asked.{AsksNoMore}
+use Rattle.download_file.specs.Right.{IsFile}
+use Rattle.download_file.specs.State.{FileState, IsLive, ReaderState, shares}
+use Rattle.download_reading.specs.Reading.{AreKept, AreReading, IsGone, IsOfReader, IsReadNow}
+use Rattle.download_reading.specs.State.{ReadingState}
+
+-- ---- fewer are left
+
+module _ (s t : BeginningsState) (r : ReadingState) (before : AreReading s r) (known : AreBegun t) (falls : Falls s.holdings.table t.holdings.table) (same : t.begun ≡ s.begun)
+    (alike : AskedAlike s.holdings.requests.entries t.holdings.requests.entries) (answers : IsRead t.holdings.requests.entries r.file) where
+  begun_back : (x : ℕ) (b : Begun) → IsBegun t x b → IsBegun s x b
+  begun_back x b e = sym (ap (λ (l : List Begun). slice_get l x) same) ∙ e
+
+  -- a holding that was there is
+  held_forth : (x : ℕ) (h : Holding) → IsHolding s.holdings.table x h → (g : Holding) × IsHolding t.holdings.table x g × (g.server ≡ h.server) × (g.share ≡ h.share) × (g.left ≡ true → h.left ≡ true)
+  held_forth x h e =
+      let is = at_place t.holdings.table.holdings s.holdings.table.holdings x h (sym falls.long) e in
+      let w = falls.back x (slice_index_or t.holdings.table.holdings x h) is in
+      let one : w.held ≡ h = same_of (slice_get s.holdings.table.holdings x) w.held h w.is e in
+      (slice_index_or t.holdings.table.holdings x h, is, w.of_server ∙ ap (λ (y : Holding). y.server) one, w.of_share ∙ ap (λ (y : Holding). y.share) one, λ left. ap (λ (y : Holding). y.left) (sym one) ∙ w.left left)
+
+  pub fallen_kept : AreKept t r
+  fallen_kept = record {
+    known = known;
+    right = before.kept.right;
+    total = falls.count ∙ before.kept.total;
+    linked = before.kept.linked;
+    forth = λ q x of. (
+        let k = before.kept.forth q x of in
+        let g = held_forth x k.held k.is in
+        record {
+          held = g.0;
+          is = g.1;
+          begun = k.begun;
+          there = ap (λ (l : List Begun). slice_get l x) same ∙ k.there;
+          of_reader = k.of_reader;
+          share = k.share ∙ ap Some (sym g.3);
+        });
+    back = λ x q b there e. before.kept.back x q b (begun_back x b there) e;
+    alive = λ x q g b is there e left. (let w = falls.back x g is in before.kept.alive x q w.held b w.is (begun_back x b there) e (w.left left));
+    reads = λ x i offset len g b is there left read. (
+        let w = falls.back x g is in
+        before.kept.reads x i offset len w.held b w.is (begun_back x b there) (w.left left)
+        (read_alike s.holdings.requests.entries t.holdings.requests.entries w.held g i offset len alike w.of_server w.of_share read));
+    answers = answers;
+  }
+
+  pub fallen_live : (q : ℕ) → IsLive r.file q → IsReadNow t r q ⊎ IsGone t r q
+  fallen_live q alive = by (before.live q alive)
+    where
+      by : IsReadNow s r q → IsReadNow t r q ⊎ IsGone t r q
+      by k = from (held_forth k.holding k.held k.is)
+        where
+          from : (g : Holding) × IsHolding t.holdings.table k.holding g × (g.server ≡ k.held.server) × (g.share ≡ k.held.share) × (g.left ≡ true → k.held.left ≡ true) → IsReadNow t r q ⊎ IsGone t r q
+          from g = left g.0.left refl
+            where
+              left : (b : Bool) → g.0.left ≡ b → IsReadNow t r q ⊎ IsGone t r q
+              left false e = inr (record { holding = k.holding; of = k.of; held = g.0; is = g.1; gone = e })
+              left true e = elim (falls.kept k.held.share k.holding k.taken.number k.taken.there k.taken.reading) [
+                | inl on ↦ inl (record {
+                  holding = k.holding;
+                  of = k.of;
+                  held = g.0;
+                  is = g.1;
+                  left = e;
+                  taken = record { number = on.0; there = subst (λ n. slice_get t.holdings.table.numbers n ≡ Some on.0) (sym g.3) on.1; reading = on.2 };
+                })
+                | inr none ↦ absurd (none g.0 g.1 e)
+              ]
+
+-- ---- the file goes on
+
+module _ (s : BeginningsState) (r : ReadingState) (f : FileState) (before : AreReading s r) (lives : f.live ≡ r.file.live) (shared : shares f ≡ shares r.file) (asked : AsksNoMore r.file f)
+    (answers : IsRead s.holdings.requests.entries f) (right : IsFile f) (geometry : f.handout.geometry ≡ r.file.handout.geometry) where
+  abbrev pub goes_on_with : ReadingState
+  goes_on_with = record r { file = f }
+
+  pub file_goes : AreReading s goes_on_with
+  file_goes = record {
+    kept = record {
+      known = before.kept.known;
+      right = right;
+      total = before.kept.total ∙ ap (λ (g : Geometry). g.total) (sym geometry);
+      linked = (
+          let e = before.kept.linked in
+          let a = ap length shared in
+          let c = length-map f.readers (λ (x : ReaderState). x.share) in
+          let d = length-map r.file.readers (λ (x : ReaderState). x.share) in
+          omega (arith, e, a, c, d));
+      forth = λ q x of. (
+          let k = before.kept.forth q x of in
+          record { held = k.held; is = k.is; begun = k.begun; there = k.there; of_reader = k.of_reader; share = ap (λ (l : List ℕ). slice_get l q) shared ∙ k.share });
+      back = before.kept.back;
+      alive = λ x q g b is there e left. subst (λ (l : List ℕ). Contains l q) (sym lives) (before.kept.alive x q g b is there e left);
+      reads = λ x i offset len g b is there left read. more b offset len (before.kept.reads x i offset len g b is there left read);
+      answers = answers;
+    };
+    live = λ q alive. (
+        let k = before.live q (subst (λ (l : List ℕ). Contains l q) lives alive) in
+        record { holding = k.holding; of = k.of; held = k.held; is = k.is; left = k.left; taken = k.taken });
+  }
+    where
+      more : (b : Begun) (offset len : ℕ) → IsOfReader r.file b offset len → IsOfReader f b offset len
+      more b offset len (inl beside) = inl (subst (λ g. IsBeside g offset len) (sym geometry) beside)
+      more b offset len (inr k) = inr (k.0, k.1, (asked k.0 offset len).1 k.2)
+
+-- ---- a share is blamed
+
+module _ (s t : BeginningsState) (r : ReadingState) (holding : ℕ) (check : Check) (before : AreReading s r) (blames : Blames holding check s.holdings t.holdings) (known : AreBegun t) (same : t.begun ≡ s.begun) where
+  requests_are : t.holdings.requests ≡ s.holdings.requests
+  requests_are = ap (λ (x : HoldingsState). x.requests) blames.others
+
+  alike : AskedAlike s.holdings.requests.entries t.holdings.requests.entries
+  alike = subst (λ (q : RequestsState). AskedAlike s.holdings.requests.entries q.entries) (sym requests_are) (λ i n e. record { request = n; there = e; same = refl; of_server = refl })
+
+  answers : IsRead t.holdings.requests.entries r.file
+  answers = subst (λ (q : RequestsState). IsRead q.entries r.file) (sym requests_are) before.kept.answers
+
+  pub blamed_kept : AreKept t r
+  blamed_kept = fallen_kept s t r before known (falls_one holding s.holdings.table t.holdings.table blames.retired) same alike answers
+
+  pub blamed_live : (q : ℕ) → IsLive r.file q → IsReadNow t r q ⊎ IsGone t r q
+  blamed_live = fallen_live s t r before known (falls_one holding s.holdings.table t.holdings.table blames.retired) same alike answers
+
+  pub blamed_continues : Continues s r t r
+  blamed_continues = record {
+    goes = goes_blamed s t holding check blames;
+    same = file_none r.file;
+    handed = refl;
+    answers = λ a. subst (λ (q : RequestsState). IsRead q.entries r.file) (sym requests_are) a;
+  }
+
+-- ---- a segment is made, or not
+
+module _ (s : BeginningsState) (r : ReadingState) (f : FileState) (before : AreReading s r) (lives : f.live ≡ r.file.live) (readers : f.readers ≡ r.file.readers) (asked : AsksNoMore r.file f)
+    (answers : IsRead s.holdings.requests.entries f) (right : IsFile f) (same : IsSameFile r.file f) where
+  pub made_reading : AreReading s (record r { file = f })
+  made_reading = file_goes s r f before lives (ap (λ (l : List ReaderState). map (λ (x : ReaderState). x.share) l) readers) asked answers right same.geometry
+
+  pub made_continues : f.handout.handed ≡ r.file.handout.handed → Continues s r s (record r { file = f })
+  made_continues handed = record { goes = goes_none s s refl refl; same = same; handed = handed; answers = λ a. answers }
+
+-- what was taken of the pieces stays so
+pub handed_made : (f g : FileState) (made : Result Made AllocError) → (made ≡ Ok made_as.Ready → MakesNext f g) → (made ≢ Ok made_as.Ready → g.handout ≡ f.handout) → g.handout.handed ≡ f.handout.handed
+handed_made f g (Ok made_as.Waits) ready others = ap (λ (h : HandoutState). h.handed) (others (λ e. cc))
+handed_made f g (Ok made_as.Ready) ready others = ap (λ (h : HandoutState). h.handed) (ready refl).handed
+handed_made f g (Ok (made_as.Wrong q)) ready others = ap (λ (h : HandoutState). h.handed) (others (λ e. cc))
+handed_made f g (Ok made_as.Inconsistent) ready others = ap (λ (h : HandoutState). h.handed) (others (λ e. cc))
+handed_made f g (Err x) ready others = ap (λ (h : HandoutState). h.handed) (others (λ e. cc))

@@ -1,0 +1,146 @@
+-- Parts of a share are asked for, one after another.
+use Rattle.std.proofs.Common.{◌≡◌, ℕ, zero, suc, ◌+◌, ◌<◌, ◌≤◌, ◌⊎◌, inl, inr, List, [], ◌∷◌, ◌++◌, Contains, length, take, refl, sym, ap, subst, ◌∙◌, arith}
+use Rattle.std.specs.Prelude.{slice_get, slice_index_or, All, AllPairs}
+use Rattle.std.proofs.lemmas.List.{append_assoc, get_or-take, length-take, take_more}
+use Rattle.std.proofs.lemmas.List.Elements.{Contains-append_left, Contains-append_right}
+use Rattle.std.proofs.lemmas.Option.{slice_get_within}
+use Rattle.placement.proofs.Members.{Contains-head}
+use Rattle.request_record.specs.declared.requests.Asked.{Asked}
+use Rattle.request_record.specs.declared.requests.Asked.TheVariants.{Reading}
+use Rattle.request_record.specs.Asking.{AreApart as AsksApart}
+use Rattle.request_record.specs.Record.{RequestsState, asked_all, asked_more, first_request}
+use Rattle.request_record.proofs.RecordLaws.{get_push}
+use Rattle.share_holdings.specs.Moves.{Asks, IsUnasked}
+use Rattle.share_holdings.specs.State.{HoldingsState, TableState}
+use Rattle.share_holdings.specs.Table.{IsHolding}
+use Rattle.share_holdings.specs.declared.holding.Blame.{Blame}
+use Rattle.share_holdings.specs.declared.holding.Holding.{Holding}
+use Rattle.share_beginnings.specs.Known.{AreBegun}
+use Rattle.share_beginnings.specs.Moves.{GoesOn}
+use Rattle.share_beginnings.specs.Reads.{IsReadAt}
+use Rattle.share_beginnings.specs.State.{BeginningsState}
+use Rattle.share_beginnings.proofs.Asking.{unasked_by}
+use Rattle.share_beginnings.proofs.Entries.{read_pushed}
+use Rattle.download_plan.specs.Laws.{AreApart}
+use Rattle.download_source.specs.declared.wanted.Wanted.{Wanted}
+use Rattle.download_file.specs.Asked.{IsOneOf}
+use Rattle.download_reading.specs.Steps.{AsksParts, Grows, IsSamePair}
+
+-- ---- more is asked
+
+asked_joined : (asks more : List (ℕ × Asked)) (r : RequestsState) → asked_all (asks ++ more) r ≡ asked_all more (asked_all asks r)
+asked_joined [] more r = refl
+asked_joined (ask ∷ asks) more r = asked_joined asks more (asked_more ask.0 ask.1 r)
+
+pub goes_trans : (s t u : BeginningsState) → GoesOn s t → GoesOn t u → GoesOn s u
+goes_trans s t u f g = record {
+  asks = f.asks ++ g.asks;
+  requests = g.requests ∙ ap (asked_all g.asks) f.requests ∙ sym (asked_joined f.asks g.asks s.holdings.requests);
+  more = f.more ++ g.more;
+  blamed = g.blamed ∙ ap (λ (l : List Blame). l ++ g.more) f.blamed ∙ append_assoc s.holdings.blamed f.more g.more;
+}
+
+pub keeps_none : (s t : BeginningsState) → t.holdings.requests ≡ s.holdings.requests → Grows s t
+keeps_none s t e = record { stays = λ place r body there answer. ap (λ (q : RequestsState). slice_get q.entries place) e ∙ there }
+
+pub keeps_asked : (s t : BeginningsState) (holding offset len : ℕ) → Asks holding offset len s.holdings t.holdings → Grows s t
+keeps_asked s t holding offset len a = record {
+  stays = λ place r body there answer. ap (λ (x : HoldingsState). slice_get x.requests.entries place) a.2
+      ∙ get_push s.holdings.requests.entries (first_request a.0.server (Reading a.0.share offset len) s.holdings.requests.clock) place (slice_get_within s.holdings.requests.entries place r there) ∙ there;
+}
+
+pub keeps_trans : (s t u : BeginningsState) → Grows s t → Grows t u → Grows s u
+keeps_trans s t u f g = record { stays = λ place r body there answer. g.stays place r body (f.stays place r body there answer) answer }
+
+-- ---- one of the first parts
+
+pub record IsEarlier (wanted : List Wanted) (i offset len : ℕ) : Type 0 where
+  pub index : ℕ
+  pub below : index < i
+  pub inside : index < length wanted
+  pub place : (d : Wanted) → offset ≡ (slice_index_or wanted index d).read.place
+  pub long : (d : Wanted) → len ≡ (slice_index_or wanted index d).read.length
+
+any_default : (xs : List Wanted) (i : ℕ) (d e : Wanted) → i < length xs → slice_index_or xs i d ≡ slice_index_or xs i e
+any_default [] i d e lt = absurd (omega (arith, lt))
+any_default (x ∷ xs) zero d e lt = refl
+any_default (x ∷ xs) (suc i) d e lt = any_default xs i d e (omega (arith, lt))
+
+earlier : (wanted : List Wanted) (i offset len : ℕ) → IsOneOf (take i wanted) offset len → IsEarlier wanted i offset len
+earlier wanted i offset len o =
+    let k = o.among in
+    let lt = k.1 in
+    let e = length-take i wanted in
+    let below : k.0 < i = omega (arith, lt, e) in
+    let inside : k.0 < length wanted = omega (arith, lt, e) in
+    let is : slice_index_or wanted k.0 o.one ≡ o.one = sym (get_or-take i wanted k.0 o.one below) ∙ k.2 in
+    record {
+      index = k.0;
+      below = below;
+      inside = inside;
+      place = λ d. o.place ∙ ap (λ (w : Wanted). w.read.place) (sym is ∙ any_default wanted k.0 o.one d inside);
+      long = λ d. o.long ∙ ap (λ (w : Wanted). w.read.length) (sym is ∙ any_default wanted k.0 o.one d inside);
+    }
+
+one_more : (wanted : List Wanted) (i offset len : ℕ) (d : Wanted) → i < length wanted → IsOneOf (take i wanted) offset len → IsOneOf (take (i + 1) wanted) offset len
+one_more wanted i offset len d lt o = record {
+  one = o.one;
+  among = subst (λ (l : List Wanted). Contains l o.one) (sym (take_more wanted i d lt)) (Contains-append_left (take i wanted) (slice_index_or wanted i d ∷ []) o.one o.among);
+  place = o.place;
+  long = o.long;
+}
+
+this_one : (wanted : List Wanted) (i : ℕ) (d : Wanted) → i < length wanted → IsOneOf (take (i + 1) wanted) (slice_index_or wanted i d).read.place (slice_index_or wanted i d).read.length
+this_one wanted i d lt = record {
+  one = slice_index_or wanted i d;
+  among = subst (λ (l : List Wanted). Contains l (slice_index_or wanted i d)) (sym (take_more wanted i d lt)) (Contains-append_right (take i wanted) (slice_index_or wanted i d ∷ []) (slice_index_or wanted i d) (Contains-head (slice_index_or wanted i d) []));
+  place = refl;
+  long = refl;
+}
+
+-- ---- the next one
+
+module _ (holding : ℕ) (wanted : List Wanted) (s t : BeginningsState) (i : ℕ) (d : Wanted) (lt : i < length wanted) (before : AsksParts holding (take i wanted) s t) where
+  abbrev pub w : Wanted
+  w = slice_index_or wanted i d
+
+  pub next_unasked : All (λ (w : Wanted). IsUnasked s.holdings holding w.read.place w.read.length) wanted → AllPairs (λ (v w : Wanted). AreApart v.read.place v.read.length w.read.place w.read.length) wanted
+      → IsUnasked t.holdings holding w.read.place w.read.length
+  next_unasked fresh apart = unasked_by t.holdings holding w.read.place w.read.length
+      (λ h j place len is read. by h j place len (sym (ap (λ (u : TableState). slice_get u.holdings holding) before.table) ∙ is) (before.reads h j place len read))
+    where
+      by : (h : Holding) (j place len : ℕ) → IsHolding s.holdings.table holding h → IsReadAt s.holdings.requests.entries h j place len ⊎ (IsSamePair s holding h × IsOneOf (take i wanted) place len)
+          → (place + len ≤ w.read.place) ⊎ (w.read.place + w.read.length ≤ place)
+      by h j place len is (inl old) =
+          let a : AsksApart old.request.asked (Reading h.share w.read.place w.read.length) = fresh i d lt h j old.request is old.there old.of_server in
+          (subst (λ (q : Asked). AsksApart q (Reading h.share w.read.place w.read.length)) old.asked a) refl
+      by h j place len is (inr new) =
+          let e = earlier wanted i place len new.1 in
+          subst (λ n. (n + len ≤ w.read.place) ⊎ (w.read.place + w.read.length ≤ n)) (sym (e.place d))
+          (subst (λ n. ((slice_index_or wanted e.index d).read.place + n ≤ w.read.place) ⊎ (w.read.place + w.read.length ≤ (slice_index_or wanted e.index d).read.place)) (sym (e.long d))
+          (apart e.index i d e.below lt))
+
+  pub next_asked : (u : BeginningsState) → AreBegun u → Asks holding w.read.place w.read.length t.holdings u.holdings → u.begun ≡ t.begun → AsksParts holding (take (i + 1) wanted) s u
+  next_asked u known a same = record {
+    known = known;
+    table = ap (λ (x : HoldingsState). x.table) a.2 ∙ before.table;
+    begun = same ∙ before.begun;
+    reads = λ h j offset len read. by h j offset len
+        (read_pushed t.holdings.requests.entries (first_request a.0.server (Reading a.0.share w.read.place w.read.length) t.holdings.requests.clock) h j offset len
+        (subst (λ (x : HoldingsState). IsReadAt x.requests.entries h j offset len) a.2 read));
+  }
+    where
+      by : (h : Holding) (j offset len : ℕ) → IsReadAt t.holdings.requests.entries h j offset len ⊎ ((j ≡ length t.holdings.requests.entries) × (a.0.server ≡ h.server) × (Reading a.0.share w.read.place w.read.length ≡ Reading h.share offset len))
+          → IsReadAt s.holdings.requests.entries h j offset len ⊎ (IsSamePair s holding h × IsOneOf (take (i + 1) wanted) offset len)
+      by h j offset len (inl old) = elim (before.reads h j offset len old) [ inl was ↦ inl was | inr k ↦ inr (k.0, one_more wanted i offset len d lt k.1) ]
+      by h j offset len (inr new) =
+          let shares : a.0.share ≡ h.share = cc in
+          let places : w.read.place ≡ offset = cc in
+          let lengths : w.read.length ≡ len = cc in
+          inr (
+            (a.0, sym (ap (λ (u : TableState). slice_get u.holdings holding) before.table) ∙ a.1, new.1, shares),
+            subst (λ n. IsOneOf (take (i + 1) wanted) n len) places (subst (λ n. IsOneOf (take (i + 1) wanted) w.read.place n) lengths (this_one wanted i d lt)),
+          )
+
+pub none_asked : (holding : ℕ) (wanted : List Wanted) (s : BeginningsState) → AreBegun s → AsksParts holding (take 0 wanted) s s
+none_asked holding wanted s known = record { known = known; table = refl; begun = refl; reads = λ h i offset len read. inl read }

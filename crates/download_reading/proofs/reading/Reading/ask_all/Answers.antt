@@ -1,0 +1,27 @@
+use Rattle.std.proofs.Common.{◌≡◌, ◌∙◌, ℕ, ◌<◌, List, length, get_or, refl, sym, subst, ap, arith}
+use Rattle.std.proofs.lemmas.List.Elements.{Contains-get_or}
+use Rattle.download_file.specs.State.{IsLive}
+use Rattle.download_reading.specs.State.{ReadingState}
+use Rattle.download_reading.proofs.Ended.{continues_none, continues_trans}
+use Rattle.download_reading.proofs.reading.Reading.ask_all.Goals as goal
+
+pub loop-i-init : goal.loop-i-init
+loop-i-init c = record { reading = c.requires.reading; live = refl; continues = continues_none c.args.beginnings.now c.args.self.now }
+
+pub ask-requires-clause-live : goal.ask-requires-clause-live
+ask-requires-clause-live c =
+    let list : c.live.result.now ≡ c.loop-i.self.file.live = c.live.ensures.value ∙ ap (λ (x : ReadingState). x.file.live) c.self-in-loop-i.view_is in
+    let end : c.live-i-end.result.now ≡ c.args.self.now.file.live = c.live-i-end.ensures.value ∙ ap (λ (x : ReadingState). x.file.live) c.self.view_is in
+    let lt : c.loop-i.i < length c.loop-i.self.file.live = (let t = c.loop-i-test.true in let e = ap length end in let same = ap length c.loop-i.invariant.live in omega (arith, t, e, same)) in
+    subst (λ (l : List ℕ). IsLive c.loop-i.self.file (get_or l c.loop-i.i 0)) (sym list) (Contains-get_or c.loop-i.self.file.live c.loop-i.i 0 lt)
+
+pub returns-in_err-ask-clause-continues : goal.returns-in_err-ask-clause-continues
+returns-in_err-ask-clause-continues c =
+    continues_trans c.args.beginnings.now c.loop-i.beginnings c.ask.new.beginnings c.args.self.now c.loop-i.self c.ask.new.self c.loop-i.invariant.continues c.in_err-ask.ensures.continues
+
+pub loop-i-preserved : goal.loop-i-preserved
+loop-i-preserved c = record {
+  reading = c.in_ok-ask.ensures.reading;
+  live = c.in_ok-ask.ensures.live ∙ c.loop-i.invariant.live;
+  continues = continues_trans c.args.beginnings.now c.loop-i.beginnings c.ask.new.beginnings c.args.self.now c.loop-i.self c.ask.new.self c.loop-i.invariant.continues c.in_ok-ask.ensures.continues;
+}

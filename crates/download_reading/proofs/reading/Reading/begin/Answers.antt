@@ -1,0 +1,105 @@
+use Rattle.std.proofs.Common.{◌≡◌, ◌∙◌, ℕ, List, [], ◌∷◌, ◌++◌, length, get_or, Some, false, refl, sym, subst, ap, arith}
+use Rattle.std.specs.Prelude.{option_map, slice_get}
+use Rattle.std.proofs.lemmas.Option.{get_or_from_slice_get, slice_get-map}
+use Rattle.std.proofs.lemmas.List.{length-append}
+use Rattle.share_holdings.specs.State.{HoldingsState}
+use Rattle.share_holdings.specs.Table.{IsHolding, IsTable}
+use Rattle.share_holdings.specs.declared.holding.Holding.{Holding}
+use Rattle.share_beginnings.specs.State.{BeginningsState}
+use Rattle.share_beginnings.proofs.Entries.{same_of}
+use Rattle.share_beginnings.proofs.Opened.{goes_none}
+use Rattle.download_segments.specs.State.{HandoutState}
+use Rattle.download_file.specs.Answers.{IsRead}
+use Rattle.download_file.specs.State.{ReaderState, shares}
+use Rattle.download_reading.specs.Reading.{AreReading}
+use Rattle.download_reading.specs.State.{ReadingState}
+use Rattle.download_reading.specs.Steps.{Continues}
+use Rattle.download_reading.proofs.Begun.{begun_reading, free_not_taken}
+use Rattle.download_reading.proofs.reading.Reading.begin.Goals as goal
+
+abbrev nobody : Holding
+nobody = record { server = 0; share = 0; left = false; suspended = false }
+
+-- the holding that is read in the code
+share_of : (bs : BeginningsState) (hs : HoldingsState) (list : List Holding) (holding : ℕ) (h : Holding) → hs ≡ bs.holdings → list ≡ hs.table.holdings → IsHolding bs.holdings.table holding h → (get_or list holding nobody).share ≡ h.share
+share_of bs hs list holding h e f is =
+    ap (λ (l : List Holding). (get_or l holding nobody).share) (f ∙ ap (λ (x : HoldingsState). x.table.holdings) e) ∙ ap (λ (x : Holding). x.share) (get_or_from_slice_get bs.holdings.table.holdings holding h nobody is)
+
+pub begin-requires-clause-there : goal.begin-requires-clause-there
+begin-requires-clause-there c =
+    let bs = c.args.beginnings.now in
+    let h = c.requires.free.0 in
+    let same = share_of bs c.holdings.result.now c.holdings-2.result.now c.args.holding h c.holdings.ensures c.holdings-2.ensures.value c.requires.free.1 in
+    let table : IsTable bs.holdings.table = subst (λ (x : HoldingsState). IsTable x.table) c.holdings.ensures c.holdings-2.ensures.table in
+    let below = table.below c.args.holding h c.requires.free.1 in
+    let total = c.requires.reading.kept.total ∙ ap (λ (x : ReadingState). x.file.handout.geometry.total) (sym c.self.view_is) in
+    omega (arith, same, below, total)
+
+pub begin-requires-clause-unread : goal.begin-requires-clause-unread
+begin-requires-clause-unread c reader x alive is same =
+    let bs = c.args.beginnings.now in
+    let r : ReadingState = record { file = c.self.inside.file; holdings = c.self.inside.holdings.items } in
+    let reading : AreReading bs r = subst (AreReading bs) (sym c.self.view_is) c.requires.reading in
+    let h = c.requires.free.0 in
+    let now = reading.live reader alive in
+    let k = reading.kept.forth reader now.holding now.of in
+    let held : k.held ≡ now.held = same_of (slice_get bs.holdings.table.holdings now.holding) k.held now.held k.is now.is in
+    let at : slice_get (shares r.file) reader ≡ Some x.share = slice_get-map (λ (y : ReaderState). y.share) r.file.readers reader ∙ ap (λ o. option_map (λ (y : ReaderState). y.share) o) is in
+    let one : k.held.share ≡ x.share = same_of (slice_get (shares r.file) reader) k.held.share x.share k.share at in
+    free_not_taken bs.holdings.table now.holding now.held h c.requires.free.2
+    (sym (share_of bs c.holdings.result.now c.holdings-2.result.now c.args.holding h c.holdings.ensures c.holdings-2.ensures.value c.requires.free.1) ∙ sym same ∙ sym one ∙ ap (λ (y : Holding). y.share) held) now.taken
+
+pub returns-in_err-reader-clause-continues : goal.returns-in_err-reader-clause-continues
+returns-in_err-reader-clause-continues c =
+    let bs = c.args.beginnings.now in
+    let r : ReadingState = record { file = c.self.inside.file; holdings = c.self.inside.holdings.items } in
+    subst (λ (x : ReadingState). Continues bs x bs (record { file = c.begin.new.self; holdings = c.self.inside.holdings.items })) c.self.view_is
+    (record {
+      goes = goes_none bs bs refl refl;
+      same = c.in_err-reader.ensures.same;
+      handed = ap (λ (h : HandoutState). h.handed) c.in_err-reader.ensures.handout;
+      answers = λ a. c.in_err-reader.ensures.reads bs.holdings.requests.entries a;
+    })
+
+pub returns-in_err-push-clause-continues : goal.returns-in_err-push-clause-continues
+returns-in_err-push-clause-continues c =
+    let bs = c.args.beginnings.now in
+    let r : ReadingState = record { file = c.self.inside.file; holdings = c.self.inside.holdings.items } in
+    subst (λ (x : ReadingState). Continues bs x bs (record { file = c.begin.new.self; holdings = c.push.new.self.items })) c.self.view_is
+    (record {
+      goes = goes_none bs bs refl refl;
+      same = c.in_ok-reader.ensures.same;
+      handed = ap (λ (h : HandoutState). h.handed) c.in_ok-reader.ensures.handout;
+      answers = λ a. c.in_ok-reader.ensures.reads bs.holdings.requests.entries a;
+    })
+
+pub returns-clause-reading : goal.returns-clause-reading
+returns-clause-reading c =
+    let bs = c.args.beginnings.now in
+    let r : ReadingState = record { file = c.self.inside.file; holdings = c.self.inside.holdings.items } in
+    let reading : AreReading bs r = subst (AreReading bs) (sym c.self.view_is) c.requires.reading in
+    let h = c.requires.free.0 in
+    let share = share_of bs c.holdings.result.now c.holdings-2.result.now c.args.holding h c.holdings.ensures c.holdings-2.ensures.value c.requires.free.1 in
+    subst (λ (l : List ℕ). AreReading c.begin_reader.new.self (record { file = c.begin.new.self; holdings = l })) (sym c.in_ok-push.ensures.items)
+    (begun_reading bs c.begin_reader.new.self r c.begin.new.self c.args.holding h reading c.requires.free.1 c.requires.free.2 c.in_ok-reader.reader c.in_ok-reader.ensures.place
+    (c.in_ok-reader.ensures.shares ∙ ap (λ n. shares r.file ++ n ∷ []) share) c.in_ok-reader.ensures.live c.in_ok-reader.ensures.asked c.in_ok-reader.ensures.reads c.in_ok-reader.ensures.right
+    c.in_ok-reader.ensures.same.geometry c.begin_reader.ensures.known c.begin_reader.ensures.reader)
+
+pub returns-clause-continues : goal.returns-clause-continues
+returns-clause-continues c =
+    let bs = c.args.beginnings.now in
+    let t = c.begin_reader.new.self in
+    let e = c.begin_reader.ensures.reader.holdings in
+    subst (λ (x : ReadingState). Continues bs x t (record { file = c.begin.new.self; holdings = c.push.new.self.items })) c.self.view_is
+    (record {
+      goes = goes_none bs t (ap (λ (x : HoldingsState). x.requests) e) (ap (λ (x : HoldingsState). x.blamed) e);
+      same = c.in_ok-reader.ensures.same;
+      handed = ap (λ (h : HandoutState). h.handed) c.in_ok-reader.ensures.handout;
+      answers = λ a. subst (λ (x : HoldingsState). IsRead x.requests.entries c.begin.new.self) (sym e) (c.in_ok-reader.ensures.reads bs.holdings.requests.entries a);
+    })
+
+pub returns-clause-live : goal.returns-clause-live
+returns-clause-live c =
+    let e = ap length c.in_ok-reader.ensures.live in
+    let l = ap (λ (x : ReadingState). length x.file.live) c.self.view_is in
+    omega (arith, e, l, length-append c.self.inside.file.live (length c.self.inside.file.readers ∷ []))

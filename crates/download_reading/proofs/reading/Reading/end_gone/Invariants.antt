@@ -1,0 +1,15 @@
+use Rattle.std.proofs.Common.{length, ℕ, ◌⊎◌}
+use Rattle.download_file.specs.State.{IsLive}
+use Rattle.download_reading.specs.Reading.{AreKept, IsGone, IsReadNow}
+use Rattle.download_reading.specs.Steps.{Continues}
+use Rattle.download_reading.proofs.reading.Reading.end_gone.Given as goal
+
+abbrev pub invariant-loop-reader : goal.invariant-loop-reader
+invariant-loop-reader l = record {
+  kept : AreKept l.beginnings l.self;
+  live : (reader : ℕ) → IsLive l.self.file reader → IsReadNow l.beginnings l.self reader ⊎ IsGone l.beginnings l.self reader;
+  continues : Continues l.beginnings l.initial.self l.beginnings l.self;
+}
+
+abbrev pub decreases-loop-reader : goal.decreases-loop-reader
+decreases-loop-reader l = length l.self.file.live

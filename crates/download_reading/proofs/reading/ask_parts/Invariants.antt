@@ -1,0 +1,12 @@
+use Rattle.std.proofs.Common.{take}
+use Rattle.share_beginnings.specs.Moves.{GoesOn}
+use Rattle.download_reading.specs.Steps.{AsksParts, Grows}
+use Rattle.download_reading.proofs.reading.ask_parts.Given as goal
+
+-- those before this one are asked
+abbrev pub invariant-loop-part : goal.invariant-loop-part
+invariant-loop-part l = record {
+  asks : AsksParts l.holding (take l.part-index l.wanted) l.initial.beginnings l.beginnings;
+  goes : GoesOn l.initial.beginnings l.beginnings;
+  grows : Grows l.initial.beginnings l.beginnings;
+}

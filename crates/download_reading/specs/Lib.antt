@@ -1,0 +1,4 @@
+-- what public contracts rest on
+pub mod State
+pub mod Reading
+pub mod Steps
