@@ -1,5 +1,7 @@
 //! Files, read to an end that is known before.
 
+ghost use Rattle.std.specs.Prelude.{◌≡◌, ◌≤◌, length, Ok, Some, IfOk, IfErr, IfSome};
+
 use grid_rules::{Fault, is_memory};
 use std::alloc::Global;
 use std::fs::{File, OpenFile};
@@ -13,7 +15,9 @@ pub fn read_at_most<R: Files + AllocGlobal>(
     rt: &R,
     path: &str,
     limit: u64,
-) -> io::Result<Option<Vec<u8>>> {
+) -> io::Result<Option<Vec<u8>>>
+    ensures { IfOk result (λ read. IfSome read (λ bytes. length bytes.items ≤ limit)) }
+{
     let file = File::open(rt, path)?;
     let length = file.metadata()?.len();
     if length > limit {
@@ -26,10 +30,12 @@ pub fn read_at_most<R: Files + AllocGlobal>(
 fn read_to_limit<F: Read + Drop>(
     alloc: Global,
     file: F,
-    length: u64,
+    expected: u64,
     limit: u64,
-) -> io::Result<Option<Vec<u8>>> {
-    let mut bytes = Vec::with_capacity(alloc, (length as usize).saturating_add(1))?;
+) -> io::Result<Option<Vec<u8>>>
+    ensures { IfOk result (λ read. IfSome read (λ bytes. length bytes.items ≤ limit)) }
+{
+    let mut bytes = Vec::with_capacity(alloc, (expected as usize).saturating_add(1))?;
     file.take(limit.saturating_add(1)).read_to_end(&mut bytes)?;
     if bytes.len() as u64 > limit {
         return Ok(None);
@@ -38,7 +44,10 @@ fn read_to_limit<F: Read + Drop>(
 }
 
 /// The result of a call on a path, with a fault that names the path.
-pub fn at_path<T>(alloc: Global, outcome: io::Result<T>, path: &str) -> Result<T, Fault> {
+pub fn at_path<T>(alloc: Global, outcome: io::Result<T>, path: &str) -> Result<T, Fault>
+    ensures ok { IfOk outcome (λ value. result ≡ Ok value) }
+    ensures taken { IfOk result (λ value. outcome ≡ Ok value) }
+{
     match outcome {
         Ok(value) => Ok(value),
         Err(error) => Err(Fault::of_path(alloc, &error, path)),
@@ -47,7 +56,11 @@ pub fn at_path<T>(alloc: Global, outcome: io::Result<T>, path: &str) -> Result<T
 
 /// The result of a call on what a server keeps, where a failed call counts as nothing found: a
 /// server is not trusted to answer.
-pub(crate) fn if_there<T: Drop>(outcome: io::Result<T>) -> Result<Option<T>, Fault> {
+pub(crate) fn if_there<T: Drop>(outcome: io::Result<T>) -> Result<Option<T>, Fault>
+    ensures there { IfOk outcome (λ value. result ≡ Ok (Some value)) }
+    ensures taken { IfOk result (λ found. IfSome found (λ value. outcome ≡ Ok value)) }
+    ensures memory { IfErr result (λ fault. fault ≡ Fault.OutOfMemory) }
+{
     match outcome {
         Ok(value) => Ok(Some(value)),
         Err(error) if is_memory(&error) => Err(Fault::OutOfMemory),

@@ -1,5 +1,7 @@
 //! The folders of a grid: each server has one, `server-000` to `server-255`.
 
+ghost use Rattle.std.specs.Prelude.{◌↔◌, ◌<◌, length, IsOk};
+
 use crate::files::at_path;
 use grid_rules::Fault;
 use std::io::ErrorKind;
@@ -10,7 +12,9 @@ use std::{fs, io};
 pub const MAX_SERVERS: u16 = 256;
 
 /// Refuses a grid's folder that is not there.
-pub fn is_grid<R: Files + AllocGlobal + Clone + Drop>(rt: &R, grid: &str) -> Result<(), Fault> {
+pub fn is_grid<R: Files + AllocGlobal + Clone + Drop>(rt: &R, grid: &str) -> Result<(), Fault>
+    ensures { IsOk result → 0 < length grid.now }
+{
     let alloc = rt.alloc();
     at_path(alloc, named(grid), grid)?;
     at_path(alloc, fs::read_dir(rt, grid), grid)?;
@@ -19,7 +23,9 @@ pub fn is_grid<R: Files + AllocGlobal + Clone + Drop>(rt: &R, grid: &str) -> Res
 
 /// Refuses what can be no grid's folder: a path without a name, and one at which there is something
 /// else. A folder that is not there can be made.
-pub fn can_be_grid<R: Files + AllocGlobal>(rt: &R, grid: &str) -> Result<(), Fault> {
+pub fn can_be_grid<R: Files + AllocGlobal>(rt: &R, grid: &str) -> Result<(), Fault>
+    ensures { IsOk result → 0 < length grid.now }
+{
     let alloc = rt.alloc();
     at_path(alloc, named(grid), grid)?;
     let outcome = match fs::metadata(rt, grid) {
@@ -32,7 +38,9 @@ pub fn can_be_grid<R: Files + AllocGlobal>(rt: &R, grid: &str) -> Result<(), Fau
 }
 
 // A path has a name.
-fn named(path: &str) -> io::Result<()> {
+fn named(path: &str) -> io::Result<()>
+    ensures { IsOk result ↔ (0 < length path.now) }
+{
     if path.is_empty() {
         return Err(io::Error::from(ErrorKind::NotFound));
     }

@@ -1,6 +1,6 @@
 //! The servers of a grid, each over its own folder.
 
-ghost use Rattle.std.specs.Prelude.{◌≡◌, ◌≤◌, length, nat_eq, IfOk};
+ghost use Rattle.std.specs.Prelude.{◌≡◌, ◌≤◌, length, nat_eq, IfOk, OnOk};
 ghost use Rattle.std.specs.List.{IsDistinct};
 
 use crate::files::if_there;
@@ -108,6 +108,7 @@ where
 fn open_links<R>(rt: &R, count: usize, over_sockets: bool) -> Result<Vec<ServerLink<R>>, Fault>
 where
     R: Net + AllocGlobal,
+    ensures { IfOk result (λ links. length links.items ≡ count) }
 {
     let mut links = Vec::with_capacity(rt.alloc(), count)?;
     for _ in 0..count {
@@ -135,8 +136,10 @@ where
 }
 
 // No node stands at the numbers below this one that are left.
-fn leave_out<N: Drop>(nodes: &mut Vec<Option<N>>, server: NodeId) -> Result<(), AllocError> {
-    for _ in nodes.len()..usize::from(server) {
+fn leave_out<N: Drop>(nodes: &mut Vec<Option<N>>, server: NodeId) -> Result<(), AllocError>
+    ensures long { OnOk result (server ≤ length nodes.new.items) }
+{
+    while nodes.len() < usize::from(server) {
         nodes.push(None)?;
     }
     Ok(())
