@@ -1,7 +1,9 @@
 -- Nodes that are offered, one more at a time.
-use Rattle.std.proofs.Common.{◌≡◌, ℕ, zero, suc, ◌+◌, ◌-◌, ◌%◌, ◌^◌, ◌<◌, List, [], ◌∷◌, ◌++◌, length, take, drop, get_or, inl, inr, ap, refl, sym, ◌∙◌, arith}
+use Rattle.std.proofs.Common.{◌≡◌, ℕ, zero, suc, ◌+◌, ◌-◌, ◌*◌, ◌%◌, ◌^◌, ◌<◌, ◌≤◌, Some, List, [], ◌∷◌, ◌++◌, length, take, drop, get_or, inl, inr, ap, refl, sym, ◌∙◌, arith}
 use Rattle.std.proofs.lemmas.Bool.{cases_lt}
-use Rattle.std.proofs.lemmas.List.{length-take, take_more}
+use Rattle.std.specs.Prelude.{slice_get}
+use Rattle.std.specs.Simd.{first_chunks}
+use Rattle.std.proofs.lemmas.List.{length-drop, length-take, length-take-le, take_more}
 use Rattle.merkle.specs.Tree.{needed_numbers, node_number}
 use Rattle.merkle.proofs.NumberLemmas.{needed_left, needed_right}
 use Rattle.download_trees.specs.Offers.{numbered, offered_nodes}
@@ -62,3 +64,16 @@ own_at (suc m) leaf place inside is =
       | inl even ↦ needed_left (suc m) leaf place (omega arith) ∙ omega arith
       | inr odd ↦ needed_right (suc m) leaf place (omega arith) (omega arith) ∙ omega arith
     ]
+
+-- each hash in the bytes has 32 of them
+pub offered_long : (row place k : ℕ) (bytes : List ℕ) → k * 32 ≤ length bytes
+    → (i number : ℕ) (hash : List ℕ) → slice_get (offered_nodes row place (first_chunks 32 k bytes)) i ≡ Some (number, hash) → length hash ≡ 32
+offered_long row place zero bytes room i number hash e = absurd cc
+offered_long row place (suc k) bytes room zero number hash e =
+    let same : (node_number row place, take 32 bytes) ≡ (number, hash) = cc in
+    let more : suc k * 32 ≡ k * 32 + 32 = omega arith in
+    ap (λ (o : ℕ × List ℕ). length o.1) (sym same) ∙ length-take-le 32 bytes (omega (arith, room, more))
+offered_long row place (suc k) bytes room (suc i) number hash e =
+    let more : suc k * 32 ≡ k * 32 + 32 = omega arith in
+    let rest : length (drop 32 bytes) ≡ length bytes - 32 = length-drop 32 bytes in
+    offered_long row (place + 1) k (drop 32 bytes) (omega (arith, room, more, rest)) i number hash e

@@ -1,15 +1,19 @@
 -- Leaves that are known lead to the roots.
-use Rattle.std.proofs.Common.{◌≡◌, ℕ, zero, suc, ◌^◌, ◌<◌, List, [], ◌∷◌, length, Some, slice_get, get_or, ap, refl, subst, sym, ◌∙◌, arith}
+use Rattle.std.proofs.Common.{◌≡◌, ℕ, zero, suc, ◌/◌, ◌^◌, ◌<◌, List, [], ◌∷◌, length, Some, Result, Ok, Err, OnOk, OnErr, slice_get, get_or, ap, refl, subst, sym, ◌∙◌, arith}
 use Rattle.std.proofs.lemmas.Option.{slice_get-get_or}
 use Rattle.std.proofs.Math.Pow.{pow-lt}
+use Rattle.merkle.specs.Known.{KnowsHashes}
 use Rattle.merkle.specs.Partial.{PartialState, Takes, known_at, known_siblings}
 use Rattle.merkle.specs.Path.{LeadsBy, path_root}
 use Rattle.merkle.specs.Tree.{height, needed_numbers, node_number}
 use Rattle.merkle.proofs.HeightLemmas.{height_is, height_room}
+use Rattle.merkle.proofs.KnownLemmas.{takes_know}
 use Rattle.merkle.proofs.StateLemmas.{known-lead}
+use Rattle.download_plan.specs.declared.part.Nodes.{Nodes}
 use Rattle.download_trees.specs.Laws.{BlockRootsLead, LeavesLead}
-use Rattle.download_trees.specs.Offers.{numbered, share_hashes_offered}
+use Rattle.download_trees.specs.Offers.{nodes_offered, numbered, share_hashes_offered}
 use Rattle.download_trees.specs.Trees.{known_leaf, share_places}
+use Rattle.download_trees.proofs.OfferLemmas.{offered_long}
 
 -- the share tree is as high with all its places
 pub height-share_places : (total : ℕ) → height (share_places total) ≡ height total
@@ -52,3 +56,10 @@ known-own old new total share bytes root place count takes there own is =
     ∙ ap (λ n. Some (n, (get_or offers place (0, [])).1)) (number_at (needed_numbers (height total) share) _ place there ∙ own)
     ∙ ap (λ (h : List ℕ). Some (number, h)) is in
     ap (λ h. known_at new (node_number h share)) (sym same) ∙ takes.known.offered place number root at
+
+-- nodes whose hashes are bytes, 32 each, are taken, or the call refuses and changes nothing
+pub known_nodes : {X E : Type 0} (r : Result X E) (old new : PartialState) (nodes : Nodes) (bytes : List ℕ)
+    → OnOk r (Takes old (nodes_offered nodes bytes) new) → OnErr r (new ≡ old) → KnowsHashes old → KnowsHashes new
+known_nodes (Ok x) old new nodes bytes takes same known =
+    takes_know old new (nodes_offered nodes bytes) known (offered_long nodes.row nodes.from (length bytes / 32) bytes (omega arith)) takes
+known_nodes (Err e) old new nodes bytes takes same known = subst KnowsHashes (sym same) known

@@ -2,6 +2,7 @@
 use Rattle.std.specs.Prelude.{◌≡◌, ◌≢◌, ℕ, ◌^◌, List, Option, Some}
 use Rattle.tagged_hash.specs.TaggedHash.{tagged_hash}
 use Rattle.tagged_hash.specs.declared.tag.Tag.TheVariants.{Block}
+use Rattle.merkle.specs.Known.{KnowsHashes}
 use Rattle.merkle.specs.Partial.{IsPartial, PartialState, known_at, leaf_number, starting}
 use Rattle.merkle.specs.Tree.{height}
 use Rattle.ueb.specs.Shape.{Contents}
@@ -36,11 +37,13 @@ starting_trees u g = record {
   ciphertext = starting u.crypttext_root_hash (segment_count g);
 }
 
--- what holds of the trees of each file: the known nodes lead to the roots
+-- What holds of the trees of each file: the known nodes lead to the roots. Those of the ciphertext
+-- tree have 32 bytes each.
 pub record AreTrees (t : FileTreesState) : Type 0 where
   pub valid : IsGeometry t.geometry
   pub shares : LeadTo t.shares t.shares.root (share_places t.geometry.total)
   pub ciphertext : LeadTo t.ciphertext t.ciphertext.root (segment_count t.geometry)
+  pub hashes : KnowsHashes t.ciphertext
 
 -- they are trees of one file still
 pub record HaveSameRoots (old new : FileTreesState) : Type 0 where

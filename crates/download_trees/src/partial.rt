@@ -1,6 +1,7 @@
 //! One tree of which some nodes are known.
 
 ghost use Rattle.std.specs.Prelude.{◌≡◌, ◌+◌, ◌*◌, ◌^◌, ◌<◌, ◌≤◌, IfOk, OnErr, OnOk, Err, length};
+ghost use Rattle.merkle.specs.Known.{KnowsHashes};
 ghost use Rattle.merkle.specs.Partial.{IsNotConsistent, IsPartial, Takes, starting};
 ghost use Rattle.merkle.specs.Tree.{max_leaves};
 ghost use Rattle.download_trees.specs.Offers.{nodes_offered};
@@ -19,7 +20,9 @@ pub(crate) fn tree_with(alloc: Global, root: &[u8; 32], leaves: u32) -> Result<P
     requires few { leaves ≤ max_leaves }
     ensures tree { IfOk result (λ tree. tree ≡ starting root.now leaves) }
     ensures right { IfOk result IsPartial }
+    ensures hashes { IfOk result KnowsHashes }
 {
+    is_hash(root);
     match Partial::new(alloc, root, leaves) {
         Ok(tree) => {
             let _ = tree.node(0);
@@ -73,7 +76,15 @@ pub(crate) fn offer_nodes(
         → (other ≡ check) × IsNotConsistent tree.old (nodes_offered nodes.now bytes.now) }
     ensures unchanged { OnErr result (tree.new ≡ tree.old) }
     ensures right { IsPartial tree.new }
+    ensures hashes { KnowsHashes tree.old → KnowsHashes tree.new }
 {
     let offers = placed(alloc, nodes, bytes)?;
     offer(tree, &offers, check)
+}
+
+// That a hash has 32 bytes, which nothing else tells. It does nothing.
+fn is_hash(hash: &[u8; 32])
+    ensures { length hash.now ≡ 32 }
+{
+    let _ = hash;
 }

@@ -15,9 +15,9 @@ use Rattle.proved_parts.specs.Evidence.{segment_inputs, segments_inputs}
 use Rattle.proved_parts.specs.declared.evidence.EvidencePart.{EvidencePart}
 use Rattle.proved_parts.proofs.OwnParts.{own_parts_are_within}
 use Rattle.file_encoding.specs.Inputs.{blocks_inputs, ciphertext_inputs, encoding_inputs}
-use Rattle.file_encoding.specs.Encoding.{blocks_of, encoding_of, extension_block_contents, share_leaves}
+use Rattle.file_encoding.specs.Encoding.{Parameters, blocks_of, encoding_of, extension_block_contents, share_leaves}
 use Rattle.ueb.specs.Block.{ueb_text}
-use Rattle.file_encoding.specs.Parts.{OwnEvidenceIsWithin}
+use Rattle.file_encoding.specs.Parts.{OwnEvidenceIsWithin, OwnTreesAreWithin}
 
 member_cases : (x y : List ℕ) (xs : List (List ℕ)) → Contains (x ∷ xs) y → (x ≡ y) ⊎ Contains xs y
 member_cases x y xs (zero, low, e) = inl e
@@ -60,18 +60,31 @@ module _ (g : Geometry) (ciphertext : List ℕ) where
       (member_there (tagged_input Ciphertext ciphertext) (tagged_input ExtensionBlock own_block) (tagged_input ExtensionBlock own_block ∷ segments_inputs (segments_of g ciphertext))
       (member_here (tagged_input ExtensionBlock own_block) (segments_inputs (segments_of g ciphertext))))
 
+-- the ciphertext's own inputs are among those of its file's encoding
+ciphertext_among : (file secret : List ℕ) (p : Parameters) → let g = geometry_of (length file) p.needed p.total p.max_segment in
+    AreAmong (encoding_inputs file secret p) (ciphertext_inputs g (xored (convergent_key_of p.needed p.total g.segment_size secret file) file))
+ciphertext_among file secret p input c =
+    let g = geometry_of (length file) p.needed p.total p.max_segment in
+    let key = convergent_key_of p.needed p.total g.segment_size secret file in
+    let ciphertext = xored key file in
+    Contains-append_left (key_input p.needed p.total g.segment_size secret file ∷ tagged_input StorageIndex key ∷ ciphertext_inputs g ciphertext)
+    (map (tagged_input WholeShare) (encoding_of file secret p).shares) input
+    (member_there (key_input p.needed p.total g.segment_size secret file) input (tagged_input StorageIndex key ∷ ciphertext_inputs g ciphertext)
+    (member_there (tagged_input StorageIndex key) input (ciphertext_inputs g ciphertext) c))
+
+pub own_trees_are_within : OwnTreesAreWithin
+own_trees_are_within file secret p =
+    let g = geometry_of (length file) p.needed p.total p.max_segment in
+    let ciphertext = xored (convergent_key_of p.needed p.total g.segment_size secret file) file in
+    (ciphertext_among file secret p _ (block_among g ciphertext), λ input c. ciphertext_among file secret p input (segments_among g ciphertext input c))
+
 pub own_evidence_is_within : OwnEvidenceIsWithin
 own_evidence_is_within file secret p e own =
     let g = geometry_of (length file) p.needed p.total p.max_segment in
     let key = convergent_key_of p.needed p.total g.segment_size secret file in
     let ciphertext = xored key file in
     let segments : List (List ℕ) = segments_of g ciphertext in
-    let up : AreAmong (encoding_inputs file secret p) (ciphertext_inputs g ciphertext) =
-    (λ input c.
-    Contains-append_left (key_input p.needed p.total g.segment_size secret file ∷ tagged_input StorageIndex key ∷ ciphertext_inputs g ciphertext)
-    (map (tagged_input WholeShare) (encoding_of file secret p).shares) input
-    (member_there (key_input p.needed p.total g.segment_size secret file) input (tagged_input StorageIndex key ∷ ciphertext_inputs g ciphertext)
-    (member_there (tagged_input StorageIndex key) input (ciphertext_inputs g ciphertext) c))) in
+    let up : AreAmong (encoding_inputs file secret p) (ciphertext_inputs g ciphertext) = ciphertext_among file secret p in
     let part : All (λ (q : EvidencePart). AreAmong (encoding_inputs file secret p) (segment_inputs q.number q.segment q.path)) e.parts =
     (λ k d low input c.
     let q : EvidencePart = slice_index_or e.parts k d in

@@ -3,7 +3,8 @@
 ghost use Rattle.file_encoding.specs.Laws.{AcceptedSharesPass, CiphertextSharesPass};
 ghost use Rattle.file_encoding.specs.Laws.{FileSharesPass, SharesAreNotLong, SharesHaveOneLength};
 ghost use Rattle.file_encoding.specs.OwnFile.{OwnSharesGiveTheFile};
-ghost use Rattle.file_encoding.specs.Parts.{EncodingHasParts, FileHasParts, OwnEvidenceIsWithin};
+ghost use Rattle.file_encoding.specs.Parts.{EncodingHasParts, FileHasParts, FilesAreOfTheirCaps};
+ghost use Rattle.file_encoding.specs.Parts.{OwnEvidenceIsWithin, OwnTreesAreWithin};
 
 /// A law: each share of a ciphertext's encoding passes `verify_share` with the encoding's verify
 /// cap and its own number.
@@ -56,4 +57,16 @@ pub fn shares_are_not_long()
 /// A law: what evidence of a file's own segments hashes is hashed for the file's encoding.
 pub fn own_evidence_is_within()
     ensures { OwnEvidenceIsWithin }
+{}
+
+/// A law: a file is the one of its encoding's cap, by the encoding's extension block, whatever the
+/// secret.
+pub fn files_are_of_their_caps()
+    ensures { FilesAreOfTheirCaps }
+{}
+
+/// A law: what a file's extension block, its segments and their tree hash is hashed for the file's
+/// encoding.
+pub fn own_trees_are_within()
+    ensures { OwnTreesAreWithin }
 {}

@@ -18,7 +18,8 @@ pub use encoding::{Encoded, encode_all};
 pub use error::EncodeError;
 pub use laws::{
     accepted_shares_pass, ciphertext_shares_pass, encoding_has_parts, file_has_parts,
-    file_shares_pass, own_evidence_is_within, own_shares_give_the_file, shares_have_one_length,
+    file_shares_pass, files_are_of_their_caps, own_evidence_is_within, own_shares_give_the_file,
+    own_trees_are_within, shares_have_one_length,
 };
 pub use params::{MAX_CHOSEN_SEGMENT_SIZE, Params};
 pub use reading::{ReadError, read_ciphertext, read_from};

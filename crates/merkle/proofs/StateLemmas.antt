@@ -212,6 +212,25 @@ module _ (p : PartialState) (leaf : ℕ) (hash : List ℕ) (sound : IsPartial p)
         | inr rest ↦ (j.left, ap (known_at p) (right_number t (omega arith) (omega arith)).1 ∙ j.knows_left)
       ]
 
+  -- the two children of a node above the leaf: the node below and its sibling
+  pub children_left : (t : ℕ) → suc t ≤ height p.leaf_count → leaf / 2 ^ t % 2 ≡ 0
+      → (known_at p (2 * parent (number t) + 1) ≡ Some (path_root t (leaf % 2 ^ t) hash (known_siblings p leaf)))
+      × (known_at p (2 * parent (number t) + 2) ≡ Some (slice_index_or (known_siblings p leaf) t []))
+  children_left t below even =
+      let at = left_number t below even in
+      let e = climbs t (omega arith) in
+      let j = joined_above t below (path_root t (leaf % 2 ^ t) hash (known_siblings p leaf)) e in
+      (ap (known_at p) (sym at.0) ∙ e, j.knows_right ∙ ap (λ (x : List ℕ). Some x) (sym (sibling_at t below j.right (ap (known_at p) at.1 ∙ j.knows_right))))
+
+  pub children_right : (t : ℕ) → suc t ≤ height p.leaf_count → leaf / 2 ^ t % 2 ≡ 1
+      → (known_at p (2 * parent (number t) + 1) ≡ Some (slice_index_or (known_siblings p leaf) t []))
+      × (known_at p (2 * parent (number t) + 2) ≡ Some (path_root t (leaf % 2 ^ t) hash (known_siblings p leaf)))
+  children_right t below odd =
+      let at = right_number t below odd in
+      let e = climbs t (omega arith) in
+      let j = joined_above t below (path_root t (leaf % 2 ^ t) hash (known_siblings p leaf)) e in
+      (j.knows_left ∙ ap (λ (x : List ℕ). Some x) (sym (sibling_at t below j.left (ap (known_at p) at.1 ∙ j.knows_left))), ap (known_at p) (sym at.0) ∙ e)
+
   pub leads_by_siblings : path_root (height p.leaf_count) leaf hash (known_siblings p leaf) ≡ p.root
   leads_by_siblings =
       let m : ℕ = height p.leaf_count in
@@ -236,7 +255,7 @@ apart q other = grind (arith, nat_tests)
 pub apart' : (q : ℕ) → q ≢ 0 → nat_eq 0 q ≡ false
 apart' q other = grind (arith, nat_tests)
 
-only_root-none : (root : List ℕ) (q : ℕ) → q ≢ 0 → only_root root q ≡ None
+pub only_root-none : (root : List ℕ) (q : ℕ) → q ≢ 0 → only_root root q ≡ None
 only_root-none root q other = ap (λ (b : Bool). if b then Some root else None) (apart q other)
 
 -- the root alone was told

@@ -4,6 +4,7 @@ pub mod Path
 pub mod Inputs
 pub mod Nodes
 pub mod Partial
+pub mod Known
 pub mod Error
 pub mod OfferError
 -- words of private clauses

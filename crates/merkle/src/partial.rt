@@ -3,6 +3,7 @@
 ghost use Rattle.std.specs.Prelude.{◌≡◌, ◌<◌, ◌≤◌, ◌^◌, ℕ, List, Some, Err, is_some};
 ghost use Rattle.std.specs.Prelude.{IfOk, IfSome, IsOkUnless, OnErr, OnOk};
 ghost use Rattle.merkle.specs.Path.{LeadsBy};
+ghost use Rattle.merkle.specs.Known.{KnownPathsAreKnown};
 ghost use Rattle.merkle.specs.Partial.{IsNotConsistent, IsPartial, KnownLeavesGiveTheRoot};
 ghost use Rattle.merkle.specs.Partial.{KnownLeavesLead, PartialState, Takes, known_at};
 ghost use Rattle.merkle.specs.Partial.{known_siblings, leaf_number, missing_numbers, starting};
@@ -158,4 +159,10 @@ pub fn known_leaves_lead()
 /// The law is the contract; the call does nothing.
 pub fn known_leaves_give_the_root()
     ensures { KnownLeavesGiveTheRoot }
+{}
+
+/// A law of the definitions: all that is hashed on the path of a leaf that is known is the hash
+/// input of a node whose two children are known. The law is the contract; the call does nothing.
+pub fn known_paths_are_known()
+    ensures { KnownPathsAreKnown }
 {}

@@ -1,7 +1,7 @@
 -- Without a clash one segment alone has a place in a cap's file.
 use Rattle.std.proofs.Common.{◌≡◌, ℕ, ◌<◌, List, [], length, Contains, refl, sym, subst, ◌∙◌, arith}
 use Rattle.std.proofs.lemmas.List.{append_cancel_left}
-use Rattle.tagged_hash.specs.Clash.{HasNoClash}
+use Rattle.tagged_hash.specs.Clash.{HasNoClash, HasNoClashIn}
 use Rattle.tagged_hash.specs.Tag.{tag_text}
 use Rattle.tagged_hash.specs.TaggedHash.{netstring, tagged_hash, tagged_input}
 use Rattle.tagged_hash.specs.declared.tag.Tag.{Tag}
@@ -24,9 +24,13 @@ pub same_tagged : (tag : Tag) (a b : List ℕ) → tagged_input tag a ≡ tagged
 same_tagged tag a b e = append_cancel_left (netstring (tag_text tag)) a b e
 
 -- without a clash its hash does
+pub data_agrees_in : (IsOne : List ℕ → Type 0) → HasNoClashIn IsOne → (tag : Tag) (a b : List ℕ) → IsOne (tagged_input tag a) → IsOne (tagged_input tag b)
+    → tagged_hash tag a ≡ tagged_hash tag b → a ≡ b
+data_agrees_in IsOne no_clash tag a b first second e = same_tagged tag a b (no_clash _ _ first second e)
+
 pub data_agrees : (inputs : List (List ℕ)) → HasNoClash inputs → (tag : Tag) (a b : List ℕ) → Contains inputs (tagged_input tag a) → Contains inputs (tagged_input tag b)
     → tagged_hash tag a ≡ tagged_hash tag b → a ≡ b
-data_agrees inputs no_clash tag a b first second e = same_tagged tag a b (no_clash _ _ first second e)
+data_agrees inputs no_clash = data_agrees_in (Contains inputs) no_clash
 
 -- an extension block says one thing
 pub one_ueb : BlocksSayOneThing

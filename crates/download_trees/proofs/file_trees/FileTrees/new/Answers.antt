@@ -15,6 +15,7 @@ invariant_of-result c = record {
     of_root = refl;
     leaves = ap (λ (p : PartialState). p.leaf_count) c.in_ok-tree_with-2.ensures.tree ∙ c.segment_count.ensures.value;
   };
+  hashes = c.in_ok-tree_with-2.ensures.hashes;
 }
 
 pub returns-clause-right : goal.returns-clause-right
