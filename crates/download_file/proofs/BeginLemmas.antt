@@ -18,12 +18,12 @@ use Rattle.download_segments.proofs.TreeLemmas.{grow_none}
 use Rattle.download_file.specs.State.{FileState, IsLive, IsReader, ReaderState, shares, waiting_at, waiting_in, waiting_parts}
 use Rattle.download_file.specs.Answers.{HoldsAnswers}
 use Rattle.download_file.specs.Asked.{AsksNoMore}
-use Rattle.download_file.specs.Changes.{StaysAskedUp, StaysRead}
+use Rattle.download_file.specs.Changes.{IsSameFile, StaysAskedUp, StaysRead}
 use Rattle.download_file.specs.Right.{AreLive, GivesTree, IsFile, IsGroup, IsReaderOf}
 use Rattle.download_file.specs.Steps.{IsBegun}
 use Rattle.download_file.specs.declared.reader.Waiting.{Waiting}
 use Rattle.download_file.proofs.ListLemmas.{get_first, get_pushed, one_there}
-use Rattle.download_file.proofs.GrowLemmas.{GrowReaders, goes_same, group_stays, read_stays}
+use Rattle.download_file.proofs.GrowLemmas.{GrowReaders, goes_same, given_stays, group_stays, read_stays}
 use Rattle.download_file.proofs.LiveLemmas.{first_live, rise_push}
 use Rattle.download_file.proofs.StateLemmas.{Follows, KeepsAsks, asked_up_stays, asks_itself, asks_no_more, grows_itself, new_asks_none, same_reader}
 
@@ -87,6 +87,7 @@ pub record HasBegun (f : FileState) (share : ℕ) (g : FileState) : Type 0 where
   pub asked : AsksNoMore f g
   pub asked_up : (reader : ℕ) → IsLive f reader → StaysAskedUp f g reader
   pub reads : StaysRead f g
+  pub same : IsSameFile f g
 
 module _ (f : FileState) (share next : ℕ) (x : ReaderState) (gives : Bool) (is : IsFile f) (next_is : next_segment f.handout ≡ Some next)
     (begun : IsBegun f.handout.geometry f.first next f.end share gives f.taken x) (given : f.live ≡ [] → gives ≡ true)
@@ -238,7 +239,7 @@ module _ (f : FileState) (share next : ℕ) (x : ReaderState) (gives : Bool) (is
       ])
 
   pub read_begun : StaysRead f begun_file
-  read_begun entries read = read_stays entries f begun_file refl (grow_none f.handout.trees) grow is.groups refl
+  read_begun entries read = read_stays entries f begun_file refl refl refl (grow_none f.handout.trees) grow is.groups refl (λ p among. among)
       (λ place r at. elim (which place r at) [
         | inl old ↦ read.held place r old
         | inr new ↦ subst (λ (q : ReaderState). HoldsAnswers entries q.source) new.1 none_held
@@ -247,6 +248,17 @@ module _ (f : FileState) (share next : ℕ) (x : ReaderState) (gives : Bool) (is
     where
       none_held : HoldsAnswers entries x.source
       none_held k low = absurd (let e = ap length begun.held in omega (arith, low, e))
+
+  pub same_begun : IsSameFile f begun_file
+  same_begun = record {
+    key = refl;
+    ueb = refl;
+    geometry = refl;
+    to = refl;
+    first = refl;
+    end = refl;
+    given = given_stays f begun_file refl refl refl (grow_none f.handout.trees) grow is.groups refl;
+  }
 
   pub shares_begun : shares begun_file ≡ shares f ++ share ∷ []
   shares_begun = map-append (λ (q : ReaderState). q.share) f.readers (x ∷ []) ∙ ap (λ (n : ℕ). shares f ++ n ∷ []) begun.share_is
@@ -263,4 +275,5 @@ module _ (f : FileState) (share next : ℕ) (x : ReaderState) (gives : Bool) (is
     asked = asks_begun;
     asked_up = asked_up_begun;
     reads = read_begun;
+    same = same_begun;
   }

@@ -23,11 +23,11 @@ use Rattle.download_segments.proofs.TreeLemmas.{grow_none}
 use Rattle.download_file.specs.State.{FileState, IsLive, IsReader, ReaderState, giver, shares, waiting_at, waiting_in, waiting_parts, without}
 use Rattle.download_file.specs.Answers.{HoldsAnswers}
 use Rattle.download_file.specs.Asked.{AsksNoMore}
-use Rattle.download_file.specs.Changes.{OthersWait, StaysAskedUp, StaysRead}
+use Rattle.download_file.specs.Changes.{IsSameFile, OthersWait, StaysAskedUp, StaysGiven, StaysRead}
 use Rattle.download_file.specs.Right.{AreConsecutive, AreLive, IsFile, IsGroup, IsReaderOf, made_end}
 use Rattle.download_file.specs.Steps.{AsksNoTree, CanGive, EndsReader, giving, stopped}
 use Rattle.download_file.proofs.ListLemmas.{All-from_contains, get_cases, get_other, get_set, map_set, one_there, set_again, set_cases, set_same, waiting_set}
-use Rattle.download_file.proofs.GrowLemmas.{GoesOn, GrowReaders, goes_same, group_stays, read_stays, reader_there}
+use Rattle.download_file.proofs.GrowLemmas.{GoesOn, GrowReaders, goes_same, given_stays, group_stays, read_stays, reader_there}
 use Rattle.download_file.proofs.LiveLemmas.{first_least, first_live, first_stays, from_without, length-without, rise_without, something_first}
 use Rattle.download_file.proofs.StateLemmas.{Follows, SameAsks, asked_up_stays, asks_itself, asks_no_more, grows_itself, reader_stays, same_reader}
 use Rattle.download_file.proofs.EndLemmas.{next_left}
@@ -178,12 +178,15 @@ module _ (f : FileState) (reader : ℕ) (r r1 : ReaderState) (is : IsFile f) (li
       is.ciphertext.at_giver place q (still_giver place other now) k.1
 
   pub read_stopped : StaysRead f stopped_file
-  read_stopped entries read = read_stays entries f stopped_file refl (grow_none f.handout.trees) grow_stopped is.groups refl
+  read_stopped entries read = read_stays entries f stopped_file refl refl refl (grow_none f.handout.trees) grow_stopped is.groups refl (λ p among. among)
       (λ place q there. elim (set_cases f.readers reader place (stopped r1) q there) [
         | inl k ↦ subst (λ (x : ReaderState). HoldsAnswers entries x.source) k.1 (subst (HoldsAnswers entries) (sym only) (read.held reader r at))
         | inr k ↦ read.held place q k.1
       ])
       read
+
+  pub given_stopped : StaysGiven f stopped_file
+  given_stopped = given_stays f stopped_file refl refl refl (grow_none f.handout.trees) grow_stopped is.groups refl
 
   pub shares_stopped : shares stopped_file ≡ shares f
   shares_stopped = map_set (λ (q : ReaderState). q.share) f.readers reader (stopped r1) r at share
@@ -304,12 +307,15 @@ module _ (f : FileState) (next : ℕ) (s : ReaderState) (k : Nearly f) (first : 
       subst (λ (x : ReaderState). x.source.taken.ciphertext_tree ≡ f.taken) is_q refl)
 
   pub read_giving : StaysRead f giving_file
-  read_giving entries read = read_stays entries f giving_file refl (grow_none f.handout.trees) grow_giving k.groups refl
+  read_giving entries read = read_stays entries f giving_file refl refl refl (grow_none f.handout.trees) grow_giving k.groups refl (λ p among. among)
       (λ place q there. elim (set_cases f.readers next place (giving s f.taken) q there) [
         | inl e ↦ subst (λ (x : ReaderState). HoldsAnswers entries x.source) e.1 (read.held next s at)
         | inr e ↦ read.held place q e.1
       ])
       read
+
+  pub given_giving : StaysGiven f giving_file
+  given_giving = given_stays f giving_file refl refl refl (grow_none f.handout.trees) grow_giving k.groups refl
 
   pub shares_giving : shares giving_file ≡ shares f
   shares_giving = map_set (λ (q : ReaderState). q.share) f.readers next (giving s f.taken) s at refl
@@ -343,6 +349,7 @@ pub record HasEnded (f : FileState) (reader : ℕ) (s t : SourceState) (g : File
   pub asked : SameAsks s t → AsksNoMore f g
   pub asked_up : giver f ≢ Some reader → (other : ℕ) → other ≢ reader → StaysAskedUp f g other
   pub reads : StaysRead f g
+  pub same : IsSameFile f g
 
 module _ (f : FileState) (reader : ℕ) (r r1 : ReaderState) (rs : List ReaderState) (is : IsFile f) (live : IsLive f reader) (at : slice_get f.readers reader ≡ Some r)
     (share : r1.share ≡ r.share) (only : OnlyAsks r.source r1.source) (right : IsSource r1.source) (tree : giver f ≢ Some reader → AsksNoTree r.source r1.source) where
@@ -362,6 +369,15 @@ module _ (f : FileState) (reader : ℕ) (r r1 : ReaderState) (rs : List ReaderSt
     asked = asks_stopped f reader r r1 is live at share only right tree;
     asked_up = asked_up_stopped f reader r r1 is live at share only right tree;
     reads = read_stopped f reader r r1 is live at share only right tree;
+    same = record {
+      key = refl;
+      ueb = refl;
+      geometry = refl;
+      to = refl;
+      first = refl;
+      end = refl;
+      given = given_stopped f reader r r1 is live at share only right tree;
+    };
   }) where
     gives : (giver f ≢ Some reader) ⊎ (giver plain ≡ None) → AtGiver plain
     gives (inl other) = gives_still f reader r r1 is live at share only right tree other
@@ -385,6 +401,15 @@ module _ (f : FileState) (reader : ℕ) (r r1 : ReaderState) (rs : List ReaderSt
             (asks_giving plain next s k first there none);
         asked_up = λ other. absurd (other gave);
         reads = λ entries read. read_giving plain next s k first there none entries (read_stopped f reader r r1 is live at share only right tree entries read);
+        same = record {
+          key = refl;
+          ueb = refl;
+          geometry = refl;
+          to = refl;
+          first = refl;
+          end = refl;
+          given = λ entries p g. given_giving plain next s k first there none entries p (given_stopped f reader r r1 is live at share only right tree entries p g);
+        };
       })
     where
       strictly : (a b : ℕ) → a ≤ b → (b ≡ a → ⊥) → a < b

@@ -5,16 +5,20 @@ use Rattle.std.proofs.lemmas.List.{append-nil, drop-append-le, drop-map, length-
 use Rattle.std.proofs.lemmas.List.Elements.{All-contains, All-weaker}
 use Rattle.std.proofs.lemmas.Option.{slice_get_within, slice_get-get_or}
 use Rattle.request_record.specs.declared.requests.Request.{Request}
+use Rattle.ueb.specs.Shape.{Contents}
 use Rattle.share_layout.specs.Geometry.{Geometry}
 use Rattle.proved_parts.specs.Decoding.{DecodesBlocks}
 use Rattle.download_source.specs.Blocks.{IsHeld, block_end, block_first, joined_block}
 use Rattle.download_source.specs.Source.{SourceState}
 use Rattle.download_segments.specs.Decoding.{blocks_in}
+use Rattle.download_segments.specs.Pieces.{IsSlice}
 use Rattle.download_segments.specs.State.{HandoutState, TreesGrow}
+use Rattle.download_segments.specs.declared.piece.Piece.{Piece}
 use Rattle.download_segments.proofs.TreeLemmas.{proved_stays}
 use Rattle.download_file.specs.State.{FileState, GroupState, ReaderState, numbers_of, share_in}
-use Rattle.download_file.specs.Answers.{AnsweredWith, HoldsAnswers, IsAnswered, IsMade, IsRead, KeepsAnswers, answer_at, block_in, block_of, blocks_of, bytes_in, bytes_of}
-use Rattle.download_file.specs.Laws.{ReadsStay}
+use Rattle.download_file.specs.Answers.{AnsweredWith, HoldsAnswers, IsAnswered, IsGivenBy, IsMade, IsRead, KeepsAnswers, answer_at, block_in, block_of, blocks_of, bytes_in, bytes_of}
+use Rattle.download_file.specs.Changes.{IsSameFile, StaysGiven}
+use Rattle.download_file.specs.Laws.{GivenStays, ReadsStay}
 use Rattle.download_file.specs.Right.{IsGroup}
 use Rattle.download_file.proofs.ListLemmas.{first_in, more_in, one_there}
 
@@ -130,17 +134,51 @@ made_stays entries h h' rs rs' group number geometry trees grow is made =
       proved = proved_stays h h' number made.segment geometry trees made.proved;
     }
 
+made_segment : (entries : List Request) (h h' : HandoutState) (rs rs' : List ReaderState) (group : GroupState) (number : ℕ)
+    (geometry : h'.geometry ≡ h.geometry) (trees : TreesGrow h.trees h'.trees) (grow : GrowReaders rs rs') (is : IsGroup h rs group)
+    (made : IsMade entries h rs group number) → (made_stays entries h h' rs rs' group number geometry trees grow is made).segment ≡ made.segment
+unfolding made_stays
+made_segment entries h h' rs rs' group number geometry trees grow is made = refl
+
+-- a slice of a segment is one of each file with this key and this extension block
+pub slice_stays : (f f' : FileState) (number : ℕ) (segment : List ℕ) (p : Piece) → f'.handout.key ≡ f.handout.key → f'.handout.ueb ≡ f.handout.ueb
+    → IsSlice f.handout.key f.handout.ueb.segment_size number segment p → IsSlice f'.handout.key f'.handout.ueb.segment_size number segment p
+slice_stays f f' number segment p key ueb slice =
+    subst (λ (k : List ℕ). IsSlice k f'.handout.ueb.segment_size number segment p) (sym key)
+    (subst (λ (u : Contents). IsSlice f.handout.key u.segment_size number segment p) (sym ueb) slice)
+
+-- what was given stays given where readers go on
+pub given_stays : (f f' : FileState) → f'.handout.key ≡ f.handout.key → f'.handout.ueb ≡ f.handout.ueb → f'.handout.geometry ≡ f.handout.geometry
+    → TreesGrow f.handout.trees f'.handout.trees → GrowReaders f.readers f'.readers → All (IsGroup f.handout f.readers) f.groups → f'.groups ≡ f.groups → StaysGiven f f'
+given_stays f f' key ueb geometry trees grow groups same entries p g =
+    let m = g.made in
+    let is = All-contains (IsGroup f.handout f.readers) f.groups m.group groups m.among in
+    record {
+      number = g.number;
+      segment = g.segment;
+      made = record {
+        group = m.group;
+        among = subst (λ (gs : List GroupState). Contains gs m.group) (sym same) m.among;
+        from = m.from;
+        before = m.before;
+        made = made_stays entries f.handout f'.handout f.readers f'.readers m.group g.number geometry trees grow is m.made;
+        is = made_segment entries f.handout f'.handout f.readers f'.readers m.group g.number geometry trees grow is m.made ∙ m.is;
+      };
+      slice = slice_stays f f' g.number g.segment p key ueb g.slice;
+    }
+
 -- what the record says of the file stays true where its readers go on and hold answers
-pub read_stays : (entries : List Request) (f f' : FileState) → f'.handout.geometry ≡ f.handout.geometry → TreesGrow f.handout.trees f'.handout.trees
+pub read_stays : (entries : List Request) (f f' : FileState) → f'.handout.key ≡ f.handout.key → f'.handout.ueb ≡ f.handout.ueb → f'.handout.geometry ≡ f.handout.geometry → TreesGrow f.handout.trees f'.handout.trees
     → GrowReaders f.readers f'.readers → All (IsGroup f.handout f.readers) f.groups → f'.groups ≡ f.groups
-    → ((place : ℕ) (r : ReaderState) → slice_get f'.readers place ≡ Some r → HoldsAnswers entries r.source)
+    → ((p : Piece) → Contains f'.handout.ready p → Contains f.handout.ready p) → ((place : ℕ) (r : ReaderState) → slice_get f'.readers place ≡ Some r → HoldsAnswers entries r.source)
     → IsRead entries f → IsRead entries f'
-read_stays entries f f' geometry trees grow groups same held read = record {
+read_stays entries f f' key ueb geometry trees grow groups same ready held read = record {
   held = held;
   made = λ group number among from before.
       let was : Contains f.groups group = subst (λ (gs : List GroupState). Contains gs group) same among in
       made_stays entries f.handout f'.handout f.readers f'.readers group number geometry trees grow
       (All-contains (IsGroup f.handout f.readers) f.groups group groups was) (read.made group number was from before);
+  ready = λ p among. given_stays f f' key ueb geometry trees grow groups same entries p (read.ready p (ready p among));
 }
 
 -- ---- answers that stay
@@ -178,11 +216,13 @@ same_block old new s number keeps held =
     at_any : (xs : List ℕ) (k d : ℕ) → k < length xs → get_or xs k 0 ≡ get_or xs k d
     at_any xs k d low = let e : Some (get_or xs k 0) ≡ Some (get_or xs k d) = sym (slice_get-get_or xs k 0 low) ∙ slice_get-get_or xs k d low in cc
 
-pub reads_keep : ReadsStay
-reads_keep old new f keeps read = record {
-  held = λ place r at k low. answered_stays old new _ _ keeps (read.held place r at k low);
-  made = λ group number among from before.
-      let made = read.made group number among from before in
+module _ (old new : List Request) (f : FileState) (keeps : KeepsAnswers old new) (read : IsRead old f) where
+  one : (number place : ℕ) (o : Option ReaderState) → slice_get f.readers place ≡ o → block_in new number o ≡ block_in old number o
+  one number place None at = refl
+  one number place (Some r) at = same_block old new r.source number keeps (read.held place r at)
+
+  made_keeps : (group : GroupState) (number : ℕ) → IsMade old f.handout f.readers group number → IsMade new f.handout f.readers group number
+  made_keeps group number made =
       let same : blocks_of new f.readers number group.readers ≡ blocks_of old f.readers number group.readers =
       blocks_same old new f.readers f.readers number group.readers (λ place in_group. one number place (slice_get f.readers place) refl) in
       record {
@@ -190,8 +230,43 @@ reads_keep old new f keeps read = record {
         segment = made.segment;
         decodes = subst (λ (joined : List ℕ). DecodesBlocks f.handout.geometry group.decoding.numbers (blocks_in f.handout.geometry number joined) number made.segment) (sym same) made.decodes;
         proved = made.proved;
-      };
-} where
-  one : (number place : ℕ) (o : Option ReaderState) → slice_get f.readers place ≡ o → block_in new number o ≡ block_in old number o
-  one number place None at = refl
-  one number place (Some r) at = same_block old new r.source number keeps (read.held place r at)
+      }
+
+  segment_keeps : (group : GroupState) (number : ℕ) (made : IsMade old f.handout f.readers group number) → (made_keeps group number made).segment ≡ made.segment
+  unfolding made_keeps
+  segment_keeps group number made = refl
+
+  pub given_keeps : (p : Piece) → IsGivenBy old f p → IsGivenBy new f p
+  given_keeps p g =
+      let m = g.made in
+      record {
+        number = g.number;
+        segment = g.segment;
+        made = record {
+          group = m.group;
+          among = m.among;
+          from = m.from;
+          before = m.before;
+          made = made_keeps m.group g.number m.made;
+          is = segment_keeps m.group g.number m.made ∙ m.is;
+        };
+        slice = g.slice;
+      }
+
+  pub read_keeps : IsRead new f
+  read_keeps = record {
+    held = λ place r at k low. answered_stays old new _ _ keeps (read.held place r at k low);
+    made = λ group number among from before. made_keeps group number (read.made group number among from before);
+    ready = λ p among. given_keeps p (read.ready p among);
+  }
+
+pub reads_keep : ReadsStay
+reads_keep old new f keeps read = read_keeps old new f keeps read
+
+pub given_keep : GivenStays
+given_keep old new f p keeps read g = given_keeps old new f keeps read p g
+
+-- ---- the same file
+
+pub same_itself : (f : FileState) → IsSameFile f f
+same_itself f = record { key = refl; ueb = refl; geometry = refl; to = refl; first = refl; end = refl; given = λ entries p g. g }

@@ -15,4 +15,8 @@ pub mod EvidenceLemmas
 pub mod WaitLemmas
 pub mod MakeLemmas
 pub mod SegmentLemmas
+pub mod RowLemmas
+pub mod RowFileLemmas
+pub mod WholeRowLemmas
 pub mod NewLemmas
+pub mod GivenLemmas

@@ -21,7 +21,6 @@ use Rattle.download_segments.specs.Handout.{next_segment}
 use Rattle.download_segments.specs.NoCodeWord.{IsBlockBy, IsNoCodeWord}
 use Rattle.download_segments.specs.State.{RefutesSegment}
 use Rattle.download_segments.proofs.DecodingLemmas.{length-pieces}
-use Rattle.download_segments.proofs.HandoutLemmas.{next_within}
 use Rattle.download_segments.proofs.LawLemmas.{blocks_lead, no_code_words}
 use Rattle.download_file.specs.State.{FileState, IsLive, ReaderState, numbers_of, share_in}
 use Rattle.download_file.specs.Answers.{IsRead, block_in, block_of, blocks_of}
@@ -57,7 +56,7 @@ nth_is entries readers number size (p ∷ ps) (suc k) place long at =
 
 -- ---- the blocks of the readers that are read
 
-module _ (entries : List Request) (f : FileState) (number size : ℕ) (is : IsFile f) (read : IsRead entries f) (next : next_segment f.handout ≡ Some number)
+module _ (entries : List Request) (f : FileState) (number size : ℕ) (is : IsFile f) (read : IsRead entries f) (there : number < segment_count f.handout.geometry)
     (long : size ≡ block_length f.handout.geometry number) (ready : AreReady f.readers f.live number) where
   pub of_file : AreOfFile entries f.handout.geometry f.readers
   of_file = record {
@@ -65,9 +64,6 @@ module _ (entries : List Request) (f : FileState) (number size : ℕ) (is : IsFi
     geometry = λ place r at. (is.readers place r at).geometry;
     held = read.held;
   }
-
-  pub there : number < segment_count f.handout.geometry
-  there = next_within f.handout number is.handout next
 
   reader_at : (place : ℕ) → IsLive f place → (r : ReaderState) × (slice_get f.readers place ≡ Some r) × IsHeld r.source number
   reader_at place live =
@@ -90,7 +86,7 @@ module _ (entries : List Request) (f : FileState) (number size : ℕ) (is : IsFi
   all_long = blocks_long entries f.handout.geometry f.readers f.live number of_file reader_at ∙ ap (λ (n : ℕ). length f.live * n) (sym long)
 
   -- the block of a reader among those that stand one after another
-  nth_own : (k place : ℕ) (r : ReaderState) → slice_get f.live k ≡ Some place → slice_get f.readers place ≡ Some r
+  pub nth_own : (k place : ℕ) (r : ReaderState) → slice_get f.live k ≡ Some place → slice_get f.readers place ≡ Some r
       → nth_block (blocks_of entries f.readers number f.live) size k ≡ block_of entries r.source number
   nth_own k place r at at_reader = nth_is entries f.readers number size f.live k place its_length at ∙ ap (block_in entries number) at_reader
 
@@ -108,8 +104,8 @@ module _ (entries : List Request) (f : FileState) (number size : ℕ) (is : IsFi
           let k = leaf_of tree (known_leaf tree number) refl (sym (ap (λ (o : Option PartialState). is_some (option_and_then (λ t. known_leaf t number) o)) e) ∙ own.known) in
           (tree, e, k.0, k.1)
 
-  pub refutes_reader : (joined : List ℕ) (place : ℕ) → joined ≡ blocks_of entries f.readers number f.live → IsWrong f.readers f.live number joined size place → RefutesReader entries f place
-  refutes_reader joined place joins wrong =
+  pub refutes_reader : next_segment f.handout ≡ Some number → (joined : List ℕ) (place : ℕ) → joined ≡ blocks_of entries f.readers number f.live → IsWrong f.readers f.live number joined size place → RefutesReader entries f place
+  refutes_reader next joined place joins wrong =
       let live = contains_at f.live wrong.k place wrong.at in
       let own = ready place wrong.r live wrong.there in
       let tree = known_tree wrong.r own in

@@ -1,5 +1,5 @@
 -- A file of which nothing was read yet, and one of which pieces are taken.
-use Rattle.std.proofs.Common.{◌≡◌, ℕ, ◌+◌, ◌-◌, ◌/◌, ◌<◌, ◌≤◌, inl, Bool, List, [], ◌∷◌, Option, Some, None, unwrap_or, refl, sym, ap, subst, ◌∙◌, arith}
+use Rattle.std.proofs.Common.{◌≡◌, ℕ, ◌+◌, ◌-◌, ◌/◌, ◌<◌, ◌≤◌, inl, Bool, Contains, List, [], ◌∷◌, Option, Some, None, unwrap_or, refl, sym, ap, subst, ◌∙◌, arith}
 use Rattle.std.specs.Prelude.{slice_get, if◌then◌else◌}
 use Rattle.std.proofs.lemmas.Bool.{lt-ltb}
 use Rattle.std.proofs.lemmas.List.Elements.{All-nil, All-weaker}
@@ -19,7 +19,8 @@ use Rattle.download_file.specs.Answers.{IsRead}
 use Rattle.download_file.specs.Asked.{AsksNoMore}
 use Rattle.download_file.specs.Changes.{IsSameFile, StaysAskedUp, StaysRead}
 use Rattle.download_file.specs.Right.{IsFile, IsGroup, made_end}
-use Rattle.download_file.proofs.GrowLemmas.{grow_same, group_stays, read_stays}
+use Rattle.download_file.proofs.GrowLemmas.{given_stays, grow_same, group_stays, read_stays}
+use Rattle.download_file.proofs.ListLemmas.{more_in}
 use Rattle.download_file.proofs.LiveLemmas.{none_in}
 use Rattle.download_file.proofs.RangeLemmas.{end_within}
 use Rattle.download_file.proofs.StateLemmas.{Follows, asked_up_stays, asks_itself, asks_no_more, cursor_none, grows_itself, same_reader}
@@ -77,6 +78,7 @@ module _ (key : List ℕ) (u : Contents) (g : Geometry) (from to : ℕ) (some : 
   read_new entries = record {
     held = λ place r at. absurd (none_there place r at);
     made = λ group number among. absurd (none_in group among);
+    ready = λ p among. absurd (none_in p among);
   }
 
 -- ---- a piece is taken
@@ -85,7 +87,13 @@ pub taken_rest : (old new : HandoutState) (o : Option Piece) → TakesPiece old 
 taken_rest old new None takes = subst (λ (h : HandoutState). h ≡ record old { ready = h.ready; handed = h.handed }) (sym takes.1) refl
 taken_rest old new (Some p) takes = takes.1 ∙ sym (ap (λ (n : ℕ). record old { ready = new.ready; handed = n }) (ap (λ (h : HandoutState). h.handed) takes.1))
 
-module _ (f : FileState) (ready : List Piece) (handed : ℕ) (is : IsFile f) (right : IsHandout (record f.handout { ready = ready; handed = handed })) where
+-- what is ready was before
+pub still_ready : (old new : HandoutState) (o : Option Piece) → TakesPiece old o new → (p : Piece) → Contains new.ready p → Contains old.ready p
+still_ready old new None takes p among = subst (λ (h : HandoutState). Contains h.ready p) takes.1 among
+still_ready old new (Some q) takes p among = subst (λ (l : List Piece). Contains l p) (sym takes.0) (more_in q p new.ready among)
+
+module _ (f : FileState) (ready : List Piece) (handed : ℕ) (is : IsFile f) (right : IsHandout (record f.handout { ready = ready; handed = handed }))
+    (among : (p : Piece) → Contains ready p → Contains f.handout.ready p) where
   abbrev pub pieces_file : FileState
   pieces_file = record f { handout = record f.handout { ready = ready; handed = handed } }
 
@@ -120,7 +128,18 @@ module _ (f : FileState) (ready : List Piece) (handed : ℕ) (is : IsFile f) (ri
   }
 
   pub read_pieces : StaysRead f pieces_file
-  read_pieces entries read = read_stays entries f pieces_file refl (grow_none f.handout.trees) (grow_same f.readers) is.groups refl read.held read
+  read_pieces entries read = read_stays entries f pieces_file refl refl refl (grow_none f.handout.trees) (grow_same f.readers) is.groups refl among read.held read
+
+  pub same_pieces : IsSameFile f pieces_file
+  same_pieces = record {
+    key = refl;
+    ueb = refl;
+    geometry = refl;
+    to = refl;
+    first = refl;
+    end = refl;
+    given = given_stays f pieces_file refl refl refl (grow_none f.handout.trees) (grow_same f.readers) is.groups refl;
+  }
 
   pub up_pieces : (reader : ℕ) → StaysAskedUp f pieces_file reader
   up_pieces reader = asked_up_stays f pieces_file reader refl (λ now. now) (λ r at. (r, at, grows_itself r.source))
@@ -143,10 +162,11 @@ pub has_pieces : (f : FileState) (new : HandoutState) (o : Option Piece) → IsF
 has_pieces f new o is right takes =
     let rest = taken_rest f.handout new o takes in
     let own : IsHandout (record f.handout { ready = new.ready; handed = new.handed }) = subst IsHandout rest right in
+    let among = still_ready f.handout new o takes in
     subst (λ (h : HandoutState). HasPieces f (record f { handout = h })) (sym rest) (record {
-      right = file_pieces f new.ready new.handed is own;
-      reads = read_pieces f new.ready new.handed is own;
-      asked = asks_pieces f new.ready new.handed is own;
-      asked_up = up_pieces f new.ready new.handed is own;
-      same = record { key = refl; ueb = refl; geometry = refl; to = refl; first = refl; end = refl };
+      right = file_pieces f new.ready new.handed is own among;
+      reads = read_pieces f new.ready new.handed is own among;
+      asked = asks_pieces f new.ready new.handed is own among;
+      asked_up = up_pieces f new.ready new.handed is own among;
+      same = same_pieces f new.ready new.handed is own among;
     })

@@ -4,37 +4,43 @@ use Rattle.std.specs.Prelude.{slice_get, slice_set, nat_lt, if◌then◌else◌}
 use Rattle.std.proofs.Math.Nat.{div-lt_iff_lt-mul, div-mul-le_self}
 use Rattle.std.proofs.lemmas.Bool.{cases_lt, ltb-false}
 use Rattle.std.proofs.lemmas.List.{length-append}
-use Rattle.std.proofs.lemmas.List.Elements.{All-contains, All-push, All-set, All-weaker, Contains-push_cases}
+use Rattle.std.proofs.lemmas.List.Elements.{All-contains, All-push, All-set, All-weaker, Contains-append_left, Contains-push_cases}
 use Rattle.std.proofs.lemmas.Nat.{le-div}
 use Rattle.request_record.specs.declared.requests.Request.{Request}
 use Rattle.merkle.proofs.PaddingLemmas.{lt_from_true}
 use Rattle.share_layout.specs.Geometry.{Geometry}
 use Rattle.proved_parts.specs.Decoding.{DecodesBlocks}
 use Rattle.download_segments.specs.Decoding.{blocks_in}
-use Rattle.download_segments.specs.Handout.{handed_out, next_end, next_segment}
+use Rattle.download_segments.specs.Handout.{handed_out, next_end, next_piece, next_segment}
 use Rattle.download_segments.specs.State.{HandoutState, IsHandout}
-use Rattle.download_segments.proofs.HandoutLemmas.{next_is, next_follows, valid_of}
+use Rattle.download_segments.specs.declared.piece.Piece.{Piece}
+use Rattle.download_segments.proofs.HandoutLemmas.{next_is, next_follows, next_slice, valid_of}
 use Rattle.download_segments.proofs.TreeLemmas.{grow_none}
 use Rattle.download_file.specs.State.{FileState, GroupState}
-use Rattle.download_file.specs.Answers.{IsMade, IsRead, blocks_of}
-use Rattle.download_file.specs.Changes.{IsSameFile, StaysAskedUp}
+use Rattle.download_file.specs.Answers.{IsGivenBy, IsMade, IsMadeSegment, IsRead, blocks_of}
+use Rattle.download_file.specs.Changes.{IsSameFile, StaysAskedUp, StaysGiven}
 use Rattle.download_file.specs.Making.{MakesNext}
 use Rattle.download_file.specs.Right.{AreConsecutive, IsFile, IsGroup, made_end}
 use Rattle.download_file.specs.Steps.{AreReady, BeginsGroup, IsLast, MakesSegment, empty_group, with_end}
-use Rattle.download_file.proofs.ListLemmas.{at_contained, contains_at, get_last, one_there, set_cases}
+use Rattle.download_file.proofs.ListLemmas.{at_contained, contains_at, get_cases, get_last, get_set, one_there, set_cases}
 use Rattle.download_file.proofs.GrowLemmas.{grow_same, group_stays, made_stays}
 use Rattle.download_file.proofs.MakeLemmas.{live_numbers}
 use Rattle.download_file.proofs.StateLemmas.{Follows, asked_up_stays, grows_itself, same_reader}
 
 -- ---- groups that follow one another
 
-last_end : (gs : List GroupState) (k from end : ℕ) (g : GroupState) → k + 1 ≡ length gs → AreConsecutive from gs end → slice_get gs k ≡ Some g → g.end ≡ end
+pub last_end : (gs : List GroupState) (k from end : ℕ) (g : GroupState) → k + 1 ≡ length gs → AreConsecutive from gs end → slice_get gs k ≡ Some g → g.end ≡ end
 last_end [] k from end g count is at = absurd cc
 last_end (h ∷ []) zero from end g count is at = let same : h ≡ g = cc in ap (λ (x : GroupState). x.end) (sym same) ∙ is.2
 last_end (h ∷ i ∷ gs) zero from end g count is at = absurd (omega (arith, count))
 last_end (h ∷ gs) (suc k) from end g count is at = last_end gs k h.end end g (omega (arith, count)) is.2 at
 
-raise_last : (gs : List GroupState) (k from end to : ℕ) (g : GroupState) → k + 1 ≡ length gs → AreConsecutive from gs end → slice_get gs k ≡ Some g → end ≤ to
+last_order : (gs : List GroupState) (k from end : ℕ) (g : GroupState) → AreConsecutive from gs end → slice_get gs k ≡ Some g → g.first ≤ g.end
+last_order [] k from end g is at = absurd cc
+last_order (h ∷ gs) zero from end g is at = let same : h ≡ g = cc in subst (λ (x : GroupState). x.first ≤ x.end) same is.1
+last_order (h ∷ gs) (suc k) from end g is at = last_order gs k h.end end g is.2 at
+
+pub raise_last : (gs : List GroupState) (k from end to : ℕ) (g : GroupState) → k + 1 ≡ length gs → AreConsecutive from gs end → slice_get gs k ≡ Some g → end ≤ to
     → AreConsecutive from (slice_set gs k (with_end g to)) to
 raise_last [] k from end to g count is at order = absurd cc
 raise_last (h ∷ []) zero from end to g count is at order =
@@ -57,6 +63,7 @@ pub record HasLast (f : FileState) (number : ℕ) (groups : List GroupState) : T
   pub groups_are : All (IsGroup f.handout f.readers) groups
   pub last : (group : GroupState) → IsLast groups group → group.readers ≡ f.live
   pub old : (group : GroupState) (n : ℕ) → Contains groups group → group.first ≤ n → n < group.end → Contains f.groups group
+  pub kept : (group : GroupState) → Contains f.groups group → Contains groups group
 
 pub has_last : (f : FileState) (number : ℕ) (groups : List GroupState) → IsFile f → next_segment f.handout ≡ Some number → length f.live ≡ f.handout.geometry.needed
     → BeginsGroup f.groups f.handout.geometry f.readers f.live number groups → HasLast f number groups
@@ -67,6 +74,7 @@ has_last f number groups is next enough (inl same) =
       groups_are = is.groups;
       last = λ group at. ap (λ (g : GroupState). g.readers) (one_there (slice_get f.groups (length f.groups - 1)) group same.1 at same.2) ∙ same.3;
       old = λ group n among from before. among;
+      kept = λ group among. among;
     })
   where
     some_in : (gs : List GroupState) (k : ℕ) (g : GroupState) → slice_get gs k ≡ Some g → 0 < length gs
@@ -89,6 +97,7 @@ has_last f number groups is next enough (inr pushed) =
         | inl k ↦ k
         | inr e ↦ absurd (let one = ap (λ (x : GroupState). x.first) e in let two = ap (λ (x : GroupState). x.end) e in omega (arith, one, two, from, before))
       ];
+      kept = λ group among. Contains-append_left f.groups (g ∷ []) group among;
     })
 
 -- ---- the segment is made
@@ -199,8 +208,90 @@ module _ (entries : List Request) (f : FileState) (number : ℕ) (groups groups'
           → IsMade entries (handed_out f.handout made.segment) f.readers (with_end group (number + 1)) n
       raised group n k = record { held = k.held; segment = k.segment; decodes = k.decodes; proved = k.proved }
 
+  -- ---- what was given stays given
+
+  made_is : is_made.segment ≡ made.segment
+  unfolding is_made
+  made_is = refl
+
+  abbrev raised_group : GroupState
+  raised_group = with_end made.group (number + 1)
+
+  in_raised : Contains groups' raised_group
+  in_raised = subst (λ (gs : List GroupState). Contains gs raised_group) (sym made.groups_are)
+      (contains_at (slice_set groups last_place raised_group) last_place raised_group (get_set groups last_place raised_group made.group made.last))
+
+  module _ (others : List Request) (n : ℕ) (segment : List ℕ) (m : IsMadeSegment others f n segment) where
+    again : IsMade others (handed_out f.handout made.segment) f.readers m.group n
+    again = record { held = m.made.held; segment = m.made.segment; decodes = m.made.decodes; proved = record { size = m.made.proved.size; known = m.made.proved.known } }
+
+    again_is : again.segment ≡ m.made.segment
+    unfolding again
+    again_is = refl
+
+    still_made : IsMadeSegment others made_file n segment
+    still_made =
+        let at = at_contained groups m.group (begun.kept m.group m.among) in
+        elim (get_cases groups last_place at.0 raised_group made.group m.group made.last at.1) [
+          | inr k ↦ record {
+            group = m.group;
+            among = subst (λ (gs : List GroupState). Contains gs m.group) (sym made.groups_are) (contains_at (slice_set groups last_place raised_group) at.0 m.group k.1);
+            from = m.from;
+            before = m.before;
+            made = again;
+            is = again_is ∙ m.is;
+          }
+          | inl k ↦ last_made k.1
+        ]
+      where
+        last_made : made.group ≡ m.group → IsMadeSegment others made_file n segment
+        last_made same =
+            let end : made.group.end ≡ number = last_end groups last_place f.first number made.group count begun.in_order made.last in
+            let end_same = ap (λ (x : GroupState). x.end) same in
+            let first_same = ap (λ (x : GroupState). x.first) same in
+            let before = m.before in
+            let from = m.from in
+            record {
+              group = with_end m.group (number + 1);
+              among = subst (λ (g : GroupState). Contains groups' (with_end g (number + 1))) same in_raised;
+              from = m.from;
+              before = omega (arith, end, end_same, before);
+              made = record { held = again.held; segment = again.segment; decodes = again.decodes; proved = again.proved };
+              is = again_is ∙ m.is;
+            }
+
+  given_made : StaysGiven f made_file
+  given_made others p g = record {
+    number = g.number;
+    segment = g.segment;
+    made = still_made others g.number g.segment g.made;
+    slice = g.slice;
+  }
+
+  -- the piece that is made of the segment
+  next_given : IsGivenBy entries made_file (next_piece f.handout made.segment)
+  next_given =
+      let order = last_order groups last_place f.first number made.group begun.in_order made.last in
+      let end : made.group.end ≡ number = last_end groups last_place f.first number made.group count begun.in_order made.last in
+      record {
+        number = number;
+        segment = made.segment;
+        made = record { group = raised_group; among = in_raised; from = omega (arith, order, end); before = omega arith; made = is_made; is = made_is };
+        slice = next_slice f.handout number made.segment is.handout next made.proved.size;
+      }
+
   pub read_made : IsRead entries made_file
-  read_made = record { held = read.held; made = in_groups }
+  read_made = record {
+    held = read.held;
+    made = in_groups;
+    ready = λ p among. elim (Contains-push_cases f.handout.ready (next_piece f.handout made.segment) p among) [
+      | inl old ↦ given_made entries p (read.ready p old)
+      | inr new ↦ subst (λ (q : Piece). IsGivenBy entries made_file q) new next_given
+    ];
+  }
+
+  pub same_made : IsSameFile f made_file
+  same_made = record { key = refl; ueb = refl; geometry = refl; to = refl; first = refl; end = refl; given = given_made }
 
   pub file_made : IsFile made_file
   file_made = record {
@@ -260,7 +351,7 @@ has_made entries f number groups groups' joined is read next begun ready joins h
       right = file_made entries f number groups groups' joined is read next begun ready joins h' right made;
       reads = read_made entries f number groups groups' joined is read next begun ready joins h' right made;
       makes = record { number = number; segment = made.segment; next = next; proved = made.proved; handed = refl };
-      same = record { key = refl; ueb = refl; geometry = refl; to = refl; first = refl; end = refl };
+      same = same_made entries f number groups groups' joined is read next begun ready joins h' right made;
     })
 
 -- where none is, and the last group is of the readers that are read
@@ -300,11 +391,25 @@ has_groups entries f number groups groups' h' is read next begun same_handout sa
         groups = begun.groups_are;
         in_order = subst (AreConsecutive f.first groups) (sym (ap (λ (o : Option ℕ). unwrap_or o f.end) next)) begun.in_order;
       };
-      reads = record { held = read.held; made = λ group n among from before. read.made group n (begun.old group n among from before) from before };
+      reads = record {
+        held = read.held;
+        made = λ group n among from before. read.made group n (begun.old group n among from before) from before;
+        ready = λ p among. given_same entries p (read.ready p among);
+      };
       asked_up = λ reader. asked_up_stays f (record f { groups = groups }) reader refl (λ now. now) (λ r at. (r, at, grows_itself r.source));
-      same = record { key = refl; ueb = refl; geometry = refl; to = refl; first = refl; end = refl };
+      same = record { key = refl; ueb = refl; geometry = refl; to = refl; first = refl; end = refl; given = given_same };
       handout_is = refl;
     }))
   where
     follows_same : Follows f (record f { groups = groups })
     follows_same = record { geometry = refl; ueb = refl; first = refl; end = refl; later = λ n e. (n, e, omega arith) }
+
+    given_same : StaysGiven f (record f { groups = groups })
+    given_same others p g =
+        let m = g.made in
+        record {
+          number = g.number;
+          segment = g.segment;
+          made = record { group = m.group; among = begun.kept m.group m.among; from = m.from; before = m.before; made = m.made; is = m.is };
+          slice = g.slice;
+        }

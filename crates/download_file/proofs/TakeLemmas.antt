@@ -22,12 +22,12 @@ use Rattle.download_segments.specs.State.{HandoutState, with_trees}
 use Rattle.download_file.specs.State.{FileState, IsLive, ReaderState, first_place, first_waiting, giver, shares, waiting_at, waiting_in, waiting_parts}
 use Rattle.download_file.specs.Answers.{AnsweredWith, HoldsAnswers, IsAnswered, IsRead}
 use Rattle.download_file.specs.Asked.{AsksNoMore}
-use Rattle.download_file.specs.Changes.{OthersWait, StaysAskedUp}
+use Rattle.download_file.specs.Changes.{IsSameFile, OthersWait, StaysAskedUp}
 use Rattle.download_file.specs.Right.{AreLive, GivesTree, IsFile, IsGroup, IsReaderOf}
 use Rattle.download_file.specs.Steps.{IsTaker, KnowsPart, TakesPart, held_with, taken_with}
 use Rattle.download_file.specs.declared.reader.Waiting.{Waiting}
 use Rattle.download_file.proofs.ListLemmas.{get_cases, get_other, get_set, map_set, one_there, set_cases, set_same}
-use Rattle.download_file.proofs.GrowLemmas.{GoesOn, GrowReaders, goes_same, group_stays, read_stays}
+use Rattle.download_file.proofs.GrowLemmas.{GoesOn, GrowReaders, goes_same, given_stays, group_stays, read_stays}
 use Rattle.download_file.proofs.LiveLemmas.{live_giver}
 use Rattle.download_file.proofs.StateLemmas.{Follows, GrowsAsks, KeepsAsks, SameAsks, StillAsks, asked_up_stays, asks_itself, asks_no_more, grows_itself, reader_stays, same_asks, same_reader}
 
@@ -104,6 +104,7 @@ pub record HasTaken (f : FileState) (reader : ℕ) (bytes : List ℕ) (g : FileS
   pub asked : AsksNoMore f g
   pub asked_up : (other : ℕ) → StaysAskedUp f g other
   pub reads : (entries : List Request) (place : ℕ) → IsRead entries f → first_waiting f reader ≡ Some place → AnsweredWith entries place bytes → IsRead entries g
+  pub same : IsSameFile f g
 
 module _ (f : FileState) (t : FileTreesState) (reader : ℕ) (r r' : ReaderState) (w : Waiting) (ws : List Waiting) (taken' : List ℕ)
     (is : IsFile f) (live : IsLive f reader) (at : slice_get f.readers reader ≡ Some r) (waits : r.waiting ≡ w ∷ ws) where
@@ -315,12 +316,23 @@ module _ (f : FileState) (t : FileTreesState) (reader : ℕ) (r r' : ReaderState
     read_taken entries place bytes read first answered long =
         let same : w.place ≡ place = one_there (Some w.place) w.place place refl (sym (ap (λ (o : Option ReaderState). first_place (waiting_in o)) at ∙ ap first_place waits) ∙ first) in
         let own : AnsweredWith entries w.place bytes = subst (λ (n : ℕ). AnsweredWith entries n bytes) (sym same) answered in
-        read_stays entries f taken_file refl T.grow grow_taken is.groups refl
+        read_stays entries f taken_file refl refl refl T.grow grow_taken is.groups refl (λ p among. among)
         (λ other q there. elim (set_cases f.readers reader other r' q there) [
           | inl k ↦ subst (λ (x : ReaderState). HoldsAnswers entries x.source) k.1 (holds_taken entries bytes (read.held reader r at) own long)
           | inr k ↦ read.held other q k.1
         ])
         read
+
+    pub same_taken : IsSameFile f taken_file
+    same_taken = record {
+      key = refl;
+      ueb = refl;
+      geometry = refl;
+      to = refl;
+      first = refl;
+      end = refl;
+      given = given_stays f taken_file refl refl refl T.grow grow_taken is.groups refl;
+    }
 
     pub has_taken_by : (bytes : List ℕ) → length bytes ≡ w.wanted.read.length → HasTaken f reader bytes taken_file
     has_taken_by bytes long = record {
@@ -331,6 +343,7 @@ module _ (f : FileState) (t : FileTreesState) (reader : ℕ) (r r' : ReaderState
       asked = asks_no_more f taken_file keeps_taken still_taken;
       asked_up = λ other. asked_up_stays f taken_file other refl (λ now. now) (grows_taken other);
       reads = λ entries place read first answered. read_taken entries place bytes read first answered long;
+      same = same_taken;
     }
 
 -- the part is taken

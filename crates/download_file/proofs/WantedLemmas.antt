@@ -21,12 +21,12 @@ use Rattle.download_segments.proofs.TreeLemmas.{grow_none}
 use Rattle.download_file.specs.State.{FileState, IsLive, IsReader, ReaderState, giver, placed, shares, waiting_at, waiting_in, waiting_parts}
 use Rattle.download_file.specs.Answers.{HoldsAnswers}
 use Rattle.download_file.specs.Asked.{AsksParts, HasAsked, IsAskedUp, IsOneOf, IsPlannedRead}
-use Rattle.download_file.specs.Changes.{OthersWait, StaysAskedUp, StaysRead}
+use Rattle.download_file.specs.Changes.{IsSameFile, OthersWait, StaysAskedUp, StaysRead}
 use Rattle.download_file.specs.Right.{AreLive, IsFile, IsGroup, IsReaderOf}
 use Rattle.download_file.specs.Steps.{Asks, AsksNoTree}
 use Rattle.download_file.specs.declared.reader.Waiting.{Waiting}
 use Rattle.download_file.proofs.ListLemmas.{All-from_contains, contains_map, first_in, from_map, get_cases, get_other, get_set, map_set, more_in, one_there, set_cases}
-use Rattle.download_file.proofs.GrowLemmas.{GoesOn, GrowReaders, goes_same, group_stays, read_stays}
+use Rattle.download_file.proofs.GrowLemmas.{GoesOn, GrowReaders, goes_same, given_stays, group_stays, read_stays}
 use Rattle.download_file.proofs.LiveLemmas.{cons_cases, none_in}
 use Rattle.download_file.proofs.StateLemmas.{Follows, GrowsAsks, asked_up_stays, ciphertext_back, grows_itself, reader_stays, same_reader, wanted_back}
 
@@ -85,6 +85,7 @@ pub record HasWanted (f : FileState) (reader place last : ℕ) (wanted : List Wa
   pub shares_are : shares g ≡ shares f
   pub others : OthersWait f reader g
   pub reads : StaysRead f g
+  pub same : IsSameFile f g
 
 module _ (f : FileState) (reader : ℕ) (r r' : ReaderState) (gives : Bool) (last place : ℕ) (wanted : List Wanted) (is : IsFile f) (live : IsLive f reader)
     (at : slice_get f.readers reader ≡ Some r) (share : r'.share ≡ r.share) (only : OnlyAsks r.source r'.source) (right : IsSource r'.source)
@@ -207,12 +208,23 @@ module _ (f : FileState) (reader : ℕ) (r r' : ReaderState) (gives : Bool) (las
   }
 
   pub read_asked : StaysRead f asked_file
-  read_asked entries read = read_stays entries f asked_file refl (grow_none f.handout.trees) grow is.groups refl
+  read_asked entries read = read_stays entries f asked_file refl refl refl (grow_none f.handout.trees) grow is.groups refl (λ p among. among)
       (λ other q there. elim (set_cases f.readers reader other r' q there) [
         | inl k ↦ subst (λ (x : ReaderState). HoldsAnswers entries x.source) k.1 (subst (HoldsAnswers entries) (sym only) (read.held reader r at))
         | inr k ↦ read.held other q k.1
       ])
       read
+
+  pub same_asked : IsSameFile f asked_file
+  same_asked = record {
+    key = refl;
+    ueb = refl;
+    geometry = refl;
+    to = refl;
+    first = refl;
+    end = refl;
+    given = given_stays f asked_file refl refl refl (grow_none f.handout.trees) grow is.groups refl;
+  }
 
   pub shares_asked : shares asked_file ≡ shares f
   shares_asked = map_set (λ (q : ReaderState). q.share) f.readers reader r' r at share
@@ -378,4 +390,5 @@ module _ (f : FileState) (reader : ℕ) (r r' : ReaderState) (gives : Bool) (las
     shares_are = shares_asked;
     others = others_asked;
     reads = read_asked;
+    same = same_asked;
   }

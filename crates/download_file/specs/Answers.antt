@@ -13,7 +13,9 @@ use Rattle.download_plan.specs.declared.part.Part.TheVariants as parts
 use Rattle.download_source.specs.Blocks.{IsHeld, block_places, joined_block}
 use Rattle.download_source.specs.Source.{SourceState}
 use Rattle.download_segments.specs.Decoding.{blocks_in}
+use Rattle.download_segments.specs.Pieces.{IsSlice}
 use Rattle.download_segments.specs.State.{HandoutState, ProvesSegment}
+use Rattle.download_segments.specs.declared.piece.Piece.{Piece}
 use Rattle.download_file.specs.State.{FileState, GroupState, IsReader, ReaderState}
 
 -- the answer to the request at a place is these bytes
@@ -70,11 +72,30 @@ pub record IsMade (entries : List Request) (h : HandoutState) (readers : List Re
       number segment
   pub proved : ProvesSegment h number segment
 
--- the readers hold answers of this record, and each segment of a group was made of them
+-- this segment was made of blocks that the readers of a group hold
+pub record IsMadeSegment (entries : List Request) (f : FileState) (number : ℕ) (segment : List ℕ)
+    : Type 0 where
+  pub group : GroupState
+  pub among : Contains f.groups group
+  pub from : group.first ≤ number
+  pub before : number < group.end
+  pub made : IsMade entries f.handout f.readers group number
+  pub is : made.segment ≡ segment
+
+-- the piece is a slice of a segment that was made
+pub record IsGivenBy (entries : List Request) (f : FileState) (p : Piece) : Type 0 where
+  pub number : ℕ
+  pub segment : List ℕ
+  pub made : IsMadeSegment entries f number segment
+  pub slice : IsSlice f.handout.key f.handout.ueb.segment_size number segment p
+
+-- The readers hold answers of this record. Each segment of a group was made of them, and so were
+-- the pieces that are ready.
 pub record IsRead (entries : List Request) (f : FileState) : Type 0 where
   pub held : (place : ℕ) (r : ReaderState) → IsReader f place r → HoldsAnswers entries r.source
   pub made : (group : GroupState) (number : ℕ) → Contains f.groups group → group.first ≤ number
       → number < group.end → IsMade entries f.handout f.readers group number
+  pub ready : (p : Piece) → Contains f.handout.ready p → IsGivenBy entries f p
 
 -- what was answered stays
 abbrev pub KeepsAnswers : List Request → List Request → Type 0

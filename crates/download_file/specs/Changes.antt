@@ -2,11 +2,17 @@
 use Rattle.std.specs.Prelude.{◌≡◌, ◌≢◌, ℕ, List}
 use Rattle.request_record.specs.declared.requests.Request.{Request}
 use Rattle.download_segments.specs.State.{with_trees}
+use Rattle.download_segments.specs.declared.piece.Piece.{Piece}
 use Rattle.download_file.specs.State.{FileState, waiting_at}
-use Rattle.download_file.specs.Answers.{IsRead}
+use Rattle.download_file.specs.Answers.{IsGivenBy, IsRead}
 use Rattle.download_file.specs.Asked.{IsAskedUp}
 
--- it is the same download of the same file
+-- the pieces that it gave are given still
+abbrev pub StaysGiven : FileState → FileState → Type 0
+StaysGiven old new =
+    (entries : List Request) (p : Piece) → IsGivenBy entries old p → IsGivenBy entries new p
+
+-- It is the same download of the same file, and what it gave stays given.
 pub record IsSameFile (old new : FileState) : Type 0 where
   pub key : new.handout.key ≡ old.handout.key
   pub ueb : new.handout.ueb ≡ old.handout.ueb
@@ -14,6 +20,7 @@ pub record IsSameFile (old new : FileState) : Type 0 where
   pub to : new.handout.to ≡ old.handout.to
   pub first : new.first ≡ old.first
   pub end : new.end ≡ old.end
+  pub given : StaysGiven old new
 
 -- no more was handed out than the trees tell
 pub record HandsNothing (old new : FileState) : Type 0 where

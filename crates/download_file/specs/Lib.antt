@@ -6,6 +6,8 @@ pub mod Asked
 pub mod Taking
 pub mod Making
 pub mod Changes
+pub mod Hashed
 pub mod Laws
 -- words of private clauses
 pub mod Steps
+pub mod Rows

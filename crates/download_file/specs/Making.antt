@@ -1,15 +1,19 @@
 -- What becomes of the next segment of a file.
-use Rattle.std.specs.Prelude.{◌≡◌, ◌⊎◌, ℕ, ◌<◌, List, length, Some}
+use Rattle.std.specs.Prelude.{◌≡◌, ◌⊎◌, ℕ, zero, suc, ◌+◌, ◌<◌, List, [], length, Some}
+use Rattle.std.specs.Prelude.{slice_index_or}
 use Rattle.request_record.specs.declared.requests.Request.{Request}
 use Rattle.share_layout.specs.Pieces.{block_length}
 use Rattle.merkle.specs.Partial.{PartialState}
 use Rattle.download_trees.specs.Trees.{RefutesBlock}
-use Rattle.download_source.specs.Blocks.{IsHeld}
-use Rattle.download_segments.specs.Handout.{handed_out, next_segment}
+use Rattle.proved_parts.specs.Decoding.{DecodesBlocks}
+use Rattle.download_source.specs.Blocks.{IsHeld, IsReady}
+use Rattle.download_source.specs.Taking.{IsProved}
+use Rattle.download_segments.specs.Decoding.{blocks_in}
+use Rattle.download_segments.specs.Handout.{IsRowWanted, ProvesRow, handed_out, next_segment}
 use Rattle.download_segments.specs.State.{ProvesSegment}
 use Rattle.download_file.specs.State.{FileState, IsComplete, IsLive, IsReader, ReaderState}
-use Rattle.download_file.specs.State.{first_waiting}
-use Rattle.download_file.specs.Answers.{block_of}
+use Rattle.download_file.specs.State.{first_waiting, numbers_of}
+use Rattle.download_file.specs.Answers.{block_of, blocks_of}
 use Rattle.download_file.specs.Asked.{IsAskedUp}
 
 -- something waits of a reader that is read
@@ -46,3 +50,33 @@ pub record MakesNext (old new : FileState) : Type 0 where
   pub next : next_segment old.handout ≡ Some number
   pub proved : ProvesSegment old.handout number segment
   pub handed : new.handout ≡ handed_out old.handout segment
+
+-- pieces of so many segments are made, one after another
+unfoldable pub MakesSegments : ℕ → FileState → FileState → Type 0
+MakesSegments zero old new = new.handout ≡ old.handout
+MakesSegments (suc n) old new =
+    (between : FileState) × MakesSegments n old between × MakesNext between new
+
+-- The block of a segment that a reader holds is the one whose hash its block tree tells.
+pub record HasRightBlock (entries : List Request) (r : ReaderState) (number : ℕ) : Type 0 where
+  pub ready : IsReady r.source number
+  pub proved : IsProved r.source number (block_of entries r.source number)
+
+-- Eight segments from this one on are wanted to their ends. As many shares as are needed are read,
+-- and all their blocks are right, and decode to the segments whose hashes are known.
+pub record IsWholeRow (entries : List Request) (f : FileState) (number : ℕ) : Type 0 where
+  pub wanted : IsRowWanted f.handout number
+  pub enough : length f.live ≡ f.handout.geometry.needed
+  pub blocks : (i reader : ℕ) (r : ReaderState) → i < 8 → IsLive f reader → IsReader f reader r
+      → HasRightBlock entries r (number + i)
+  pub segments : List (List ℕ)
+  pub decodes : (i : ℕ) → i < 8 → DecodesBlocks f.handout.geometry (numbers_of f.readers f.live)
+      (blocks_in f.handout.geometry (number + i)
+      (blocks_of entries f.readers (number + i) f.live))
+      (number + i) (slice_index_or segments i [])
+  pub proved : ProvesRow f.handout number segments
+
+-- such eight are the next ones
+abbrev pub CanMakeRow : List Request → FileState → Type 0
+CanMakeRow entries f =
+    (number : ℕ) × (next_segment f.handout ≡ Some number) × IsWholeRow entries f number

@@ -2,12 +2,15 @@
 
 ghost use Rattle.std.specs.Prelude.{◌≡◌, ◌<◌, ◌++◌, ◌*◌, ℕ, All, Contains, IfOk, IfSome, IsNone};
 ghost use Rattle.std.specs.Prelude.{IsTrue, OnOk, false, length};
+ghost use Rattle.share_layout.specs.Geometry.{segment_count};
 ghost use Rattle.share_layout.specs.Pieces.{block_length};
 ghost use Rattle.download_source.specs.Blocks.{IsHeld};
 ghost use Rattle.download_file.specs.Answers.{answer_at, block_of, blocks_of};
-ghost use Rattle.download_file.specs.Steps.{AreProved, AreReady, HasBlock, IsNotReady, IsWrong};
+ghost use Rattle.download_file.specs.Steps.{AreProved, AreReady, HasAll, HasBlock, IsNotReady};
+ghost use Rattle.download_file.specs.Steps.{IsWrong, LacksSome};
 
 use crate::reader::Reader;
+use download_segments::Handout;
 use download_source::Source;
 use request_record::requests::{Outcome, Requests};
 use std::alloc::{AllocError, Global};
@@ -108,8 +111,8 @@ pub(crate) fn find_wrong(
     None
 }
 
-/// Whether each of the readers at these places has the block of a segment, and knows its hash.
-pub(crate) fn are_ready(readers: &[Reader], places: &[usize], number: u32) -> bool
+// Whether each of the readers at these places has the block of a segment, and knows its hash.
+fn are_ready(readers: &[Reader], places: &[usize], number: u32) -> bool
     requires { All (λ place. place < length readers.now) places.now }
     ensures yes { IsTrue result → AreReady readers.now places.now number }
     ensures no { result ≡ false → IsNotReady readers.now places.now number }
@@ -120,4 +123,17 @@ pub(crate) fn are_ready(readers: &[Reader], places: &[usize], number: u32) -> bo
         }
     }
     true
+}
+
+/// Whether as many shares as are needed are read, all their blocks of a segment were taken, and the
+/// segment's hash is known.
+pub(crate) fn has_all(handout: &Handout, readers: &[Reader], live: &[usize], number: u32) -> bool
+    requires there { number < segment_count handout.now.geometry }
+    requires live { All (λ place. place < length readers.now) live.now }
+    ensures yes { IsTrue result → HasAll handout.now readers.now live.now number }
+    ensures no { result ≡ false → LacksSome handout.now readers.now live.now number }
+{
+    live.len() == usize::from(handout.geometry().needed())
+        && handout.knows(number)
+        && are_ready(readers, live, number)
 }

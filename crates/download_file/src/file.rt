@@ -2,7 +2,7 @@
 
 ghost use Rattle.std.specs.Prelude.{◌≡◌, ◌≢◌, ℕ, ◌+◌, ◌-◌, ◌/◌, ◌<◌, ◌≤◌, ◌++◌, ◌∷◌, ◌↔◌, [], List};
 ghost use Rattle.std.specs.Prelude.{All, Contains, Err, IfOk, IfSome, IsSome, IsTrue, Ok, OnErr};
-ghost use Rattle.std.specs.Prelude.{OnOk, Some, drop, false, length, map};
+ghost use Rattle.std.specs.Prelude.{OnOk, Some, drop, false, length, map, true};
 ghost use Rattle.std.specs.List.{range_with_len};
 ghost use Rattle.request_record.specs.declared.requests.Request.{Request};
 ghost use Rattle.share_layout.specs.Geometry.{segment_count};
@@ -14,7 +14,8 @@ ghost use Rattle.download_file.specs.Answers.{AnsweredWith, IsRead};
 ghost use Rattle.download_file.specs.Asked.{AsksNoMore, AsksParts, IsAskedUp};
 ghost use Rattle.download_file.specs.Changes.{HandsNothing, IsSameFile, OthersWait, StaysAskedUp};
 ghost use Rattle.download_file.specs.Changes.{StaysRead};
-ghost use Rattle.download_file.specs.Making.{CanNotGoOn, MakesNext, RefutesReader};
+ghost use Rattle.download_file.specs.Making.{CanMakeRow, CanNotGoOn, MakesNext};
+ghost use Rattle.download_file.specs.Making.{MakesSegments, RefutesReader};
 ghost use Rattle.download_file.specs.Right.{IsFile, made_end};
 ghost use Rattle.download_file.specs.State.{IsComplete, IsLive, IsReader, ReaderState};
 ghost use Rattle.download_file.specs.State.{first_waiting, giver, new_file, placed, shares};
@@ -22,10 +23,11 @@ ghost use Rattle.download_file.specs.State.{waiting_at, without};
 ghost use Rattle.download_file.specs.Steps.{HasAll, LacksSome};
 ghost use Rattle.download_file.specs.Taking.{IsRefused};
 
-use crate::blocks::{are_ready, find_wrong, join_blocks};
+use crate::blocks::{find_wrong, has_all, join_blocks};
 use crate::evidence::evidence_of;
-use crate::group::{Group, begin_group, make_segment};
+use crate::group::{Group, begin_group, make_segment, make_segments};
 use crate::reader::{Reader, begin_reader, end_reader};
+use crate::row::{are_right, has_row, join_row};
 use crate::taking::take_part;
 use download_plan::Plan;
 use download_segments::{Handout, Piece};
@@ -357,6 +359,51 @@ impl File {
         Ok(Made::Ready)
     }
 
+    /// Makes pieces of the next eight segments, where eight are wanted to their ends, their hashes
+    /// are known, and all their blocks were taken and are right. `false` where they are not made;
+    /// then, and where memory is refused, nothing is handed out. The record is the one that the
+    /// answers that were taken are in.
+    pub fn make_row(&mut self, requests: &Requests) -> Result<bool, AllocError>
+        requires reads { IsRead requests.now.entries self.old }
+        ensures made { result ≡ Ok true → MakesSegments 8 self.old self.new }
+        ensures exact { IfOk result (λ made.
+            IsTrue made ↔ CanMakeRow requests.now.entries self.old) }
+        // Only where they are made is anything handed out.
+        ensures same_handout { result ≢ Ok true → self.new.handout ≡ self.old.handout }
+        ensures asked_up { result ≢ Ok true → (reader : ℕ)
+            → StaysAskedUp self.old self.new reader }
+        ensures reads { IsRead requests.now.entries self.new }
+        // Nothing else changes.
+        ensures live { self.new.live ≡ self.old.live }
+        ensures readers { self.new.readers ≡ self.old.readers }
+        ensures asked { AsksNoMore self.old self.new }
+        ensures same { IsSameFile self.old self.new }
+        ensures right { IsFile self.new }
+    {
+        let Some(number) = self.handout.next() else {
+            return Ok(false);
+        };
+        if !has_row(&self.handout, &self.readers, &self.live, number) {
+            return Ok(false);
+        }
+        let geometry = self.plan.geometry;
+        let size = geometry.block_length(number);
+        let alloc = self.alloc;
+        let rows = join_row(alloc, requests, &self.readers, &self.live, number, size)?;
+        if !are_right(&self.readers, &self.live, number, &rows, size) {
+            return Ok(false);
+        }
+        begin_group(
+            alloc,
+            &mut self.groups,
+            &geometry,
+            &self.readers,
+            &self.live,
+            number,
+        )?;
+        make_segments(alloc, &mut self.handout, &mut self.groups, number, &rows)
+    }
+
     /// Takes the first piece, where one is ready.
     pub fn take_piece(&mut self) -> Option<Piece>
         ensures taken { TakesPiece self.old.handout result self.new.handout }
@@ -411,17 +458,4 @@ fn last_asked(plan: &Plan, next: u32) -> u32
 {
     let ahead = (WINDOW / plan.geometry.segment_size()).max(2);
     next.saturating_add(ahead).min(plan.end) - 1
-}
-
-// Whether as many shares as are needed are read, all their blocks of a segment were taken, and the
-// segment's hash is known.
-fn has_all(handout: &Handout, readers: &[Reader], live: &[usize], number: u32) -> bool
-    requires there { number < segment_count handout.now.geometry }
-    requires live { All (λ place. place < length readers.now) live.now }
-    ensures yes { IsTrue result → HasAll handout.now readers.now live.now number }
-    ensures no { result ≡ false → LacksSome handout.now readers.now live.now number }
-{
-    live.len() == usize::from(handout.geometry().needed())
-        && handout.knows(number)
-        && are_ready(readers, live, number)
 }

@@ -1,15 +1,17 @@
 //! Segments that are made of the blocks of the same readers.
 
-ghost use Rattle.std.specs.Prelude.{◌≡◌, ◌≢◌, ◌<◌, ◌*◌, ◌++◌, ◌∷◌, ◌↔◌, [], All, IfOk, IsSome};
-ghost use Rattle.std.specs.Prelude.{IsTrue, Ok, OnErr, OnOk, Some, false, length, true};
+ghost use Rattle.std.specs.Prelude.{◌≡◌, ◌≢◌, ◌<◌, ◌+◌, ◌*◌, ◌^◌, ◌++◌, ◌∷◌, ◌↔◌, [], ℕ, All};
+ghost use Rattle.std.specs.Prelude.{IfOk, IsSome, IsTrue, Ok, OnErr, OnOk, Some, false, length, map};
+ghost use Rattle.std.specs.Prelude.{true};
 ghost use Rattle.share_layout.specs.Geometry.{segment_count};
 ghost use Rattle.share_layout.specs.Pieces.{block_length, segment_length};
 ghost use Rattle.proved_parts.specs.Decoding.{DecodesBlocks};
 ghost use Rattle.download_trees.specs.Trees.{known_leaf};
 ghost use Rattle.download_segments.specs.Decoding.{AreShareNumbers, blocks_in};
-ghost use Rattle.download_segments.specs.Handout.{next_segment};
+ghost use Rattle.download_segments.specs.Handout.{IsRowWanted, next_segment};
 ghost use Rattle.download_segments.specs.State.{IsHandout, TreesGrow};
 ghost use Rattle.download_file.specs.State.{GroupState, numbers_of};
+ghost use Rattle.download_file.specs.Rows.{AreLong, DecodesRow, MakesRow, RefutesRow, nth};
 ghost use Rattle.download_file.specs.Steps.{BeginsGroup, IsLast, MakesSegment, RefutesBlocks};
 ghost use Rattle.download_file.specs.Steps.{with_end};
 
@@ -183,4 +185,64 @@ pub(crate) fn make_segment(
     }
     groups[last].reach(number + 1);
     Ok(true)
+}
+
+/// Makes the next eight segments of their blocks, which are those of the last group's readers, and
+/// of each segment stand one after another. They are handed out where all are proved: `true`.
+pub(crate) fn make_segments(
+    alloc: Global,
+    handout: &mut Handout,
+    groups: &mut Vec<Group>,
+    number: u32,
+    rows: &[Vec<u8>],
+) -> Result<bool, AllocError>
+    requires right { IsHandout handout.old }
+    requires next { next_segment handout.old ≡ Some number }
+    requires wanted { IsRowWanted handout.old number }
+    requires some { 0 < length groups.old.items }
+    requires geometry { (group : GroupState) → IsLast groups.old.items group
+        → group.decoding.geometry ≡ handout.old.geometry }
+    requires eight { length rows.now ≡ 8 }
+    requires long { (i : ℕ) → i < 8 → length (nth (map (λ r. r.items) rows.now) i)
+        ≡ handout.old.geometry.needed * block_length handout.old.geometry (number + i) }
+    ensures made { result ≡ Ok true → MakesRow handout.old groups.old.items number
+        (map (λ r. r.items) rows.now) handout.new groups.new.items }
+    ensures refuted { result ≡ Ok false → RefutesRow handout.old groups.old.items number
+        (map (λ r. r.items) rows.now) }
+    ensures same { result ≢ Ok true
+        → (handout.new ≡ handout.old) × (groups.new.items ≡ groups.old.items) }
+    ensures right { IsHandout handout.new }
+{
+    let last = groups.len() - 1;
+    let segments = decode_row(alloc, &groups[last], number, rows)?;
+    if !handout.hand_out_row(number, segments)? {
+        return Ok(false);
+    }
+    groups[last].reach(number + 8);
+    Ok(true)
+}
+
+// Eight segments from this one on, of their blocks, which of each segment stand one after another.
+fn decode_row(
+    alloc: Global,
+    group: &Group,
+    number: u32,
+    rows: &[Vec<u8>],
+) -> Result<Vec<Vec<u8>>, AllocError>
+    requires there { (i : ℕ) → i < 8 → number + i < segment_count group.now.decoding.geometry }
+    requires low { number + 8 < 2 ^ 32 }
+    requires eight { length rows.now ≡ 8 }
+    requires long { AreLong group.now.decoding number (map (λ r. r.items) rows.now) }
+    ensures eight { IfOk result (λ segments. length segments.items ≡ 8) }
+    ensures decodes { IfOk result (λ segments. DecodesRow group.now.decoding number
+        (map (λ r. r.items) rows.now) (map (λ s. s.items) segments.items)) }
+{
+    let mut segments = Vec::with_capacity(alloc, 8)?;
+    let mut place = number;
+    for row in rows {
+        let segment = group.decode(alloc, place, row)?;
+        segments.push(segment)?;
+        place += 1;
+    }
+    Ok(segments)
 }

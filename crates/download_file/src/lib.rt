@@ -12,8 +12,9 @@ mod file;
 mod group;
 mod laws;
 mod reader;
+mod row;
 mod taking;
 
 pub use file::{File, Made};
-pub use laws::reads_stay;
+pub use laws::{given_are_hashed, given_stays, reads_stay};
 pub use reader::Waiting;

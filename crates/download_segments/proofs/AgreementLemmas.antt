@@ -27,38 +27,38 @@ min_low a b k h = omega (arith, h)
 module _ (key : List ℕ) (u : Contents) (p : Piece) (g : IsGiven key u p) (place byte : ℕ) (h : HasByte p place byte) where
   -- the piece as a part of its segment
   abbrev cut : List ℕ
-  cut = take (length p.bytes) (drop g.skipped g.segment)
+  cut = take (length p.bytes) (drop g.slice.skipped g.segment)
 
   within : h.offset < length p.bytes
   within = slice_get_within p.bytes h.offset byte h.byte_is
 
   long : length cut ≡ length p.bytes
-  long = length-take-le (length p.bytes) (drop g.skipped g.segment) (omega (arith, length-drop g.skipped g.segment, g.long))
+  long = length-take-le (length p.bytes) (drop g.slice.skipped g.segment) (omega (arith, length-drop g.slice.skipped g.segment, g.slice.long))
 
   -- where the byte is in its segment
   abbrev column : ℕ
-  column = g.skipped + h.offset
+  column = g.slice.skipped + h.offset
 
   pub place_in : place ≡ g.number * u.segment_size + column
-  place_in = omega (arith, h.place_is, g.place_is)
+  place_in = omega (arith, h.place_is, g.slice.place_is)
 
   pub column_within : column < length g.segment
-  column_within = omega (arith, within, g.long)
+  column_within = omega (arith, within, g.slice.long)
 
   pub column_short : column < u.segment_size
   column_short =
       let inside : column < segment_length (geometry_by u) g.number =
-      subst (λ (n : ℕ). column < n) g.by.size (omega (arith, within, g.long)) in
+      subst (λ (n : ℕ). column < n) g.by.size (omega (arith, within, g.slice.long)) in
       min_low u.segment_size _ column inside
 
   -- the byte is that of the segment, decrypted by its place in the file
   pub byte_of : byte ≡ bit_xor (get_or g.segment column 0) (stream_byte key place)
   byte_of =
       sym (get_or_from_slice_get p.bytes h.offset byte 0 h.byte_is)
-      ∙ ap (λ (t : List ℕ). get_or t h.offset 0) g.bytes_are
+      ∙ ap (λ (t : List ℕ). get_or t h.offset 0) g.slice.bytes_are
       ∙ get_or-xored_from key p.place cut h.offset (subst (λ (n : ℕ). h.offset < n) (sym long) within)
       ∙ ap (λ (x : ℕ). bit_xor x (stream_byte key (p.place + h.offset)))
-      (get_or-take (length p.bytes) (drop g.skipped g.segment) h.offset 0 within ∙ get_or-drop g.skipped g.segment h.offset 0)
+      (get_or-take (length p.bytes) (drop g.slice.skipped g.segment) h.offset 0 within ∙ get_or-drop g.slice.skipped g.segment h.offset 0)
       ∙ ap (λ (n : ℕ). bit_xor (get_or g.segment column 0) (stream_byte key n)) (sym h.place_is)
 
 -- its segment is a part of the cap's file
@@ -83,7 +83,7 @@ bytes_agree : (inputs : List (List ℕ)) → HasNoClash inputs → (cap : ReadCa
 bytes_agree inputs no_clash cap first second u p q f g place a b mine yours =
     let x = f.given in
     let y = g.given in
-    let place_same = same_from_place x.number (x.skipped + mine.offset) y.number (y.skipped + yours.offset) u.segment_size
+    let place_same = same_from_place x.number (x.slice.skipped + mine.offset) y.number (y.slice.skipped + yours.offset) u.segment_size
     (column_short cap.key u p x place a mine) (column_short cap.key u q y place b yours)
     (sym (place_in cap.key u p x place a mine) ∙ place_in cap.key u q y place b yours) in
     let row : x.number ≡ y.number = place_same.0 in
@@ -92,7 +92,7 @@ bytes_agree inputs no_clash cap first second u p q f g place a b mine yours =
     let segment : x.segment ≡ y.segment =
     parts_agree inputs no_clash (verify_cap_of cap) first second u u y.number x.segment y.segment x.siblings y.siblings part (part_of inputs cap second u q g) in
     byte_of cap.key u p x place a mine
-    ∙ ap (λ (s : List ℕ). bit_xor (get_or s (x.skipped + mine.offset) 0) (stream_byte cap.key place)) segment
+    ∙ ap (λ (s : List ℕ). bit_xor (get_or s (x.slice.skipped + mine.offset) 0) (stream_byte cap.key place)) segment
     ∙ ap (λ (n : ℕ). bit_xor (get_or y.segment n 0) (stream_byte cap.key place)) place_same.1
     ∙ sym (byte_of cap.key u q y place b yours)
 
@@ -130,5 +130,5 @@ pieces_of_file inputs no_clash cap block other u v ciphertext file p whole hashe
     let cut : x.segment ≡ take u.segment_size (drop (x.number * u.segment_size) ciphertext) =
     segment ∙ get_or-pieces (segment_count (geometry_by u)) u.segment_size x.number ciphertext [] x.by.there in
     subst (λ (t : List ℕ). slice_get t place ≡ Some byte) (sym whole.decrypted)
-    (decrypted cap.key ciphertext x.segment u.segment_size x.number (x.skipped + h.offset) place byte cut
+    (decrypted cap.key ciphertext x.segment u.segment_size x.number (x.slice.skipped + h.offset) place byte cut
     (place_in cap.key u p x place byte h) (column_within cap.key u p x place byte h) (column_short cap.key u p x place byte h) (byte_of cap.key u p x place byte h))

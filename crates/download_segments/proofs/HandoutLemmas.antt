@@ -14,7 +14,7 @@ use Rattle.share_layout.specs.Pieces.{segment_length}
 use Rattle.download_plan.proofs.NumberLemmas.{below_ceil}
 use Rattle.proved_parts.specs.Parts.{IsSegmentBy}
 use Rattle.download_segments.specs.declared.piece.Piece.{Piece}
-use Rattle.download_segments.specs.Pieces.{AreConsecutive, IsGiven}
+use Rattle.download_segments.specs.Pieces.{AreConsecutive, IsGiven, IsSlice}
 use Rattle.download_segments.specs.State.{HandoutState, IsHandout}
 use Rattle.download_segments.specs.Handout.{handed_out, next_end, next_piece, next_segment}
 use Rattle.download_segments.specs.Laws.{NextSegmentsFollow}
@@ -95,31 +95,36 @@ next_within h number k next =
     subst (λ (n : ℕ). n < segment_count h.geometry) is.1
     (next_there h.geometry.segment_size h.geometry.size h.to h.reached h.geometry.segment_size refl (valid_of h k).some_segment is.0 k.inside)
 
--- the piece that is made of a segment, and the state after it
+-- the piece that is made of a segment
+pub next_slice : (h : HandoutState) (number : ℕ) (segment : List ℕ) → IsHandout h → next_segment h ≡ Some number
+    → length segment ≡ segment_length h.geometry number → IsSlice h.key h.ueb.segment_size number segment (next_piece h segment)
+next_slice h number segment k next long =
+    let is = next_is h number next in
+    let ends = ends_of h k is.0 in
+    let skipped : ℕ = h.reached % h.geometry.segment_size in
+    let size : h.geometry.segment_size ≡ h.ueb.segment_size = ap (λ (g : Geometry). g.segment_size) k.geometry in
+    let fits = next_fits h number segment k next long in
+    let count : length (next_piece h segment).bytes ≡ next_end h - h.reached = length-next_piece h segment fits in
+    let begins : h.reached ≡ number * h.geometry.segment_size + skipped = ends.begins ∙ ap (λ (n : ℕ). n * h.geometry.segment_size + skipped) is.1 in
+    record {
+      skipped = skipped;
+      place_is = begins ∙ ap (λ (n : ℕ). number * n + skipped) size;
+      long = omega (arith, count, fits);
+      bytes_are = ap (λ (n : ℕ). xored_from h.key h.reached (take n (drop skipped segment))) (sym count);
+    }
+
+-- and the state after it
 pub right_handed : (h : HandoutState) (number : ℕ) (segment : List ℕ) (siblings : List (List ℕ)) → IsHandout h
     → next_segment h ≡ Some number → length segment ≡ segment_length h.geometry number
     → IsSegmentBy h.ueb number segment siblings → IsHandout (handed_out h segment)
 right_handed h number segment siblings k next long by =
     let is = next_is h number next in
     let ends = ends_of h k is.0 in
-    let skipped : ℕ = h.reached % h.geometry.segment_size in
     let p : Piece = next_piece h segment in
-    let size : h.geometry.segment_size ≡ h.ueb.segment_size = ap (λ (g : Geometry). g.segment_size) k.geometry in
-    let fits = next_fits h number segment k next long in
-    let count : length p.bytes ≡ next_end h - h.reached = length-next_piece h segment fits in
+    let count : length p.bytes ≡ next_end h - h.reached = length-next_piece h segment (next_fits h number segment k next long) in
     let some : 0 < length p.bytes = omega (arith, count, ends.more) in
     let end : h.reached + length p.bytes ≡ next_end h = omega (arith, count, ends.more) in
-    let begins : h.reached ≡ number * h.geometry.segment_size + skipped = ends.begins ∙ ap (λ (n : ℕ). n * h.geometry.segment_size + skipped) is.1 in
-    let given : IsGiven h.key h.ueb p = record {
-      number = number;
-      segment = segment;
-      siblings = siblings;
-      by = by;
-      skipped = skipped;
-      place_is = begins ∙ ap (λ (n : ℕ). number * n + skipped) size;
-      long = omega (arith, count, fits);
-      bytes_are = ap (λ (n : ℕ). xored_from h.key h.reached (take n (drop skipped segment))) (sym count);
-    } in
+    let given : IsGiven h.key h.ueb p = record { number = number; segment = segment; siblings = siblings; by = by; slice = next_slice h number segment k next long } in
     record {
       geometry = k.geometry;
       trees = k.trees;

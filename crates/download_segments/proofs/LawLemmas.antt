@@ -28,7 +28,7 @@ blocks_lead u tree share number block there inside root leads proves long =
     }
 
 -- the leaf that is known for a segment leads to the root that the extension block tells
-leaf_leads : (h : HandoutState) (number : ℕ) (leaf : List ℕ) → IsHandout h → number < segment_count h.geometry
+pub leaf_leads : (h : HandoutState) (number : ℕ) (leaf : List ℕ) → IsHandout h → number < segment_count h.geometry
     → known_leaf h.trees.ciphertext number ≡ Some leaf
     → LeadsBy (segment_count (geometry_by h.ueb)) h.ueb.crypttext_root_hash number leaf (known_siblings h.trees.ciphertext number)
 leaf_leads h number leaf k there knows =

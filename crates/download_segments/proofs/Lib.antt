@@ -4,3 +4,6 @@ pub mod HandoutLemmas
 pub mod DecodingLemmas
 pub mod LawLemmas
 pub mod AgreementLemmas
+pub mod GivenLemmas
+pub mod KnownLemmas
+pub mod RowLemmas

@@ -13,15 +13,19 @@ use Rattle.proved_parts.specs.FileOf.{IsFileOf}
 use Rattle.download_segments.specs.declared.piece.Piece.{Piece}
 use Rattle.download_segments.specs.Pieces.{IsGiven}
 
--- The piece is given by the cap's extension block, and all that is hashed for it is among some
--- inputs: the extension block, its segment, and the nodes on the segment's path.
-pub record IsGivenAmong (inputs : List (List ℕ)) (cap : ReadCapValue) (extension_block : List ℕ)
+-- The piece is given by the cap's extension block, and all that is hashed for it is of some kind:
+-- the extension block, its segment, and the nodes on the segment's path.
+pub record IsGivenIn (IsOne : List ℕ → Type 0) (cap : ReadCapValue) (extension_block : List ℕ)
     (u : Contents) (p : Piece) : Type 0 where
   pub block : IsUebFor (verify_cap_of cap) extension_block u
   pub given : IsGiven cap.key u p
-  pub block_hashed : Contains inputs (tagged_input ExtensionBlock extension_block)
-  pub segment_hashed :
-      AreAmong inputs (segment_inputs given.number given.segment given.siblings)
+  pub block_hashed : IsOne (tagged_input ExtensionBlock extension_block)
+  pub segment_hashed : (input : List ℕ)
+      → Contains (segment_inputs given.number given.segment given.siblings) input → IsOne input
+
+-- so it is, and all that is hashed for it is among some inputs
+abbrev pub IsGivenAmong : List (List ℕ) → ReadCapValue → List ℕ → Contents → Piece → Type 0
+IsGivenAmong inputs cap extension_block u p = IsGivenIn (Contains inputs) cap extension_block u p
 
 -- the piece has this byte of the file, at this place of the file
 pub record HasByte (p : Piece) (place byte : ℕ) : Type 0 where

@@ -1,9 +1,10 @@
 -- How pieces are made of segments, one segment after another.
-use Rattle.std.specs.Prelude.{◌≡◌, ℕ, ◌+◌, ◌-◌, ◌*◌, ◌/◌, ◌%◌, List, [], ◌∷◌, ◌++◌, length, min}
+use Rattle.std.specs.Prelude.{◌≡◌, ℕ, zero, suc, ◌+◌, ◌-◌, ◌*◌, ◌/◌, ◌%◌, ◌<◌, ◌≤◌, List, [], ◌∷◌}
+use Rattle.std.specs.Prelude.{◌++◌, length, min, slice_index_or}
 use Rattle.std.specs.Prelude.{Option, Some, None, if◌then◌else◌, nat_lt, take, drop}
 use Rattle.aes_ctr.specs.CounterMode.{xored_from}
 use Rattle.download_segments.specs.declared.piece.Piece.{Piece}
-use Rattle.download_segments.specs.State.{HandoutState}
+use Rattle.download_segments.specs.State.{HandoutState, ProvesSegment}
 
 -- the number of the segment of which a piece is made next, where one is wanted
 abbrev pub next_segment : HandoutState → Option ℕ
@@ -28,6 +29,21 @@ handed_out h segment = record h {
   reached = next_end h;
   ready = h.ready ++ next_piece h segment ∷ [];
 }
+
+-- the state once the first so many of these segments are handed out, one after another
+unfoldable pub first_handed_out : HandoutState → List (List ℕ) → ℕ → HandoutState
+first_handed_out h segments zero = h
+first_handed_out h segments (suc n) =
+    handed_out (first_handed_out h segments n) (slice_index_or segments n [])
+
+-- eight segments from this one on are wanted, each to its end
+abbrev pub IsRowWanted : HandoutState → ℕ → Type 0
+IsRowWanted h number = (number + 8) * h.geometry.segment_size ≤ h.to
+
+-- these are the eight segments from this one on, by the hashes that are known
+abbrev pub ProvesRow : HandoutState → ℕ → List (List ℕ) → Type 0
+ProvesRow h number segments =
+    (i : ℕ) → i < 8 → ProvesSegment h (number + i) (slice_index_or segments i [])
 
 -- the first piece that is ready is taken
 abbrev pub TakesPiece : HandoutState → Option Piece → HandoutState → Type 0

@@ -1,8 +1,8 @@
 //! Segments, proved and decrypted, as pieces to hand out.
 
-ghost use Rattle.std.specs.Prelude.{◌≡◌, ◌≤◌, ◌<◌, ◌^◌, ◌+◌, ◌-◌, ◌*◌, ◌%◌, ◌↔◌, IfOk, IfSome};
-ghost use Rattle.std.specs.Prelude.{IsSome, IsTrue, OnErr, OnOk, Ok, Err, Some, true, false};
-ghost use Rattle.std.specs.Prelude.{drop, length, take};
+ghost use Rattle.std.specs.Prelude.{◌≡◌, ◌≢◌, ◌≤◌, ◌<◌, ◌^◌, ◌+◌, ◌-◌, ◌*◌, ◌%◌, ◌↔◌, ◌++◌, All};
+ghost use Rattle.std.specs.Prelude.{IfOk, IfSome, IsSome, IsTrue, OnErr, OnOk, Ok, Err, Some, true};
+ghost use Rattle.std.specs.Prelude.{false, drop, length, map, take};
 ghost use Rattle.aes_ctr.specs.CounterMode.{xored_from};
 ghost use Rattle.tagged_hash.specs.TaggedHash.{tagged_hash};
 ghost use Rattle.tagged_hash.specs.declared.tag.Tag.TheVariants.{CiphertextSegment};
@@ -15,11 +15,14 @@ ghost use Rattle.proved_parts.specs.Parts.{IsSegmentBy};
 ghost use Rattle.download_trees.specs.Offers.{nodes_offered, share_hashes_offered};
 ghost use Rattle.download_trees.specs.Refusal.{HasNumbers, IsHashesRefusal};
 ghost use Rattle.download_trees.specs.Trees.{IsBlockRoot, LeadTo, known_leaf};
-ghost use Rattle.download_segments.specs.Handout.{TakesPiece, handed_out, next_end, next_segment};
+ghost use Rattle.download_segments.specs.Handout.{IsRowWanted, ProvesRow, TakesPiece};
+ghost use Rattle.download_segments.specs.Handout.{first_handed_out, handed_out, next_end};
+ghost use Rattle.download_segments.specs.Handout.{next_segment};
 ghost use Rattle.download_segments.specs.State.{IsHandout, ProvesSegment, RefutesSegment};
 ghost use Rattle.download_segments.specs.State.{TreesGrow, starting_handout, with_trees};
 
 use crate::piece::Piece;
+use crate::row::segment_hashes;
 use aes_ctr::Aes128;
 use download_plan::Nodes;
 use download_trees::{BlockTree, FileTrees, TreeFault};
@@ -246,8 +249,18 @@ impl Handout {
             ≡ Some (tagged_hash CiphertextSegment segment.now)) }
         ensures right { IsHandout self.now }
     {
+        self.has_leaf(number, &tagged(Tag::CiphertextSegment, segment))
+    }
+
+    // Whether this is the hash that is known for a segment.
+    fn has_leaf(&self, number: u32, hash: &[u8; 32]) -> bool
+        requires { number < segment_count self.now.geometry }
+        ensures known { IsTrue result
+            ↔ (known_leaf self.now.trees.ciphertext number ≡ Some hash.now) }
+        ensures right { IsHandout self.now }
+    {
         match self.trees.leaf(number) {
-            Some(leaf) => leaf == tagged(Tag::CiphertextSegment, segment),
+            Some(leaf) => leaf == *hash,
             None => false,
         }
     }
@@ -294,8 +307,8 @@ impl Handout {
         let Some(_) = self.path_by_hash(number, &segment)? else {
             return Ok(false);
         };
-        let end = self.next_end();
-        let bytes = self.decrypted(segment, end);
+        let end = self.end_behind(self.reached);
+        let bytes = self.decrypted(segment, self.reached, end);
         self.ready.push_back(Piece {
             place: self.reached,
             bytes: Bytes::from_vec(bytes),
@@ -304,28 +317,113 @@ impl Handout {
         Ok(true)
     }
 
-    // The place up to which pieces are made with the next segment.
-    fn next_end(&self) -> u64
-        requires { self.now.reached < self.now.to }
-        ensures { result ≡ next_end self.now }
+    /// Whether eight segments from this one on are wanted, each to its end. There is a segment with
+    /// this number.
+    pub fn wants_row(&self, number: u32) -> bool
+        requires { number < segment_count self.now.geometry }
+        ensures wanted { IsTrue result ↔ IsRowWanted self.now number }
+        ensures right { IsHandout self.now }
     {
-        let size = u64::from(self.geometry.segment_size());
-        self.to.min((self.reached / size + 1) * size)
+        (u64::from(number) + 8) * u64::from(self.geometry.segment_size()) <= self.to
     }
 
-    // The bytes of the next segment from the place that is reached up to another, decrypted.
-    fn decrypted(&self, segment: Vec<u8>, end: u64) -> Vec<u8>
-        requires more { self.now.reached ≤ end }
-        requires within { self.now.reached % self.now.geometry.segment_size
-            + (end - self.now.reached) ≤ length segment.items }
-        ensures { result.items ≡ xored_from self.now.key self.now.reached
-            (take (end - self.now.reached)
-            (drop (self.now.reached % self.now.geometry.segment_size) segment.items)) }
+    /// Makes pieces of the next eight segments, where the hash of each is the one that is known for
+    /// it: `true`. `false` where one is another or is not known; then nothing changes. The first
+    /// has the number that `next` tells. All eight are wanted to their ends, and have the length of
+    /// a whole segment.
+    pub fn hand_out_row(&mut self, number: u32, segments: Vec<Vec<u8>>) -> Result<bool, AllocError>
+        requires next { next_segment self.old ≡ Some number }
+        requires wanted { IsRowWanted self.old number }
+        requires eight { length segments.items ≡ 8 }
+        requires long { All (λ s. length s.items ≡ self.old.geometry.segment_size) segments.items }
+        ensures proved { IfOk result (λ made. IsTrue made
+            ↔ ProvesRow self.old number (map (λ s. s.items) segments.items)) }
+        ensures handed { result ≡ Ok true → self.new
+            ≡ first_handed_out self.old (map (λ s. s.items) segments.items) 8 }
+        ensures same { result ≢ Ok true → self.new ≡ self.old }
+        ensures sound { IsHandout self.old }
+        ensures right { IsHandout self.new }
     {
-        let skipped = self.reached % u64::from(self.geometry.segment_size());
-        let count = end - self.reached;
+        if !self.proves_row(number, &segments) {
+            return Ok(false);
+        }
+        let (mut pieces, reached) = self.pieces_of(number, segments)?;
+        self.ready.append(&mut pieces)?;
+        self.reached = reached;
+        Ok(true)
+    }
+
+    // Whether the hashes of these segments are those that are known for eight segments from this
+    // one on.
+    fn proves_row(&self, number: u32, segments: &[Vec<u8>]) -> bool
+        requires next { next_segment self.now ≡ Some number }
+        requires wanted { IsRowWanted self.now number }
+        requires eight { length segments.now ≡ 8 }
+        requires long { All (λ s. length s.items ≡ self.now.geometry.segment_size) segments.now }
+        ensures { IsTrue result ↔ ProvesRow self.now number (map (λ s. s.items) segments.now) }
+    {
+        let hashes = segment_hashes(segments, self.geometry.segment_size() as usize);
+        let mut place = number;
+        for hash in &hashes {
+            if !self.has_leaf(place, hash) {
+                return false;
+            }
+            place += 1;
+        }
+        true
+    }
+
+    // The pieces of the next segments, which are proved, and the place behind them.
+    fn pieces_of(
+        &self,
+        number: u32,
+        segments: Vec<Vec<u8>>,
+    ) -> Result<(VecDeque<Piece>, u64), AllocError>
+        requires next { next_segment self.now ≡ Some number }
+        requires wanted { IsRowWanted self.now number }
+        requires eight { length segments.items ≡ 8 }
+        requires proved { ProvesRow self.now number (map (λ s. s.items) segments.items) }
+        ensures { IfOk result (λ r.
+            (record self.now { reached = r.1; ready = self.now.ready ++ r.0.items })
+            ≡ first_handed_out self.now (map (λ s. s.items) segments.items) 8) }
+    {
+        let mut pieces = VecDeque::with_capacity(self.alloc, 8)?;
+        let mut reached = self.reached;
+        for segment in segments {
+            let end = self.end_behind(reached);
+            let bytes = self.decrypted(segment, reached, end);
+            pieces.push_back(Piece {
+                place: reached,
+                bytes: Bytes::from_vec(bytes),
+            })?;
+            reached = end;
+        }
+        Ok((pieces, reached))
+    }
+
+    // The place up to which pieces are made with the next segment, where they are made up to this
+    // one.
+    fn end_behind(&self, reached: u64) -> u64
+        requires { reached < self.now.to }
+        ensures { result ≡ next_end (record self.now { reached = reached }) }
+    {
+        let size = u64::from(self.geometry.segment_size());
+        self.to.min((reached / size + 1) * size)
+    }
+
+    // The bytes of a segment from this place of the file up to another, decrypted.
+    fn decrypted(&self, segment: Vec<u8>, reached: u64, end: u64) -> Vec<u8>
+        requires more { reached ≤ end }
+        requires within { reached % self.now.geometry.segment_size
+            + (end - reached) ≤ length segment.items }
+        ensures { result.items ≡ xored_from self.now.key reached
+            (take (end - reached)
+            (drop (reached % self.now.geometry.segment_size) segment.items)) }
+    {
+        let skipped = reached % u64::from(self.geometry.segment_size());
+        let count = end - reached;
         let mut bytes = cut(segment, skipped as usize, count as usize);
-        self.cipher.xor_at(self.reached, &mut bytes);
+        self.cipher.xor_at(reached, &mut bytes);
         bytes
     }
 

@@ -10,6 +10,7 @@ mod decoding;
 mod handout;
 mod laws;
 mod piece;
+mod row;
 
 pub use decoding::Decoding;
 pub use handout::Handout;

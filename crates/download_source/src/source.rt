@@ -228,6 +228,17 @@ impl Source {
         }
     }
 
+    /// Whether this is the hash that is known of a segment's block.
+    pub fn proves_hash(&self, segment: u32, hash: &[u8; 32]) -> bool
+        requires { segment < self.now.end }
+        ensures { IsTrue result ↔ (known_hash self.now segment ≡ Some hash.now) }
+    {
+        match self.hash(segment) {
+            Some(known) => known == *hash,
+            None => false,
+        }
+    }
+
     /// The places of the answers that hold the block of a segment, which is ready.
     pub fn block_places(&self, segment: u32) -> &[usize]
         requires { IsHeld self.now segment }

@@ -56,7 +56,7 @@ const LEAVES: Nodes = Nodes {
     count: 3,
 };
 
-const KEY: [u8; 16] = [0, 1, 2, 3, 4, 5, 6, 7, 8, 9, 10, 11, 12, 13, 14, 15];
+pub(crate) const KEY: [u8; 16] = [0, 1, 2, 3, 4, 5, 6, 7, 8, 9, 10, 11, 12, 13, 14, 15];
 
 // The bytes of the file from one place up to another are wanted.
 fn handout(alloc: Global, from: u64, to: u64) -> Result<Handout, AllocError>
@@ -72,9 +72,13 @@ fn handout(alloc: Global, from: u64, to: u64) -> Result<Handout, AllocError>
     Handout::new(alloc, &KEY, &block, &geometry_of(&block), from, to)
 }
 
-// Hands out the next segment, of which each byte is this one. `None` where there is none, or its
-// hash is not known.
-fn hand_out(alloc: Global, handout: &mut Handout, byte: u8) -> Result<Option<bool>, AllocError> {
+/// Hands out the next segment, of which each byte is this one. `None` where there is none, or its
+/// hash is not known.
+pub(crate) fn hand_out(
+    alloc: Global,
+    handout: &mut Handout,
+    byte: u8,
+) -> Result<Option<bool>, AllocError> {
     let Some(number) = handout.next() else {
         return Ok(None);
     };

@@ -6,3 +6,5 @@
 mod decoding_tests;
 #[cfg(test)]
 mod handout_tests;
+#[cfg(test)]
+mod row_tests;

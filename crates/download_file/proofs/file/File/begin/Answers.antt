@@ -61,3 +61,6 @@ returns-clause-asked_up c = (begun c).asked_up
 
 pub returns-clause-reads : goal.returns-clause-reads
 returns-clause-reads c = (begun c).reads
+
+pub returns-clause-same : goal.returns-clause-same
+returns-clause-same c = (begun c).same

@@ -69,3 +69,6 @@ returns-clause-asked_up c = (ended c).1.asked_up
 
 pub returns-clause-reads : goal.returns-clause-reads
 returns-clause-reads c = (ended c).1.reads
+
+pub returns-clause-same : goal.returns-clause-same
+returns-clause-same c = (ended c).1.same

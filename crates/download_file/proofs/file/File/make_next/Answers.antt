@@ -1,4 +1,4 @@
-use Rattle.std.proofs.Common.{◌≡◌, ◌∙◌, ◌*◌, ◌<◌, ℕ, All, List, Ok, Some, ap, subst, sym, length, refl, true}
+use Rattle.std.proofs.Common.{◌≡◌, ◌∙◌, ◌*◌, ◌<◌, ℕ, All, List, Ok, Some, ap, inl, subst, sym, length, refl, true}
 use Rattle.std.proofs.lemmas.Bool.{true≢false}
 use Rattle.std.proofs.lemmas.List.Elements.{All-contains}
 use Rattle.share_layout.specs.Geometry.{Geometry}
@@ -8,13 +8,16 @@ use Rattle.download_segments.specs.Decoding.{AreShareNumbers, blocks_in}
 use Rattle.download_segments.specs.Handout.{next_segment}
 use Rattle.download_segments.specs.NoCodeWord.{IsNoCodeWord}
 use Rattle.download_segments.specs.State.{HandoutState}
-use Rattle.download_file.specs.State.{FileState, ReaderState, numbers_of}
+use Rattle.download_segments.proofs.HandoutLemmas.{next_within}
+use Rattle.download_file.specs.State.{FileState, GroupState, ReaderState, numbers_of}
 use Rattle.download_file.specs.Answers.{IsRead, blocks_of}
+use Rattle.download_file.specs.Changes.{IsSameFile}
 use Rattle.download_file.specs.Making.{CanNotGoOn, RefutesReader}
 use Rattle.download_file.specs.Right.{IsFile, IsGroup}
 use Rattle.download_file.specs.Steps.{AreProved, AreReady, BeginsGroup, HasAll, HasBlock, IsWrong, LacksSome, RefutesBlocks}
+use Rattle.download_file.proofs.GrowLemmas.{same_itself}
 use Rattle.download_file.proofs.ListLemmas.{contains_at}
-use Rattle.download_file.proofs.WaitLemmas.{cannot}
+use Rattle.download_file.proofs.WaitLemmas.{cannot, complete}
 use Rattle.download_file.proofs.MakeLemmas.{all_long, is_no_code_word, live_blocks, live_numbers, refutes_reader}
 use Rattle.download_file.proofs.SegmentLemmas.{HasGroups, HasLast, HasMade, has_groups, has_last, has_made}
 use Rattle.download_file.proofs.file.File.make_next.Goals as goal
@@ -61,7 +64,7 @@ join_blocks-requires c =
     let size : ℕ = c.block_length-size.result in
     let size_is : size ≡ block_length f.handout.geometry number = c.block_length-size.ensures.value ∙ ap (λ (g : Geometry). block_length g number) c.self.invariant.1 in
     subst (λ (rs : List ReaderState). All (HasBlock rs number size) c.deref-4.result.now) (sym c.deref-3.ensures.value)
-    (subst (λ (l : List ℕ). All (HasBlock f.readers number size) l) (sym c.deref-4.ensures.value) (live_blocks entries f number size is read next size_is all.ready))
+    (subst (λ (l : List ℕ). All (HasBlock f.readers number size) l) (sym c.deref-4.ensures.value) (live_blocks entries f number size is read (next_within f.handout number is.handout next) size_is all.ready))
 
 pub find_wrong-requires-clause-there : goal.find_wrong-requires-clause-there
 find_wrong-requires-clause-there c =
@@ -128,7 +131,7 @@ find_wrong-requires-clause-long c =
     let size_is : size ≡ block_length f.handout.geometry number = c.block_length-size.ensures.value ∙ ap (λ (g : Geometry). block_length g number) c.self.invariant.1 in
     let joins : c.in_ok-joined.joined.items ≡ blocks_of entries f.readers number f.live =
     c.in_ok-joined.ensures ∙ (λ i. blocks_of entries (c.deref-3.ensures.value i) number (c.deref-4.ensures.value i)) in
-    ap length (c.deref-7.ensures.value ∙ joins) ∙ all_long entries f number size is read next size_is all.ready
+    ap length (c.deref-7.ensures.value ∙ joins) ∙ all_long entries f number size is read (next_within f.handout number is.handout next) size_is all.ready
     ∙ ap (λ (l : List ℕ). length l * size) (sym c.deref-6.ensures.value)
 
 pub returns-in-Some-find_wrong-clause-wrong : goal.returns-in-Some-find_wrong-clause-wrong
@@ -160,7 +163,7 @@ returns-in-Some-find_wrong-clause-wrong c = λ reader is_wrong.
     (subst (λ (rs : List ReaderState). IsWrong rs c.deref-6.result.now number c.deref-7.result.now size c.in-Some-find_wrong.wrong) c.deref-5.ensures.value c.in-Some-find_wrong.ensures.wrong) in
     subst (λ (s : FileState). RefutesReader entries s reader) c.self.view_is
     (subst (λ (n : ℕ). RefutesReader entries f n) same
-    (refutes_reader entries f number size is read next size_is all.ready c.deref-7.result.now c.in-Some-find_wrong.wrong (c.deref-7.ensures.value ∙ joins) wrong))
+    (refutes_reader entries f number size is read (next_within f.handout number is.handout next) size_is all.ready next c.deref-7.result.now c.in-Some-find_wrong.wrong (c.deref-7.ensures.value ∙ joins) wrong))
 
 pub begin_group-requires-clause-there : goal.begin_group-requires-clause-there
 begin_group-requires-clause-there c =
@@ -290,7 +293,7 @@ make_segment-requires-clause-long c =
     let size_is : size ≡ block_length f.handout.geometry number = c.block_length-size.ensures.value ∙ ap (λ (g : Geometry). block_length g number) c.self.invariant.1 in
     let joins : c.in_ok-joined.joined.items ≡ blocks_of entries f.readers number f.live =
     c.in_ok-joined.ensures ∙ (λ i. blocks_of entries (c.deref-3.ensures.value i) number (c.deref-4.ensures.value i)) in
-    ap length (c.deref-10.ensures.value ∙ joins) ∙ all_long entries f number size is read next size_is all.ready
+    ap length (c.deref-10.ensures.value ∙ joins) ∙ all_long entries f number size is read (next_within f.handout number is.handout next) size_is all.ready
     ∙ (λ i. all.enough i * size_is i)
 
 -- ---- memory was refused
@@ -454,7 +457,7 @@ returns-then-not-branch-clause-inconsistent c = λ _.
     let own : IsGroup f.handout f.readers k.group = All-contains (IsGroup f.handout f.readers) c.begin_group.new.groups.items k.group last.groups_are (contains_at c.begin_group.new.groups.items _ k.group k.last) in
     let numbers : k.group.decoding.numbers ≡ numbers_of f.readers f.live = own.numbers ∙ ap (numbers_of f.readers) (last.last k.group k.last) in
     subst (λ (s : FileState). IsNoCodeWord s.handout.ueb) c.self.view_is
-    (is_no_code_word entries f number size is read next size_is all.ready joined (c.deref-10.ensures.value ∙ joins) proved k.group.decoding.numbers k.segment numbers
+    (is_no_code_word entries f number size is read (next_within f.handout number is.handout next) size_is all.ready joined (c.deref-10.ensures.value ∙ joins) proved k.group.decoding.numbers k.segment numbers
     (subst (λ (g : Geometry). AreShareNumbers g k.group.decoding.numbers) own.geometry own.decoding)
     (subst (λ (g : Geometry). DecodesBlocks g k.group.decoding.numbers (blocks_in g number joined) number k.segment) own.geometry k.decodes) k.refuted)
 
@@ -515,3 +518,41 @@ returns-clause-reads c = (at_made c).reads
 
 pub returns-clause-right : goal.returns-clause-right
 returns-clause-right c = (at_made c).right
+
+pub returns-clause-same : goal.returns-clause-same
+returns-clause-same c = (at_made c).same
+
+pub returns-then-not-branch-clause-same : goal.returns-then-not-branch-clause-same
+returns-then-not-branch-clause-same c = (at_refuted c).same
+
+-- ---- no segment is wanted
+
+pub returns-in_default-clause-waits : goal.returns-in_default-clause-waits
+returns-in_default-clause-waits c = λ _.
+    let f : FileState = record {
+      handout = c.self.inside.handout;
+      first = c.self.inside.plan.first;
+      end = c.self.inside.plan.end;
+      taken = c.self.inside.taken;
+      readers = c.self.inside.readers.items;
+      live = c.self.inside.live.items;
+      groups = c.self.inside.groups.items;
+    } in
+    subst CanNotGoOn c.self.view_is (inl (complete f c.next.ensures.right (sym c.next.ensures.value ∙ c.in_default.is)))
+
+-- ---- no group is begun
+
+pub returns-in_err-begin_group-clause-same : goal.returns-in_err-begin_group-clause-same
+returns-in_err-begin_group-clause-same c =
+    let f : FileState = record {
+      handout = c.self.inside.handout;
+      first = c.self.inside.plan.first;
+      end = c.self.inside.plan.end;
+      taken = c.self.inside.taken;
+      readers = c.self.inside.readers.items;
+      live = c.self.inside.live.items;
+      groups = c.self.inside.groups.items;
+    } in
+    let unchanged : c.begin_group.new.groups.items ≡ f.groups = c.in_err-begin_group.ensures.unchanged in
+    subst (λ (s : FileState). IsSameFile s (record f { groups = c.begin_group.new.groups.items })) c.self.view_is
+    (subst (λ (gs : List GroupState). IsSameFile f (record f { groups = gs })) (sym unchanged) (same_itself f))

@@ -6,9 +6,10 @@ use Rattle.download_segments.specs.State.{HandoutState}
 use Rattle.download_file.specs.State.{FileState, IsLive, ReaderState, first_waiting}
 use Rattle.download_file.specs.Answers.{AnsweredWith, IsRead}
 use Rattle.download_file.specs.Asked.{AsksNoMore}
-use Rattle.download_file.specs.Changes.{StaysAskedUp}
+use Rattle.download_file.specs.Changes.{IsSameFile, StaysAskedUp}
 use Rattle.download_file.specs.Right.{IsFile}
 use Rattle.download_file.specs.Taking.{IsRefused}
+use Rattle.download_file.proofs.GrowLemmas.{same_itself}
 use Rattle.download_file.proofs.ListLemmas.{got, one_there}
 use Rattle.download_file.proofs.TakeLemmas.{HasTaken, front_is, has_taken, is_taker, same_still}
 use Rattle.download_file.proofs.file.File.take.Goals as goal
@@ -170,3 +171,9 @@ returns-in_err-take_part-clause-refused c = λ check is.
       waits = front.1;
       why = inr (c.if-bytes-first.false, c.in_err-take_part.ensures.refused check (ap Err fault));
     })
+
+pub returns-clause-same : goal.returns-clause-same
+returns-clause-same c = (taken c).same
+
+pub returns-in_err-take_part-clause-same : goal.returns-in_err-take_part-clause-same
+returns-in_err-take_part-clause-same c = subst (IsSameFile c.args.self.now) (sym (same c)) (same_itself c.args.self.now)

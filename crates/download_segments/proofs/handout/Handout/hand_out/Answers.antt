@@ -1,6 +1,6 @@
-use Rattle.std.proofs.Common.{◌≡◌, ◌↔◌, ◌≤◌, ◌+◌, ◌-◌, ◌%◌, ℕ, List, IsTrue, false, true≢false, length, subst, sym, rules}
+use Rattle.std.proofs.Common.{◌≡◌, ◌↔◌, ◌≤◌, ◌+◌, ◌-◌, ◌%◌, ℕ, List, IsTrue, false, true≢false, length, ap, subst, sym, ◌∙◌, rules}
 use Rattle.proved_parts.specs.Parts.{IsSegmentBy}
-use Rattle.download_segments.specs.Handout.{handed_out}
+use Rattle.download_segments.specs.Handout.{handed_out, next_end}
 use Rattle.download_segments.specs.State.{HandoutState, IsHandout, ProvesSegment}
 use Rattle.download_segments.proofs.HandoutLemmas.{next_fits, next_within, right_handed}
 use Rattle.download_segments.proofs.TreeLemmas.{at_some, refutes}
@@ -19,8 +19,13 @@ returns-in_default-clause-refuted c =
 pub decrypted-bytes-requires-clause-within : goal.decrypted-bytes-requires-clause-within
 decrypted-bytes-requires-clause-within c =
     let h = c.args.self.now in
-    subst (λ (n : ℕ). h.reached % h.geometry.segment_size + (n - h.reached) ≤ length c.args.segment.items) (sym c.next_end-end.ensures)
-    (next_fits h c.args.number c.args.segment.items c.in_ok-path_by_hash.ensures.right c.requires.next c.requires.long)
+    let seg : ℕ = h.geometry.segment_size in
+    let long : ℕ = length c.args.segment.items in
+    let same : c.self.inside.reached ≡ h.reached = ap (λ (x : HandoutState). x.reached) c.self.view_is in
+    let end : c.end_behind-end.result ≡ next_end h = c.end_behind-end.ensures ∙ ap (λ (n : ℕ). next_end (record h { reached = n })) same in
+    subst (λ (r : ℕ). r % seg + (c.end_behind-end.result - r) ≤ long) (sym same)
+    (subst (λ (n : ℕ). h.reached % seg + (n - h.reached) ≤ long) (sym end)
+    (next_fits h c.args.number c.args.segment.items c.in_ok-path_by_hash.ensures.right c.requires.next c.requires.long))
 
 pub invariant_of-self-2 : goal.invariant_of-self-2
 invariant_of-self-2 c =
@@ -36,7 +41,7 @@ invariant_of-self-2 c =
       trees = c.self.inside.trees;
       to = c.self.inside.to;
       handed = c.self.inside.handed;
-      reached = c.next_end-end.result;
+      reached = c.end_behind-end.result;
       ready = c.push_back.new.self.items;
     } in
     let is : new ≡ handed_out h segment = search rules in

@@ -1,0 +1,139 @@
+//! Eight segments in a row, whose blocks are hashed side by side.
+
+ghost use Rattle.std.specs.Prelude.{◌≡◌, ◌↔◌, ◌+◌, ◌*◌, ◌^◌, ◌<◌, ◌≤◌, ℕ, [], All, IfOk, IsTrue};
+ghost use Rattle.std.specs.Prelude.{drop, false, length, map, slice_index_or, take};
+ghost use Rattle.tagged_hash.specs.TaggedHash.{tagged_hash};
+ghost use Rattle.tagged_hash.specs.declared.tag.Tag.TheVariants.{Block};
+ghost use Rattle.share_layout.specs.Geometry.{segment_count};
+ghost use Rattle.download_file.specs.Rows.{AreRowsProved, HasRow, HaveRow, IsRow, ProvesBlocks};
+ghost use Rattle.download_file.specs.Rows.{nth};
+ghost use Rattle.download_file.specs.Steps.{AreReady, nth_block};
+
+use crate::blocks::{has_all, join_blocks};
+use crate::reader::Reader;
+use download_segments::Handout;
+use download_source::Source;
+use request_record::requests::Requests;
+use std::alloc::{AllocError, Global};
+use tagged_hash::{Tag, tagged_eight};
+
+/// Whether eight segments from this one on are wanted to their ends, as many shares as are needed
+/// are read, all their blocks of these segments were taken, and the segments' hashes are known.
+pub(crate) fn has_row(handout: &Handout, readers: &[Reader], live: &[usize], number: u32) -> bool
+    requires there { number < segment_count handout.now.geometry }
+    requires live { All (λ place. place < length readers.now) live.now }
+    ensures yes { IsTrue result → HasRow handout.now readers.now live.now number }
+    ensures no { result ≡ false → ¬ HasRow handout.now readers.now live.now number }
+{
+    if !handout.wants_row(number) {
+        return false;
+    }
+    for i in 0..8 {
+        if !has_all(handout, readers, live, number + i) {
+            return false;
+        }
+    }
+    true
+}
+
+/// The blocks of eight segments from this one on, each of this length: of each segment those that
+/// the readers at these places hold, one after another.
+pub(crate) fn join_row(
+    alloc: Global,
+    requests: &Requests,
+    readers: &[Reader],
+    places: &[usize],
+    number: u32,
+    size: u32,
+) -> Result<Vec<Vec<u8>>, AllocError>
+    requires held { HaveRow readers.now number size places.now }
+    requires low { number + 8 < 2 ^ 32 }
+    ensures eight { IfOk result (λ rows. length rows.items ≡ 8) }
+    ensures rows { IfOk result (λ rows. IsRow requests.now.entries readers.now number places.now
+        (map (λ r. r.items) rows.items)) }
+{
+    let mut rows = Vec::with_capacity(alloc, 8)?;
+    for i in 0..8 {
+        let row = join_blocks(alloc, requests, readers, places, number + i, size)?;
+        rows.push(row)?;
+    }
+    Ok(rows)
+}
+
+/// Whether each of the readers at these places has, of eight segments from this one on, the blocks
+/// that its block tree tells. Of each segment they stand one after another, each of this length.
+pub(crate) fn are_right(
+    readers: &[Reader],
+    places: &[usize],
+    number: u32,
+    rows: &[Vec<u8>],
+    size: u32,
+) -> bool
+    requires there { All (λ place. place < length readers.now) places.now }
+    requires ready { (i : ℕ) → i < 8 → AreReady readers.now places.now (number + i) }
+    requires low { number + 8 < 2 ^ 32 }
+    requires eight { length rows.now ≡ 8 }
+    requires long { All (λ r. length r.items ≡ length places.now * size) rows.now }
+    ensures { IsTrue result ↔ AreRowsProved readers.now places.now number
+        (map (λ r. r.items) rows.now) size (length places.now) }
+{
+    for k in 0..places.len() {
+        if !are_proved(readers[places[k]].source(), number, rows, size, k) {
+            return false;
+        }
+    }
+    true
+}
+
+// Whether the blocks at this place of each of eight segments, which have this length, are those
+// that the block tree of a source tells.
+fn are_proved(source: &Source, number: u32, rows: &[Vec<u8>], size: u32, k: usize) -> bool
+    requires within { number + 8 ≤ source.now.end }
+    requires low { number + 8 < 2 ^ 32 }
+    requires eight { length rows.now ≡ 8 }
+    requires long { All (λ r. k * size + size ≤ length r.items) rows.now }
+    ensures { IsTrue result ↔ ProvesBlocks source.now number
+        (map (λ r. r.items) rows.now) size k }
+{
+    let hashes = block_hashes(rows, size, k);
+    let mut place = number;
+    for hash in &hashes {
+        if !source.proves_hash(place, hash) {
+            return false;
+        }
+        place += 1;
+    }
+    true
+}
+
+// The hashes of the blocks at this place of each of eight segments, which have this length.
+fn block_hashes(rows: &[Vec<u8>], size: u32, k: usize) -> [[u8; 32]; 8]
+    requires eight { length rows.now ≡ 8 }
+    requires long { All (λ r. k * size + size ≤ length r.items) rows.now }
+    requires low { size < 2 ^ 32 }
+    ensures { (i : ℕ) → i < 8 → slice_index_or result i [] ≡ tagged_hash Block
+        (nth_block (nth (map (λ r. r.items) rows.now) i) size k) }
+{
+    let size = size as usize;
+    let messages = [
+        nth_block(&rows[0], size, k),
+        nth_block(&rows[1], size, k),
+        nth_block(&rows[2], size, k),
+        nth_block(&rows[3], size, k),
+        nth_block(&rows[4], size, k),
+        nth_block(&rows[5], size, k),
+        nth_block(&rows[6], size, k),
+        nth_block(&rows[7], size, k),
+    ];
+    tagged_eight(Tag::Block, &messages, size)
+}
+
+// The block of this number, of blocks of one length that stand one after another.
+fn nth_block(row: &[u8], size: usize, k: usize) -> &[u8]
+    requires { k * size + size ≤ length row.now }
+    ensures value { result.now ≡ nth_block row.now size k }
+    ensures long { length result.now ≡ size }
+{
+    let from = k * size;
+    &row[from..from + size]
+}
