@@ -27,7 +27,7 @@ use Rattle.download_file.specs.Changes.{StaysRead}
 use Rattle.download_file.specs.Laws.{ReadsStay}
 use Rattle.download_file.specs.Right.{IsFile}
 use Rattle.download_file.specs.State.{FileState, IsLive, ReaderState, shares}
-use Rattle.download_reading.specs.Reading.{AreKept, AreReading, IsOf, IsOfReader, IsReadNow, IsReaderOf}
+use Rattle.download_reading.specs.Reading.{AreKept, AreLinked, IsOf, IsOfReader, IsReadNow, IsReaderOf}
 use Rattle.download_reading.specs.State.{ReadingState}
 use Rattle.download_reading.specs.Steps as steps
 use Rattle.download_reading.specs.Steps.{Continues, Grows}
@@ -70,7 +70,7 @@ later f from right low high = record { valid = right.range.valid; some = high; w
 
 -- ---- it is asked
 
-module _ (s : BeginningsState) (r : ReadingState) (f : FileState) (reader holding : ℕ) (wanted : List Wanted) (before : AreReading s r) (live : IsLive r.file reader)
+module _ (s : BeginningsState) (r : ReadingState) (f : FileState) (reader holding : ℕ) (wanted : List Wanted) (before : AreLinked s r) (live : IsLive r.file reader)
     (of : IsOf r reader holding) (asks : AsksParts r.file reader wanted f) where
   abbrev pub now : IsReadNow s r reader
   now = before.live reader live
@@ -160,7 +160,7 @@ module _ (s : BeginningsState) (r : ReadingState) (f : FileState) (reader holdin
             let same : b ≡ k.begun = same_of (slice_get s.begun holding) b k.begun (ap (slice_get s.begun) (sym one) ∙ there) k.there in
             inr (reader, ap (λ (c : Begun). c.reader) same ∙ k.of_reader, (asks.asked reader offset len).1 (inr (refl, new.1)))
 
-    pub asked_reading : AreReading t asked_state
+    pub asked_reading : AreLinked t asked_state
     asked_reading = record {
       kept = asked_kept;
       live = λ q alive. (

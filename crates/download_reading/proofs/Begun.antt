@@ -26,7 +26,7 @@ use Rattle.download_file.specs.Asked.{AsksNoMore}
 use Rattle.download_file.specs.Changes.{StaysRead}
 use Rattle.download_file.specs.Right.{IsFile}
 use Rattle.download_file.specs.State.{FileState, IsLive, ReaderState, shares}
-use Rattle.download_reading.specs.Reading.{AreKept, AreReading, IsOf, IsOfReader, IsReaderOf}
+use Rattle.download_reading.specs.Reading.{AreKept, AreLinked, IsOf, IsOfReader, IsReaderOf}
 use Rattle.download_reading.specs.State.{ReadingState}
 
 -- ---- the one of its number that is read
@@ -66,7 +66,7 @@ taken_now holding t u h is free k =
 
 -- ---- all of them
 
-module _ (s t : BeginningsState) (r : ReadingState) (f : FileState) (holding : ℕ) (h : Holding) (before : AreReading s r) (is : IsHolding s.holdings.table holding h) (free : IsFree s.holdings.table h)
+module _ (s t : BeginningsState) (r : ReadingState) (f : FileState) (holding : ℕ) (h : Holding) (before : AreLinked s r) (is : IsHolding s.holdings.table holding h) (free : IsFree s.holdings.table h)
     (reader : ℕ) (place : reader ≡ length r.file.readers) (shared : shares f ≡ shares r.file ++ h.share ∷ []) (lives : f.live ≡ r.file.live ++ length r.file.readers ∷ [])
     (asked : AsksNoMore r.file f) (stays : StaysRead r.file f) (right : IsFile f) (geometry : f.handout.geometry ≡ r.file.handout.geometry) (known : AreBegun t) (reads : moves.IsReaderOf holding reader s t) where
   abbrev pub next : ReadingState
@@ -176,7 +176,7 @@ module _ (s t : BeginningsState) (r : ReadingState) (f : FileState) (holding : �
           beside_only (inl beside) = inl (subst (λ g. IsBeside g offset len) (sym geometry) beside)
           beside_only (inr a) = absurd (no_reader reads.begun a.0 reads.there a.1)
 
-  pub begun_reading : AreReading t next
+  pub begun_reading : AreLinked t next
   begun_reading = record {
     kept = begun_kept;
     live = λ q alive. elim (Contains-append_cases r.file.live (length r.file.readers ∷ []) q (subst (λ (l : List ℕ). Contains l q) lives alive)) [

@@ -1,12 +1,13 @@
 -- A reader whose share is not left is read no more.
-use Rattle.std.proofs.Common.{◌≡◌, ℕ, ◌+◌, ◌<◌, ◌≤◌, ◌⊎◌, inl, inr, Bool, true, false, cond, not, List, [], ◌∷◌, Contains, length, take, refl, sym, ap, subst, ◌∙◌, arith, true≢false}
+use Rattle.std.proofs.Common.{◌≡◌, ℕ, ◌+◌, ◌<◌, ◌≤◌, ◌⊎◌, inl, inr, Bool, true, false, cond, not, List, [], ◌∷◌, ◌++◌, Contains, length, take, refl, sym, ap, subst, ◌∙◌, arith, true≢false}
 use Rattle.std.specs.Prelude.{◌==◌, slice_get, slice_index_or}
 use Rattle.std.proofs.lemmas.Bool.{eq-eqb}
-use Rattle.std.proofs.lemmas.List.{length-map, take_more}
+use Rattle.std.proofs.lemmas.List.{append-nil, append_assoc, length-map, take_more}
 use Rattle.std.proofs.lemmas.List.Elements.{All-contains, Contains-push_cases}
 use Rattle.std.proofs.lemmas.Option.{slice_get-get_or}
 use Rattle.placement.proofs.Members.{Contains-nil, Contains-uncons}
 use Rattle.share_layout.specs.Geometry.{Geometry}
+use Rattle.download_segments.specs.State.{HandoutState}
 use Rattle.share_holdings.specs.Table.{IsHolding}
 use Rattle.share_holdings.specs.declared.holding.Holding.{Holding}
 use Rattle.share_holdings.proofs.Lists.{from_without, without_keeps}
@@ -19,25 +20,44 @@ use Rattle.download_file.specs.Asked.{AsksNoMore}
 use Rattle.download_file.specs.Changes.{IsSameFile, StaysRead}
 use Rattle.download_file.specs.Right.{IsFile}
 use Rattle.download_file.specs.State.{FileState, IsLive, ReaderState, shares, without}
-use Rattle.download_reading.specs.Reading.{AreKept, AreReading, IsGone, IsOf, IsOfReader, IsReadNow}
+use Rattle.download_file.proofs.GrowLemmas.{same_itself}
+use Rattle.download_reading.specs.Reading.{AreKept, AreLinked, IsGone, IsOf, IsOfReader, IsReadNow}
 use Rattle.download_reading.specs.State.{ReadingState}
-use Rattle.download_reading.specs.Steps.{Continues}
+use Rattle.download_reading.specs.Steps.{AddsPieces, Continues}
 use Rattle.download_reading.proofs.Parts.{goes_trans}
 
 pub file_none : (f : FileState) → IsSameFile f f
-file_none f = record { key = refl; ueb = refl; geometry = refl; to = refl; first = refl; end = refl }
+file_none f = same_itself f
 
 pub file_trans : (f g h : FileState) → IsSameFile f g → IsSameFile g h → IsSameFile f h
-file_trans f g h a b = record { key = b.key ∙ a.key; ueb = b.ueb ∙ a.ueb; geometry = b.geometry ∙ a.geometry; to = b.to ∙ a.to; first = b.first ∙ a.first; end = b.end ∙ a.end }
+file_trans f g h a b = record {
+  key = b.key ∙ a.key;
+  ueb = b.ueb ∙ a.ueb;
+  geometry = b.geometry ∙ a.geometry;
+  to = b.to ∙ a.to;
+  first = b.first ∙ a.first;
+  end = b.end ∙ a.end;
+  given = λ entries p known. b.given entries p (a.given entries p known);
+}
+
+pub adds_none : (h g : HandoutState) → g ≡ h → AddsPieces h g
+adds_none h g e = record { handed = ap (λ (x : HandoutState). x.handed) e; more = []; ready = ap (λ (x : HandoutState). x.ready) e ∙ sym (append-nil h.ready) }
+
+adds_trans : (h g k : HandoutState) → AddsPieces h g → AddsPieces g k → AddsPieces h k
+adds_trans h g k a b = record {
+  handed = b.handed ∙ a.handed;
+  more = a.more ++ b.more;
+  ready = b.ready ∙ ap (λ l. l ++ b.more) a.ready ∙ append_assoc h.ready a.more b.more;
+}
 
 pub continues_none : (s : BeginningsState) (r : ReadingState) → Continues s r s r
-continues_none s r = record { goes = goes_none s s refl refl; same = file_none r.file; handed = refl; answers = λ a. a }
+continues_none s r = record { goes = goes_none s s refl refl; same = file_none r.file; pieces = adds_none r.file.handout r.file.handout refl; answers = λ a. a }
 
 pub continues_trans : (s t u : BeginningsState) (r q p : ReadingState) → Continues s r t q → Continues t q u p → Continues s r u p
 continues_trans s t u r q p f g = record {
   goes = goes_trans s t u f.goes g.goes;
   same = file_trans r.file q.file p.file f.same g.same;
-  handed = g.handed ∙ f.handed;
+  pieces = adds_trans r.file.handout q.file.handout p.file.handout f.pieces g.pieces;
   answers = λ a. g.answers (f.answers a);
 }
 
@@ -82,7 +102,7 @@ module _ (s : BeginningsState) (r : ReadingState) (f : FileState) (reader : ℕ)
     | inr k ↦ inr (record { holding = k.holding; of = k.of; held = k.held; is = k.is; gone = k.gone })
   ]
 
-pub all_live : (s : BeginningsState) (r : ReadingState) → AreKept s r → ((q : ℕ) → IsLive r.file q → IsReadNow s r q ⊎ IsGone s r q) → ((q : ℕ) → IsLive r.file q → IsGone s r q → ⊥) → AreReading s r
+pub all_live : (s : BeginningsState) (r : ReadingState) → AreKept s r → ((q : ℕ) → IsLive r.file q → IsReadNow s r q ⊎ IsGone s r q) → ((q : ℕ) → IsLive r.file q → IsGone s r q → ⊥) → AreLinked s r
 all_live s r kept live none = record {
   kept = kept;
   live = λ q alive. elim (live q alive) [ inl k ↦ k | inr k ↦ absurd (none q alive k) ];

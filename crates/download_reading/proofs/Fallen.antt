@@ -1,7 +1,9 @@
 -- Fewer shares are left, or a file goes on, and the same is read.
-use Rattle.std.proofs.Common.{◌≡◌, ℕ, ◌⊎◌, inl, inr, Bool, true, false, List, Contains, length, map, Some, refl, sym, ap, subst, ◌∙◌, arith}
-use Rattle.std.specs.Prelude.{◌≢◌, Result, Ok, Err, slice_get, slice_index_or}
+use Rattle.std.proofs.Common.{◌≡◌, ℕ, ◌⊎◌, inl, inr, Bool, true, false, List, [], ◌∷◌, Contains, length, map, Some, None, refl, sym, ap, subst, ◌∙◌, arith}
+use Rattle.std.specs.Prelude.{◌≢◌, ◌≤◌, Result, Ok, Err, slice_get}
+use Rattle.std.proofs.lemmas.Option.{slice_get_within}
 use Rattle.std.specs.declared.alloc.AllocError.{AllocError}
+use Rattle.download_segments.specs.Handout.{next_piece}
 use Rattle.download_segments.specs.State.{HandoutState}
 use Rattle.download_file.specs.Making.{MakesNext}
 use Rattle.download_file.specs.declared.file.Made.{Made}
@@ -14,77 +16,94 @@ use Rattle.share_holdings.specs.Table.{IsHolding}
 use Rattle.share_holdings.specs.declared.holding.Holding.{Holding}
 use Rattle.share_holdings.proofs.Records.{AskedAlike}
 use Rattle.share_beginnings.specs.Known.{AreBegun}
-use Rattle.share_beginnings.specs.Reads.{IsBeside}
+use Rattle.share_beginnings.specs.Reads.{IsBeside, IsReadAt}
 use Rattle.share_beginnings.specs.State.{BeginningsState, IsBegun}
 use Rattle.share_beginnings.specs.declared.begun.Begun.{Begun}
-use Rattle.share_beginnings.proofs.Entries.{read_alike, same_of}
-use Rattle.share_beginnings.proofs.Falling.{Falls, at_place, falls_one}
+use Rattle.share_beginnings.proofs.Entries.{read_alike}
+use Rattle.share_beginnings.proofs.Falling.{falls_one}
 use Rattle.share_beginnings.proofs.Opened.{goes_blamed, goes_none}
 use Rattle.download_file.specs.Changes.{IsSameFile}
 use Rattle.share_holdings.specs.Moves.{Blames}
 use Rattle.share_verify.specs.declared.check.Check.{Check}
-use Rattle.download_reading.specs.Steps.{Continues}
-use Rattle.download_reading.proofs.Ended.{file_none}
+use Rattle.download_reading.specs.Steps.{AddsPieces, Continues}
+use Rattle.download_reading.proofs.Ended.{adds_none, file_none}
+use Rattle.download_reading.proofs.Follows.{Follows, KeepsReaders, WasHeld, follows_falls, none_asked_behind, readers_same}
 use Rattle.download_file.specs.Answers.{IsRead}
 use Rattle.download_file.specs.Asked.{AsksNoMore}
 use Rattle.download_file.specs.Right.{IsFile}
 use Rattle.download_file.specs.State.{FileState, IsLive, ReaderState, shares}
-use Rattle.download_reading.specs.Reading.{AreKept, AreReading, IsGone, IsOfReader, IsReadNow}
+use Rattle.download_reading.specs.Reading.{AreKept, AreLinked, IsGone, IsOfReader, IsReadNow}
 use Rattle.download_reading.specs.State.{ReadingState}
 
 -- ---- fewer are left
 
-module _ (s t : BeginningsState) (r : ReadingState) (before : AreReading s r) (known : AreBegun t) (falls : Falls s.holdings.table t.holdings.table) (same : t.begun ≡ s.begun)
+module _ (s t : BeginningsState) (r : ReadingState) (before : AreLinked s r) (known : AreBegun t) (follows : Follows s.holdings.table t.holdings.table) (readers : KeepsReaders s.begun t.begun)
     (alike : AskedAlike s.holdings.requests.entries t.holdings.requests.entries) (answers : IsRead t.holdings.requests.entries r.file) where
-  begun_back : (x : ℕ) (b : Begun) → IsBegun t x b → IsBegun s x b
-  begun_back x b e = sym (ap (λ (l : List Begun). slice_get l x) same) ∙ e
+  -- a holding that has a reader was there
+  begun_back : (x q : ℕ) (c : Begun) → IsBegun t x c → c.reader ≡ Some q → (b : Begun) × IsBegun s x b × (c.reader ≡ b.reader)
+  begun_back x q c e reads = elim (readers.back x c e) [
+    | inl k ↦ k
+    | inr none ↦ (let two : None ≡ Some q = sym none.1 ∙ reads in absurd cc)
+  ]
 
-  -- a holding that was there is
-  held_forth : (x : ℕ) (h : Holding) → IsHolding s.holdings.table x h → (g : Holding) × IsHolding t.holdings.table x g × (g.server ≡ h.server) × (g.share ≡ h.share) × (g.left ≡ true → h.left ≡ true)
-  held_forth x h e =
-      let is = at_place t.holdings.table.holdings s.holdings.table.holdings x h (sym falls.long) e in
-      let w = falls.back x (slice_index_or t.holdings.table.holdings x h) is in
-      let one : w.held ≡ h = same_of (slice_get s.holdings.table.holdings x) w.held h w.is e in
-      (slice_index_or t.holdings.table.holdings x h, is, w.of_server ∙ ap (λ (y : Holding). y.server) one, w.of_share ∙ ap (λ (y : Holding). y.share) one, λ left. ap (λ (y : Holding). y.left) (sym one) ∙ w.left left)
+  held_back : (x : ℕ) (g : Holding) (b : Begun) → IsHolding t.holdings.table x g → IsBegun s x b → WasHeld s.holdings.table x g
+  held_back x g b is there = elim (follows.back x g is) [
+    | inl was ↦ was
+    | inr new ↦ (let w = slice_get_within s.begun x b there in let c = before.kept.known.counted in absurd (omega (arith, w, c, new)))
+  ]
 
   pub fallen_kept : AreKept t r
   fallen_kept = record {
     known = known;
     right = before.kept.right;
-    total = falls.count ∙ before.kept.total;
+    total = follows.count ∙ before.kept.total;
     linked = before.kept.linked;
     forth = λ q x of. (
         let k = before.kept.forth q x of in
-        let g = held_forth x k.held k.is in
+        let g = follows.forth x k.held k.is in
+        let b = readers.forth x k.begun k.there in
         record {
           held = g.0;
           is = g.1;
-          begun = k.begun;
-          there = ap (λ (l : List Begun). slice_get l x) same ∙ k.there;
-          of_reader = k.of_reader;
+          begun = b.0;
+          there = b.1;
+          of_reader = b.2 ∙ k.of_reader;
           share = k.share ∙ ap Some (sym g.3);
         });
-    back = λ x q b there e. before.kept.back x q b (begun_back x b there) e;
-    alive = λ x q g b is there e left. (let w = falls.back x g is in before.kept.alive x q w.held b w.is (begun_back x b there) e (w.left left));
-    reads = λ x i offset len g b is there left read. (
-        let w = falls.back x g is in
-        before.kept.reads x i offset len w.held b w.is (begun_back x b there) (w.left left)
-        (read_alike s.holdings.requests.entries t.holdings.requests.entries w.held g i offset len alike w.of_server w.of_share read));
+    back = λ x q c there e. (let b = begun_back x q c there e in before.kept.back x q b.0 b.1 (sym b.2 ∙ e));
+    alive = λ x q g c is there e left. (
+        let b = begun_back x q c there e in
+        let w = held_back x g b.0 is b.1 in
+        before.kept.alive x q w.held b.0 w.is b.1 (sym b.2 ∙ e) (w.left left));
+    reads = λ x i offset len g c is there left read. by_read x i offset len g c is there left read (follows.back x g is);
     answers = answers;
   }
+    where
+      moved : (b c : Begun) (offset len : ℕ) → c.reader ≡ b.reader → IsOfReader r.file b offset len → IsOfReader r.file c offset len
+      moved b c offset len e (inl beside) = inl beside
+      moved b c offset len e (inr k) = inr (k.0, e ∙ k.1, k.2)
+
+      by_read : (x i offset len : ℕ) (g : Holding) (c : Begun) → IsHolding t.holdings.table x g → IsBegun t x c → g.left ≡ true → IsReadAt t.holdings.requests.entries g i offset len
+          → WasHeld s.holdings.table x g ⊎ (length s.holdings.table.holdings ≤ x) → IsOfReader r.file c offset len
+      by_read x i offset len g c is there left read (inr new) = absurd (none_asked_behind s.holdings t.holdings x g i offset len before.kept.known.right known.right follows alike is new read)
+      by_read x i offset len g c is there left read (inl w) = elim (readers.back x c there) [
+        | inl b ↦ moved b.0 c offset len b.2 (before.kept.reads x i offset len w.held b.0 w.is b.1 (w.left left)
+            (read_alike s.holdings.requests.entries t.holdings.requests.entries w.held g i offset len alike w.of_server w.of_share read))
+        | inr none ↦ (let k = slice_get_within s.holdings.table.holdings x w.held w.is in let n = before.kept.known.counted in let le = none.0 in absurd (omega (arith, k, n, le)))
+      ]
 
   pub fallen_live : (q : ℕ) → IsLive r.file q → IsReadNow t r q ⊎ IsGone t r q
   fallen_live q alive = by (before.live q alive)
     where
       by : IsReadNow s r q → IsReadNow t r q ⊎ IsGone t r q
-      by k = from (held_forth k.holding k.held k.is)
+      by k = from (follows.forth k.holding k.held k.is)
         where
-          from : (g : Holding) × IsHolding t.holdings.table k.holding g × (g.server ≡ k.held.server) × (g.share ≡ k.held.share) × (g.left ≡ true → k.held.left ≡ true) → IsReadNow t r q ⊎ IsGone t r q
+          from : (g : Holding) × IsHolding t.holdings.table k.holding g × (g.server ≡ k.held.server) × (g.share ≡ k.held.share) → IsReadNow t r q ⊎ IsGone t r q
           from g = left g.0.left refl
             where
               left : (b : Bool) → g.0.left ≡ b → IsReadNow t r q ⊎ IsGone t r q
               left false e = inr (record { holding = k.holding; of = k.of; held = g.0; is = g.1; gone = e })
-              left true e = elim (falls.kept k.held.share k.holding k.taken.number k.taken.there k.taken.reading) [
+              left true e = elim (follows.kept k.held.share k.holding k.taken.number k.taken.there k.taken.reading) [
                 | inl on ↦ inl (record {
                   holding = k.holding;
                   of = k.of;
@@ -98,12 +117,12 @@ module _ (s t : BeginningsState) (r : ReadingState) (before : AreReading s r) (k
 
 -- ---- the file goes on
 
-module _ (s : BeginningsState) (r : ReadingState) (f : FileState) (before : AreReading s r) (lives : f.live ≡ r.file.live) (shared : shares f ≡ shares r.file) (asked : AsksNoMore r.file f)
+module _ (s : BeginningsState) (r : ReadingState) (f : FileState) (before : AreLinked s r) (lives : f.live ≡ r.file.live) (shared : shares f ≡ shares r.file) (asked : AsksNoMore r.file f)
     (answers : IsRead s.holdings.requests.entries f) (right : IsFile f) (geometry : f.handout.geometry ≡ r.file.handout.geometry) where
   abbrev pub goes_on_with : ReadingState
   goes_on_with = record r { file = f }
 
-  pub file_goes : AreReading s goes_on_with
+  pub file_goes : AreLinked s goes_on_with
   file_goes = record {
     kept = record {
       known = before.kept.known;
@@ -134,7 +153,7 @@ module _ (s : BeginningsState) (r : ReadingState) (f : FileState) (before : AreR
 
 -- ---- a share is blamed
 
-module _ (s t : BeginningsState) (r : ReadingState) (holding : ℕ) (check : Check) (before : AreReading s r) (blames : Blames holding check s.holdings t.holdings) (known : AreBegun t) (same : t.begun ≡ s.begun) where
+module _ (s t : BeginningsState) (r : ReadingState) (holding : ℕ) (check : Check) (before : AreLinked s r) (blames : Blames holding check s.holdings t.holdings) (known : AreBegun t) (same : t.begun ≡ s.begun) where
   requests_are : t.holdings.requests ≡ s.holdings.requests
   requests_are = ap (λ (x : HoldingsState). x.requests) blames.others
 
@@ -144,34 +163,39 @@ module _ (s t : BeginningsState) (r : ReadingState) (holding : ℕ) (check : Che
   answers : IsRead t.holdings.requests.entries r.file
   answers = subst (λ (q : RequestsState). IsRead q.entries r.file) (sym requests_are) before.kept.answers
 
+  pub blamed_follows : Follows s.holdings.table t.holdings.table
+  blamed_follows = follows_falls s.holdings.table t.holdings.table (falls_one holding s.holdings.table t.holdings.table blames.retired)
+
   pub blamed_kept : AreKept t r
-  blamed_kept = fallen_kept s t r before known (falls_one holding s.holdings.table t.holdings.table blames.retired) same alike answers
+  blamed_kept = fallen_kept s t r before known blamed_follows (readers_same s.begun t.begun same) alike answers
 
   pub blamed_live : (q : ℕ) → IsLive r.file q → IsReadNow t r q ⊎ IsGone t r q
-  blamed_live = fallen_live s t r before known (falls_one holding s.holdings.table t.holdings.table blames.retired) same alike answers
+  blamed_live = fallen_live s t r before known blamed_follows (readers_same s.begun t.begun same) alike answers
 
   pub blamed_continues : Continues s r t r
   blamed_continues = record {
     goes = goes_blamed s t holding check blames;
     same = file_none r.file;
-    handed = refl;
+    pieces = adds_none r.file.handout r.file.handout refl;
     answers = λ a. subst (λ (q : RequestsState). IsRead q.entries r.file) (sym requests_are) a;
   }
 
 -- ---- a segment is made, or not
 
-module _ (s : BeginningsState) (r : ReadingState) (f : FileState) (before : AreReading s r) (lives : f.live ≡ r.file.live) (readers : f.readers ≡ r.file.readers) (asked : AsksNoMore r.file f)
+module _ (s : BeginningsState) (r : ReadingState) (f : FileState) (before : AreLinked s r) (lives : f.live ≡ r.file.live) (readers : f.readers ≡ r.file.readers) (asked : AsksNoMore r.file f)
     (answers : IsRead s.holdings.requests.entries f) (right : IsFile f) (same : IsSameFile r.file f) where
-  pub made_reading : AreReading s (record r { file = f })
+  pub made_reading : AreLinked s (record r { file = f })
   made_reading = file_goes s r f before lives (ap (λ (l : List ReaderState). map (λ (x : ReaderState). x.share) l) readers) asked answers right same.geometry
 
-  pub made_continues : f.handout.handed ≡ r.file.handout.handed → Continues s r s (record r { file = f })
-  made_continues handed = record { goes = goes_none s s refl refl; same = same; handed = handed; answers = λ a. answers }
+  pub made_continues : AddsPieces r.file.handout f.handout → Continues s r s (record r { file = f })
+  made_continues pieces = record { goes = goes_none s s refl refl; same = same; pieces = pieces; answers = λ a. answers }
 
 -- what was taken of the pieces stays so
-pub handed_made : (f g : FileState) (made : Result Made AllocError) → (made ≡ Ok made_as.Ready → MakesNext f g) → (made ≢ Ok made_as.Ready → g.handout ≡ f.handout) → g.handout.handed ≡ f.handout.handed
-handed_made f g (Ok made_as.Waits) ready others = ap (λ (h : HandoutState). h.handed) (others (λ e. cc))
-handed_made f g (Ok made_as.Ready) ready others = ap (λ (h : HandoutState). h.handed) (ready refl).handed
-handed_made f g (Ok (made_as.Wrong q)) ready others = ap (λ (h : HandoutState). h.handed) (others (λ e. cc))
-handed_made f g (Ok made_as.Inconsistent) ready others = ap (λ (h : HandoutState). h.handed) (others (λ e. cc))
-handed_made f g (Err x) ready others = ap (λ (h : HandoutState). h.handed) (others (λ e. cc))
+pub pieces_made : (f g : FileState) (made : Result Made AllocError) → (made ≡ Ok made_as.Ready → MakesNext f g) → (made ≢ Ok made_as.Ready → g.handout ≡ f.handout) → AddsPieces f.handout g.handout
+pieces_made f g (Ok made_as.Waits) ready others = adds_none f.handout g.handout (others (λ e. cc))
+pieces_made f g (Ok made_as.Ready) ready others =
+    let m = ready refl in
+    record { handed = ap (λ (h : HandoutState). h.handed) m.handed; more = next_piece f.handout m.segment ∷ []; ready = ap (λ (h : HandoutState). h.ready) m.handed }
+pieces_made f g (Ok (made_as.Wrong q)) ready others = adds_none f.handout g.handout (others (λ e. cc))
+pieces_made f g (Ok made_as.Inconsistent) ready others = adds_none f.handout g.handout (others (λ e. cc))
+pieces_made f g (Err x) ready others = adds_none f.handout g.handout (others (λ e. cc))

@@ -1,15 +1,16 @@
 -- Parts of a share are asked for, one after another.
-use Rattle.std.proofs.Common.{◌≡◌, ℕ, zero, suc, ◌+◌, ◌<◌, ◌≤◌, ◌⊎◌, inl, inr, List, [], ◌∷◌, ◌++◌, Contains, length, take, refl, sym, ap, subst, ◌∙◌, arith}
+use Rattle.std.proofs.Common.{◌≡◌, ℕ, zero, suc, ◌+◌, ◌<◌, ◌≤◌, ◌⊎◌, inl, inr, List, [], ◌∷◌, ◌++◌, Contains, length, take, Some, refl, sym, ap, subst, ◌∙◌, arith}
 use Rattle.std.specs.Prelude.{slice_get, slice_index_or, All, AllPairs}
-use Rattle.std.proofs.lemmas.List.{append_assoc, get_or-take, length-take, take_more}
-use Rattle.std.proofs.lemmas.List.Elements.{Contains-append_left, Contains-append_right}
+use Rattle.std.proofs.lemmas.List.{append_assoc, get_or-take, length-append, length-take, take_more}
+use Rattle.std.proofs.lemmas.List.Elements.{Contains-append_left, Contains-append_right, Contains-push_cases}
 use Rattle.std.proofs.lemmas.Option.{slice_get_within}
-use Rattle.placement.proofs.Members.{Contains-head}
+use Rattle.placement.proofs.Members.{Contains-head, Contains-nil}
 use Rattle.request_record.specs.declared.requests.Asked.{Asked}
 use Rattle.request_record.specs.declared.requests.Asked.TheVariants.{Reading}
 use Rattle.request_record.specs.Asking.{AreApart as AsksApart}
 use Rattle.request_record.specs.Record.{RequestsState, asked_all, asked_more, first_request}
-use Rattle.request_record.proofs.RecordLaws.{get_push}
+use Rattle.request_record.specs.declared.requests.Request.{Request}
+use Rattle.request_record.proofs.RecordLaws.{get_last, get_push}
 use Rattle.share_holdings.specs.Moves.{Asks, IsUnasked}
 use Rattle.share_holdings.specs.State.{HoldingsState, TableState}
 use Rattle.share_holdings.specs.Table.{IsHolding}
@@ -20,11 +21,14 @@ use Rattle.share_beginnings.specs.Moves.{GoesOn}
 use Rattle.share_beginnings.specs.Reads.{IsReadAt}
 use Rattle.share_beginnings.specs.State.{BeginningsState}
 use Rattle.share_beginnings.proofs.Asking.{unasked_by}
-use Rattle.share_beginnings.proofs.Entries.{read_pushed}
+use Rattle.share_beginnings.proofs.Entries.{read_pushed, same_of}
 use Rattle.download_plan.specs.Laws.{AreApart}
 use Rattle.download_source.specs.declared.wanted.Wanted.{Wanted}
 use Rattle.download_file.specs.Asked.{IsOneOf}
-use Rattle.download_reading.specs.Steps.{AsksParts, Grows, IsSamePair}
+use Rattle.download_file.specs.State.{placed}
+use Rattle.download_file.specs.declared.reader.Waiting.{Waiting}
+use Rattle.download_file.proofs.AskLemmas.{placed_more}
+use Rattle.download_reading.specs.Steps.{AsksParts, Grows, IsAskedNow, IsSamePair}
 
 -- ---- more is asked
 
@@ -120,6 +124,54 @@ module _ (holding : ℕ) (wanted : List Wanted) (s t : BeginningsState) (i : ℕ
           (subst (λ n. ((slice_index_or wanted e.index d).read.place + n ≤ w.read.place) ⊎ (w.read.place + w.read.length ≤ (slice_index_or wanted e.index d).read.place)) (sym (e.long d))
           (apart e.index i d e.below lt))
 
+  module _ (u : BeginningsState) (a : Asks holding w.read.place w.read.length t.holdings u.holdings) where
+    abbrev pub ts : List Request
+    ts = t.holdings.requests.entries
+
+    abbrev pub us : List Request
+    us = u.holdings.requests.entries
+
+    abbrev pub asked_here : Request
+    asked_here = first_request a.0.server (Reading a.0.share w.read.place w.read.length) t.holdings.requests.clock
+
+    entries_are : us ≡ ts ++ asked_here ∷ []
+    entries_are = ap (λ (x : HoldingsState). x.requests.entries) a.2
+
+    count_now : length us ≡ length s.holdings.requests.entries + length (take (i + 1) wanted)
+    count_now =
+        let e = ap length entries_are in
+        let f = length-append ts (asked_here ∷ []) in
+        let g = before.count in
+        let k = length-take i wanted in
+        let l = length-take (i + 1) wanted in
+        omega (arith, e, f, g, k, l, lt)
+
+    here : slice_get us (length s.holdings.requests.entries + length (take i wanted)) ≡ Some asked_here
+    here = ap (λ (l : List Request). slice_get l (length s.holdings.requests.entries + length (take i wanted))) entries_are ∙ ap (slice_get (ts ++ asked_here ∷ [])) (sym before.count) ∙ get_last ts asked_here
+
+    there_still : (j : ℕ) (q : Request) → slice_get ts j ≡ Some q → slice_get us j ≡ Some q
+    there_still j q e = ap (λ (l : List Request). slice_get l j) entries_are ∙ get_push ts asked_here j (slice_get_within ts j q e) ∙ e
+
+    still_asked : (h : Holding) (v : Waiting) → IsAskedNow ts h v → IsAskedNow us h v
+    still_asked h v k = record {
+      read = record { request = k.read.request; there = there_still v.place k.read.request k.read.there; of_server = k.read.of_server; asked = k.read.asked };
+      out = record { request = k.out.request; there = there_still v.place k.out.request k.out.there; waits = k.out.waits };
+    }
+
+    asked_now : (h : Holding) (v : Waiting) → IsHolding s.holdings.table holding h → Contains (placed (length s.holdings.requests.entries) (take (i + 1) wanted)) v → IsAskedNow us h v
+    asked_now h v is among =
+        elim (Contains-push_cases (placed (length s.holdings.requests.entries) (take i wanted)) (record { place = length s.holdings.requests.entries + length (take i wanted); wanted = w }) v
+        (subst (λ (l : List Waiting). Contains l v) (ap (placed (length s.holdings.requests.entries)) (take_more wanted i d lt) ∙ placed_more (length s.holdings.requests.entries) (take i wanted) w) among)) [
+          | inl old ↦ still_asked h v (before.asked h v is old)
+          | inr last ↦ subst (IsAskedNow us h) last (record {
+            read = record { request = asked_here; there = here; of_server = ap (λ (x : Holding). x.server) same; asked = ap (λ (x : Holding). Reading x.share w.read.place w.read.length) same };
+            out = record { request = asked_here; there = here; waits = refl };
+          })
+        ]
+      where
+        same : a.0 ≡ h
+        same = same_of (slice_get s.holdings.table.holdings holding) a.0 h (sym (ap (λ (x : TableState). slice_get x.holdings holding) before.table) ∙ a.1) is
+
   pub next_asked : (u : BeginningsState) → AreBegun u → Asks holding w.read.place w.read.length t.holdings u.holdings → u.begun ≡ t.begun → AsksParts holding (take (i + 1) wanted) s u
   next_asked u known a same = record {
     known = known;
@@ -128,6 +180,8 @@ module _ (holding : ℕ) (wanted : List Wanted) (s t : BeginningsState) (i : ℕ
     reads = λ h j offset len read. by h j offset len
         (read_pushed t.holdings.requests.entries (first_request a.0.server (Reading a.0.share w.read.place w.read.length) t.holdings.requests.clock) h j offset len
         (subst (λ (x : HoldingsState). IsReadAt x.requests.entries h j offset len) a.2 read));
+    count = count_now u a;
+    asked = asked_now u a;
   }
     where
       by : (h : Holding) (j offset len : ℕ) → IsReadAt t.holdings.requests.entries h j offset len ⊎ ((j ≡ length t.holdings.requests.entries) × (a.0.server ≡ h.server) × (Reading a.0.share w.read.place w.read.length ≡ Reading h.share offset len))
@@ -143,4 +197,11 @@ module _ (holding : ℕ) (wanted : List Wanted) (s t : BeginningsState) (i : ℕ
           )
 
 pub none_asked : (holding : ℕ) (wanted : List Wanted) (s : BeginningsState) → AreBegun s → AsksParts holding (take 0 wanted) s s
-none_asked holding wanted s known = record { known = known; table = refl; begun = refl; reads = λ h i offset len read. inl read }
+none_asked holding wanted s known = record {
+  known = known;
+  table = refl;
+  begun = refl;
+  reads = λ h i offset len read. inl read;
+  count = omega arith;
+  asked = λ h v is among. absurd (Contains-nil v among);
+}

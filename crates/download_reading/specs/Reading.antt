@@ -1,16 +1,20 @@
 -- The readers of a file read shares that servers hold.
-use Rattle.std.specs.Prelude.{◌≡◌, ◌⊎◌, ℕ, Some, length, slice_get, false, true}
-use Rattle.share_holdings.specs.Table.{IsHolding}
+use Rattle.std.specs.Prelude.{◌≡◌, ◌≢◌, ◌⊎◌, ℕ, List, Option, Some, None, length, slice_get}
+use Rattle.std.specs.Prelude.{false, true, Contains}
+use Rattle.request_record.specs.declared.requests.Request.{Request}
+use Rattle.share_holdings.specs.State.{NumberState}
+use Rattle.share_holdings.specs.Table.{IsHolding, IsNumber}
 use Rattle.share_holdings.specs.declared.holding.Holding.{Holding}
 use Rattle.share_beginnings.specs.Known.{AreBegun}
-use Rattle.share_beginnings.specs.Opening.{IsTaken}
-use Rattle.share_beginnings.specs.Reads.{IsBeside, IsReadAt}
+use Rattle.share_beginnings.specs.Opening.{IsOut, IsTaken}
+use Rattle.share_beginnings.specs.Reads.{IsAnsweredBy, IsBeside, IsOutAt, IsReadAt}
 use Rattle.share_beginnings.specs.State.{BeginningsState, IsBegun}
 use Rattle.share_beginnings.specs.declared.begun.Begun.{Begun}
 use Rattle.download_file.specs.Answers.{IsRead}
 use Rattle.download_file.specs.Asked.{HasAsked}
 use Rattle.download_file.specs.Right.{IsFile}
-use Rattle.download_file.specs.State.{FileState, IsLive, shares}
+use Rattle.download_file.specs.State.{FileState, IsLive, first_waiting, shares, waiting_at}
+use Rattle.download_file.specs.declared.reader.Waiting.{Waiting}
 use Rattle.download_reading.specs.State.{ReadingState}
 
 -- the reader reads the share of this holding
@@ -66,6 +70,50 @@ pub record AreKept (s : BeginningsState) (r : ReadingState) : Type 0 where
   pub answers : IsRead s.holdings.requests.entries r.file
 
 -- so it is, and each reader that is read reads a share that is left
-pub record AreReading (s : BeginningsState) (r : ReadingState) : Type 0 where
+pub record AreLinked (s : BeginningsState) (r : ReadingState) : Type 0 where
   pub kept : AreKept s r
   pub live : (reader : ℕ) → IsLive r.file reader → IsReadNow s r reader
+
+-- ---- what is waited for
+
+-- a reader that is read, and the share that it reads, which is left
+pub record IsReading (s : BeginningsState) (r : ReadingState) (reader : ℕ) (h : Holding)
+    : Type 0 where
+  pub live : IsLive r.file reader
+  pub holding : ℕ
+  pub of : IsOf r reader holding
+  pub is : IsHolding s.holdings.table holding h
+  pub left : h.left ≡ true
+
+-- the part was asked of the holding's share by the request at its place, which waits for its answer
+-- or was answered with bytes
+pub record IsAskedOf (entries : List Request) (h : Holding) (w : Waiting) : Type 0 where
+  pub read : IsReadAt entries h w.place w.wanted.read.place w.wanted.read.length
+  pub state : IsOutAt entries w.place
+      ⊎ ((bytes : List ℕ) × IsAnsweredBy entries w.place bytes)
+
+-- What waits of each reader was asked of its share, and the answer to the first of it is not there
+-- yet, but for one reader.
+pub record AreAwaited (but : Option ℕ) (s : BeginningsState) (r : ReadingState) : Type 0 where
+  pub asked : (reader : ℕ) (h : Holding) (w : Waiting) → IsReading s r reader h
+      → Contains (waiting_at r.file reader) w → IsAskedOf s.holdings.requests.entries h w
+  pub first : (reader place : ℕ) (h : Holding) → IsReading s r reader h → but ≢ Some reader
+      → first_waiting r.file reader ≡ Some place → IsOutAt s.holdings.requests.entries place
+
+-- A share that is left and is not to be chosen yet waits for the answer to the read of its header,
+-- but for one. A share that is taken has a reader.
+pub record AreBusy (but : Option ℕ) (s : BeginningsState) (r : ReadingState) : Type 0 where
+  pub suspended : (holding : ℕ) (h : Holding) → IsHolding s.holdings.table holding h
+      → h.left ≡ true → h.suspended ≡ true → but ≢ Some holding → IsOut s holding
+  pub taken : (share holding : ℕ) (n : NumberState) → IsNumber s.holdings.table share n
+      → n.reading ≡ Some holding → (reader : ℕ) × IsOf r reader holding
+
+-- All of this. The answer to the first part that waits of one reader may be there.
+pub record AreReadingBut (but : Option ℕ) (s : BeginningsState) (r : ReadingState)
+    : Type 0 where
+  pub linked : AreLinked s r
+  pub awaits : AreAwaited but s r
+  pub busy : AreBusy None s r
+
+abbrev pub AreReading : BeginningsState → ReadingState → Type 0
+AreReading s r = AreReadingBut None s r

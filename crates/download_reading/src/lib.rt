@@ -2,6 +2,10 @@
 //! what each is asked for, and what is taken of their answers.
 #![tactic(auto)]
 
+mod asking;
+mod ending;
+mod laws;
 mod reading;
 
-pub use reading::Reading;
+pub use laws::sending_stays;
+pub use reading::{Reading, Settled};

@@ -1,34 +1,63 @@
 //! The readers of a file, and the holdings whose shares they read.
 
-ghost use Rattle.std.specs.Prelude.{◌≡◌, ◌⊎◌, ℕ, ◌+◌, ◌<◌, ◌≤◌, All, AllPairs, IfNone, IfOk};
-ghost use Rattle.std.specs.Prelude.{IfSome};
-ghost use Rattle.std.specs.Prelude.{OnErr, OnOk, Ok, Some, drop, false, length, true};
-ghost use Rattle.download_plan.specs.Laws.{AreApart};
-ghost use Rattle.download_plan.specs.Plan.{max_read};
-ghost use Rattle.share_holdings.specs.Moves.{IsUnasked};
-ghost use Rattle.share_beginnings.specs.Moves.{GoesOn};
+ghost use Rattle.std.specs.Prelude.{◌≡◌, ◌≢◌, ◌⊎◌, ◌↔◌, ℕ, ◌+◌, ◌<◌, ◌≤◌, ◌-◌, All};
+ghost use Rattle.std.specs.Prelude.{IfNone, IfOk, IfSome, List, OnErr, OnOk, Ok, Option, Some};
+ghost use Rattle.std.specs.Prelude.{None, drop, false, length, map, true};
+ghost use Rattle.request_record.specs.Record.{outstanding_count};
+ghost use Rattle.share_beginnings.specs.Moves.{WaitsAt};
+ghost use Rattle.share_beginnings.specs.Reads.{IsAnsweredBy};
 ghost use Rattle.share_verify.specs.CapBlock.{geometry_by};
 ghost use Rattle.share_holdings.specs.Table.{IsFree, IsHolding, NoneIsFree};
 ghost use Rattle.share_holdings.specs.declared.holding.Holding.{Holding};
+ghost use Rattle.share_beginnings.specs.Causes.{AddsBlames, IsBeginningFault};
 ghost use Rattle.share_beginnings.specs.Known.{AreBegun};
 ghost use Rattle.share_beginnings.specs.Opening.{AreCompared};
 ghost use Rattle.share_beginnings.specs.State.{BeginningsState};
+ghost use Rattle.std.specs.List.{range_with_len};
+ghost use Rattle.proved_parts.specs.Parts.{IsSegmentBy};
+ghost use Rattle.download_segments.specs.Handout.{TakesPiece};
+ghost use Rattle.download_segments.specs.NoCodeWord.{IsNoCodeWord};
+ghost use Rattle.download_file.specs.Answers.{IsRead};
+ghost use Rattle.download_file.specs.Right.{made_end};
+ghost use Rattle.download_file.specs.Asked.{IsAskedUp};
+ghost use Rattle.download_file.specs.Changes.{IsSameFile, StaysAskedUp};
+ghost use Rattle.download_file.specs.Making.{CanNotGoOn};
 ghost use Rattle.download_file.specs.State.{IsComplete, IsLive, first_waiting, new_file};
 ghost use Rattle.download_file.specs.State.{waiting_at};
-ghost use Rattle.download_reading.specs.Reading.{AreKept, AreReading, IsGone, IsReadNow};
+ghost use Rattle.download_reading.specs.Causes.{HasCause, IsBlameOf, IsBlockFault, IsPartFault};
+ghost use Rattle.download_reading.specs.Reading.{AreAwaited, AreKept, AreLinked, AreReading};
+ghost use Rattle.download_reading.specs.Reading.{AreReadingBut, IsGone, IsReadNow};
 ghost use Rattle.download_reading.specs.State.{ReadingState};
-ghost use Rattle.download_reading.specs.Steps.{AsksParts, Continues, Grows};
+ghost use Rattle.download_reading.specs.Steps.{Continues, HasHeard, HasTicked};
+ghost use Rattle.download_reading.specs.Steps.{IsAtEnd};
+ghost use Rattle.download_reading.specs.Steps.{IsStill, IsStuck, IsTold, left_count, work};
 
-use download_file::{File, Made, reads_stay};
-use download_source::Wanted;
+use crate::asking::ask_parts;
+use crate::ending::why_not;
+use cap_text::VerifyCap;
+use download_file::{File, Made};
+use download_segments::Piece;
 use download_trees::TreeFault;
-use share_beginnings::{Beginnings, bytes_at};
+use proved_parts::EvidencePart;
+use share_beginnings::{Beginnings, News, bytes_at};
 use share_layout::Geometry;
 use share_verify::Check;
 use std::alloc::{AllocError, Global};
 use std::marker::Model;
 use ueb::Ueb;
-use wire::message::ReadLength;
+
+/// How far a file is.
+#[derive(Clone, Copy, PartialEq, Eq)]
+pub enum Settled {
+    /// All that is wanted was made.
+    Complete,
+    /// The blocks of a segment were right, and it is not the one whose hash is known.
+    Inconsistent,
+    /// It waits for answers.
+    Waits,
+    /// Nothing is waited for, and fewer shares are left than are needed.
+    TooFew,
+}
 
 /// A file whose extension block is accepted, and the shares at servers that are read of it.
 #[derive(Drop)]
@@ -77,6 +106,142 @@ impl Reading {
         &self.file
     }
 
+    /// Takes the first piece, where one is ready.
+    pub fn take_piece(&mut self) -> Option<Piece>
+        ensures taken { TakesPiece self.old.file.handout result self.new.file.handout }
+        ensures rest { self.new ≡ record self.old {
+          file = record self.old.file { handout = self.new.file.handout };
+        } }
+        ensures reading { (s : BeginningsState) → AreReading s self.old → AreReading s self.new }
+        ensures same { IsSameFile self.old.file self.new.file }
+    {
+        self.file.take_piece()
+    }
+
+    /// What proves the segments that were made, one after another: a part for each.
+    pub fn evidence_parts(
+        &self,
+        alloc: Global,
+        beginnings: &Beginnings,
+    ) -> Result<Vec<EvidencePart>, AllocError>
+        requires reads { IsRead beginnings.now.holdings.requests.entries self.now.file }
+        ensures all { IfOk result (λ parts. map (λ (p : EvidencePart). p.number) parts.items
+            ≡ range_with_len self.now.file.first (made_end self.now.file - self.now.file.first)) }
+        ensures by { IfOk result (λ parts. All (λ (p : EvidencePart).
+            IsSegmentBy self.now.file.handout.ueb p.number p.segment p.path) parts.items) }
+    {
+        let requests = beginnings.holdings().requests();
+        self.file.evidence_parts(alloc, requests)
+    }
+
+    /// A message brought this. What was read is taken, and a share that fails a check is blamed.
+    /// After an `Err` nothing is kept of the file but what `continues` says.
+    pub fn hear(
+        &mut self,
+        beginnings: &mut Beginnings,
+        cap: &VerifyCap,
+        news: News,
+    ) -> Result<(), AllocError>
+        requires heard { HasHeard beginnings.old self.old news }
+        ensures reading { OnOk result (AreReading beginnings.new self.new) }
+        ensures continues { Continues beginnings.old self.old beginnings.new self.new }
+        // Nothing is asked, and each blame has its cause.
+        ensures requests { beginnings.new.holdings.requests ≡ beginnings.old.holdings.requests }
+        ensures causes { AddsBlames (HasCause cap.now beginnings.old.holdings.requests.entries
+            self.old.file) beginnings.old.holdings.blamed beginnings.new.holdings.blamed }
+    {
+        self.end_gone(beginnings);
+        match news {
+            News::Nothing | News::Gone(_) => Ok(()),
+            News::Beginning(holding, place) => {
+                self.compare(beginnings, cap, holding, place)?;
+                self.take_of(beginnings, holding)
+            }
+            News::Bytes(holding, _) => self.take_of(beginnings, holding),
+        }
+    }
+
+    /// A second passed. The readers of shares that are lost are read no more.
+    pub fn pass(&mut self, beginnings: &Beginnings)
+        requires ticked { HasTicked beginnings.now self.old }
+        ensures reading { AreReading beginnings.now self.new }
+        ensures continues { Continues beginnings.now self.old beginnings.now self.new }
+    {
+        self.end_gone(beginnings);
+    }
+
+    /// Begins to read shares, asks for what is wanted of them, and makes segments, as far as the
+    /// answers allow.
+    pub fn settle(&mut self, beginnings: &mut Beginnings) -> Result<Settled, AllocError>
+        requires reading { AreReading beginnings.old self.old }
+        ensures reading { OnOk result (AreReading beginnings.new self.new) }
+        ensures continues { Continues beginnings.old self.old beginnings.new self.new }
+        ensures causes { AddsBlames (IsBlockFault beginnings.new.holdings.requests.entries
+            self.old.file) beginnings.old.holdings.blamed beginnings.new.holdings.blamed }
+        ensures complete { IfOk result (λ settled.
+            (settled ≡ Settled.Complete) ↔ IsComplete self.new.file) }
+        ensures inconsistent { result ≡ Ok Settled.Inconsistent
+            → IsNoCodeWord self.new.file.handout.ueb }
+        ensures waits { result ≡ Ok Settled.Waits
+            → 0 < outstanding_count beginnings.new.holdings.requests.entries }
+        // Nothing is waited for, and too few shares are left.
+        ensures too_few { result ≡ Ok Settled.TooFew → IsAtEnd beginnings.new self.new }
+    {
+        while !self.file.is_complete() {
+            match self.go_on(beginnings)? {
+                Made::Ready | Made::Wrong(_) => {}
+                Made::Inconsistent => return Ok(Settled::Inconsistent),
+                Made::Waits => return Ok(why_not(self, beginnings)),
+            }
+        }
+        Ok(Settled::Complete)
+    }
+
+    // Asks for what the next segment needs, and makes it where it is there.
+    fn go_on(&mut self, beginnings: &mut Beginnings) -> Result<Made, AllocError>
+        requires reading { AreReading beginnings.old self.old }
+        requires more { ¬ IsComplete self.old.file }
+        ensures reading { OnOk result (AreReading beginnings.new self.new) }
+        ensures continues { Continues beginnings.old self.old beginnings.new self.new }
+        ensures causes { AddsBlames (IsBlockFault beginnings.new.holdings.requests.entries
+            self.old.file) beginnings.old.holdings.blamed beginnings.new.holdings.blamed }
+        ensures inconsistent { result ≡ Ok Made.Inconsistent
+            → IsNoCodeWord self.new.file.handout.ueb }
+        ensures more { (made : Made) → result ≡ Ok made → made ≢ Made.Ready
+            → ¬ IsComplete self.new.file }
+        ensures stuck { result ≡ Ok Made.Waits → IsStuck beginnings.new self.new }
+        ensures ready { result ≡ Ok Made.Ready
+            → work beginnings.new self.new < work beginnings.old self.old }
+        ensures wrong { (reader : ℕ) → result ≡ Ok (Made.Wrong reader)
+            → work beginnings.new self.new < work beginnings.old self.old }
+    {
+        self.begin_more(beginnings)?;
+        self.ask_all(beginnings)?;
+        self.make(beginnings)
+    }
+
+    // Begins to read more shares, where fewer are read than are needed, and one may be chosen.
+    fn begin_more(&mut self, beginnings: &mut Beginnings) -> Result<(), AllocError>
+        requires reading { AreReading beginnings.old self.old }
+        requires more { ¬ IsComplete self.old.file }
+        ensures enough { OnOk result ((self.new.file.handout.geometry.needed
+            ≤ length self.new.file.live) ⊎ NoneIsFree beginnings.new.holdings.table) }
+        ensures handout { self.new.file.handout ≡ self.old.file.handout }
+        ensures held { OnOk result (beginnings.new.holdings.table.holdings
+            ≡ beginnings.old.holdings.table.holdings) }
+        ensures reading { OnOk result (AreReading beginnings.new self.new) }
+        ensures continues { Continues beginnings.old self.old beginnings.new self.new }
+        ensures blamed { beginnings.new.holdings.blamed ≡ beginnings.old.holdings.blamed }
+    {
+        while self.file.live().len() < usize::from(self.file.geometry().needed()) {
+            let Some(holding) = beginnings.holdings().choose() else {
+                return Ok(());
+            };
+            self.begin(beginnings, holding)?;
+        }
+        Ok(())
+    }
+
     // A holding is read from now on. It is free, and fewer are read than are needed.
     fn begin(&mut self, beginnings: &mut Beginnings, holding: usize) -> Result<(), AllocError>
         requires reading { AreReading beginnings.old self.old }
@@ -86,9 +251,12 @@ impl Reading {
         requires more { ¬ IsComplete self.old.file }
         ensures reading { OnOk result (AreReading beginnings.new self.new) }
         ensures continues { Continues beginnings.old self.old beginnings.new self.new }
+        ensures blamed { beginnings.new.holdings.blamed ≡ beginnings.old.holdings.blamed }
         ensures handout { self.new.file.handout ≡ self.old.file.handout }
         ensures live { OnOk result (length self.new.file.live
             ≡ length self.old.file.live + 1) }
+        ensures held { OnOk result (beginnings.new.holdings.table.holdings
+            ≡ beginnings.old.holdings.table.holdings) }
     {
         let share = beginnings.holdings().holdings()[holding].share;
         let reader = self.file.begin(share)?;
@@ -97,13 +265,202 @@ impl Reading {
         Ok(())
     }
 
-    /// The readers of shares that are not left any more are read no more.
-    pub fn end_gone(&mut self, beginnings: &Beginnings)
+    // Asks each reader that is read for what is wanted of it now.
+    fn ask_all(&mut self, beginnings: &mut Beginnings) -> Result<(), AllocError>
+        requires reading { AreReading beginnings.old self.old }
+        ensures reading { OnOk result (AreReading beginnings.new self.new) }
+        ensures continues { Continues beginnings.old self.old beginnings.new self.new }
+        ensures blamed { beginnings.new.holdings.blamed ≡ beginnings.old.holdings.blamed }
+        ensures asked_up { OnOk result ((reader : ℕ) → IsLive self.new.file reader
+            → IsAskedUp self.new.file reader) }
+        ensures live { OnOk result (self.new.file.live ≡ self.old.file.live) }
+        ensures handout { self.new.file.handout ≡ self.old.file.handout }
+        ensures table { OnOk result (beginnings.new.holdings.table
+            ≡ beginnings.old.holdings.table) }
+    {
+        for i in 0..self.file.live().len() {
+            let reader = self.file.live()[i];
+            self.ask(beginnings, reader)?;
+        }
+        Ok(())
+    }
+
+    // Asks a reader that is read for what is wanted of it now.
+    fn ask(&mut self, beginnings: &mut Beginnings, reader: usize) -> Result<(), AllocError>
+        requires reading { AreReading beginnings.old self.old }
+        requires live { IsLive self.old.file reader }
+        ensures reading { OnOk result (AreReading beginnings.new self.new) }
+        ensures continues { Continues beginnings.old self.old beginnings.new self.new }
+        ensures blamed { beginnings.new.holdings.blamed ≡ beginnings.old.holdings.blamed }
+        ensures asked_up { OnOk result (IsAskedUp self.new.file reader) }
+        ensures others { OnOk result ((other : ℕ)
+            → StaysAskedUp self.old.file self.new.file other) }
+        ensures live { OnOk result (self.new.file.live ≡ self.old.file.live) }
+        ensures handout { self.new.file.handout ≡ self.old.file.handout }
+        ensures table { OnOk result (beginnings.new.holdings.table
+            ≡ beginnings.old.holdings.table) }
+    {
+        let place = beginnings.holdings().requests().entries().len();
+        let wanted = self.file.wanted(reader, place)?;
+        ask_parts(beginnings, self.holdings[reader], &wanted)
+    }
+
+    // Makes the next segment. A share whose block of it is wrong is blamed.
+    fn make(&mut self, beginnings: &mut Beginnings) -> Result<Made, AllocError>
+        requires reading { AreReading beginnings.old self.old }
+        ensures reading { OnOk result (AreReading beginnings.new self.new) }
+        ensures continues { Continues beginnings.old self.old beginnings.new self.new }
+        ensures causes { AddsBlames (IsBlockFault beginnings.new.holdings.requests.entries
+            self.old.file) beginnings.old.holdings.blamed beginnings.new.holdings.blamed }
+        ensures inconsistent { result ≡ Ok Made.Inconsistent
+            → IsNoCodeWord self.old.file.handout.ueb }
+        ensures waits { result ≡ Ok Made.Waits → CanNotGoOn self.old.file }
+        ensures still { result ≡ Ok Made.Waits
+            → IsStill beginnings.old self.old beginnings.new self.new }
+        ensures handout { (made : Made) → result ≡ Ok made → made ≢ Made.Ready
+            → self.new.file.handout ≡ self.old.file.handout }
+        ensures ready { result ≡ Ok Made.Ready
+            → work beginnings.new self.new < work beginnings.old self.old }
+        ensures wrong { (reader : ℕ) → result ≡ Ok (Made.Wrong reader)
+            → work beginnings.new self.new < work beginnings.old self.old }
+    {
+        let made = self.file.make_next(beginnings.holdings().requests())?;
+        if let Made::Wrong(reader) = made {
+            self.blame(beginnings, reader, Check::Data)?;
+        }
+        Ok(made)
+    }
+
+    // The next bytes of the beginning of a share came. Its header is compared.
+    fn compare(
+        &mut self,
+        beginnings: &mut Beginnings,
+        cap: &VerifyCap,
+        holding: usize,
+        place: usize,
+    ) -> Result<(), AllocError>
+        requires told { IsTold (Some holding) beginnings.old self.old holding }
+        requires waits { WaitsAt beginnings.old holding place }
+        requires answered { (bytes : List ℕ)
+            × IsAnsweredBy beginnings.old.holdings.requests.entries place bytes }
+        ensures told { OnOk result (IsTold None beginnings.new self.new holding) }
+        ensures continues { Continues beginnings.old self.old beginnings.new self.new }
+        ensures requests { beginnings.new.holdings.requests ≡ beginnings.old.holdings.requests }
+        ensures causes { AddsBlames (IsBeginningFault cap.now self.old.file.handout.geometry
+            beginnings.old.holdings.requests.entries) beginnings.old.holdings.blamed
+            beginnings.new.holdings.blamed }
+    {
+        beginnings.compare(cap, self.file.geometry(), holding, place)?;
+        self.end_gone(beginnings);
+        Ok(())
+    }
+
+    // Takes what the reader of this holding, where it has one that is read, may take.
+    fn take_of(&mut self, beginnings: &mut Beginnings, holding: usize) -> Result<(), AllocError>
+        requires told { IsTold None beginnings.old self.old holding }
+        ensures reading { OnOk result (AreReading beginnings.new self.new) }
+        ensures continues { Continues beginnings.old self.old beginnings.new self.new }
+        ensures requests { beginnings.new.holdings.requests ≡ beginnings.old.holdings.requests }
+        ensures causes { AddsBlames (IsPartFault beginnings.old.holdings.requests.entries
+            self.old.file) beginnings.old.holdings.blamed beginnings.new.holdings.blamed }
+    {
+        let Some(reader) = beginnings.begun()[holding].reader else {
+            return Ok(());
+        };
+        if beginnings.holdings().holdings()[holding].left {
+            self.take(beginnings, reader)?;
+        }
+        Ok(())
+    }
+
+    // Takes the answers of the reader of a holding's share, one after another, as far as they are
+    // there. A share of which one is refused is blamed.
+    fn take(&mut self, beginnings: &mut Beginnings, reader: usize) -> Result<(), AllocError>
+        requires reading { AreReadingBut (Some reader) beginnings.old self.old }
+        requires live { IsLive self.old.file reader }
+        ensures reading { OnOk result (AreReading beginnings.new self.new) }
+        ensures continues { Continues beginnings.old self.old beginnings.new self.new }
+        ensures requests { beginnings.new.holdings.requests ≡ beginnings.old.holdings.requests }
+        ensures causes { AddsBlames (IsPartFault beginnings.old.holdings.requests.entries
+            self.old.file) beginnings.old.holdings.blamed beginnings.new.holdings.blamed }
+    {
+        while let Some(place) = self.file.first_waiting(reader) {
+            if !self.take_one(beginnings, reader, place)? {
+                return Ok(());
+            }
+        }
+        Ok(())
+    }
+
+    // Takes the answer to the request at this place, which is the first that waits of a reader.
+    // `false` where it is not there, or refused.
+    fn take_one(
+        &mut self,
+        beginnings: &mut Beginnings,
+        reader: usize,
+        place: usize,
+    ) -> Result<bool, AllocError>
+        requires reading { AreReadingBut (Some reader) beginnings.old self.old }
+        requires live { IsLive self.old.file reader }
+        requires waits { first_waiting self.old.file reader ≡ Some place }
+        ensures next { result ≡ Ok true
+            → AreReadingBut (Some reader) beginnings.new self.new }
+        ensures last { result ≡ Ok false → AreReading beginnings.new self.new }
+        ensures continues { Continues beginnings.old self.old beginnings.new self.new }
+        ensures requests { beginnings.new.holdings.requests ≡ beginnings.old.holdings.requests }
+        ensures causes { AddsBlames (IsPartFault beginnings.old.holdings.requests.entries
+            self.old.file) beginnings.old.holdings.blamed beginnings.new.holdings.blamed }
+        ensures live { result ≡ Ok true → IsLive self.new.file reader }
+        ensures taken { result ≡ Ok true → waiting_at self.new.file reader
+            ≡ drop 1 (waiting_at self.old.file reader) }
+    {
+        let Some(bytes) = bytes_at(beginnings.holdings().requests(), place) else {
+            return Ok(false);
+        };
+        match self.file.take(reader, bytes) {
+            Ok(()) => Ok(true),
+            Err(TreeFault::OutOfMemory) => Err(AllocError),
+            Err(TreeFault::Check(check)) => {
+                self.blame(beginnings, reader, check)?;
+                Ok(false)
+            }
+        }
+    }
+
+    // The share that a reader reads failed a check: it is read no more.
+    fn blame(
+        &mut self,
+        beginnings: &mut Beginnings,
+        reader: usize,
+        check: Check,
+    ) -> Result<(), AllocError>
+        requires reading { AreReadingBut (Some reader) beginnings.old self.old }
+        requires live { IsLive self.old.file reader }
+        ensures reading { OnOk result (AreReading beginnings.new self.new) }
+        ensures continues { Continues beginnings.old self.old beginnings.new self.new }
+        ensures requests { beginnings.new.holdings.requests ≡ beginnings.old.holdings.requests }
+        ensures adds { AddsBlames (IsBlameOf beginnings.old self.old reader check)
+            beginnings.old.holdings.blamed beginnings.new.holdings.blamed }
+        ensures handout { self.new.file.handout ≡ self.old.file.handout }
+        ensures fewer { OnOk result (left_count beginnings.new.holdings.table.holdings
+            < left_count beginnings.old.holdings.table.holdings) }
+    {
+        beginnings.blame(self.holdings[reader], check)?;
+        self.end_gone(beginnings);
+        Ok(())
+    }
+
+    // The readers of shares that are not left any more are read no more.
+    fn end_gone(&mut self, beginnings: &Beginnings)
         requires kept { AreKept beginnings.now self.old }
         requires live { (reader : ℕ) → IsLive self.old.file reader
             → IsReadNow beginnings.now self.old reader ⊎ IsGone beginnings.now self.old reader }
-        ensures reading { AreReading beginnings.now self.new }
+        ensures linked { AreLinked beginnings.now self.new }
         ensures continues { Continues beginnings.now self.old beginnings.now self.new }
+        ensures awaits { (but : Option ℕ) → AreAwaited but beginnings.now self.old
+            → AreAwaited but beginnings.now self.new }
+        ensures holdings { self.new.holdings ≡ self.old.holdings }
+        ensures handout { self.new.file.handout ≡ self.old.file.handout }
     {
         while let Some(reader) = self.first_gone(beginnings) {
             self.file.end(reader);
@@ -135,158 +492,4 @@ impl Reading {
     {
         !beginnings.holdings().holdings()[self.holdings[reader]].left
     }
-
-    /// Takes the answers of the reader of a holding's share, one after another, as far as they are
-    /// there. A share of which one is refused is blamed.
-    pub fn take(&mut self, beginnings: &mut Beginnings, reader: usize) -> Result<(), AllocError>
-        requires reading { AreReading beginnings.old self.old }
-        requires live { IsLive self.old.file reader }
-        ensures reading { OnOk result (AreReading beginnings.new self.new) }
-        ensures continues { Continues beginnings.old self.old beginnings.new self.new }
-    {
-        while let Some(place) = self.file.first_waiting(reader) {
-            if !self.take_one(beginnings, reader, place)? {
-                break;
-            }
-        }
-        Ok(())
-    }
-
-    // Takes the answer to the request at this place, which is the first that waits of a reader.
-    // `false` where it is not there, or refused.
-    fn take_one(
-        &mut self,
-        beginnings: &mut Beginnings,
-        reader: usize,
-        place: usize,
-    ) -> Result<bool, AllocError>
-        requires reading { AreReading beginnings.old self.old }
-        requires live { IsLive self.old.file reader }
-        requires waits { first_waiting self.old.file reader ≡ Some place }
-        ensures reading { OnOk result (AreReading beginnings.new self.new) }
-        ensures continues { Continues beginnings.old self.old beginnings.new self.new }
-        ensures live { result ≡ Ok true → IsLive self.new.file reader }
-        ensures taken { result ≡ Ok true → waiting_at self.new.file reader
-            ≡ drop 1 (waiting_at self.old.file reader) }
-    {
-        let Some(bytes) = bytes_at(beginnings.holdings().requests(), place) else {
-            return Ok(false);
-        };
-        match self.file.take(reader, bytes) {
-            Ok(()) => Ok(true),
-            Err(TreeFault::OutOfMemory) => Err(AllocError),
-            Err(TreeFault::Check(check)) => {
-                self.blame(beginnings, reader, check)?;
-                Ok(false)
-            }
-        }
-    }
-
-    // The share that a reader reads failed a check: it is read no more.
-    fn blame(
-        &mut self,
-        beginnings: &mut Beginnings,
-        reader: usize,
-        check: Check,
-    ) -> Result<(), AllocError>
-        requires reading { AreReading beginnings.old self.old }
-        requires live { IsLive self.old.file reader }
-        ensures reading { OnOk result (AreReading beginnings.new self.new) }
-        ensures continues { Continues beginnings.old self.old beginnings.new self.new }
-    {
-        beginnings.blame(self.holdings[reader], check)?;
-        self.end_gone(beginnings);
-        Ok(())
-    }
-
-    /// Begins to read more shares, where fewer are read than are needed, and one may be chosen.
-    pub fn begin_more(&mut self, beginnings: &mut Beginnings) -> Result<(), AllocError>
-        requires reading { AreReading beginnings.old self.old }
-        requires more { ¬ IsComplete self.old.file }
-        ensures enough { OnOk result ((self.new.file.handout.geometry.needed
-            ≤ length self.new.file.live) ⊎ NoneIsFree beginnings.new.holdings.table) }
-        ensures handout { self.new.file.handout ≡ self.old.file.handout }
-        ensures reading { OnOk result (AreReading beginnings.new self.new) }
-        ensures continues { Continues beginnings.old self.old beginnings.new self.new }
-    {
-        while self.file.live().len() < usize::from(self.file.geometry().needed()) {
-            let Some(holding) = beginnings.holdings().choose() else {
-                return Ok(());
-            };
-            self.begin(beginnings, holding)?;
-        }
-        Ok(())
-    }
-
-    /// Asks each reader that is read for what is wanted of it now.
-    pub fn ask_all(&mut self, beginnings: &mut Beginnings) -> Result<(), AllocError>
-        requires reading { AreReading beginnings.old self.old }
-        ensures reading { OnOk result (AreReading beginnings.new self.new) }
-        ensures continues { Continues beginnings.old self.old beginnings.new self.new }
-    {
-        for i in 0..self.file.live().len() {
-            let reader = self.file.live()[i];
-            self.ask(beginnings, reader)?;
-        }
-        Ok(())
-    }
-
-    /// Makes the next segment. A share whose block of it is wrong is blamed.
-    pub fn make(&mut self, beginnings: &mut Beginnings) -> Result<Made, AllocError>
-        requires reading { AreReading beginnings.old self.old }
-        ensures reading { IfOk result (λ _. AreReading beginnings.new self.new) }
-        ensures continues { Continues beginnings.old self.old beginnings.new self.new }
-    {
-        let made = self.file.make_next(beginnings.holdings().requests())?;
-        if let Made::Wrong(reader) = made {
-            self.blame(beginnings, reader, Check::Data)?;
-        }
-        Ok(made)
-    }
-
-    /// Asks a reader that is read for what is wanted of it now.
-    pub fn ask(&mut self, beginnings: &mut Beginnings, reader: usize) -> Result<(), AllocError>
-        requires reading { AreReading beginnings.old self.old }
-        requires live { IsLive self.old.file reader }
-        ensures reading { OnOk result (AreReading beginnings.new self.new) }
-        ensures continues { Continues beginnings.old self.old beginnings.new self.new }
-        ensures live { OnOk result (self.new.file.live ≡ self.old.file.live) }
-    {
-        reads_stay();
-        let place = beginnings.holdings().requests().entries().len();
-        let wanted = self.file.wanted(reader, place)?;
-        ask_parts(beginnings, self.holdings[reader], &wanted)
-    }
-}
-
-// Asks for these parts of the share of a holding, one after another.
-fn ask_parts(
-    beginnings: &mut Beginnings,
-    holding: usize,
-    wanted: &[Wanted],
-) -> Result<(), AllocError>
-    requires known { AreBegun beginnings.old }
-    requires there { holding < length beginnings.old.holdings.table.holdings }
-    requires few { All (λ w. (0 < w.read.length) × (w.read.length ≤ max_read)) wanted.now }
-    requires apart { AllPairs (λ v w.
-        AreApart v.read.place v.read.length w.read.place w.read.length) wanted.now }
-    requires fresh { All (λ w. IsUnasked beginnings.old.holdings holding w.read.place
-        w.read.length) wanted.now }
-    ensures asks { OnOk result (AsksParts holding wanted.now beginnings.old beginnings.new) }
-    ensures goes { GoesOn beginnings.old beginnings.new }
-    ensures grows { Grows beginnings.old beginnings.new }
-{
-    for part in wanted {
-        beginnings.ask(holding, part.read.place, length_of(part.read.length))?;
-    }
-    Ok(())
-}
-
-// The length of a read.
-fn length_of(length: u32) -> ReadLength
-    requires some { 0 < length }
-    requires few { length ≤ max_read }
-    ensures { result ≡ length }
-{
-    ReadLength::new(length).unwrap()
 }

@@ -13,3 +13,4 @@ pub mod Opened
 pub mod Going
 pub mod Accepting
 pub mod Bringing
+pub mod Caused

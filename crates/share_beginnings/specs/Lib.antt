@@ -4,3 +4,4 @@ pub mod Reads
 pub mod Known
 pub mod Opening
 pub mod Moves
+pub mod Causes

@@ -34,6 +34,10 @@ pub record GoesOn (old new : BeginningsState) : Type 0 where
   pub more : List Blame
   pub blamed : new.holdings.blamed ≡ old.holdings.blamed ++ more
 
+-- as many share numbers count
+abbrev pub CountsAsMany : BeginningsState → BeginningsState → Type 0
+CountsAsMany old new = length new.holdings.table.numbers ≡ length old.holdings.table.numbers
+
 -- the opening whose answer the holding waits for, at this place
 pub record Awaits (s : BeginningsState) (holding place : ℕ) (opening : Opening) : Type 0 where
   pub held : Holding

@@ -10,6 +10,7 @@ ghost use Rattle.share_opening.specs.Opening.{Advances, Agrees, next_length, nex
 ghost use Rattle.share_opening.specs.Refusal.{IsRefused};
 ghost use Rattle.share_opening.specs.declared.opening.Opening.{Opening};
 ghost use Rattle.request_record.specs.Asking.{after_message};
+ghost use Rattle.request_record.specs.Record.{TakesNext};
 ghost use Rattle.request_record.specs.declared.requests.Outcome.TheVariants.{Answered};
 ghost use Rattle.share_holdings.specs.Moves as holdings;
 ghost use Rattle.share_holdings.specs.Moves.{Asks, Begins, Blames, IsUnasked, Ticks};
@@ -17,8 +18,10 @@ ghost use Rattle.share_holdings.specs.Numbers.{read_count};
 ghost use Rattle.share_holdings.specs.Right.{IsRight};
 ghost use Rattle.share_holdings.specs.Table.{IsFree, IsHolding, IsTable};
 ghost use Rattle.share_holdings.specs.declared.holding.Holding.{Holding};
+ghost use Rattle.share_beginnings.specs.Causes.{AddsBlames, FailsAs, IsBeginningFault};
 ghost use Rattle.share_beginnings.specs.Known.{AreBegun};
-ghost use Rattle.share_beginnings.specs.Moves.{AsksNext, Awaits, BringsBytes, Compares, GoesOn};
+ghost use Rattle.share_beginnings.specs.Moves.{AsksNext, Awaits, BringsBytes, Compares};
+ghost use Rattle.share_beginnings.specs.Moves.{CountsAsMany, GoesOn};
 ghost use Rattle.share_beginnings.specs.Moves.{HearsNews, IsBlockAt, IsFilled, IsNewsOf};
 ghost use Rattle.share_beginnings.specs.Moves.{IsReaderOf, Rests};
 ghost use Rattle.share_beginnings.specs.Moves.{WaitsAt};
@@ -108,6 +111,17 @@ impl Beginnings {
         self.begun.as_slice()
     }
 
+    /// Takes the place of the first request to send.
+    pub fn take_next(&mut self) -> Option<usize>
+        ensures takes { TakesNext self.old.holdings.requests result self.new.holdings.requests }
+        ensures others { self.new ≡ record self.old {
+          holdings = record self.old.holdings { requests = self.new.holdings.requests };
+        } }
+        ensures right { IsRight self.new.holdings }
+    {
+        self.holdings.take_next()
+    }
+
     /// Takes a message from a server over, at a second, and says what it brings. After an `Err`
     /// nothing is kept of the beginnings but the record.
     pub fn take_answer(
@@ -156,6 +170,7 @@ impl Beginnings {
         ensures reads { OnOk result (read_count self.new.holdings.table.numbers
             ≡ read_count self.old.holdings.table.numbers + 1) }
         ensures goes { GoesOn self.old self.new }
+        ensures count { CountsAsMany self.old self.new }
     {
         self.holdings.take_up(holding);
         self.ask_next(holding, &Opening::start())
@@ -181,6 +196,7 @@ impl Beginnings {
         ensures block { IfOk result (λ o. IfSome o
             (IsBlockAt cap.now self.new.holdings.requests.entries place)) }
         ensures goes { GoesOn self.old self.new }
+        ensures count { CountsAsMany self.old self.new }
     {
         let Some(opening) = self.take_waiting(holding) else {
             return Ok(None);
@@ -212,6 +228,7 @@ impl Beginnings {
         ensures compared { OnOk result (AreCompared geometry.now self.new) }
         ensures requests { self.new.holdings.requests ≡ self.old.holdings.requests }
         ensures goes { GoesOn self.old self.new }
+        ensures count { CountsAsMany self.old self.new }
     {
         for holding in 0..self.begun.len() {
             self.compare_one(geometry, holding)?;
@@ -230,6 +247,7 @@ impl Beginnings {
             → OnOk result (AreComparedUpTo geometry.now found (holding + 1) self.new) }
         ensures requests { self.new.holdings.requests ≡ self.old.holdings.requests }
         ensures goes { GoesOn self.old self.new }
+        ensures count { CountsAsMany self.old self.new }
     {
         let begun = self.begun[holding];
         self.holdings.release(holding);
@@ -260,6 +278,8 @@ impl Beginnings {
         requires known { AreBegun self.old }
         ensures known { OnOk result (AreBegun self.new) }
         ensures compares { OnOk result (Compares holding self.old self.new) }
+        ensures causes { AddsBlames (IsBeginningFault cap.now geometry.now
+            self.old.holdings.requests.entries) self.old.holdings.blamed self.new.holdings.blamed }
         ensures requests { self.new.holdings.requests ≡ self.old.holdings.requests }
         ensures goes { GoesOn self.old self.new }
     {
@@ -288,6 +308,9 @@ impl Beginnings {
     ) -> Option<Check>
         requires answered { (bytes : List ℕ)
             × IsAnsweredBy self.now.holdings.requests.entries place bytes }
+        ensures { IfSome result (λ check. (bytes : List ℕ)
+            → IsAnsweredBy self.now.holdings.requests.entries place bytes
+            → FailsAs cap.now geometry.now opening.now bytes check) }
     {
         match self.read_on(cap, opening, place) {
             Err(error) => Some(error.check()),

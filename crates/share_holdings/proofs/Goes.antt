@@ -422,6 +422,14 @@ module _ (s : HoldingsState) (right : IsRight s) where
       let l = right.others place h.0 h.1 (sym h.4 ∙ left) in
       subst (λ (server : ℕ). IsGone s.requests.entries server g.share ⊎ IsBlamed s.blamed server g.share) (sym h.2) (subst (λ (share : ℕ). IsGone s.requests.entries h.0.server share ⊎ IsBlamed s.blamed h.0.server share) (sym h.3) l))
 
+  -- the record goes on, and each request is as it was
+  pub right_sent : (r : RequestsState) → r.entries ≡ s.requests.entries → IsRight (record s { requests = r })
+  right_sent r e = right_goes s right r s.table
+      (subst (GoesAlike s.requests.entries) (sym e) (record { stays = λ i q f quiet. f; alike = λ i n f. record { request = n; there = f; same = refl; of_server = refl }; long = refl }))
+      (same_pairs s.table) (subst AsksOnce (sym e) right.once)
+      (λ place g is left. subst (λ (es : List Request). IsLeft es s.blamed g.server g.share) (sym e) (right.left place g is left))
+      (λ place g is left. subst (λ (es : List Request). IsGone es g.server g.share ⊎ IsBlamed s.blamed g.server g.share) (sym e) (right.others place g is left))
+
   pub right_unmoved : (u : TableState) → u.holdings ≡ s.table.holdings → IsRight (record s { table = u })
   right_unmoved u e = right_same u (record {
     forth = λ place h is. (h, ap (λ (l : List Holding). slice_get l place) e ∙ is, refl, refl, refl);

@@ -7,7 +7,7 @@ use Rattle.wire.specs.declared.message.Message.{Message}
 use Rattle.request_record.specs.declared.requests.Asked.{Asked}
 use Rattle.request_record.specs.declared.requests.Outcome.TheVariants.{Answered, Lost}
 use Rattle.request_record.specs.declared.requests.Request.{Request}
-use Rattle.request_record.specs.Record.{RequestsState, age_of, answered_in, asked_all, asked_more, at, counted_at, counts_at, first_request, is_lost_at, is_outstanding, is_resent_at, passed, resent_one, ticked_one, with_outcome}
+use Rattle.request_record.specs.Record.{RequestsState, TakesNext, age_of, answered_in, asked_all, asked_more, at, counted_at, counts_at, first_request, is_lost_at, is_outstanding, is_resent_at, passed, resent_one, ticked_one, with_outcome}
 use Rattle.request_record.specs.Asking.{after_message, after_tick}
 use Rattle.request_record.proofs.RecordLaws.{counts_is, get_push}
 
@@ -128,3 +128,8 @@ alike_ticked now (x ∷ xs) (suc i) n e = let w = alike_ticked now xs i n e in r
 
 pub alike_tick : (now : ℕ) (s : RequestsState) → AskedAlike s.entries (after_tick now s).entries
 alike_tick now s = alike_ticked (max s.clock now) s.entries
+
+-- a request that is sent is as it was
+pub sent_entries : (old new : RequestsState) (o : Option ℕ) → TakesNext old o new → new.entries ≡ old.entries
+sent_entries old new None t = ap (λ (r : RequestsState). r.entries) t.1
+sent_entries old new (Some place) t = ap (λ (r : RequestsState). r.entries) t.1

@@ -6,7 +6,7 @@ ghost use Rattle.wire.specs.declared.message.Body.TheVariants.{NoShare};
 ghost use Rattle.std.specs.List.{IsDistinct};
 ghost use Rattle.wire.specs.Held.{AreRising};
 ghost use Rattle.request_record.specs.Asking.{after_message};
-ghost use Rattle.request_record.specs.Record.{asked_more};
+ghost use Rattle.request_record.specs.Record.{TakesNext, asked_more};
 ghost use Rattle.request_record.specs.declared.requests.Outcome.TheVariants.{Answered};
 ghost use Rattle.request_record.specs.declared.requests.Request.{Request};
 ghost use Rattle.share_holdings.specs.Moves.{Asks, Begins, Blames, Hears, IsUnasked};
@@ -103,6 +103,15 @@ impl Holdings {
         ensures right { IsRight self.now }
     {
         &self.requests
+    }
+
+    /// Takes the place of the first request to send.
+    pub fn take_next(&mut self) -> Option<usize>
+        ensures takes { TakesNext self.old.requests result self.new.requests }
+        ensures others { self.new ≡ record self.old { requests = self.new.requests } }
+        ensures right { IsRight self.new }
+    {
+        self.requests.take_next()
     }
 
     /// The holdings in the order in which they were told.

@@ -1,4 +1,6 @@
-use Rattle.std.proofs.Common.{List, refl, sym, subst, ap, arith}
+use Rattle.std.proofs.Common.{◌≡◌, ◌∙◌, ℕ, List, ◌++◌, length, None, refl, sym, subst, ap, arith}
+use Rattle.request_record.specs.Record.{RequestsState}
+use Rattle.share_holdings.specs.State.{HoldingsState}
 use Rattle.std.specs.Prelude.{All, AllPairs}
 use Rattle.std.proofs.lemmas.Option.{slice_get_within}
 use Rattle.share_holdings.specs.Moves.{IsUnasked}
@@ -6,11 +8,16 @@ use Rattle.share_holdings.proofs.Lists.{got}
 use Rattle.share_beginnings.proofs.Opened.{goes_none}
 use Rattle.share_beginnings.proofs.Results.{on_ok}
 use Rattle.download_source.specs.declared.wanted.Wanted.{Wanted}
-use Rattle.download_file.specs.State.{IsLive}
-use Rattle.download_reading.specs.Reading.{AreReading, IsOf}
+use Rattle.download_file.specs.State.{IsLive, placed, waiting_at}
+use Rattle.download_reading.specs.Reading.{AreLinked, AreReading, IsOf}
 use Rattle.download_reading.specs.State.{ReadingState}
 use Rattle.download_plan.specs.Laws.{AreApart}
-use Rattle.download_segments.specs.State.{HandoutState}
+use Rattle.download_file.specs.Asked.{IsAskedUp}
+use Rattle.download_file.specs.Changes.{StaysAskedUp}
+use Rattle.download_file.proofs.GrowLemmas.{reads_keep}
+use Rattle.download_reading.proofs.Awaited.{asked_awaits}
+use Rattle.download_reading.proofs.Busy.{busy_file, busy_goes}
+use Rattle.download_reading.proofs.Ended.{adds_none}
 use Rattle.download_reading.specs.Steps.{Continues}
 use Rattle.download_reading.specs.Steps as steps
 use Rattle.download_reading.proofs.Asked.{asked_reading, held_is, parts_unasked}
@@ -25,7 +32,7 @@ returns-in_err-wanted-clause-continues c =
     (record {
       goes = goes_none bs bs refl refl;
       same = c.in_err-wanted.ensures.same;
-      handed = ap (λ (h : HandoutState). h.handed) c.in_err-wanted.ensures.handout;
+      pieces = adds_none r.file.handout q.file.handout c.in_err-wanted.ensures.handout;
       answers = λ a. c.in_err-wanted.ensures.reads bs.holdings.requests.entries a;
     })
 
@@ -33,7 +40,7 @@ pub index-requires : goal.index-requires
 index-requires c =
     let bs = c.args.beginnings.now in
     let r : ReadingState = record { file = c.self.inside.file; holdings = c.self.inside.holdings.items } in
-    let reading : AreReading bs r = subst (AreReading bs) (sym c.self.view_is) c.requires.reading in
+    let reading : AreLinked bs r = subst (AreLinked bs) (sym c.self.view_is) c.requires.reading.linked in
     let live : IsLive r.file c.args.reader = subst (λ (x : ReadingState). IsLive x.file c.args.reader) (sym c.self.view_is) c.requires.live in
     (let k = reading.live c.args.reader live in let w = slice_get_within r.holdings c.args.reader k.holding k.of in let o = c.self.inside.holdings.ok.0 in omega (arith, w, o))
 
@@ -41,7 +48,7 @@ pub ask_parts-requires-clause-there : goal.ask_parts-requires-clause-there
 ask_parts-requires-clause-there c =
     let bs = c.args.beginnings.now in
     let r : ReadingState = record { file = c.self.inside.file; holdings = c.self.inside.holdings.items } in
-    let reading : AreReading bs r = subst (AreReading bs) (sym c.self.view_is) c.requires.reading in
+    let reading : AreLinked bs r = subst (AreLinked bs) (sym c.self.view_is) c.requires.reading.linked in
     let live : IsLive r.file c.args.reader = subst (λ (x : ReadingState). IsLive x.file c.args.reader) (sym c.self.view_is) c.requires.live in
     let of : IsOf r c.args.reader c.index.result.now = got r.holdings c.args.reader c.index.result.now (let k = reading.live c.args.reader live in slice_get_within r.holdings c.args.reader k.holding k.of) c.index.ensures in
     let h = held_is bs r c.wanted.new.self c.args.reader c.index.result.now c.in_ok-wanted.wanted.items reading live of c.in_ok-wanted.ensures.asks in
@@ -55,7 +62,7 @@ pub ask_parts-requires-clause-fresh : goal.ask_parts-requires-clause-fresh
 ask_parts-requires-clause-fresh c =
     let bs = c.args.beginnings.now in
     let r : ReadingState = record { file = c.self.inside.file; holdings = c.self.inside.holdings.items } in
-    let reading : AreReading bs r = subst (AreReading bs) (sym c.self.view_is) c.requires.reading in
+    let reading : AreLinked bs r = subst (AreLinked bs) (sym c.self.view_is) c.requires.reading.linked in
     let live : IsLive r.file c.args.reader = subst (λ (x : ReadingState). IsLive x.file c.args.reader) (sym c.self.view_is) c.requires.live in
     let of : IsOf r c.args.reader c.index.result.now = got r.holdings c.args.reader c.index.result.now (let k = reading.live c.args.reader live in slice_get_within r.holdings c.args.reader k.holding k.of) c.index.ensures in
     subst (λ (l : List Wanted). All (λ (w : Wanted). IsUnasked bs.holdings c.index.result.now w.read.place w.read.length) l) (sym c.deref.ensures.value)
@@ -65,14 +72,36 @@ pub returns-clause-reading : goal.returns-clause-reading
 returns-clause-reading c =
     let bs = c.args.beginnings.now in
     let r : ReadingState = record { file = c.self.inside.file; holdings = c.self.inside.holdings.items } in
-    let reading : AreReading bs r = subst (AreReading bs) (sym c.self.view_is) c.requires.reading in
+    let reading : AreLinked bs r = subst (AreLinked bs) (sym c.self.view_is) c.requires.reading.linked in
     let live : IsLive r.file c.args.reader = subst (λ (x : ReadingState). IsLive x.file c.args.reader) (sym c.self.view_is) c.requires.live in
     let of : IsOf r c.args.reader c.index.result.now = got r.holdings c.args.reader c.index.result.now (let k = reading.live c.args.reader live in slice_get_within r.holdings c.args.reader k.holding k.of) c.index.ensures in
     let q : ReadingState = record { file = c.wanted.new.self; holdings = c.self.inside.holdings.items } in
-    on_ok c.ask_parts.result _ (AreReading c.ask_parts.new.beginnings q) c.ask_parts.ensures.asks
-    (λ done. asked_reading bs r c.wanted.new.self c.args.reader c.index.result.now c.in_ok-wanted.wanted.items reading live of c.in_ok-wanted.ensures.asks c.ask_parts.new.beginnings
-    (subst (λ (l : List Wanted). steps.AsksParts c.index.result.now l bs c.ask_parts.new.beginnings) c.deref.ensures.value done) c.ask_parts.ensures.grows c.in_ok-wanted.ensures.right c.reads_stay.ensures
-    c.in_ok-wanted.ensures.reads c.in_ok-wanted.ensures.live c.in_ok-wanted.ensures.shares c.in_ok-wanted.ensures.same.geometry)
+    let f = c.wanted.new.self in
+    let t = c.ask_parts.new.beginnings in
+    let k = c.in_ok-wanted.ensures in
+    let before : AreReading bs r = subst (AreReading bs) (sym c.self.view_is) c.requires.reading in
+    let place : length c.entries-place.result.now ≡ length bs.holdings.requests.entries = ap length (c.entries-place.ensures.value ∙ ap (λ (x : RequestsState). x.entries) (c.requests.ensures.value ∙ ap (λ (x : HoldingsState). x.requests) c.holdings.ensures)) in
+    on_ok c.ask_parts.result _ (AreReading t q) c.ask_parts.ensures.asks
+    (λ done.
+    let asks = subst (λ (l : List Wanted). steps.AsksParts c.index.result.now l bs t) c.deref.ensures.value done in
+    record {
+      linked = asked_reading bs r f c.args.reader c.index.result.now c.in_ok-wanted.wanted.items reading live of k.asks t asks c.ask_parts.ensures.grows k.right reads_keep k.reads k.live k.shares k.same.geometry;
+      awaits = asked_awaits bs t r f c.args.reader c.index.result.now c.in_ok-wanted.wanted.items before.awaits of asks c.ask_parts.ensures.goes k.live
+          (subst (λ n. waiting_at f c.args.reader ≡ waiting_at r.file c.args.reader ++ placed n c.in_ok-wanted.wanted.items) place k.waits) k.others;
+      busy = busy_file None t r q refl (busy_goes bs t r before.busy asks.table asks.begun c.ask_parts.ensures.goes);
+    })
+
+pub returns-clause-asked_up : goal.returns-clause-asked_up
+returns-clause-asked_up c = on_ok c.ask_parts.result _ (IsAskedUp c.wanted.new.self c.args.reader) c.ask_parts.ensures.asks (λ done. c.in_ok-wanted.ensures.asked_up)
+
+pub returns-clause-others : goal.returns-clause-others
+returns-clause-others c =
+    on_ok c.ask_parts.result _ ((other : ℕ) → StaysAskedUp c.args.self.now.file c.wanted.new.self other) c.ask_parts.ensures.asks
+    (λ done other. subst (λ (x : ReadingState). StaysAskedUp x.file c.wanted.new.self other) c.self.view_is (c.in_ok-wanted.ensures.others_asked_up other))
+
+pub returns-clause-table : goal.returns-clause-table
+returns-clause-table c =
+    on_ok c.ask_parts.result _ (c.ask_parts.new.beginnings.holdings.table ≡ c.args.beginnings.now.holdings.table) c.ask_parts.ensures.asks (λ done. done.table)
 
 pub returns-clause-continues : goal.returns-clause-continues
 returns-clause-continues c =
@@ -83,6 +112,6 @@ returns-clause-continues c =
     (record {
       goes = c.ask_parts.ensures.goes;
       same = c.in_ok-wanted.ensures.same;
-      handed = ap (λ (h : HandoutState). h.handed) c.in_ok-wanted.ensures.handout;
-      answers = λ a. c.reads_stay.ensures bs.holdings.requests.entries c.ask_parts.new.beginnings.holdings.requests.entries c.wanted.new.self c.ask_parts.ensures.grows.stays (c.in_ok-wanted.ensures.reads bs.holdings.requests.entries a);
+      pieces = adds_none r.file.handout q.file.handout c.in_ok-wanted.ensures.handout;
+      answers = λ a. reads_keep bs.holdings.requests.entries c.ask_parts.new.beginnings.holdings.requests.entries c.wanted.new.self c.ask_parts.ensures.grows.stays (c.in_ok-wanted.ensures.reads bs.holdings.requests.entries a);
     })

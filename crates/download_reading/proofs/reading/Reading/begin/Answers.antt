@@ -8,13 +8,15 @@ use Rattle.share_holdings.specs.declared.holding.Holding.{Holding}
 use Rattle.share_beginnings.specs.State.{BeginningsState}
 use Rattle.share_beginnings.proofs.Entries.{same_of}
 use Rattle.share_beginnings.proofs.Opened.{goes_none}
-use Rattle.download_segments.specs.State.{HandoutState}
 use Rattle.download_file.specs.Answers.{IsRead}
 use Rattle.download_file.specs.State.{ReaderState, shares}
-use Rattle.download_reading.specs.Reading.{AreReading}
+use Rattle.download_reading.specs.Reading.{AreLinked, AreReading}
 use Rattle.download_reading.specs.State.{ReadingState}
 use Rattle.download_reading.specs.Steps.{Continues}
+use Rattle.download_reading.proofs.Awaited.{begun_awaits}
 use Rattle.download_reading.proofs.Begun.{begun_reading, free_not_taken}
+use Rattle.download_reading.proofs.Busy.{busy_begun}
+use Rattle.download_reading.proofs.Ended.{adds_none}
 use Rattle.download_reading.proofs.reading.Reading.begin.Goals as goal
 
 abbrev nobody : Holding
@@ -32,14 +34,14 @@ begin-requires-clause-there c =
     let same = share_of bs c.holdings.result.now c.holdings-2.result.now c.args.holding h c.holdings.ensures c.holdings-2.ensures.value c.requires.free.1 in
     let table : IsTable bs.holdings.table = subst (λ (x : HoldingsState). IsTable x.table) c.holdings.ensures c.holdings-2.ensures.table in
     let below = table.below c.args.holding h c.requires.free.1 in
-    let total = c.requires.reading.kept.total ∙ ap (λ (x : ReadingState). x.file.handout.geometry.total) (sym c.self.view_is) in
+    let total = c.requires.reading.linked.kept.total ∙ ap (λ (x : ReadingState). x.file.handout.geometry.total) (sym c.self.view_is) in
     omega (arith, same, below, total)
 
 pub begin-requires-clause-unread : goal.begin-requires-clause-unread
 begin-requires-clause-unread c reader x alive is same =
     let bs = c.args.beginnings.now in
     let r : ReadingState = record { file = c.self.inside.file; holdings = c.self.inside.holdings.items } in
-    let reading : AreReading bs r = subst (AreReading bs) (sym c.self.view_is) c.requires.reading in
+    let reading : AreLinked bs r = subst (AreLinked bs) (sym c.self.view_is) c.requires.reading.linked in
     let h = c.requires.free.0 in
     let now = reading.live reader alive in
     let k = reading.kept.forth reader now.holding now.of in
@@ -57,7 +59,7 @@ returns-in_err-reader-clause-continues c =
     (record {
       goes = goes_none bs bs refl refl;
       same = c.in_err-reader.ensures.same;
-      handed = ap (λ (h : HandoutState). h.handed) c.in_err-reader.ensures.handout;
+      pieces = adds_none r.file.handout c.begin.new.self.handout c.in_err-reader.ensures.handout;
       answers = λ a. c.in_err-reader.ensures.reads bs.holdings.requests.entries a;
     })
 
@@ -69,21 +71,27 @@ returns-in_err-push-clause-continues c =
     (record {
       goes = goes_none bs bs refl refl;
       same = c.in_ok-reader.ensures.same;
-      handed = ap (λ (h : HandoutState). h.handed) c.in_ok-reader.ensures.handout;
+      pieces = adds_none c.self.inside.file.handout c.begin.new.self.handout c.in_ok-reader.ensures.handout;
       answers = λ a. c.in_ok-reader.ensures.reads bs.holdings.requests.entries a;
     })
 
 pub returns-clause-reading : goal.returns-clause-reading
 returns-clause-reading c =
     let bs = c.args.beginnings.now in
+    let t = c.begin_reader.new.self in
     let r : ReadingState = record { file = c.self.inside.file; holdings = c.self.inside.holdings.items } in
-    let reading : AreReading bs r = subst (AreReading bs) (sym c.self.view_is) c.requires.reading in
+    let before : AreReading bs r = subst (AreReading bs) (sym c.self.view_is) c.requires.reading in
     let h = c.requires.free.0 in
+    let k = c.in_ok-reader.ensures in
+    let is = c.begin_reader.ensures.reader in
     let share = share_of bs c.holdings.result.now c.holdings-2.result.now c.args.holding h c.holdings.ensures c.holdings-2.ensures.value c.requires.free.1 in
-    subst (λ (l : List ℕ). AreReading c.begin_reader.new.self (record { file = c.begin.new.self; holdings = l })) (sym c.in_ok-push.ensures.items)
-    (begun_reading bs c.begin_reader.new.self r c.begin.new.self c.args.holding h reading c.requires.free.1 c.requires.free.2 c.in_ok-reader.reader c.in_ok-reader.ensures.place
-    (c.in_ok-reader.ensures.shares ∙ ap (λ n. shares r.file ++ n ∷ []) share) c.in_ok-reader.ensures.live c.in_ok-reader.ensures.asked c.in_ok-reader.ensures.reads c.in_ok-reader.ensures.right
-    c.in_ok-reader.ensures.same.geometry c.begin_reader.ensures.known c.begin_reader.ensures.reader)
+    subst (λ (l : List ℕ). AreReading t (record { file = c.begin.new.self; holdings = l })) (sym c.in_ok-push.ensures.items)
+    (record {
+      linked = begun_reading bs t r c.begin.new.self c.args.holding h before.linked c.requires.free.1 c.requires.free.2 c.in_ok-reader.reader k.place
+          (k.shares ∙ ap (λ n. shares r.file ++ n ∷ []) share) k.live k.asked k.reads k.right k.same.geometry c.begin_reader.ensures.known is;
+      awaits = begun_awaits bs t r c.begin.new.self c.args.holding before.linked before.awaits (ap (λ (x : HoldingsState). x.requests) is.holdings) is.takes.2 k.live k.waiting;
+      busy = busy_begun bs t r (record { file = c.begin.new.self; holdings = r.holdings ++ c.args.holding ∷ [] }) c.args.holding c.in_ok-reader.reader before.busy is (k.place ∙ sym before.linked.kept.linked) refl;
+    })
 
 pub returns-clause-continues : goal.returns-clause-continues
 returns-clause-continues c =
@@ -94,7 +102,7 @@ returns-clause-continues c =
     (record {
       goes = goes_none bs t (ap (λ (x : HoldingsState). x.requests) e) (ap (λ (x : HoldingsState). x.blamed) e);
       same = c.in_ok-reader.ensures.same;
-      handed = ap (λ (h : HandoutState). h.handed) c.in_ok-reader.ensures.handout;
+      pieces = adds_none c.self.inside.file.handout c.begin.new.self.handout c.in_ok-reader.ensures.handout;
       answers = λ a. subst (λ (x : HoldingsState). IsRead x.requests.entries c.begin.new.self) (sym e) (c.in_ok-reader.ensures.reads bs.holdings.requests.entries a);
     })
 
@@ -103,3 +111,9 @@ returns-clause-live c =
     let e = ap length c.in_ok-reader.ensures.live in
     let l = ap (λ (x : ReadingState). length x.file.live) c.self.view_is in
     omega (arith, e, l, length-append c.self.inside.file.live (length c.self.inside.file.readers ∷ []))
+
+pub returns-clause-held : goal.returns-clause-held
+returns-clause-held c = c.begin_reader.ensures.reader.takes.2
+
+pub returns-clause-blamed : goal.returns-clause-blamed
+returns-clause-blamed c = ap (λ (x : HoldingsState). x.blamed) c.begin_reader.ensures.reader.holdings

@@ -8,7 +8,7 @@ use Rattle.download_reading.proofs.Ended.{continues_none, continues_trans}
 use Rattle.download_reading.proofs.reading.Reading.begin_more.Goals as goal
 
 pub loop-self-init : goal.loop-self-init
-loop-self-init c = record { reading = c.requires.reading; handout = refl; continues = continues_none c.args.beginnings.now c.args.self.now }
+loop-self-init c = record { reading = c.requires.reading; handout = refl; blamed = refl; held = refl; continues = continues_none c.args.beginnings.now c.args.self.now }
 
 pub returns-in_default-clause-enough : goal.returns-in_default-clause-enough
 returns-in_default-clause-enough c = inr (subst (λ (x : HoldingsState). NoneIsFree x.table) c.holdings.ensures c.in_default.ensures.none)
@@ -27,6 +27,8 @@ pub loop-self-preserved : goal.loop-self-preserved
 loop-self-preserved c = record {
   reading = c.in_ok-begin.ensures.reading;
   handout = c.in_ok-begin.ensures.handout ∙ c.loop-self.invariant.handout;
+  blamed = c.in_ok-begin.ensures.blamed ∙ c.loop-self.invariant.blamed;
+  held = c.in_ok-begin.ensures.held ∙ c.loop-self.invariant.held;
   continues = continues_trans c.args.beginnings.now c.loop-self.beginnings c.begin.new.beginnings c.args.self.now c.loop-self.self c.begin.new.self c.loop-self.invariant.continues c.in_ok-begin.ensures.continues;
 }
 

@@ -7,6 +7,8 @@ abbrev pub invariant-loop-self : goal.invariant-loop-self
 invariant-loop-self l = record {
   reading : AreReading l.beginnings l.self;
   handout : l.self.file.handout ≡ l.initial.self.file.handout;
+  blamed : l.beginnings.holdings.blamed ≡ l.initial.beginnings.holdings.blamed;
+  held : l.beginnings.holdings.table.holdings ≡ l.initial.beginnings.holdings.table.holdings;
   continues : Continues l.initial.beginnings l.initial.self l.beginnings l.self;
 }
 

@@ -1,6 +1,6 @@
-use Rattle.std.proofs.Common.{length, ℕ, ◌⊎◌}
+use Rattle.std.proofs.Common.{◌≡◌, length, ℕ, ◌⊎◌, Option}
 use Rattle.download_file.specs.State.{IsLive}
-use Rattle.download_reading.specs.Reading.{AreKept, IsGone, IsReadNow}
+use Rattle.download_reading.specs.Reading.{AreAwaited, AreKept, IsGone, IsReadNow}
 use Rattle.download_reading.specs.Steps.{Continues}
 use Rattle.download_reading.proofs.reading.Reading.end_gone.Given as goal
 
@@ -9,6 +9,9 @@ invariant-loop-reader l = record {
   kept : AreKept l.beginnings l.self;
   live : (reader : ℕ) → IsLive l.self.file reader → IsReadNow l.beginnings l.self reader ⊎ IsGone l.beginnings l.self reader;
   continues : Continues l.beginnings l.initial.self l.beginnings l.self;
+  awaits : (but : Option ℕ) → AreAwaited but l.beginnings l.initial.self → AreAwaited but l.beginnings l.self;
+  holdings : l.self.holdings ≡ l.initial.self.holdings;
+  handout : l.self.file.handout ≡ l.initial.self.file.handout;
 }
 
 abbrev pub decreases-loop-reader : goal.decreases-loop-reader

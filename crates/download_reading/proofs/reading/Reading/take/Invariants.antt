@@ -1,13 +1,17 @@
-use Rattle.std.proofs.Common.{length}
+use Rattle.std.proofs.Common.{◌≡◌, length, Some}
 use Rattle.download_file.specs.State.{IsLive, waiting_at}
-use Rattle.download_reading.specs.Reading.{AreReading}
+use Rattle.download_reading.specs.Reading.{AreReadingBut}
+use Rattle.share_beginnings.specs.Causes.{AddsBlames}
+use Rattle.download_reading.specs.Causes.{IsPartFault}
 use Rattle.download_reading.specs.Steps.{Continues}
 use Rattle.download_reading.proofs.reading.Reading.take.Given as goal
 
 abbrev pub invariant-loop-place : goal.invariant-loop-place
 invariant-loop-place l = record {
-  reading : AreReading l.beginnings l.self;
+  reading : AreReadingBut (Some l.reader) l.beginnings l.self;
   live : IsLive l.self.file l.reader;
+  requests : l.beginnings.holdings.requests ≡ l.initial.beginnings.holdings.requests;
+  causes : AddsBlames (IsPartFault l.initial.beginnings.holdings.requests.entries l.initial.self.file) l.initial.beginnings.holdings.blamed l.beginnings.holdings.blamed;
   continues : Continues l.initial.beginnings l.initial.self l.beginnings l.self;
 }
 

@@ -1,18 +1,30 @@
-use Rattle.std.proofs.Common.{◌≡◌, ◌∙◌, ℕ, List, Some, refl, sym, subst, ap}
+use Rattle.share_beginnings.proofs.Caused.{adds_none}
+use Rattle.std.specs.Prelude.{Err}
+use Rattle.download_file.specs.Taking.{IsRefused}
+use Rattle.download_reading.specs.Causes.{IsBlameOf, IsPartFault}
+use Rattle.download_reading.proofs.Causes.{adds_as, part_fault}
+use Rattle.std.proofs.Common.{◌≡◌, ◌∙◌, ℕ, List, [], Some, None, refl, sym, subst, ap}
+use Rattle.std.proofs.lemmas.List.{append-nil}
 use Rattle.request_record.specs.Record.{RequestsState}
 use Rattle.share_holdings.specs.State.{HoldingsState}
 use Rattle.share_beginnings.specs.Reads.{IsAnsweredBy}
 use Rattle.share_beginnings.specs.State.{BeginningsState}
+use Rattle.share_beginnings.proofs.Entries.{same_of}
 use Rattle.share_beginnings.proofs.Opened.{goes_none}
 use Rattle.download_segments.specs.State.{HandoutState}
 use Rattle.download_file.specs.Answers.{AnsweredWith}
 use Rattle.download_file.specs.State.{FileState, first_waiting}
-use Rattle.download_reading.specs.Reading.{AreReading}
+use Rattle.download_reading.specs.Reading.{AreReadingBut}
 use Rattle.download_reading.specs.State.{ReadingState}
 use Rattle.download_reading.specs.Steps.{Continues}
+use Rattle.download_reading.proofs.Awaited.{awaits_last, taken_awaits, unanswered}
+use Rattle.download_reading.proofs.Busy.{busy_file}
 use Rattle.download_reading.proofs.Ended.{continues_none}
 use Rattle.download_reading.proofs.Fallen.{file_goes}
 use Rattle.download_reading.proofs.reading.Reading.take_one.Goals as goal
+
+answered_by : (bs : BeginningsState) (hs : HoldingsState) (rs : RequestsState) (place : ℕ) (bytes : List ℕ) → hs ≡ bs.holdings → rs ≡ hs.requests → IsAnsweredBy rs.entries place bytes → IsAnsweredBy bs.holdings.requests.entries place bytes
+answered_by bs hs rs place bytes e f a = subst (λ (q : RequestsState). IsAnsweredBy q.entries place bytes) (f ∙ ap (λ (x : HoldingsState). x.requests) e) a
 
 -- the bytes stand in the record
 answered : (bs : BeginningsState) (hs : HoldingsState) (rs : RequestsState) (place : ℕ) (bytes : List ℕ) → hs ≡ bs.holdings → rs ≡ hs.requests → IsAnsweredBy rs.entries place bytes → AnsweredWith bs.holdings.requests.entries place bytes
@@ -23,16 +35,36 @@ answered bs hs rs place bytes e f a =
 pub returns-in_default-clause-continues : goal.returns-in_default-clause-continues
 returns-in_default-clause-continues c = continues_none c.args.beginnings.now c.args.self.now
 
-pub returns-in-Ok-clause-reading : goal.returns-in-Ok-clause-reading
-returns-in-Ok-clause-reading c =
+pub returns-in_default-clause-last : goal.returns-in_default-clause-last
+returns-in_default-clause-last c e =
+    let bs = c.args.beginnings.now in
+    let r = c.args.self.now in
+    let before = c.requires.reading in
+    record {
+      linked = before.linked;
+      awaits = awaits_last bs r c.args.reader before.awaits (λ place h k first.
+          unanswered bs r (Some c.args.reader) c.args.reader place h before.awaits k first
+          (λ bytes a. c.in_default.ensures.none bytes
+          (subst (λ p. IsAnsweredBy c.requests.result.now.entries p bytes) (same_of (first_waiting r.file c.args.reader) place c.args.place first c.requires.waits)
+          (subst (λ (q : RequestsState). IsAnsweredBy q.entries place bytes) (sym (c.requests.ensures.value ∙ ap (λ (x : HoldingsState). x.requests) c.holdings.ensures)) a))));
+      busy = before.busy;
+    }
+
+pub returns-in-Ok-clause-next : goal.returns-in-Ok-clause-next
+returns-in-Ok-clause-next c e =
     let bs = c.args.beginnings.now in
     let r : ReadingState = record { file = c.self.inside.file; holdings = c.self.inside.holdings.items } in
-    let reading : AreReading bs r = subst (AreReading bs) (sym c.self.view_is) c.requires.reading in
+    let q : ReadingState = record { file = c.take.new.self; holdings = c.self.inside.holdings.items } in
+    let before : AreReadingBut (Some c.args.reader) bs r = subst (AreReadingBut (Some c.args.reader) bs) (sym c.self.view_is) c.requires.reading in
     let waits : first_waiting r.file c.args.reader ≡ Some c.args.place = subst (λ (x : ReadingState). first_waiting x.file c.args.reader ≡ Some c.args.place) (sym c.self.view_is) c.requires.waits in
-    file_goes bs r c.take.new.self reading c.in-Ok.ensures.live c.in-Ok.ensures.shares c.in-Ok.ensures.asked
-    (c.in-Ok.ensures.reads bs.holdings.requests.entries c.args.place reading.kept.answers waits
-    (answered bs c.holdings.result.now c.requests.result.now c.args.place c.in-Some.bytes.now c.holdings.ensures c.requests.ensures.value c.in-Some.ensures.some))
-    c.in-Ok.ensures.right c.in-Ok.ensures.same.geometry
+    record {
+      linked = file_goes bs r c.take.new.self before.linked c.in-Ok.ensures.live c.in-Ok.ensures.shares c.in-Ok.ensures.asked
+          (c.in-Ok.ensures.reads bs.holdings.requests.entries c.args.place before.linked.kept.answers waits
+          (answered bs c.holdings.result.now c.requests.result.now c.args.place c.in-Some.bytes.now c.holdings.ensures c.requests.ensures.value c.in-Some.ensures.some))
+          c.in-Ok.ensures.right c.in-Ok.ensures.same.geometry;
+      awaits = taken_awaits bs r c.take.new.self c.args.reader before.awaits c.in-Ok.ensures.live c.in-Ok.ensures.others c.in-Ok.ensures.taken;
+      busy = busy_file None bs r q refl before.busy;
+    }
 
 pub returns-in-Ok-clause-continues : goal.returns-in-Ok-clause-continues
 returns-in-Ok-clause-continues c =
@@ -43,7 +75,7 @@ returns-in-Ok-clause-continues c =
     (record {
       goes = goes_none bs bs refl refl;
       same = c.in-Ok.ensures.same;
-      handed = ap (λ (h : HandoutState). h.handed) c.in-Ok.ensures.handout.handout;
+      pieces = record { handed = ap (λ (h : HandoutState). h.handed) c.in-Ok.ensures.handout.handout; more = []; ready = ap (λ (h : HandoutState). h.ready) c.in-Ok.ensures.handout.handout ∙ sym (append-nil c.self.inside.file.handout.ready) };
       answers = λ a. c.in-Ok.ensures.reads bs.holdings.requests.entries c.args.place a waits
           (answered bs c.holdings.result.now c.requests.result.now c.args.place c.in-Some.bytes.now c.holdings.ensures c.requests.ensures.value c.in-Some.ensures.some);
     })
@@ -54,3 +86,42 @@ returns-in-Err-OutOfMemory-clause-continues c =
     let q : ReadingState = record { file = c.take.new.self; holdings = c.self.inside.holdings.items } in
     subst (λ (x : ReadingState). Continues bs x bs q) c.self.view_is
     (subst (λ (f : FileState). Continues bs (record { file = f; holdings = c.self.inside.holdings.items }) bs q) c.in-Err-OutOfMemory.ensures.unchanged (continues_none bs q))
+
+pub returns-in_default-clause-causes : goal.returns-in_default-clause-causes
+returns-in_default-clause-causes c =
+    let bs = c.args.beginnings.now in
+    adds_none (IsPartFault bs.holdings.requests.entries c.args.self.now.file) bs.holdings.blamed bs.holdings.blamed refl
+
+pub returns-in-Ok-clause-causes : goal.returns-in-Ok-clause-causes
+returns-in-Ok-clause-causes c =
+    let bs = c.args.beginnings.now in
+    adds_none (IsPartFault bs.holdings.requests.entries c.args.self.now.file) bs.holdings.blamed bs.holdings.blamed refl
+
+pub returns-in-Err-OutOfMemory-clause-causes : goal.returns-in-Err-OutOfMemory-clause-causes
+returns-in-Err-OutOfMemory-clause-causes c =
+    let bs = c.args.beginnings.now in
+    adds_none (IsPartFault bs.holdings.requests.entries c.args.self.now.file) bs.holdings.blamed bs.holdings.blamed refl
+
+pub returns-in_err-blame-in-Err-Check-clause-causes : goal.returns-in_err-blame-in-Err-Check-clause-causes
+returns-in_err-blame-in-Err-Check-clause-causes c =
+    let bs = c.args.beginnings.now in
+    let r = c.args.self.now in
+    let same : record { file = c.take.new.self; holdings = c.self.inside.holdings.items } ≡ r = ap (λ (f : FileState). record { file = f; holdings = c.self.inside.holdings.items }) c.in-Err-Check.ensures.unchanged ∙ c.self.view_is in
+    let refused = subst (λ (x : ReadingState). IsRefused x.file c.args.reader c.in-Some.bytes.now c.in-Err-Check.check) c.self.view_is (c.in-Err-Check.ensures.refused c.in-Err-Check.check (ap Err c.in-Err-Check.field-0-is)) in
+    let a = answered_by bs c.holdings.result.now c.requests.result.now c.args.place c.in-Some.bytes.now c.holdings.ensures c.requests.ensures.value c.in-Some.ensures.some in
+    adds_as (IsBlameOf bs (record { file = c.take.new.self; holdings = c.self.inside.holdings.items }) c.args.reader c.in-Err-Check.check) (IsPartFault bs.holdings.requests.entries r.file) bs.holdings.blamed c.blame.new.beginnings.holdings.blamed
+    (λ b k. part_fault (Some c.args.reader) bs r c.args.reader c.args.place c.in-Err-Check.check c.in-Some.bytes.now b c.requires.reading c.requires.live c.requires.waits a refused
+    (subst (λ (x : ReadingState). IsBlameOf bs x c.args.reader c.in-Err-Check.check b) same k))
+    c.blame.ensures.adds
+
+pub returns-in_ok-blame-in-Err-Check-clause-causes : goal.returns-in_ok-blame-in-Err-Check-clause-causes
+returns-in_ok-blame-in-Err-Check-clause-causes c =
+    let bs = c.args.beginnings.now in
+    let r = c.args.self.now in
+    let same : record { file = c.take.new.self; holdings = c.self.inside.holdings.items } ≡ r = ap (λ (f : FileState). record { file = f; holdings = c.self.inside.holdings.items }) c.in-Err-Check.ensures.unchanged ∙ c.self.view_is in
+    let refused = subst (λ (x : ReadingState). IsRefused x.file c.args.reader c.in-Some.bytes.now c.in-Err-Check.check) c.self.view_is (c.in-Err-Check.ensures.refused c.in-Err-Check.check (ap Err c.in-Err-Check.field-0-is)) in
+    let a = answered_by bs c.holdings.result.now c.requests.result.now c.args.place c.in-Some.bytes.now c.holdings.ensures c.requests.ensures.value c.in-Some.ensures.some in
+    adds_as (IsBlameOf bs (record { file = c.take.new.self; holdings = c.self.inside.holdings.items }) c.args.reader c.in-Err-Check.check) (IsPartFault bs.holdings.requests.entries r.file) bs.holdings.blamed c.blame.new.beginnings.holdings.blamed
+    (λ b k. part_fault (Some c.args.reader) bs r c.args.reader c.args.place c.in-Err-Check.check c.in-Some.bytes.now b c.requires.reading c.requires.live c.requires.waits a refused
+    (subst (λ (x : ReadingState). IsBlameOf bs x c.args.reader c.in-Err-Check.check b) same k))
+    c.blame.ensures.adds

@@ -11,6 +11,7 @@ loop-holding-init c = record {
   begun = refl;
   requests = refl;
   goes = goes_none c.args.self.now c.args.self.now refl refl;
+  count = refl;
 }
 
 pub returns-clause-compared : goal.returns-clause-compared

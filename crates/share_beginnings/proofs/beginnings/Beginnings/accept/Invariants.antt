@@ -1,6 +1,6 @@
 use Rattle.std.proofs.Common.{◌≡◌}
 use Rattle.share_beginnings.specs.Known.{AreBegun}
-use Rattle.share_beginnings.specs.Moves.{GoesOn}
+use Rattle.share_beginnings.specs.Moves.{CountsAsMany, GoesOn}
 use Rattle.share_beginnings.specs.Opening.{AreComparedUpTo}
 use Rattle.share_beginnings.proofs.beginnings.Beginnings.accept.Given as goal
 
@@ -12,4 +12,5 @@ invariant-loop-holding l = record {
   begun : l.self.begun ≡ l.initial.self.begun;
   requests : l.self.holdings.requests ≡ l.initial.self.holdings.requests;
   goes : GoesOn l.initial.self l.self;
+  count : CountsAsMany l.initial.self l.self;
 }

@@ -1,10 +1,14 @@
-use Rattle.std.proofs.Common.{◌≡◌, ◌∙◌, ◌<◌, inl, inr, List, length, get_or, Some, false, refl, sym, subst, ap, arith}
+use Rattle.std.proofs.Common.{◌≡◌, ◌∙◌, ◌<◌, inl, inr, List, [], ◌∷◌, ◌++◌, length, get_or, Some, false, refl, sym, subst, ap, arith}
 use Rattle.std.specs.Prelude.{slice_get}
 use Rattle.std.proofs.lemmas.Option.{slice_get-get_or, slice_get_within}
 use Rattle.share_holdings.specs.Moves.{Blames}
 use Rattle.share_holdings.specs.State.{HoldingsState}
-use Rattle.share_holdings.specs.Table.{Suspends}
+use Rattle.share_holdings.specs.Table.{IsHolding, Suspends}
+use Rattle.share_holdings.specs.declared.holding.Blame.{Blame}
 use Rattle.share_holdings.specs.declared.holding.Holding.{Holding}
+use Rattle.share_beginnings.specs.Causes.{AddsBlames, IsBeginningFault}
+use Rattle.share_beginnings.specs.Reads.{IsAnsweredBy}
+use Rattle.share_beginnings.proofs.Caused.{adds_none, adds_one, fault_of}
 use Rattle.share_beginnings.specs.Known.{AreBegun}
 use Rattle.share_beginnings.specs.Moves.{GoesOn}
 use Rattle.share_beginnings.specs.State.{BeginningsState}
@@ -87,3 +91,24 @@ returns-in-None-clause-goes c =
     let u : BeginningsState = record { holdings = c.suspend.new.self; begun = c.self.inside.begun.items } in
     goes_on_from c.args.self.now c.take_waiting.new.self c.args.holding c.requires.known c.take_waiting.ensures.rests u
     (subst (λ (x : BeginningsState). GoesOn x u) c.self.view_is (goes_none w u (ap (λ (x : HoldingsState). x.requests) c.suspend.ensures.others) (ap (λ (x : HoldingsState). x.blamed) c.suspend.ensures.others)))
+
+pub returns-in-Some-compared-clause-causes : goal.returns-in-Some-compared-clause-causes
+returns-in-Some-compared-clause-causes c =
+    let s = c.args.self.now in
+    let P : Blame → Type 0 = IsBeginningFault c.args.cap.now c.args.geometry.now s.holdings.requests.entries in
+    let same : c.self.inside.holdings ≡ s.holdings = ap (λ (x : BeginningsState). x.holdings) c.self.view_is ∙ ap (λ (x : BeginningsState). x.holdings) c.take_waiting.ensures.rests.is in
+    let a = c.requires.answered in
+    by_result c.blame.result _ _ (AddsBlames P s.holdings.blamed c.blame.new.self.blamed) c.blame.ensures.ok c.blame.ensures.err
+    (λ b. adds_one P s.holdings.blamed c.blame.new.self.blamed (record { server = b.held.server; share = b.held.share; check = c.in-Some-compared.check })
+    (b.blamed ∙ ap (λ (h : HoldingsState). h.blamed ++ record { server = b.held.server; share = b.held.share; check = c.in-Some-compared.check } ∷ []) same)
+    (fault_of s c.args.cap.now c.args.geometry.now c.args.holding c.args.place c.in-Some.opening b.held c.in-Some-compared.check a.0 c.requires.known c.requires.awaits c.in-Some.ensures.opening
+    (subst (λ (h : HoldingsState). IsHolding h.table c.args.holding b.held) same b.is) a.1
+    (c.in-Some-compared.ensures a.0 (subst (λ (h : HoldingsState). IsAnsweredBy h.requests.entries c.args.place a.0) (sym (ap (λ (x : BeginningsState). x.holdings) c.take_waiting.ensures.rests.is)) a.1))))
+    (λ e. adds_none P s.holdings.blamed c.blame.new.self.blamed (ap (λ (h : HoldingsState). h.blamed) e ∙ ap (λ (h : HoldingsState). h.blamed) same))
+
+pub returns-in-None-clause-causes : goal.returns-in-None-clause-causes
+returns-in-None-clause-causes c =
+    let s = c.args.self.now in
+    let same : c.self.inside.holdings ≡ s.holdings = ap (λ (x : BeginningsState). x.holdings) c.self.view_is ∙ ap (λ (x : BeginningsState). x.holdings) c.take_waiting.ensures.rests.is in
+    adds_none (IsBeginningFault c.args.cap.now c.args.geometry.now s.holdings.requests.entries) s.holdings.blamed c.suspend.new.self.blamed
+    (ap (λ (h : HoldingsState). h.blamed) c.suspend.ensures.others ∙ ap (λ (h : HoldingsState). h.blamed) same)

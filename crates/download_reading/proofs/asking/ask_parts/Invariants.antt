@@ -1,7 +1,7 @@
-use Rattle.std.proofs.Common.{take}
+use Rattle.std.proofs.Common.{◌≡◌, take}
 use Rattle.share_beginnings.specs.Moves.{GoesOn}
 use Rattle.download_reading.specs.Steps.{AsksParts, Grows}
-use Rattle.download_reading.proofs.reading.ask_parts.Given as goal
+use Rattle.download_reading.proofs.asking.ask_parts.Given as goal
 
 -- those before this one are asked
 abbrev pub invariant-loop-part : goal.invariant-loop-part
@@ -9,4 +9,5 @@ invariant-loop-part l = record {
   asks : AsksParts l.holding (take l.part-index l.wanted) l.initial.beginnings l.beginnings;
   goes : GoesOn l.initial.beginnings l.beginnings;
   grows : Grows l.initial.beginnings l.beginnings;
+  blamed : l.beginnings.holdings.blamed ≡ l.initial.beginnings.holdings.blamed;
 }

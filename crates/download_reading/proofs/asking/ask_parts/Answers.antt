@@ -1,10 +1,11 @@
-use Rattle.std.proofs.Common.{get_or, refl, sym, subst}
+use Rattle.share_holdings.specs.State.{HoldingsState}
+use Rattle.std.proofs.Common.{ap, ◌∙◌, get_or, refl, sym, subst}
 use Rattle.share_holdings.specs.Moves.{Asks, IsUnasked}
 use Rattle.share_beginnings.proofs.Opened.{goes_asked, goes_none}
 use Rattle.download_plan.specs.declared.part.Part.TheVariants.{ShareHashes}
 use Rattle.download_source.specs.declared.wanted.Wanted.{Wanted}
 use Rattle.download_reading.proofs.Parts.{goes_trans, keeps_asked, keeps_none, keeps_trans, next_asked, next_unasked, none_asked}
-use Rattle.download_reading.proofs.reading.ask_parts.Goals as goal
+use Rattle.download_reading.proofs.asking.ask_parts.Goals as goal
 
 abbrev nothing : Wanted
 nothing = record { part = ShareHashes; read = record { place = 0; length = 0 } }
@@ -14,6 +15,7 @@ loop-part-init c = record {
   asks = none_asked c.args.holding c.args.wanted.now c.args.beginnings.now c.requires.known;
   goes = goes_none c.args.beginnings.now c.args.beginnings.now refl refl;
   grows = keeps_none c.args.beginnings.now c.args.beginnings.now refl;
+  blamed = refl;
 }
 
 pub ask-requires-clause-unasked : goal.ask-requires-clause-unasked
@@ -31,4 +33,5 @@ loop-part-preserved c =
           (c.in_ok-ask.ensures.known c.loop-part.invariant.asks.known) a c.in_ok-ask.ensures.begun;
       goes = goes_trans c.args.beginnings.now c.loop-part.beginnings c.ask.new.self c.loop-part.invariant.goes (goes_asked c.loop-part.beginnings c.ask.new.self c.args.holding w.read.place w.read.length a);
       grows = keeps_trans c.args.beginnings.now c.loop-part.beginnings c.ask.new.self c.loop-part.invariant.grows (keeps_asked c.loop-part.beginnings c.ask.new.self c.args.holding w.read.place w.read.length a);
+      blamed = ap (λ (h : HoldingsState). h.blamed) a.2 ∙ c.loop-part.invariant.blamed;
     }

@@ -1,0 +1,175 @@
+-- Why shares are blamed.
+use Rattle.std.proofs.Common.{◌≡◌, ℕ, inl, inr, List, Some, None, sym, ap, subst, ◌∙◌}
+use Rattle.std.specs.Prelude.{Option, slice_get}
+use Rattle.request_record.specs.declared.requests.Asked.TheVariants.{Reading}
+use Rattle.request_record.specs.declared.requests.Request.{Request}
+use Rattle.share_verify.specs.declared.check.Check.{Check}
+use Rattle.share_verify.specs.declared.check.Check.TheVariants as checks
+use Rattle.share_holdings.specs.Table.{IsHolding}
+use Rattle.share_holdings.specs.declared.holding.Blame.{Blame}
+use Rattle.share_holdings.specs.declared.holding.Holding.{Holding}
+use Rattle.share_holdings.proofs.Telling.{append_cases}
+use Rattle.share_beginnings.specs.Causes.{AddsBlames}
+use Rattle.share_beginnings.specs.Moves.{GoesOn}
+use Rattle.share_beginnings.specs.Reads.{IsAnsweredBy}
+use Rattle.share_beginnings.specs.State.{BeginningsState}
+use Rattle.share_beginnings.proofs.Entries.{same_of}
+use Rattle.download_file.specs.Changes.{IsSameFile}
+use Rattle.download_file.specs.Making.{RefutesReader}
+use Rattle.download_file.specs.State.{FileState, IsLive, first_waiting, waiting_at}
+use Rattle.download_file.specs.Taking.{IsRefused}
+use Rattle.cap_text.specs.Cap.{VerifyCapValue}
+use Rattle.share_beginnings.specs.Causes.{IsBeginningFault}
+use Rattle.download_segments.specs.State.{HandoutState}
+use Rattle.download_reading.specs.Causes.{HasCause, IsBlameOf, IsBlockFault, IsPartFault}
+use Rattle.download_reading.specs.Reading.{AreReadingBut}
+use Rattle.download_reading.specs.State.{ReadingState}
+use Rattle.download_reading.specs.Steps.{Continues}
+use Rattle.request_record.specs.Record.{RequestsState}
+use Rattle.download_reading.proofs.Awaited.{Stays, first_is, goes_stays}
+use Rattle.download_reading.proofs.Ended.{file_none, file_trans}
+
+pub adds_trans : (P : Blame → Type 0) (s t u : BeginningsState) → GoesOn t u → AddsBlames P s.holdings.blamed t.holdings.blamed → AddsBlames P t.holdings.blamed u.holdings.blamed → AddsBlames P s.holdings.blamed u.holdings.blamed
+adds_trans P s t u goes first second i b is le = elim (append_cases t.holdings.blamed goes.more i b (sym (ap (λ (l : List Blame). slice_get l i) goes.blamed) ∙ is)) [
+  | inl was ↦ first i b was le
+  | inr new ↦ second i b is new.0
+]
+
+pub adds_as : (P Q : Blame → Type 0) (old new : List Blame) → ((b : Blame) → P b → Q b) → AddsBlames P old new → AddsBlames Q old new
+adds_as P Q old new from adds i b is le = from b (adds i b is le)
+
+pub part_moved : (es ns : List Request) (f g : FileState) (b : Blame) → es ≡ ns → IsSameFile f g → IsPartFault es g b → IsPartFault ns f b
+part_moved es ns f g b e same k = record {
+  file = k.file;
+  right = k.right;
+  same = file_trans f g k.file same k.same;
+  reader = k.reader;
+  place = k.place;
+  first = k.first;
+  request = k.request;
+  there = ap (λ (l : List Request). slice_get l k.place) (sym e) ∙ k.there;
+  of_server = k.of_server;
+  offset = k.offset;
+  len = k.len;
+  asked = k.asked;
+  bytes = k.bytes;
+  answer = k.answer;
+  refused = k.refused;
+}
+
+pub block_moved : (es ns : List Request) (f g : FileState) (b : Blame) → Stays es ns → IsSameFile f g → IsBlockFault es g b → IsBlockFault ns f b
+block_moved es ns f g b stays same k = record {
+  file = k.file;
+  right = k.right;
+  same = file_trans f g k.file same k.same;
+  answered = k.answered;
+  keeps = λ place q body there answer. stays place q (k.keeps place q body there answer);
+  read = k.read;
+  reader = k.reader;
+  share = k.share;
+  refuted = k.refuted;
+  check = k.check;
+}
+
+-- the part that a reader waited for is refused
+pub part_fault : (but : Option ℕ) (s : BeginningsState) (r : ReadingState) (reader place : ℕ) (check : Check) (bytes : List ℕ) (b : Blame) → AreReadingBut but s r → IsLive r.file reader → first_waiting r.file reader ≡ Some place
+    → IsAnsweredBy s.holdings.requests.entries place bytes → IsRefused r.file reader bytes check → IsBlameOf s r reader check b → IsPartFault s.holdings.requests.entries r.file b
+part_fault but s r reader place check bytes b reading live first answered refused blame =
+    let now = reading.linked.live reader live in
+    let one : now.holding ≡ blame.holding = same_of (slice_get r.holdings reader) now.holding blame.holding now.of blame.of in
+    let held : now.held ≡ blame.held = same_of (slice_get s.holdings.table.holdings now.holding) now.held blame.held now.is (subst (λ x. IsHolding s.holdings.table x blame.held) (sym one) blame.is) in
+    let w = first_is (waiting_at r.file reader) place first in
+    let a = (reading.awaits.asked reader now.held w.0 (record { live = live; holding = now.holding; of = now.of; is = now.is; left = now.left }) w.1).read in
+    let same : a.request ≡ answered.request = same_of (slice_get s.holdings.requests.entries place) a.request answered.request (ap (slice_get s.holdings.requests.entries) (sym w.2) ∙ a.there) answered.there in
+    record {
+      file = r.file;
+      right = reading.linked.kept.right;
+      same = file_none r.file;
+      reader = reader;
+      place = place;
+      first = first;
+      request = a.request;
+      there = ap (slice_get s.holdings.requests.entries) (sym w.2) ∙ a.there;
+      of_server = a.of_server ∙ ap (λ (h : Holding). h.server) held ∙ sym blame.of_server;
+      offset = w.0.wanted.read.place;
+      len = w.0.wanted.read.length;
+      asked = a.asked ∙ ap (λ (h : Holding). Reading h.share w.0.wanted.read.place w.0.wanted.read.length) held ∙ ap (λ n. Reading n w.0.wanted.read.place w.0.wanted.read.length) (sym blame.of_share);
+      bytes = bytes;
+      answer = ap (λ (q : Request). q.outcome) same ∙ answered.answer;
+      refused = subst (IsRefused r.file reader bytes) (sym blame.check_is) refused;
+    }
+
+-- the block that a reader holds is wrong
+pub block_fault : (but : Option ℕ) (s : BeginningsState) (r : ReadingState) (reader : ℕ) (b : Blame) → AreReadingBut but s r → RefutesReader s.holdings.requests.entries r.file reader → IsBlameOf s r reader checks.Data b → IsBlockFault s.holdings.requests.entries r.file b
+block_fault but s r reader b reading refuted blame =
+    let f = reading.linked.kept.forth reader blame.holding blame.of in
+    let held : f.held ≡ blame.held = same_of (slice_get s.holdings.table.holdings blame.holding) f.held blame.held f.is blame.is in
+    record {
+      file = r.file;
+      right = reading.linked.kept.right;
+      same = file_none r.file;
+      answered = s.holdings.requests.entries;
+      keeps = λ place q body there answer. there;
+      read = reading.linked.kept.answers;
+      reader = reader;
+      share = f.share ∙ ap (λ (h : Holding). Some h.share) held ∙ ap Some (sym blame.of_share);
+      refuted = refuted;
+      check = blame.check_is;
+    }
+
+-- more is taken
+pub taken_causes : (s t u : BeginningsState) (r q p : ReadingState) → Continues s r t q → Continues t q u p → t.holdings.requests ≡ s.holdings.requests
+    → AddsBlames (IsPartFault s.holdings.requests.entries r.file) s.holdings.blamed t.holdings.blamed → AddsBlames (IsPartFault t.holdings.requests.entries q.file) t.holdings.blamed u.holdings.blamed
+    → AddsBlames (IsPartFault s.holdings.requests.entries r.file) s.holdings.blamed u.holdings.blamed
+taken_causes s t u r q p first second same before after =
+    adds_trans (IsPartFault s.holdings.requests.entries r.file) s t u second.goes before
+    (adds_as (IsPartFault t.holdings.requests.entries q.file) (IsPartFault s.holdings.requests.entries r.file) t.holdings.blamed u.holdings.blamed
+    (λ b k. part_moved t.holdings.requests.entries s.holdings.requests.entries r.file q.file b (ap (λ (x : RequestsState). x.entries) same) first.same k) after)
+
+-- ---- a message
+
+pub began_causes : (cap : VerifyCapValue) (s t : BeginningsState) (r q : ReadingState) → q.file.handout ≡ r.file.handout
+    → AddsBlames (IsBeginningFault cap q.file.handout.geometry s.holdings.requests.entries) s.holdings.blamed t.holdings.blamed
+    → AddsBlames (HasCause cap s.holdings.requests.entries r.file) s.holdings.blamed t.holdings.blamed
+began_causes cap s t r q same adds i b is le = inl (subst (λ (h : HandoutState). IsBeginningFault cap h.geometry s.holdings.requests.entries b) same (adds i b is le))
+
+pub took_causes : (cap : VerifyCapValue) (s t u : BeginningsState) (r q : ReadingState) → Continues s r t q → t.holdings.requests ≡ s.holdings.requests
+    → AddsBlames (IsPartFault t.holdings.requests.entries q.file) t.holdings.blamed u.holdings.blamed
+    → AddsBlames (HasCause cap s.holdings.requests.entries r.file) t.holdings.blamed u.holdings.blamed
+took_causes cap s t u r q first same adds i b is le =
+    inr (part_moved t.holdings.requests.entries s.holdings.requests.entries r.file q.file b (ap (λ (x : RequestsState). x.entries) same) first.same (adds i b is le))
+
+pub heard_causes : (cap : VerifyCapValue) (s t u : BeginningsState) (r q p : ReadingState) → Continues s r t q → Continues t q u p → t.holdings.requests ≡ s.holdings.requests
+    → AddsBlames (HasCause cap s.holdings.requests.entries r.file) s.holdings.blamed t.holdings.blamed → AddsBlames (IsPartFault t.holdings.requests.entries q.file) t.holdings.blamed u.holdings.blamed
+    → AddsBlames (HasCause cap s.holdings.requests.entries r.file) s.holdings.blamed u.holdings.blamed
+heard_causes cap s t u r q p first second same before after =
+    adds_trans (HasCause cap s.holdings.requests.entries r.file) s t u second.goes before (took_causes cap s t u r q first same after)
+
+-- ---- a segment
+
+pub made_causes : (s t : BeginningsState) (r now : ReadingState) (f : FileState) (reader : ℕ) → r ≡ now → AreReadingBut None s now → RefutesReader s.holdings.requests.entries r.file reader → t.holdings.requests ≡ s.holdings.requests
+    → AddsBlames (IsBlameOf s (record r { file = f }) reader checks.Data) s.holdings.blamed t.holdings.blamed → AddsBlames (IsBlockFault t.holdings.requests.entries now.file) s.holdings.blamed t.holdings.blamed
+made_causes s t r now f reader e reading refuted same adds =
+    adds_as (IsBlameOf s (record r { file = f }) reader checks.Data) (IsBlockFault t.holdings.requests.entries now.file) s.holdings.blamed t.holdings.blamed
+    (λ b k.
+    subst (λ (q : RequestsState). IsBlockFault q.entries now.file b) (sym same)
+    (block_fault None s now reader b reading (subst (λ (x : ReadingState). RefutesReader s.holdings.requests.entries x.file reader) e refuted)
+    (record {
+      holding = k.holding;
+      of = sym (ap (λ (x : ReadingState). slice_get x.holdings reader) e) ∙ k.of;
+      held = k.held;
+      is = k.is;
+      of_server = k.of_server;
+      of_share = k.of_share;
+      check_is = k.check_is;
+    })))
+    adds
+
+pub settled_causes : (s t u : BeginningsState) (r q p : ReadingState) → Continues s r t q → Continues t q u p
+    → AddsBlames (IsBlockFault t.holdings.requests.entries r.file) s.holdings.blamed t.holdings.blamed → AddsBlames (IsBlockFault u.holdings.requests.entries q.file) t.holdings.blamed u.holdings.blamed
+    → AddsBlames (IsBlockFault u.holdings.requests.entries r.file) s.holdings.blamed u.holdings.blamed
+settled_causes s t u r q p first second before after =
+    let entries = u.holdings.requests.entries in
+    adds_trans (IsBlockFault entries r.file) s t u second.goes
+    (adds_as (IsBlockFault t.holdings.requests.entries r.file) (IsBlockFault entries r.file) s.holdings.blamed t.holdings.blamed (λ b k. block_moved t.holdings.requests.entries entries r.file r.file b (goes_stays t u second.goes) (file_none r.file) k) before)
+    (adds_as (IsBlockFault entries q.file) (IsBlockFault entries r.file) t.holdings.blamed u.holdings.blamed (λ b k. block_moved entries entries r.file q.file b (λ i x e. e) first.same k) after)

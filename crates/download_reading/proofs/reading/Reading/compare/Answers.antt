@@ -1,0 +1,54 @@
+use Rattle.std.proofs.Common.{◌∙◌, ap}
+use Rattle.share_beginnings.specs.Causes.{AddsBlames, IsBeginningFault}
+use Rattle.download_reading.specs.State.{ReadingState}
+use Rattle.std.proofs.Common.{refl, sym, subst}
+use Rattle.request_record.specs.Record.{RequestsState}
+use Rattle.download_file.specs.Answers.{IsRead}
+use Rattle.download_reading.specs.Steps.{Continues}
+use Rattle.download_reading.proofs.Compared.{awaited, compared_kept, compared_live, compared_told}
+use Rattle.download_reading.proofs.Ended.{adds_none, continues_trans, file_none}
+use Rattle.download_reading.proofs.reading.Reading.compare.Goals as goal
+
+pub compare-requires-clause-awaits : goal.compare-requires-clause-awaits
+compare-requires-clause-awaits c = awaited c.args.beginnings.now c.args.holding c.args.place c.requires.told.linked.kept.known c.requires.waits
+
+pub returns-in_err-compare-clause-continues : goal.returns-in_err-compare-clause-continues
+returns-in_err-compare-clause-continues c = record {
+  goes = c.in_err-compare.ensures.goes;
+  same = file_none c.args.self.now.file;
+  pieces = adds_none c.args.self.now.file.handout c.args.self.now.file.handout refl;
+  answers = λ a. subst (λ (q : RequestsState). IsRead q.entries c.args.self.now.file) (sym c.in_err-compare.ensures.requests) a;
+}
+
+pub end_gone-requires-clause-kept : goal.end_gone-requires-clause-kept
+end_gone-requires-clause-kept c =
+    let k = c.in_ok-compare.ensures in
+    compared_kept c.args.beginnings.now c.compare.new.self c.args.self.now c.args.holding c.requires.told k.compares k.requests k.known
+
+pub end_gone-requires-clause-live : goal.end_gone-requires-clause-live
+end_gone-requires-clause-live c =
+    let k = c.in_ok-compare.ensures in
+    compared_live c.args.beginnings.now c.compare.new.self c.args.self.now c.args.holding c.requires.told k.compares k.requests k.known
+
+pub returns-clause-told : goal.returns-clause-told
+returns-clause-told c =
+    let k = c.in_ok-compare.ensures in
+    let e = c.end_gone.ensures in
+    compared_told c.args.beginnings.now c.compare.new.self c.args.self.now c.args.holding c.requires.told k.compares k.requests k.known c.end_gone.new.self e.linked e.holdings e.awaits
+
+pub returns-clause-continues : goal.returns-clause-continues
+returns-clause-continues c =
+    let k = c.in_ok-compare.ensures in
+    let t = c.compare.new.self in
+    let first : Continues c.args.beginnings.now c.args.self.now t c.args.self.now = record {
+      goes = k.goes;
+      same = file_none c.args.self.now.file;
+      pieces = adds_none c.args.self.now.file.handout c.args.self.now.file.handout refl;
+      answers = λ a. subst (λ (q : RequestsState). IsRead q.entries c.args.self.now.file) (sym k.requests) a;
+    } in
+    continues_trans c.args.beginnings.now t t c.args.self.now c.args.self.now c.end_gone.new.self first c.end_gone.ensures.continues
+
+pub returns-clause-causes : goal.returns-clause-causes
+returns-clause-causes c =
+    subst (λ g. AddsBlames (IsBeginningFault c.args.cap.now g c.args.beginnings.now.holdings.requests.entries) c.args.beginnings.now.holdings.blamed c.compare.new.self.holdings.blamed)
+    (c.geometry.ensures.value ∙ ap (λ (x : ReadingState). x.file.handout.geometry) c.self.view_is) c.compare.ensures.causes

@@ -1,0 +1,79 @@
+use Rattle.share_holdings.specs.declared.holding.Blame.{Blame}
+use Rattle.std.proofs.Common.{List}
+use Rattle.share_beginnings.specs.Causes.{AddsBlames}
+use Rattle.share_beginnings.proofs.Caused.{adds_none}
+use Rattle.download_reading.specs.Causes.{IsBlockFault}
+use Rattle.download_reading.proofs.Causes.{adds_as, block_moved}
+use Rattle.download_reading.proofs.Ended.{file_trans}
+use Rattle.std.proofs.Common.{◌≡◌, ◌∙◌, ◌<◌, sym, subst, ap}
+use Rattle.share_holdings.specs.State.{TableState}
+use Rattle.download_segments.specs.NoCodeWord.{IsNoCodeWord}
+use Rattle.download_segments.specs.State.{HandoutState}
+use Rattle.download_file.specs.declared.file.Made.TheVariants as made_as
+use Rattle.download_reading.specs.Steps.{work}
+use Rattle.download_reading.proofs.Ended.{continues_trans}
+use Rattle.download_reading.proofs.Gone.{same_work, stuck}
+use Rattle.download_reading.proofs.reading.Reading.go_on.Goals as goal
+
+pub returns-in_err-ask_all-clause-continues : goal.returns-in_err-ask_all-clause-continues
+returns-in_err-ask_all-clause-continues c =
+    continues_trans c.args.beginnings.now c.begin_more.new.beginnings c.ask_all.new.beginnings c.args.self.now c.begin_more.new.self c.ask_all.new.self c.begin_more.ensures.continues c.ask_all.ensures.continues
+
+pub returns-clause-continues : goal.returns-clause-continues
+returns-clause-continues c =
+    continues_trans c.args.beginnings.now c.ask_all.new.beginnings c.make.new.beginnings c.args.self.now c.ask_all.new.self c.make.new.self
+    (continues_trans c.args.beginnings.now c.begin_more.new.beginnings c.ask_all.new.beginnings c.args.self.now c.begin_more.new.self c.ask_all.new.self c.begin_more.ensures.continues c.ask_all.ensures.continues)
+    c.make.ensures.continues
+
+pub returns-clause-inconsistent : goal.returns-clause-inconsistent
+returns-clause-inconsistent c e = subst IsNoCodeWord (sym c.make.ensures.continues.same.ueb) (c.make.ensures.inconsistent e)
+
+pub returns-clause-more : goal.returns-clause-more
+returns-clause-more c made e other complete =
+    let same : c.make.new.self.file.handout ≡ c.args.self.now.file.handout = c.make.ensures.handout made e other ∙ c.ask_all.ensures.handout ∙ c.begin_more.ensures.handout in
+    c.requires.more (sym (ap (λ (h : HandoutState). h.reached) same) ∙ complete ∙ ap (λ (h : HandoutState). h.to) same)
+
+pub returns-clause-stuck : goal.returns-clause-stuck
+returns-clause-stuck c e =
+    let m = c.make.ensures in
+    let a = c.in_ok-ask_all.ensures in
+    let b = c.in_ok-begin_more.ensures in
+    let start : c.ask_all.new.self.file.handout ≡ c.args.self.now.file.handout = a.handout ∙ b.handout in
+    stuck c.begin_more.new.beginnings c.ask_all.new.beginnings c.make.new.beginnings c.begin_more.new.self c.ask_all.new.self c.make.new.self b.enough a.table a.live a.handout a.asked_up
+    (λ complete. c.requires.more (sym (ap (λ (h : HandoutState). h.reached) start) ∙ complete ∙ ap (λ (h : HandoutState). h.to) start))
+    (m.still e) (m.handout made_as.Waits e (λ f. cc)) (m.waits e)
+
+pub returns-clause-ready : goal.returns-clause-ready
+returns-clause-ready c e =
+    let less = c.make.ensures.ready e in
+    let a = same_work c.begin_more.new.beginnings c.ask_all.new.beginnings c.begin_more.new.self c.ask_all.new.self c.in_ok-ask_all.ensures.handout (ap (λ (t : TableState). t.holdings) c.in_ok-ask_all.ensures.table) in
+    let b = same_work c.args.beginnings.now c.begin_more.new.beginnings c.args.self.now c.begin_more.new.self c.in_ok-begin_more.ensures.handout c.in_ok-begin_more.ensures.held in
+    subst (λ n. work c.make.new.beginnings c.make.new.self < n) (a ∙ b) less
+
+pub returns-clause-wrong : goal.returns-clause-wrong
+returns-clause-wrong c reader e =
+    let less = c.make.ensures.wrong reader e in
+    let a = same_work c.begin_more.new.beginnings c.ask_all.new.beginnings c.begin_more.new.self c.ask_all.new.self c.in_ok-ask_all.ensures.handout (ap (λ (t : TableState). t.holdings) c.in_ok-ask_all.ensures.table) in
+    let b = same_work c.args.beginnings.now c.begin_more.new.beginnings c.args.self.now c.begin_more.new.self c.in_ok-begin_more.ensures.handout c.in_ok-begin_more.ensures.held in
+    subst (λ n. work c.make.new.beginnings c.make.new.self < n) (a ∙ b) less
+
+pub returns-in_err-begin_more-clause-causes : goal.returns-in_err-begin_more-clause-causes
+returns-in_err-begin_more-clause-causes c =
+    let t = c.begin_more.new.beginnings in
+    adds_none (IsBlockFault t.holdings.requests.entries c.args.self.now.file) c.args.beginnings.now.holdings.blamed t.holdings.blamed c.begin_more.ensures.blamed
+
+pub returns-in_err-ask_all-clause-causes : goal.returns-in_err-ask_all-clause-causes
+returns-in_err-ask_all-clause-causes c =
+    let t = c.ask_all.new.beginnings in
+    adds_none (IsBlockFault t.holdings.requests.entries c.args.self.now.file) c.args.beginnings.now.holdings.blamed t.holdings.blamed (c.ask_all.ensures.blamed ∙ c.begin_more.ensures.blamed)
+
+pub returns-clause-causes : goal.returns-clause-causes
+returns-clause-causes c =
+    let u = c.make.new.beginnings in
+    let t = c.ask_all.new.beginnings in
+    let f = c.ask_all.new.self.file in
+    let g = c.args.self.now.file in
+    let same = file_trans g c.begin_more.new.self.file f c.begin_more.ensures.continues.same c.ask_all.ensures.continues.same in
+    subst (λ (l : List Blame). AddsBlames (IsBlockFault u.holdings.requests.entries g) l u.holdings.blamed) (c.ask_all.ensures.blamed ∙ c.begin_more.ensures.blamed)
+    (adds_as (IsBlockFault u.holdings.requests.entries f) (IsBlockFault u.holdings.requests.entries g) t.holdings.blamed u.holdings.blamed
+    (λ b k. block_moved u.holdings.requests.entries u.holdings.requests.entries g f b (λ i x e. e) same k) c.make.ensures.causes)

@@ -1,0 +1,15 @@
+use Rattle.share_beginnings.specs.Causes.{AddsBlames}
+use Rattle.download_reading.specs.Causes.{IsBlockFault}
+use Rattle.download_reading.specs.Reading.{AreReading}
+use Rattle.download_reading.specs.Steps.{Continues, work}
+use Rattle.download_reading.proofs.reading.Reading.settle.Given as goal
+
+abbrev pub invariant-loop-self : goal.invariant-loop-self
+invariant-loop-self l = record {
+  reading : AreReading l.beginnings l.self;
+  causes : AddsBlames (IsBlockFault l.beginnings.holdings.requests.entries l.initial.self.file) l.initial.beginnings.holdings.blamed l.beginnings.holdings.blamed;
+  continues : Continues l.initial.beginnings l.initial.self l.beginnings l.self;
+}
+
+abbrev pub decreases-loop-self : goal.decreases-loop-self
+decreases-loop-self l = work l.beginnings l.self

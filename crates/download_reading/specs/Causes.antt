@@ -1,0 +1,71 @@
+-- Why shares are blamed while a file is read.
+use Rattle.std.specs.Prelude.{◌≡◌, ◌⊎◌, ℕ, List, Some, slice_get}
+use Rattle.cap_text.specs.Cap.{VerifyCapValue}
+use Rattle.wire.specs.declared.message.Body.TheVariants.{Data}
+use Rattle.request_record.specs.declared.requests.Asked.TheVariants.{Reading}
+use Rattle.request_record.specs.declared.requests.Outcome.TheVariants.{Answered}
+use Rattle.request_record.specs.declared.requests.Request.{Request}
+use Rattle.share_verify.specs.declared.check.Check.{Check}
+use Rattle.share_verify.specs.declared.check.Check.TheVariants as checks
+use Rattle.share_holdings.specs.Table.{IsHolding}
+use Rattle.share_holdings.specs.declared.holding.Blame.{Blame}
+use Rattle.share_holdings.specs.declared.holding.Holding.{Holding}
+use Rattle.share_beginnings.specs.Causes.{IsBeginningFault}
+use Rattle.share_beginnings.specs.State.{BeginningsState}
+use Rattle.download_file.specs.Answers.{IsRead, KeepsAnswers}
+use Rattle.download_file.specs.Changes.{IsSameFile}
+use Rattle.download_file.specs.Making.{RefutesReader}
+use Rattle.download_file.specs.Right.{IsFile}
+use Rattle.download_file.specs.State.{FileState, first_waiting, shares}
+use Rattle.download_file.specs.Taking.{IsRefused}
+use Rattle.download_reading.specs.Reading.{IsOf}
+use Rattle.download_reading.specs.State.{ReadingState}
+
+-- What the share's server answered to a read of it is refused as the part that a reader of this
+-- file took next.
+pub record IsPartFault (entries : List Request) (f : FileState) (b : Blame) : Type 0 where
+  pub file : FileState
+  pub right : IsFile file
+  pub same : IsSameFile f file
+  pub reader : ℕ
+  pub place : ℕ
+  pub first : first_waiting file reader ≡ Some place
+  pub request : Request
+  pub there : slice_get entries place ≡ Some request
+  pub of_server : request.server ≡ b.server
+  pub offset : ℕ
+  pub len : ℕ
+  pub asked : request.asked ≡ Reading b.share offset len
+  pub bytes : List ℕ
+  pub answer : request.outcome ≡ Answered (Data bytes)
+  pub refused : IsRefused file reader bytes b.check
+
+-- The block of the next segment that the share's reader holds is not the one that its block tree
+-- tells.
+pub record IsBlockFault (entries : List Request) (f : FileState) (b : Blame) : Type 0 where
+  pub file : FileState
+  pub right : IsFile file
+  pub same : IsSameFile f file
+  pub answered : List Request
+  pub keeps : KeepsAnswers answered entries
+  pub read : IsRead answered file
+  pub reader : ℕ
+  pub share : slice_get (shares file) reader ≡ Some b.share
+  pub refuted : RefutesReader answered file reader
+  pub check : b.check ≡ checks.Data
+
+-- why a message brings a share to be blamed
+abbrev pub HasCause : VerifyCapValue → List Request → FileState → Blame → Type 0
+HasCause cap entries f b = IsBeginningFault cap f.handout.geometry entries b
+    ⊎ IsPartFault entries f b
+
+-- it is the share that the reader reads, and this check
+pub record IsBlameOf (s : BeginningsState) (r : ReadingState) (reader : ℕ) (check : Check)
+    (b : Blame) : Type 0 where
+  pub holding : ℕ
+  pub of : IsOf r reader holding
+  pub held : Holding
+  pub is : IsHolding s.holdings.table holding held
+  pub of_server : b.server ≡ held.server
+  pub of_share : b.share ≡ held.share
+  pub check_is : b.check ≡ check

@@ -1,0 +1,46 @@
+-- Why shares are blamed.
+use Rattle.std.specs.Prelude.{◌≡◌, ◌⊎◌, ℕ, ◌≤◌, List, Some, length, slice_get}
+use Rattle.cap_text.specs.Cap.{VerifyCapValue}
+use Rattle.wire.specs.declared.message.Body.TheVariants.{Data}
+use Rattle.request_record.specs.declared.requests.Asked.TheVariants.{Reading}
+use Rattle.request_record.specs.declared.requests.Outcome.TheVariants.{Answered}
+use Rattle.request_record.specs.declared.requests.Request.{Request}
+use Rattle.share_layout.specs.Geometry.{Geometry}
+use Rattle.share_verify.specs.declared.check.Check.{Check}
+use Rattle.share_verify.specs.declared.check.Check.TheVariants as checks
+use Rattle.share_opening.specs.Opening.{Advances, Agrees, next_length, next_place}
+use Rattle.share_opening.specs.Reads.{IsLedToBy}
+use Rattle.share_opening.specs.Refusal.{IsRefused, check_of}
+use Rattle.share_opening.specs.declared.error.OpeningError.{OpeningError}
+use Rattle.share_opening.specs.declared.opening.Opening.{Opening}
+use Rattle.share_opening.specs.declared.opening.Progress.TheVariants.{Next}
+use Rattle.share_holdings.specs.declared.holding.Blame.{Blame}
+use Rattle.share_beginnings.specs.Reads.{brought_of}
+
+-- each blame that was added has this cause
+abbrev pub AddsBlames : (Blame → Type 0) → List Blame → List Blame → Type 0
+AddsBlames cause old new =
+    (i : ℕ) (b : Blame) → slice_get new i ≡ Some b → length old ≤ i → cause b
+
+-- the next bytes of an opening are refused, or the header that they tell is another than that of a
+-- file with this geometry
+abbrev pub FailsAs : VerifyCapValue → Geometry → Opening → List ℕ → Check → Type 0
+FailsAs cap g opening bytes check =
+    ((error : OpeningError) × IsRefused cap opening bytes error × (check ≡ check_of error))
+    ⊎ ((next : Opening) × Advances cap opening bytes (Next next) × (¬ Agrees g next)
+    × (check ≡ checks.Layout))
+
+-- The share fails the check by what its server answered to a read of its beginning, which follows
+-- what the server answered before.
+pub record IsBeginningFault (cap : VerifyCapValue) (g : Geometry) (entries : List Request)
+    (b : Blame) : Type 0 where
+  pub opening : Opening
+  pub led : IsLedToBy (brought_of entries b.server b.share) opening
+  pub place : ℕ
+  pub request : Request
+  pub there : slice_get entries place ≡ Some request
+  pub of_server : request.server ≡ b.server
+  pub asked : request.asked ≡ Reading b.share (next_place opening) (next_length opening)
+  pub bytes : List ℕ
+  pub answer : request.outcome ≡ Answered (Data bytes)
+  pub fails : FailsAs cap g opening bytes b.check
