@@ -1,4 +1,12 @@
+mod Results
 mod Records
-mod Steps
-mod Pieces
-mod Ends
+mod Going
+pub mod HashedLemmas
+mod ReadLemmas
+mod FewLemmas
+mod Sending
+mod EndLemmas
+mod TakenLemmas
+mod BeginLemmas
+mod EvidenceLemmas
+mod NewsLemmas

@@ -1,131 +1,110 @@
--- What was answered stays in the record of requests.
-use Rattle.std.proofs.Common.{◌≡◌, ℕ, zero, suc, ◌<◌, Bool, true, false, cond, ◌&&◌, List, [], ◌∷◌, ◌++◌, Option, Some, None, length, map, refl, sym, ap, subst, ◌∙◌, arith, true≢false}
-use Rattle.std.specs.Prelude.{slice_get, slice_set, max, nat_le, nat_lt}
-use Rattle.std.proofs.lemmas.Option.{slice_get_within}
-use Rattle.wire.specs.declared.message.Body.{Body}
+-- What stays true as the record goes on.
+use Rattle.std.proofs.Common.{◌≡◌, ℕ, zero, suc, ◌+◌, ◌<◌, Bool, true, false, cond, List, [], ◌∷◌, map, max, Option, Some, None, refl, sym, ap, subst, ◌∙◌, arith}
+use Rattle.std.specs.Prelude.{slice_get}
+use Rattle.std.proofs.lemmas.List.Sums.{sum_by-cons}
+use Rattle.cap_text.specs.Cap.{ReadCapValue, VerifyCapValue, verify_cap_of}
+use Rattle.ueb.specs.Shape.{Contents}
 use Rattle.wire.specs.declared.message.Message.{Message}
-use Rattle.request_record.specs.declared.requests.Asked.{Asked}
-use Rattle.request_record.specs.declared.requests.Outcome.TheVariants.{Answered, Lost}
 use Rattle.request_record.specs.declared.requests.Request.{Request}
-use Rattle.request_record.specs.Record.{RequestsState, age_of, answered_in, asked_all, asked_more, at, counted_at, counts_at, first_request, is_lost_at, is_outstanding, is_resent_at, passed, resent_one, ticked_one, with_outcome}
+use Rattle.request_record.specs.Record.{RequestsState, counts_at, is_outstanding, outstanding_count, ticked_one}
 use Rattle.request_record.specs.Asking.{after_message, after_tick}
-use Rattle.request_record.proofs.RecordLaws.{counts_is, get_push}
+use Rattle.request_record.proofs.RecordLaws.{counts_is}
+use Rattle.share_holdings.proofs.Records.{AskedAlike, StaysTo, alike_message, alike_tick, stays_message, stays_tick, uncounted}
+use Rattle.download_file.specs.Answers.{KeepsAnswers}
+use Rattle.download_file.proofs.GrowLemmas.{reads_keep}
+use Rattle.download_core.specs.Given.{IsFileIfFound, IsHead}
+use Rattle.download_core.specs.State.{Found}
 
--- the request at a place asked this
-pub record WasAsked (es : List Request) (i : ℕ) (asked : Asked) : Type 0 where
-  pub request : Request
-  pub there : slice_get es i ≡ Some request
-  pub same : request.asked ≡ asked
+-- ---- nothing is outstanding
 
--- what waits no more stays at its place
-abbrev pub StaysTo : List Request → List Request → Type 0
-StaysTo es ns = (i : ℕ) (r : Request) → slice_get es i ≡ Some r → is_outstanding r.outcome ≡ false → slice_get ns i ≡ Some r
+-- one request waits or not
+abbrev waiting_one : Request → ℕ
+waiting_one r = cond (is_outstanding r.outcome) 1 0
 
--- ---- asking
+count_cons : (r : Request) (rs : List Request) → outstanding_count (r ∷ rs) ≡ waiting_one r + outstanding_count rs
+count_cons r rs = sum_by-cons waiting_one r rs
 
-stays_push : (es : List Request) (n : Request) → StaysTo es (es ++ n ∷ [])
-stays_push es n i r e quiet = get_push es n i (slice_get_within es i r e) ∙ e
+-- one that waits is counted
+pub some_waits : (es : List Request) (i : ℕ) (r : Request) → slice_get es i ≡ Some r → is_outstanding r.outcome ≡ true → 0 < outstanding_count es
+some_waits [] i r e waits = absurd cc
+some_waits (x ∷ xs) zero r e waits =
+    let one : x ≡ r = cc in
+    let k : waiting_one x ≡ 1 = ap waiting_one one ∙ ap (λ (b : Bool). cond b 1 0) waits in
+    omega (arith, k, count_cons x xs)
+some_waits (x ∷ xs) (suc i) r e waits = let k = some_waits xs i r e waits in omega (arith, k, count_cons x xs)
 
-pub stays_asked : (asks : List (ℕ × Asked)) (s : RequestsState) → StaysTo s.entries (asked_all asks s).entries
-stays_asked [] s i r e quiet = e
-stays_asked (ask ∷ asks) s i r e quiet =
-    stays_asked asks (asked_more ask.0 ask.1 s) i r (stays_push s.entries (first_request ask.0 ask.1 s.clock) i r e quiet) quiet
-
--- ---- answers
-
-stays_set : (es : List Request) (place : ℕ) (q : Request) (body : Body) → slice_get es place ≡ Some q → is_outstanding q.outcome ≡ true → StaysTo es (slice_set es place (with_outcome q (Answered body)))
-stays_set [] place q body there waits i r e quiet = absurd cc
-stays_set (x ∷ xs) zero q body there waits zero r e quiet =
-    let one : x ≡ q = cc in
-    let two : x ≡ r = cc in
-    absurd (true≢false (sym waits ∙ ap (λ (y : Request). is_outstanding y.outcome) (sym one ∙ two) ∙ quiet))
-stays_set (x ∷ xs) zero q body there waits (suc i) r e quiet = e
-stays_set (x ∷ xs) (suc place) q body there waits zero r e quiet = e
-stays_set (x ∷ xs) (suc place) q body there waits (suc i) r e quiet = stays_set xs place q body there waits i r e quiet
-
-stays_in : (es : List Request) (place : ℕ) (q : Request) (body : Body) (o : Option Request) → slice_get es place ≡ Some q → is_outstanding q.outcome ≡ true → slice_get es place ≡ o → StaysTo es (answered_in es place o body)
-stays_in es place q body None there waits e = λ i r f quiet. f
-stays_in es place q body (Some p) there waits e =
-    let same : q ≡ p = let k : Some q ≡ Some p = sym there ∙ e in cc in
-    stays_set es place p body e (subst (λ (x : Request). is_outstanding x.outcome ≡ true) same waits)
-
-stays_counted : (from : ℕ) (m : Message) (s : RequestsState) (o : Option ℕ) → counts_at from m s ≡ o → StaysTo s.entries (counted_at m s o).entries
-stays_counted from m s None e = λ i r f quiet. f
-stays_counted from m s (Some place) e =
-    let a = counts_is from m s place e in
-    stays_in s.entries place a.request m.body (slice_get s.entries place) a.there a.waits refl
-
-pub stays_message : (from : ℕ) (m : Message) (now : ℕ) (s : RequestsState) → StaysTo s.entries (after_message from m now s).entries
-stays_message from m now s = stays_counted from m (at now s) (counts_at from m (at now s)) refl
-
--- a message that does not count changes no request
-pub uncounted : (from : ℕ) (m : Message) (now : ℕ) (s : RequestsState) → counts_at from m s ≡ None → (after_message from m now s).entries ≡ s.entries
-uncounted from m now s e = ap (λ (o : Option ℕ). (counted_at m (at now s) o).entries) e
-
--- ---- ticks
-
-quiet_ticked : (now : ℕ) (r : Request) → is_outstanding r.outcome ≡ false → ticked_one now r ≡ r
-quiet_ticked now r quiet = rw quiet refl
-
-pub stays_ticked : (now : ℕ) (es : List Request) → StaysTo es (map (ticked_one now) es)
-stays_ticked now [] i r e quiet = absurd cc
-stays_ticked now (x ∷ xs) zero r e quiet =
-    let same : x ≡ r = cc in
-    ap Some (quiet_ticked now x (subst (λ (y : Request). is_outstanding y.outcome ≡ false) (sym same) quiet) ∙ same)
-stays_ticked now (x ∷ xs) (suc i) r e quiet = stays_ticked now xs i r e quiet
-
-pub stays_tick : (now : ℕ) (s : RequestsState) → StaysTo s.entries (after_tick now s).entries
-stays_tick now s = stays_ticked (max s.clock now) s.entries
-
--- ---- what is asked
-
--- each request was there, and asked the same
-abbrev pub AskedAlike : List Request → List Request → Type 0
-AskedAlike es ns = (i : ℕ) (n : Request) → slice_get ns i ≡ Some n → WasAsked es i n.asked
-
-alike_set : (es : List Request) (place : ℕ) (q : Request) (body : Body) → slice_get es place ≡ Some q → (i : ℕ) (n : Request) → slice_get (slice_set es place (with_outcome q (Answered body))) i ≡ Some n → WasAsked es i n.asked
-alike_set [] place q body there i n e = absurd cc
-alike_set (x ∷ xs) zero q body there zero n e =
-    let one : x ≡ q = cc in
-    let two : with_outcome q (Answered body) ≡ n = cc in
-    record { request = x; there = refl; same = ap (λ (y : Request). y.asked) one ∙ ap (λ (y : Request). y.asked) two }
-alike_set (x ∷ xs) zero q body there (suc i) n e = record { request = n; there = e; same = refl }
-alike_set (x ∷ xs) (suc place) q body there zero n e = let two : x ≡ n = cc in record { request = x; there = refl; same = ap (λ (y : Request). y.asked) two }
-alike_set (x ∷ xs) (suc place) q body there (suc i) n e = let w = alike_set xs place q body there i n e in record { request = w.request; there = w.there; same = w.same }
-
-alike_in : (es : List Request) (place : ℕ) (body : Body) (o : Option Request) → slice_get es place ≡ o → AskedAlike es (answered_in es place o body)
-alike_in es place body None e = λ i n f. record { request = n; there = f; same = refl }
-alike_in es place body (Some p) e = alike_set es place p body e
-
-alike_counted : (m : Message) (s : RequestsState) (o : Option ℕ) → AskedAlike s.entries (counted_at m s o).entries
-alike_counted m s None = λ i n f. record { request = n; there = f; same = refl }
-alike_counted m s (Some place) = alike_in s.entries place m.body (slice_get s.entries place) refl
-
-pub alike_message : (from : ℕ) (m : Message) (now : ℕ) (s : RequestsState) → AskedAlike s.entries (after_message from m now s).entries
-alike_message from m now s = alike_counted m (at now s) (counts_at from m (at now s))
-
-ticked_asked : (now : ℕ) (r : Request) → (ticked_one now r).asked ≡ r.asked
-ticked_asked now r = by (is_lost_at now r) (is_resent_at now r)
+no_one : (r : Request) → waiting_one r ≡ 0 → is_outstanding r.outcome ≡ false
+no_one r none = by (is_outstanding r.outcome) refl
   where
-    by : (lost again : Bool) → (cond lost (with_outcome r Lost) (cond again (resent_one now r) r)).asked ≡ r.asked
-    by true again = refl
-    by false true = refl
-    by false false = refl
+    by : (b : Bool) → is_outstanding r.outcome ≡ b → b ≡ false
+    by true e = (let one : waiting_one r ≡ 1 = ap (λ (c : Bool). cond c 1 0) e in absurd (omega (arith, one, none)))
+    by false e = refl
 
-alike_ticked : (now : ℕ) (es : List Request) (i : ℕ) (n : Request) → slice_get (map (ticked_one now) es) i ≡ Some n → WasAsked es i n.asked
-alike_ticked now [] i n e = absurd cc
-alike_ticked now (x ∷ xs) zero n e = let two : ticked_one now x ≡ n = cc in record { request = x; there = refl; same = sym (ticked_asked now x) ∙ ap (λ (y : Request). y.asked) two }
-alike_ticked now (x ∷ xs) (suc i) n e = let w = alike_ticked now xs i n e in record { request = w.request; there = w.there; same = w.same }
+one_quiet : (now : ℕ) (r : Request) → is_outstanding r.outcome ≡ false → ticked_one now r ≡ r
+one_quiet now r quiet = rw quiet refl
 
-pub alike_tick : (now : ℕ) (s : RequestsState) → AskedAlike s.entries (after_tick now s).entries
-alike_tick now s = alike_ticked (max s.clock now) s.entries
+quiet_ticked : (now : ℕ) (es : List Request) → outstanding_count es ≡ 0 → map (ticked_one now) es ≡ es
+quiet_ticked now [] none = refl
+quiet_ticked now (x ∷ xs) none =
+    let c = count_cons x xs in
+    let head : ticked_one now x ≡ x = one_quiet now x (no_one x (omega (arith, c, none))) in
+    let tail : map (ticked_one now) xs ≡ xs = quiet_ticked now xs (omega (arith, c, none)) in
+    ap (λ (y : Request). y ∷ map (ticked_one now) xs) head ∙ ap (λ (l : List Request). x ∷ l) tail
 
-pub holds_alike : (P : Asked → Type 0) (es ns : List Request) → AskedAlike es ns → ((i : ℕ) (r : Request) → slice_get es i ≡ Some r → P r.asked) → (i : ℕ) (n : Request) → slice_get ns i ≡ Some n → P n.asked
-holds_alike P es ns alike all i n e = let w = alike i n e in subst P w.same (all i w.request w.there)
+quiet_message : (from : ℕ) (m : Message) (now : ℕ) (s : RequestsState) → outstanding_count s.entries ≡ 0 → (after_message from m now s).entries ≡ s.entries
+quiet_message from m now s none = by (counts_at from m s) refl
+  where
+    by : (o : Option ℕ) → counts_at from m s ≡ o → (after_message from m now s).entries ≡ s.entries
+    by None e = uncounted from m now s e
+    by (Some k) e = (let a = counts_is from m s k e in let w = some_waits s.entries k a.request a.there a.waits in absurd (omega (arith, w, none)))
 
--- one more request
-pub holds_push : (P : Asked → Type 0) (es : List Request) (n : Request) → ((i : ℕ) (r : Request) → slice_get es i ≡ Some r → P r.asked) → P n.asked → (i : ℕ) (r : Request) → slice_get (es ++ n ∷ []) i ≡ Some r → P r.asked
-holds_push P [] n all p zero r e = let one : n ≡ r = cc in subst (λ (y : Request). P y.asked) one p
-holds_push P [] n all p (suc i) r e = absurd cc
-holds_push P (x ∷ xs) n all p zero r e = all zero r e
-holds_push P (x ∷ xs) n all p (suc i) r e = holds_push P xs n (λ j. all (suc j)) p i r e
+-- ---- what a record that goes on keeps
+
+pub record GoesFrom (es ns : List Request) : Type 0 where
+  pub stays : StaysTo es ns
+  pub alike : AskedAlike es ns
+  pub quiet : outstanding_count es ≡ 0 → ns ≡ es
+
+pub from_message : (from : ℕ) (m : Message) (now : ℕ) (r s : RequestsState) → s ≡ after_message from m now r → GoesFrom r.entries s.entries
+from_message from m now r s e =
+    subst (λ (x : RequestsState). GoesFrom r.entries x.entries) (sym e)
+    (record { stays = stays_message from m now r; alike = alike_message from m now r; quiet = quiet_message from m now r })
+
+pub from_tick : (now : ℕ) (r s : RequestsState) → s ≡ after_tick now r → GoesFrom r.entries s.entries
+from_tick now r s e =
+    subst (λ (x : RequestsState). GoesFrom r.entries x.entries) (sym e)
+    (record { stays = stays_tick now r; alike = alike_tick now r; quiet = quiet_ticked (max r.clock now) r.entries })
+
+pub from_same : (es ns : List Request) → ns ≡ es → GoesFrom es ns
+from_same es ns e =
+    subst (GoesFrom es) (sym e)
+    (record { stays = λ i r there quiet. there; alike = λ i n there. record { request = n; there = there; same = refl; of_server = refl }; quiet = λ none. refl })
+
+-- ---- the file
+
+pub keeps_answers : (es ns : List Request) → StaysTo es ns → KeepsAnswers es ns
+keeps_answers es ns stays place r body there answer = stays place r there (ap is_outstanding answer)
+
+pub head_stays : (cap : VerifyCapValue) (es ns : List Request) (place : ℕ) (u : Contents) → StaysTo es ns → IsHead cap es place u → IsHead cap ns place u
+head_stays cap es ns place u stays h = record {
+  request = h.request;
+  there = stays place h.request h.there (ap is_outstanding h.answer);
+  share = h.share;
+  offset = h.offset;
+  len = h.len;
+  asked = h.asked;
+  text = h.text;
+  answer = h.answer;
+  whole = h.whole;
+  block = h.block;
+}
+
+pub file_stays : (cap : ReadCapValue) (from to : ℕ) (es ns : List Request) (f : Option Found) → StaysTo es ns → IsFileIfFound cap from to es f → IsFileIfFound cap from to ns f
+file_stays cap from to es ns None stays k = tt
+file_stays cap from to es ns (Some f) stays k = record {
+  head = head_stays (verify_cap_of cap) es ns f.place f.file.handout.ueb stays k.head;
+  key = k.key;
+  first = k.first;
+  to_is = k.to_is;
+  answers = reads_keep es ns f.file (keeps_answers es ns stays) k.answers;
+}

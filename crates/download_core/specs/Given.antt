@@ -1,36 +1,16 @@
 -- Bytes are handed out only with what proves them.
-use Rattle.std.specs.Prelude.{◌≡◌, ℕ, ◌+◌, ◌*◌, ◌<◌, ◌≤◌, List, [], ◌∷◌, length, take, drop, All}
-use Rattle.std.specs.Prelude.{Option, Some, None, slice_get}
-use Rattle.aes_ctr.specs.CounterMode.{xored_from}
-use Rattle.cap_text.specs.Cap.{VerifyCapValue, verify_cap_of}
+use Rattle.std.specs.Prelude.{◌≡◌, ℕ, ◌/◌, List, [], length, All, Option, Some, None, slice_get}
+use Rattle.cap_text.specs.Cap.{ReadCapValue, VerifyCapValue, verify_cap_of}
 use Rattle.ueb.specs.Shape.{Contents}
 use Rattle.share_verify.specs.CapBlock.{IsUebFor}
-use Rattle.proved_parts.specs.Parts.{IsSegmentBy}
 use Rattle.wire.specs.declared.message.Body.TheVariants.{Data}
 use Rattle.request_record.specs.declared.requests.Asked.TheVariants.{Reading}
 use Rattle.request_record.specs.declared.requests.Outcome.TheVariants.{Answered}
 use Rattle.request_record.specs.declared.requests.Request.{Request}
-use Rattle.download_core.specs.declared.status.Piece.{Piece}
-use Rattle.download_core.specs.State.{DownloadState}
-
--- the pieces follow one another, from a place up to another
-abbrev pub AreConsecutive : ℕ → List Piece → ℕ → Type 0
-AreConsecutive place [] end = place ≡ end
-AreConsecutive place (p ∷ ps) end =
-    (p.place ≡ place) × (0 < length p.bytes) × AreConsecutive (place + length p.bytes) ps end
-
--- The piece is a slice of a segment that this extension block proves, decrypted by its place in the
--- file. `skipped`: how many bytes of the segment are before it.
-pub record IsGiven (key : List ℕ) (u : Contents) (p : Piece) : Type 0 where
-  pub number : ℕ
-  pub segment : List ℕ
-  pub siblings : List (List ℕ)
-  pub by : IsSegmentBy u number segment siblings
-  pub skipped : ℕ
-  pub place_is : p.place ≡ number * u.segment_size + skipped
-  pub long : skipped + length p.bytes ≤ length segment
-  pub bytes_are : p.bytes
-      ≡ xored_from key p.place (take (length p.bytes) (drop skipped segment))
+use Rattle.download_segments.specs.Pieces.{IsGiven}
+use Rattle.download_file.specs.Answers.{IsRead}
+use Rattle.download_file.specs.Right.{IsFile}
+use Rattle.download_core.specs.State.{DownloadState, Found, ready}
 
 -- the answer to the request at this place is the cap's extension block
 pub record IsHead (cap : VerifyCapValue) (entries : List Request) (place : ℕ) (u : Contents)
@@ -46,8 +26,28 @@ pub record IsHead (cap : VerifyCapValue) (entries : List Request) (place : ℕ) 
   pub whole : length text ≡ len
   pub block : IsUebFor cap text u
 
+-- The file is the one of the cap, from a place up to another, by the answer to a request. What was
+-- read of it, and each segment that was made, are of answers in the record.
+pub record IsFileOfCap (cap : ReadCapValue) (from to : ℕ) (entries : List Request) (f : Found)
+    : Type 0 where
+  pub head : IsHead (verify_cap_of cap) entries f.place f.file.handout.ueb
+  pub key : f.file.handout.key ≡ cap.key
+  pub first : f.file.first ≡ from / f.file.handout.geometry.segment_size
+  pub to_is : f.file.handout.to ≡ to
+  pub answers : IsRead entries f.file
+
+-- so it is once an extension block is accepted
+abbrev pub IsFileIfFound : ReadCapValue → ℕ → ℕ → List Request → Option Found → Type 0
+IsFileIfFound cap from to entries None = Unit {0}
+IsFileIfFound cap from to entries (Some f) = IsFileOfCap cap from to entries f
+
+-- and what is read and made of it is right
+abbrev pub IsRightIfFound : Option Found → Type 0
+IsRightIfFound None = Unit {0}
+IsRightIfFound (Some f) = IsFile f.file
+
 -- All pieces are proved by one extension block, the one that is accepted. Before, there is none.
 abbrev pub GivenIsProved : DownloadState → Option ℕ → Type 0
-GivenIsProved d None = d.ready ≡ []
+GivenIsProved d None = ready d ≡ []
 GivenIsProved d (Some place) = (u : Contents)
-    × IsHead (verify_cap_of d.cap) d.requests.entries place u × All (IsGiven d.cap.key u) d.ready
+    × IsHead (verify_cap_of d.cap) d.requests.entries place u × All (IsGiven d.cap.key u) (ready d)

@@ -1,17 +1,17 @@
 -- What the calls of a download do.
-use Rattle.std.specs.Prelude.{◌≡◌, ◌≢◌, ℕ, ◌+◌, ◌<◌, ◌≤◌, ◌==◌, List, [], ◌∷◌, ◌++◌, length}
+use Rattle.std.specs.Prelude.{◌≡◌, ◌≢◌, ◌⊎◌, ℕ, ◌+◌, ◌==◌, List, [], ◌∷◌, ◌++◌, length}
 use Rattle.std.specs.Prelude.{Option, Some, None, if◌then◌else◌}
 use Rattle.cap_text.specs.Cap.{ReadCapValue}
 use Rattle.wire.specs.declared.message.Message.{Message}
 use Rattle.request_record.specs.declared.requests.Asked.{Asked}
-use Rattle.request_record.specs.Asking.{after_message, after_tick, begun, fresh}
+use Rattle.request_record.specs.Asking.{after_message, after_tick, begun}
 use Rattle.request_record.specs.Record.{RequestsState, asked_all}
-use Rattle.download_core.specs.declared.status.Blame.{Blame}
-use Rattle.download_core.specs.declared.status.Piece.{Piece}
+use Rattle.share_holdings.specs.declared.holding.Blame.{Blame}
+use Rattle.download_segments.specs.declared.piece.Piece.{Piece}
 use Rattle.download_core.specs.declared.status.DownloadStatus.TheVariants.{Running, Done}
 use Rattle.download_core.specs.declared.status.DownloadStatus.TheVariants.{NotEnoughShares}
-use Rattle.download_core.specs.declared.status.DownloadStatus.{DownloadStatus}
-use Rattle.download_core.specs.State.{DownloadState, with_record}
+use Rattle.download_core.specs.Hashed.{StaysGiven}
+use Rattle.download_core.specs.State.{DownloadState, Found, accepted, handed, ready, with_record}
 
 -- the servers that are asked which shares they hold: none, where nothing is wanted
 abbrev pub asked_servers : ℕ → ℕ → List ℕ → List ℕ
@@ -25,7 +25,7 @@ pub record Begins (cap : ReadCapValue) (from to : ℕ) (servers : List ℕ) (ses
   pub range : (d.from ≡ from) × (d.to ≡ to)
   pub of_servers : d.servers ≡ servers
   pub asks : d.requests ≡ begun (asked_servers from to servers) session now
-  pub nothing : (d.accepted ≡ None) × (d.ready ≡ []) × (d.handed ≡ from) × (d.blamed ≡ [])
+  pub nothing : (d.found ≡ None) × (d.blamed ≡ [])
   pub done : from ≡ to → d.status ≡ Done
   pub runs : from ≢ to → servers ≢ [] → d.status ≡ Running
   pub alone : from ≢ to → servers ≡ [] → d.status ≡ NotEnoughShares
@@ -35,17 +35,18 @@ abbrev pub StaysAccepted : Option ℕ → Option ℕ → Type 0
 StaysAccepted None new = Unit {0}
 StaysAccepted (Some place) new = new ≡ Some place
 
--- what a download is for stays, and what it has stays in front
+-- What a download is for stays, and what it has stays in front. What it gave stays given.
 pub record IsSame (old new : DownloadState) : Type 0 where
   pub cap : new.cap ≡ old.cap
   pub range : (new.from ≡ old.from) × (new.to ≡ old.to)
   pub servers : new.servers ≡ old.servers
-  pub handed : new.handed ≡ old.handed
+  pub given : handed new ≡ handed old
   pub more : List Piece
-  pub ready : new.ready ≡ old.ready ++ more
+  pub made : ready new ≡ ready old ++ more
   pub others : List Blame
   pub blamed : new.blamed ≡ old.blamed ++ others
-  pub accepted : StaysAccepted old.accepted new.accepted
+  pub head : StaysAccepted (accepted old) (accepted new)
+  pub stays : StaysGiven old new
 
 -- The record goes on from a message or a tick, and while the download runs more may be asked, made
 -- and blamed.
@@ -61,8 +62,28 @@ Advances from m now old new = GoesOn (after_message from m now old.requests) old
 abbrev pub TicksOn : ℕ → DownloadState → DownloadState → Type 0
 TicksOn now old new = GoesOn (after_tick now old.requests) old new
 
+-- A tick finds no memory: the record is as it was, or went on. What the download has stays.
+pub record StopsAt (now : ℕ) (old new : DownloadState) : Type 0 where
+  pub same : IsSame old new
+  pub requests : (new.requests ≡ old.requests) ⊎ ((asks : List (ℕ × Asked))
+      × (new.requests ≡ asked_all asks (after_tick now old.requests)))
+
+-- the file whose pieces were taken up to a place, where these are left
+abbrev pub with_handed : List Piece → ℕ → Found → Found
+with_handed pieces place f = record f {
+  file = record f.file {
+    handout = record f.file.handout { ready = pieces; handed = place };
+  };
+}
+
+abbrev pub found_handed : List Piece → ℕ → Option Found → Option Found
+found_handed pieces place None = None
+found_handed pieces place (Some f) = Some (with_handed pieces place f)
+
 -- the first piece that is ready is taken
 abbrev pub TakesPiece : DownloadState → Option Piece → DownloadState → Type 0
-TakesPiece old None new = (old.ready ≡ []) × (new ≡ old)
-TakesPiece old (Some p) new = (old.ready ≡ p ∷ new.ready)
-    × (new ≡ record old { ready = new.ready; handed = p.place + length p.bytes })
+TakesPiece old None new = (ready old ≡ []) × (new ≡ old)
+TakesPiece old (Some p) new = (ready old ≡ p ∷ ready new)
+    × (new ≡ record old {
+      found = found_handed (ready new) (p.place + length p.bytes) old.found;
+    })

@@ -1,17 +1,32 @@
 -- What holds of each download.
-use Rattle.std.specs.Prelude.{◌≡◌, ℕ, ◌<◌, ◌≤◌}
+use Rattle.std.specs.Prelude.{◌≡◌, ◌≢◌, ℕ, ◌<◌, ◌≤◌}
+use Rattle.request_record.specs.Asking.{AsksOnce}
 use Rattle.request_record.specs.Record.{outstanding_count}
-use Rattle.download_core.specs.declared.status.DownloadStatus.TheVariants.{Running, Done}
-use Rattle.download_core.specs.State.{DownloadState}
-use Rattle.download_core.specs.Given.{AreConsecutive, GivenIsProved}
+use Rattle.download_segments.specs.Pieces.{AreConsecutive}
+use Rattle.download_core.specs.declared.status.DownloadStatus.TheVariants.{Running, Done, Failed}
+use Rattle.download_core.specs.declared.status.DownloadStatus.TheVariants.{NotEnoughShares}
+use Rattle.download_core.specs.declared.status.DownloadStatus.TheVariants.{Inconsistent}
+use Rattle.download_core.specs.Ends.{HasNoCodeWord, HasTooFew}
+use Rattle.download_core.specs.Given.{GivenIsProved, IsFileIfFound, IsRightIfFound}
+use Rattle.download_core.specs.Reads.{ReadsNoMore}
+use Rattle.download_core.specs.State.{DownloadState, accepted, handed, ready}
 
 -- The pieces follow one another from the place up to which bytes were taken, and none passes the
 -- range. All of them are proved by the extension block that is accepted. Where the download is
--- done, they end at the range's end; while it runs, a request waits for its answer.
+-- done, they end at the range's end; while it runs, a request waits for its answer. It gives up
+-- only where too few shares are left, and is inconsistent only where the file is no code word. No
+-- server is asked the same thing twice, nor for a byte of a share twice, and no more is read than
+-- may be.
 pub record IsRight (d : DownloadState) : Type 0 where
   pub end : ℕ
-  pub consecutive : AreConsecutive d.handed d.ready end
+  pub consecutive : AreConsecutive (handed d) (ready d) end
   pub within : end ≤ d.to
-  pub proved : GivenIsProved d d.accepted
+  pub proved : GivenIsProved d (accepted d)
+  pub file : IsFileIfFound d.cap d.from d.to d.requests.entries d.found
+  pub made : IsRightIfFound d.found
   pub done : d.status ≡ Done → end ≡ d.to
   pub works : d.status ≡ Running → 0 < outstanding_count d.requests.entries
+  pub few : d.status ≡ NotEnoughShares → HasTooFew d
+  pub inconsistent : d.status ≡ Inconsistent → HasNoCodeWord d.found
+  pub once : AsksOnce d.requests.entries
+  pub reads : d.status ≢ Failed → ReadsNoMore d.requests.entries d.blamed d.found

@@ -1,14 +1,19 @@
 //! A download: bytes of a file by its cap, from servers, only with what proves them.
 
-ghost use Rattle.std.specs.Prelude.{◌≡◌, ◌≢◌, ◌↔◌, ◌<◌, ◌≤◌, [], Err, IfOk, IfSome, OnErr, OnOk};
-ghost use Rattle.std.specs.Prelude.{is_some};
+ghost use Rattle.std.specs.Prelude.{◌≡◌, ◌≢◌, ◌↔◌, ℕ, ◌<◌, ◌≤◌, [], Err, IfOk, IfSome, IsOk, OnErr};
+ghost use Rattle.std.specs.Prelude.{OnOk, is_some, nat_eq};
+ghost use Rattle.std.specs.List.{IsDistinct};
 ghost use Rattle.cap_text.specs.Cap.{verify_cap_of};
 ghost use Rattle.proved_parts.specs.Evidence.{IsProved};
-ghost use Rattle.download_core.specs.Moves.{Advances, Begins, TakesPiece, TicksOn, asked_servers};
+ghost use Rattle.download_core.specs.Evidence.{HasAllParts, IsEvidenceOf};
+ghost use Rattle.download_core.specs.Hashed.{GivenAreShown, IsGivenBy};
+ghost use Rattle.download_core.specs.Moves.{Advances, Begins, StopsAt, TakesPiece, TicksOn};
+ghost use Rattle.download_core.specs.Moves.{asked_servers};
 ghost use Rattle.download_core.specs.Right.{IsRight};
 ghost use Rattle.download_core.specs.Sending.{Takes, first_to_send};
 ghost use Rattle.download_core.specs.declared.status.DownloadStatus.TheVariants.{Done, Failed};
 ghost use Rattle.download_core.specs.declared.status.DownloadStatus.TheVariants.{NotEnoughShares};
+ghost use Rattle.download_core.specs.declared.status.DownloadStatus.TheVariants.{Inconsistent};
 ghost use Rattle.download_core.specs.declared.status.DownloadStatus.TheVariants.{Running};
 
 use crate::machine::Machine;
@@ -39,8 +44,9 @@ impl Model for Download {
 }
 
 impl Download {
-    /// Asks each of the servers which shares it holds. An empty range is done, and nobody is asked.
-    /// `BadRange` where the range ends before it begins or behind the file's end.
+    /// Asks each of the servers, which are distinct, which shares it holds. An empty range is done,
+    /// and nobody is asked. `BadRange` where the range ends before it begins or behind the file's
+    /// end.
     pub fn start(
         alloc: Global,
         cap: ReadCap,
@@ -50,6 +56,7 @@ impl Download {
         session: u64,
         now: u64,
     ) -> Result<Download, DownloadError>
+        requires distinct { IsDistinct nat_eq servers.now }
         ensures begins { IfOk result (Begins cap from to servers.now session now) }
         ensures range { IfOk result (λ _. (from ≤ to) × (to ≤ cap.size)) }
         ensures bad_range { (result ≡ Err DownloadError.BadRange)
@@ -64,7 +71,6 @@ impl Download {
         }
     }
 
-    #[tactic(auto, using(crate::proofs::Ends::kept_begun, crate::proofs::Ends::begins_by))]
     fn begin(
         alloc: Global,
         cap: ReadCap,
@@ -76,6 +82,7 @@ impl Download {
     ) -> Result<Download, AllocError>
         requires ordered { from ≤ to }
         requires within { to ≤ cap.size }
+        requires distinct { IsDistinct nat_eq servers.now }
         ensures { IfOk result (Begins cap from to servers.now session now) }
     {
         let asked = servers_to_ask(from, to, servers);
@@ -87,10 +94,12 @@ impl Download {
         })
     }
 
-    /// Takes a message from a node over, at a second.
+    /// Takes a message from a node over, at a second. On an `Err`, which only one that runs gives,
+    /// it has failed; what it has stays.
     pub fn on_message(&mut self, from: NodeId, message: Message, now: u64) -> Result<(), AllocError>
-        ensures ok { OnOk result (Advances from message now self.old self.new) }
+        ensures advances { Advances from message now self.old self.new }
         ensures err { OnErr result (self.new.status ≡ Failed) }
+        ensures ended { self.old.status ≢ Running → IsOk result }
     {
         match self.machine.answer(self.status, from, message, now) {
             Ok(status) => {
@@ -104,10 +113,11 @@ impl Download {
         }
     }
 
-    /// Takes note of a second.
+    /// Takes note of a second. On an `Err` it has failed; what it has stays.
     pub fn tick(&mut self, now: u64) -> Result<(), AllocError>
         ensures ok { OnOk result (TicksOn now self.old self.new) }
         ensures err { OnErr result (self.new.status ≡ Failed) }
+        ensures stops { OnErr result (StopsAt now self.old self.new) }
     {
         match self.machine.pass(self.status, now) {
             Ok(status) => {
@@ -122,11 +132,11 @@ impl Download {
     }
 
     /// Where it stands. While it runs a request is outstanding.
-    #[tactic(auto, using(crate::proofs::Ends::right_of))]
     pub fn status(&self) -> DownloadStatus
         ensures value { result ≡ self.now.status }
         ensures right { IsRight self.now }
     {
+        self.machine.is_right();
         self.status
     }
 
@@ -134,7 +144,7 @@ impl Download {
     pub fn blamed(&self) -> &[Blame]
         ensures { result.now ≡ self.now.blamed }
     {
-        self.machine.asking.blamed.as_slice()
+        self.machine.beginnings.holdings().blamed()
     }
 
     /// Takes the next message to send, and the node that it is for.
@@ -148,22 +158,33 @@ impl Download {
     pub fn has_outgoing(&self) -> bool
         ensures { result ≡ is_some (first_to_send self.now) }
     {
-        self.machine.asking.requests.first().is_some()
+        self.machine
+            .beginnings
+            .holdings()
+            .requests()
+            .first()
+            .is_some()
     }
 
     /// Takes the next piece of the file.
     pub fn take_bytes(&mut self) -> Option<Piece>
-        ensures { TakesPiece self.old result self.new }
+        ensures takes { TakesPiece self.old result self.new }
+        ensures given { IfSome result (IsGivenBy self.new) }
     {
         self.machine.take_piece()
     }
 
-    /// What proves the bytes that were made so far, in the order of the segments. `None` where no
+    /// What proves the segments that were made so far: a part for each, in order. `None` where no
     /// extension block is accepted.
     pub fn evidence(&self, alloc: Global) -> Result<Option<Evidence>, AllocError>
-        ensures { IfOk result (λ evidence. IfSome evidence
+        ensures proved { IfOk result (λ evidence. IfSome evidence
             (IsProved (verify_cap_of self.now.cap))) }
+        ensures made { IfOk result (IsEvidenceOf (verify_cap_of self.now.cap) self.now.found) }
+        // Where the whole file was made, each segment has its part.
+        ensures whole { self.now.status ≡ Done → self.now.from ≡ 0
+            → self.now.to ≡ self.now.cap.size → IfOk result (HasAllParts self.now.found) }
     {
+        self.machine.is_right();
         self.machine.evidence(alloc)
     }
 }
@@ -181,7 +202,9 @@ fn first_status(from: u64, to: u64, servers: &[NodeId]) -> DownloadStatus
     ensures runs { from ≢ to → servers.now ≢ [] → result ≡ Running }
     ensures alone { from ≢ to → servers.now ≡ [] → result ≡ NotEnoughShares }
     ensures is_done { result ≡ Done → from ≡ to }
-    ensures is_running { result ≡ Running → asked_servers from to servers.now ≡ [] → ⊥ }
+    ensures is_running { result ≡ Running → (from ≢ to) × (servers.now ≢ []) }
+    ensures is_alone { result ≡ NotEnoughShares → servers.now ≡ [] }
+    ensures others { result ≢ Inconsistent }
 {
     if from == to {
         DownloadStatus::Done
@@ -191,3 +214,9 @@ fn first_status(from: u64, to: u64, servers: &[NodeId]) -> DownloadStatus
         DownloadStatus::Running
     }
 }
+
+/// A law of the definitions: each piece that a download gave is proved by what the download hashed.
+/// The law is the contract; the call does nothing.
+pub fn given_are_shown()
+    ensures { GivenAreShown }
+{}

@@ -1,30 +1,44 @@
 //! A download's record, its file, and how it takes what comes.
 
-ghost use Rattle.std.specs.Prelude.{◌≡◌, ◌↔◌, List, [], ℕ, None, IfOk, IfSome, IsTrue};
+ghost use Rattle.std.specs.Prelude.{◌≡◌, ◌≢◌, ◌↔◌, ◌⊎◌, ℕ, ◌<◌, List, [], None, IfOk, IsOk, IsTrue};
+ghost use Rattle.std.specs.Prelude.{OnErr, OnOk, length, nat_eq};
+ghost use Rattle.std.specs.List.{IsDistinct};
 ghost use Rattle.cap_text.specs.Cap.{verify_cap_of};
-ghost use Rattle.proved_parts.specs.Evidence.{IsProved};
-ghost use Rattle.request_record.specs.Asking.{begun};
+ghost use Rattle.request_record.specs.Asking.{AsksOnce, begun};
+ghost use Rattle.share_holdings.specs.Numbers.{read_count};
+ghost use Rattle.share_holdings.specs.Table.{NoneIsFree};
+ghost use Rattle.share_beginnings.specs.Known.{AreBegun};
+ghost use Rattle.share_beginnings.specs.Moves.{IsBlockAt};
+ghost use Rattle.share_beginnings.specs.Opening.{IsFound, nobody};
 ghost use Rattle.download_core.specs.declared.status.DownloadStatus.{DownloadStatus};
 ghost use Rattle.download_core.specs.declared.status.DownloadStatus.TheVariants.{Failed, Running};
-ghost use Rattle.download_core.specs.Moves.{Advances, TakesPiece, TicksOn};
+ghost use Rattle.download_core.specs.Evidence.{IsEvidenceOf};
+ghost use Rattle.download_core.specs.Given.{IsFileIfFound, IsRightIfFound};
+ghost use Rattle.download_core.specs.Moves.{Advances, StopsAt, TakesPiece, TicksOn};
 ghost use Rattle.download_core.specs.Sending.{Takes};
-ghost use Rattle.download_core.specs.Steps.{EndsAs, IsComplete, IsKept, IsMachine, MovesOn};
-ghost use Rattle.download_core.specs.Steps.{AreAsked, Opens, OpensBy};
-ghost use Rattle.download_core.specs.Steps.{state_of};
+ghost use Rattle.download_core.specs.Steps.{AreOpened, EndsAs, HearsOf, IsFor, IsKept, IsUnderWay};
+ghost use Rattle.download_core.specs.Steps.{MovesOn, OpensWith, PassesOn, entries_of, found_of};
+ghost use Rattle.download_core.specs.Steps.{state_of, status_of};
 
-use crate::asking::{Asking, bytes_at};
-use crate::file::{File, Made};
-use crate::source::{Step, Waiting};
 use crate::status::{DownloadStatus, Piece};
 use cap_text::{ReadCap, VerifyCap};
-use proved_parts::Evidence;
-use share_opening::{Opened, Opening, Progress};
-use share_verify::Check;
+use download_reading::{Reading, Settled};
+use proved_parts::{Bytes, Evidence, PartList};
+use share_beginnings::{Beginnings, News, bytes_at};
+use share_opening::Opened;
 use std::alloc::{AllocError, Global};
 use wire::message::{Message, NodeId};
 
-// More steps than a download has segments, and shares at servers.
-const STEPS: u64 = u64::MAX;
+/// How many shares are opened at once at most.
+const OPENINGS: usize = 4;
+
+/// A file whose extension block is accepted.
+#[derive(Drop)]
+pub(crate) struct FoundFile {
+    /// The place of the request whose answer is the extension block.
+    pub(crate) place: usize,
+    pub(crate) reading: Reading,
+}
 
 /// A download but for how it stands.
 #[derive(Drop)]
@@ -34,12 +48,12 @@ pub(crate) struct Machine {
     pub(crate) verify: VerifyCap,
     pub(crate) from: u64,
     pub(crate) to: u64,
-    pub(crate) asking: Asking,
-    pub(crate) file: Option<File>,
+    pub(crate) beginnings: Beginnings,
+    pub(crate) found: Option<FoundFile>,
 }
 
 impl Machine {
-    /// Asks each of these servers which shares it holds.
+    /// Asks each of these servers, which are distinct, which shares it holds.
     pub(crate) fn begin(
         alloc: Global,
         cap: ReadCap,
@@ -49,13 +63,17 @@ impl Machine {
         session: u64,
         now: u64,
     ) -> Result<Machine, AllocError>
+        requires distinct { IsDistinct nat_eq servers.now }
         ensures cap { IfOk result (λ m. m.cap ≡ cap) }
         ensures verify { IfOk result (λ m. m.verify ≡ verify_cap_of cap) }
         ensures from_is { IfOk result (λ m. m.from ≡ from) }
         ensures to_is { IfOk result (λ m. m.to ≡ to) }
-        ensures requests { IfOk result (λ m. m.asking.requests ≡ begun servers.now session now) }
-        ensures blamed { IfOk result (λ m. m.asking.blamed.items ≡ []) }
-        ensures file { IfOk result (λ m. m.file ≡ None) }
+        ensures requests { IfOk result (λ m.
+            m.beginnings.holdings.requests ≡ begun servers.now session now) }
+        ensures blamed { IfOk result (λ m. m.beginnings.holdings.blamed ≡ []) }
+        ensures opened { IfOk result (λ m. AreOpened cap.total nobody m.beginnings) }
+        ensures found { IfOk result (λ m. m.found ≡ None) }
+        ensures needed { IfOk result (λ _. 0 < cap.needed) }
     {
         Ok(Machine {
             alloc,
@@ -63,36 +81,26 @@ impl Machine {
             verify: cap.to_verify(),
             from,
             to,
-            asking: Asking::begin(alloc, cap.total(), servers, session, now)?,
-            file: None,
+            beginnings: Beginnings::begin(alloc, cap.total(), servers, session, now)?,
+            found: None,
         })
-    }
-
-    /// Whether all pieces were made.
-    pub(crate) fn is_complete(&self) -> bool
-        ensures { IsTrue result ↔ IsComplete self.now.from self.now.to self.now.file }
-    {
-        match &self.file {
-            Some(file) => file.handout.is_complete(),
-            None => self.from == self.to,
-        }
     }
 
     /// Takes the first piece that is ready.
     pub(crate) fn take_piece(&mut self) -> Option<Piece>
-        requires machine { IsMachine self.old }
         ensures takes { (servers : List ℕ) (status : DownloadStatus) → TakesPiece
             (state_of self.old servers status) result (state_of self.new servers status) }
         ensures kept { (status : DownloadStatus) → IsKept self.old status
             → IsKept self.new status }
     {
-        match &mut self.file {
-            Some(file) => file.handout.take(),
+        match &mut self.found {
+            Some(found) => found.reading.take_piece(),
             None => None,
         }
     }
 
-    /// Takes a message from a node, at a second, and tells where it stands then.
+    /// Takes a message from a node, at a second, and tells where it stands then. Once it ended the
+    /// message is noted in the record alone, which needs no memory.
     pub(crate) fn answer(
         &mut self,
         status: DownloadStatus,
@@ -100,19 +108,21 @@ impl Machine {
         message: Message,
         now: u64,
     ) -> Result<DownloadStatus, AllocError>
+        requires { IsKept self.old status }
         ensures ok { IfOk result (λ ended. (servers : List ℕ) → Advances from message now
             (state_of self.old servers status) (state_of self.new servers ended)) }
-        ensures kept { IsKept self.old status → IfOk result (IsKept self.new) }
-        ensures failed { IsKept self.old status → IsKept self.new Failed }
+        ensures err { OnErr result ((servers : List ℕ) → Advances from message now
+            (state_of self.old servers status) (state_of self.new servers Failed)) }
+        ensures kept { IfOk result (IsKept self.new) }
+        ensures failed { IsKept self.new Failed }
+        ensures ended { status ≢ Running → IsOk result }
     {
-        let counted = self.asking.requests.take_answer(from, message, now);
-        let Some(place) = counted else {
-            return Ok(status);
-        };
+        let heard = self.beginnings.take_answer(from, message, now);
         if !is_running(status) {
             return Ok(status);
         }
-        self.take_in(place)?;
+        let news = heard?;
+        self.take_in(news)?;
         self.settle()
     }
 
@@ -122,263 +132,188 @@ impl Machine {
         status: DownloadStatus,
         now: u64,
     ) -> Result<DownloadStatus, AllocError>
+        requires { IsKept self.old status }
         ensures ok { IfOk result (λ ended. (servers : List ℕ) → TicksOn now
             (state_of self.old servers status) (state_of self.new servers ended)) }
-        ensures kept { IsKept self.old status → IfOk result (IsKept self.new) }
-        ensures failed { IsKept self.old status → IsKept self.new Failed }
+        ensures err { OnErr result ((servers : List ℕ) → StopsAt now
+            (state_of self.old servers status) (state_of self.new servers Failed)) }
+        ensures kept { IfOk result (IsKept self.new) }
+        ensures failed { IsKept self.new Failed }
     {
-        let lost = self.asking.requests.tick(now)?;
+        self.beginnings.tick(now)?;
         if !is_running(status) {
             return Ok(status);
         }
-        self.lose(&lost);
+        self.end_lost();
         self.settle()
     }
 
     /// Takes the next message to send, and the node that it is for.
-    #[tactic(auto, using(crate::proofs::Ends::kept_sent))]
     pub(crate) fn take_outgoing(&mut self) -> Option<(NodeId, Message)>
         requires verify { self.old.verify ≡ verify_cap_of self.old.cap }
-        requires asked { AreAsked self.old.asking.requests.entries }
         ensures takes { (servers : List ℕ) (status : DownloadStatus) → Takes
             (state_of self.old servers status) result (state_of self.new servers status) }
         ensures kept { (status : DownloadStatus) → IsKept self.old status
             → IsKept self.new status }
     {
-        let place = self.asking.requests.first()?;
-        let request = &self.asking.requests.entries()[place];
+        let requests = self.beginnings.holdings().requests();
+        let place = requests.first()?;
+        let request = &requests.entries()[place];
         let server = request.server;
         let body = request.asked.body(*self.verify.storage_index())?;
-        let message = self.asking.requests.message_at(place, body);
-        self.asking.requests.take_next();
+        let message = requests.message_at(place, body);
+        self.beginnings.take_next();
         Some((server, message))
     }
 
-    /// What proves the bytes that were made so far.
+    /// What proves the segments that were made so far.
     pub(crate) fn evidence(&self, alloc: Global) -> Result<Option<Evidence>, AllocError>
-        ensures { IfOk result (λ evidence. IfSome evidence (IsProved self.now.verify)) }
+        requires verify { self.now.verify ≡ verify_cap_of self.now.cap }
+        requires file { IsFileIfFound self.now.cap self.now.from self.now.to (entries_of self.now)
+            (found_of self.now.found) }
+        ensures { IfOk result (IsEvidenceOf self.now.verify (found_of self.now.found)) }
     {
-        let Some(file) = &self.file else {
+        let Some(found) = &self.found else {
             return Ok(None);
         };
-        match file.evidence(alloc, &self.asking)? {
-            Some(evidence) if evidence.proves(&self.verify) => Ok(Some(evidence)),
-            _ => Ok(None),
-        }
-    }
-
-    // These requests found no answer: their shares are lost.
-    #[tactic(auto, using(crate::proofs::Steps::moves_refl, crate::proofs::Steps::moves_trans, crate::proofs::Steps::moves_asks, crate::proofs::Steps::moves_file, crate::proofs::Steps::asks_refl))]
-    fn lose(&mut self, places: &[usize])
-        ensures { MovesOn self.old self.new }
-    {
-        for place in places {
-            if let Some(holding) = self.asking.owner(*place) {
-                self.asking.holdings.retire(holding);
-            }
-        }
-    }
-
-    // Takes the answer to the request at a place, and those behind it that came before.
-    #[tactic(auto, using(crate::proofs::Steps::moves_refl, crate::proofs::Steps::moves_trans, crate::proofs::Steps::moves_asks, crate::proofs::Steps::moves_file, crate::proofs::Steps::asks_refl))]
-    fn take_in(&mut self, place: usize) -> Result<(), AllocError>
-        ensures { MovesOn self.old self.new }
-    {
-        let Some(holding) = self.asking.owner(place) else {
-            return self.asking.take_holdings(place);
+        let requests = self.beginnings.holdings().requests();
+        let Some(text) = bytes_at(requests, found.place) else {
+            unreachable!();
         };
-        if self.asking.is_missing(place) {
-            self.asking.holdings.retire(holding);
-            return Ok(());
-        }
-        for _ in 0..STEPS {
-            let Some(waiting) = self.asking.next_answer(holding) else {
-                break;
-            };
-            self.take_answer(holding, &waiting)?;
-        }
-        Ok(())
+        let extension_block = Bytes::from_vec(Vec::from_slice(alloc, text)?);
+        let parts = found.reading.file().evidence_parts(alloc, requests)?;
+        Ok(Some(Evidence {
+            extension_block,
+            parts: PartList::from_vec(parts),
+        }))
     }
 
-    // Takes an answer of a share.
-    #[tactic(auto, using(crate::proofs::Steps::moves_refl, crate::proofs::Steps::moves_trans, crate::proofs::Steps::moves_asks, crate::proofs::Steps::moves_file, crate::proofs::Steps::asks_refl))]
-    fn take_answer(&mut self, holding: usize, waiting: &Waiting) -> Result<(), AllocError>
-        ensures { MovesOn self.old self.new }
+    /// A law: what is read and made of the file is right, and no byte is asked twice of one server.
+    /// The call does nothing.
+    pub(crate) fn is_right(&self)
+        ensures file { IsRightIfFound (found_of self.now.found) }
+        ensures once { AsksOnce (entries_of self.now) }
     {
-        if matches!(waiting.step, Step::Opening) {
-            return self.take_opening(holding, waiting.place);
+        let _ = self.beginnings.holdings().requests();
+        if let Some(found) = &self.found {
+            let _ = found.reading.file().geometry();
         }
-        match &mut self.file {
-            Some(file) => file.take_part(&mut self.asking, holding, waiting),
+    }
+
+    // Takes what a message brought.
+    fn take_in(&mut self, news: News) -> Result<(), AllocError>
+        requires { HearsOf self.old news }
+        ensures way { OnOk result (IsUnderWay self.new) }
+        ensures moves { MovesOn self.old self.new }
+    {
+        match &mut self.found {
+            Some(found) => found.reading.hear(&mut self.beginnings, &self.verify, news),
+            None => self.open_on(news),
+        }
+    }
+
+    // Takes the next bytes of the beginning of a share, where no extension block is accepted.
+    fn open_on(&mut self, news: News) -> Result<(), AllocError>
+        requires wanted { IsFor self.old }
+        requires opens { OpensWith self.old.cap.total self.old.beginnings news }
+        requires none { self.old.found ≡ None }
+        ensures way { OnOk result (IsUnderWay self.new) }
+        ensures moves { MovesOn self.old self.new }
+    {
+        let News::Beginning(holding, place) = news else {
+            return Ok(());
+        };
+        match self.beginnings.go_on(&self.verify, holding, place)? {
+            Some(opened) => self.accept(holding, place, &opened),
             None => Ok(()),
         }
     }
 
-    // Takes the next bytes of the beginning of a share.
-    #[tactic(auto, using(crate::proofs::Steps::moves_refl, crate::proofs::Steps::moves_trans, crate::proofs::Steps::moves_asks, crate::proofs::Steps::moves_file, crate::proofs::Steps::asks_refl))]
-    fn take_opening(&mut self, holding: usize, place: usize) -> Result<(), AllocError>
-        ensures { MovesOn self.old self.new }
+    // Accepts the extension block that answered the request at a place, of a holding's share.
+    fn accept(&mut self, holding: usize, place: usize, opened: &Opened) -> Result<(), AllocError>
+        requires wanted { IsFor self.old }
+        requires known { AreBegun self.old.beginnings }
+        requires count { length self.old.beginnings.holdings.table.numbers
+            ≡ self.old.cap.total }
+        requires found { IsFound self.old.beginnings holding }
+        requires block { IsBlockAt self.old.verify (entries_of self.old) place opened.now }
+        requires none { self.old.found ≡ None }
+        ensures way { OnOk result (IsUnderWay self.new) }
+        ensures moves { MovesOn self.old self.new }
     {
-        match self.read_opening(holding, place) {
-            Err(check) => self.asking.blame(holding, check),
-            Ok(None) => Ok(()),
-            Ok(Some(Progress::Next(next))) => self.go_on_opening(holding, &next),
-            Ok(Some(Progress::Done(opened))) => self.take_block(holding, place, &opened),
-        }
-    }
-
-    // What comes of the bytes that answered the request at a place, or the check that they fail.
-    #[tactic(auto, using(crate::proofs::Steps::opens_progress))]
-    fn read_opening(&self, holding: usize, place: usize) -> Result<Option<Progress>, Check>
-        ensures { IfOk result (λ progress. IfSome progress (OpensBy self.now.verify
-            self.now.asking.requests.entries place)) }
-    {
-        let Some(opening) = self.asking.opening_of(holding) else {
-            return Ok(None);
-        };
-        let Some(bytes) = bytes_at(&self.asking.requests, place) else {
-            return Err(Check::Layout);
-        };
-        match opening.take(&self.verify, bytes) {
-            Ok(progress) => Ok(Some(progress)),
-            Err(error) => Err(error.check()),
-        }
-    }
-
-    // The beginning of a share goes on, or is compared with the extension block that is accepted.
-    #[tactic(auto, using(crate::proofs::Steps::moves_refl, crate::proofs::Steps::moves_trans, crate::proofs::Steps::moves_asks, crate::proofs::Steps::moves_file, crate::proofs::Steps::asks_refl))]
-    fn go_on_opening(&mut self, holding: usize, next: &Opening) -> Result<(), AllocError>
-        ensures { MovesOn self.old self.new }
-    {
-        let Some(file) = &self.file else {
-            return self.asking.ask_opening(holding, next);
-        };
-        if next.agrees(file.handout.geometry()) {
-            self.asking.end_opening(holding);
-            return Ok(());
-        }
-        self.asking.blame(holding, Check::Layout)
-    }
-
-    // Accepts the extension block that answered the request at a place, where none is accepted yet.
-    #[tactic(auto, using(crate::proofs::Steps::moves_refl, crate::proofs::Steps::moves_trans, crate::proofs::Steps::moves_asks, crate::proofs::Steps::moves_file, crate::proofs::Steps::asks_refl))]
-    fn take_block(
-        &mut self,
-        holding: usize,
-        place: usize,
-        opened: &Opened,
-    ) -> Result<(), AllocError>
-        requires { Opens self.old.verify self.old.asking.requests.entries place opened.now }
-        ensures { MovesOn self.old self.new }
-    {
-        self.asking.end_opening(holding);
-        if self.file.is_some() {
-            return Ok(());
-        }
-        let file = File::new(
+        self.beginnings.accept(&opened.geometry, holding)?;
+        let reading = Reading::new(
             self.alloc,
             self.cap.key(),
-            opened,
+            &opened.ueb,
+            &opened.geometry,
             self.from,
             self.to,
-            place,
         )?;
-        self.asking.compare_openings(&opened.geometry)?;
-        self.file = Some(file);
+        self.found = Some(FoundFile { place, reading });
         Ok(())
+    }
+
+    // After a second the shares of which a request is lost are read no more.
+    fn end_lost(&mut self)
+        requires { PassesOn self.old }
+        ensures way { IsUnderWay self.new }
+        ensures moves { MovesOn self.old self.new }
+    {
+        if let Some(found) = &mut self.found {
+            found.reading.pass(&self.beginnings);
+        }
     }
 
     // Goes on as far as it can without another answer, and tells where it stands.
-    #[tactic(auto, using(crate::proofs::Steps::moves_refl, crate::proofs::Steps::moves_trans, crate::proofs::Steps::moves_asks, crate::proofs::Steps::moves_file, crate::proofs::Steps::asks_refl))]
     fn settle(&mut self) -> Result<DownloadStatus, AllocError>
+        requires { IsUnderWay self.old }
         ensures moves { MovesOn self.old self.new }
-        ensures status { IfOk result (EndsAs self.new) }
+        ensures ends { IfOk result (EndsAs self.new) }
     {
-        let made = self.go_on()?;
-        Ok(self.status_by(made))
-    }
-
-    // Makes segments, as far as it can without another answer.
-    fn go_on(&mut self) -> Result<Made, AllocError>
-        ensures { MovesOn self.old self.new }
-    {
-        for _ in 0..STEPS {
-            let made = self.step()?;
-            if made == Made::Waits || made == Made::Inconsistent {
-                return Ok(made);
+        match &mut self.found {
+            Some(found) => {
+                let settled = found.reading.settle(&mut self.beginnings)?;
+                Ok(status_by(settled))
             }
+            None => self.settle_opening(),
         }
-        Ok(Made::Waits)
     }
 
-    // Where it stands, where this became of the next segment.
-    fn status_by(&self, made: Made) -> DownloadStatus
-        ensures { EndsAs self.now result }
+    // Opens more shares, where no extension block is accepted, and tells where it stands.
+    fn settle_opening(&mut self) -> Result<DownloadStatus, AllocError>
+        requires wanted { IsFor self.old }
+        requires opened { AreOpened self.old.cap.total nobody self.old.beginnings }
+        requires none { self.old.found ≡ None }
+        ensures moves { MovesOn self.old self.new }
+        ensures ends { IfOk result (EndsAs self.new) }
     {
-        if made == Made::Inconsistent {
-            DownloadStatus::Inconsistent
-        } else if self.is_complete() {
-            DownloadStatus::Done
-        } else if 0 < self.asking.requests.outstanding() {
-            DownloadStatus::Running
+        self.open_more()?;
+        if 0 < self.beginnings.holdings().requests().outstanding() {
+            Ok(DownloadStatus::Running)
         } else {
-            DownloadStatus::NotEnoughShares
+            Ok(DownloadStatus::NotEnoughShares)
         }
     }
 
-    // Reads more shares, where fewer are read than are needed, and makes the next segment.
-    #[tactic(auto, using(crate::proofs::Steps::moves_refl, crate::proofs::Steps::moves_trans, crate::proofs::Steps::moves_asks, crate::proofs::Steps::moves_file, crate::proofs::Steps::asks_refl))]
-    fn step(&mut self) -> Result<Made, AllocError>
-        ensures { MovesOn self.old self.new }
+    // Opens shares, until as many as may be are opened at once, or none may be opened.
+    fn open_more(&mut self) -> Result<(), AllocError>
+        requires opened { AreOpened self.old.cap.total nobody self.old.beginnings }
+        ensures opened { OnOk result (AreOpened self.old.cap.total nobody self.new.beginnings) }
+        ensures found { self.new.found ≡ self.old.found }
+        ensures needed { 0 < self.old.cap.needed }
+        ensures enough { OnOk result ((0 < read_count self.new.beginnings.holdings.table.numbers)
+            ⊎ NoneIsFree self.new.beginnings.holdings.table) }
+        ensures moves { MovesOn self.old self.new }
     {
-        self.choose_more()?;
-        match &mut self.file {
-            Some(file) => file.advance(&mut self.asking),
-            None => Ok(Made::Waits),
-        }
-    }
-
-    // Reads more shares, where fewer are read than are needed.
-    #[tactic(auto, using(crate::proofs::Steps::moves_refl, crate::proofs::Steps::moves_trans, crate::proofs::Steps::moves_asks, crate::proofs::Steps::moves_file, crate::proofs::Steps::asks_refl))]
-    fn choose_more(&mut self) -> Result<(), AllocError>
-        ensures { MovesOn self.old self.new }
-    {
-        self.choose_all()?;
-        match &mut self.file {
-            Some(file) => file.ask_ciphertext(&mut self.asking),
-            None => Ok(()),
-        }
-    }
-
-    // Begins to read shares, as many as are needed.
-    fn choose_all(&mut self) -> Result<(), AllocError>
-        ensures { MovesOn self.old self.new }
-    {
-        let needed = usize::from(self.cap.needed());
-        for _ in 0..needed {
-            if needed <= self.asking.holdings.busy_count() {
-                break;
-            }
-            let Some(holding) = self.asking.holdings.choose(self.file.is_some()) else {
-                break;
+        let wanted = usize::from(self.cap.needed()).min(OPENINGS);
+        while self.beginnings.holdings().reading() < wanted {
+            let Some(holding) = self.beginnings.holdings().choose() else {
+                return Ok(());
             };
-            self.begin_holding(holding)?;
+            self.beginnings.open(holding)?;
         }
         Ok(())
-    }
-
-    // Begins to read a share.
-    #[tactic(auto, using(crate::proofs::Steps::moves_refl, crate::proofs::Steps::moves_trans, crate::proofs::Steps::moves_asks, crate::proofs::Steps::moves_file, crate::proofs::Steps::asks_refl))]
-    fn begin_holding(&mut self, holding: usize) -> Result<(), AllocError>
-        ensures { MovesOn self.old self.new }
-    {
-        match &mut self.file {
-            Some(file) => file.begin_source(&mut self.asking, holding),
-            None => {
-                self.asking.holdings.occupy(holding);
-                self.asking.ask_opening(holding, &Opening::start())
-            }
-        }
     }
 }
 
@@ -387,4 +322,16 @@ fn is_running(status: DownloadStatus) -> bool
     ensures { IsTrue result ↔ (status ≡ Running) }
 {
     matches!(status, DownloadStatus::Running)
+}
+
+// Where a download stands whose file stands so.
+fn status_by(settled: Settled) -> DownloadStatus
+    ensures { result ≡ status_of settled }
+{
+    match settled {
+        Settled::Complete => DownloadStatus::Done,
+        Settled::Inconsistent => DownloadStatus::Inconsistent,
+        Settled::Waits => DownloadStatus::Running,
+        Settled::TooFew => DownloadStatus::NotEnoughShares,
+    }
 }

@@ -1,11 +1,10 @@
-//! Where a download stands, whom it blames, and what it hands out.
+//! Where a download stands, and why one does not begin.
 
 ghost use Rattle.std.specs.Prelude.{◌≡◌};
 ghost use Rattle.download_core.specs.Refusals.{refusal_number};
 
-use proved_parts::Bytes;
-use share_verify::Check;
-use wire::message::NodeId;
+pub use download_segments::Piece;
+pub use share_holdings::holding::Blame;
 
 /// Where a download stands.
 #[derive(Clone, Copy, PartialEq, Eq)]
@@ -19,26 +18,6 @@ pub enum DownloadStatus {
     Inconsistent,
     /// A call found no memory.
     Failed,
-}
-
-/// A share at a server that failed a check.
-#[derive(Clone, Copy, PartialEq, Eq)]
-pub struct Blame {
-    /// The server.
-    pub server: NodeId,
-    /// The share's number.
-    pub share: u8,
-    /// The check.
-    pub check: Check,
-}
-
-/// A piece of the file: bytes of one segment.
-#[derive(Drop)]
-pub struct Piece {
-    /// The place of the first byte in the file.
-    pub place: u64,
-    /// The bytes, one at least.
-    pub bytes: Bytes,
 }
 
 /// Why a download does not begin.

@@ -39,7 +39,8 @@ pub(crate) struct Course {
     pub(crate) evidence: Option<Evidence>,
 }
 
-const SERVERS: u16 = 10;
+// The servers, of which not all need to hold a share.
+pub(crate) const SERVERS: [NodeId; 10] = [0, 1, 2, 3, 4, 5, 6, 7, 8, 9];
 
 // Bytes that differ by their place and by `mark`.
 pub(crate) fn text_of(alloc: Global, size: usize, mark: u8) -> Result<Vec<u8>, AllocError> {
@@ -190,11 +191,7 @@ pub(crate) fn course_of(
         Some((node, _)) => Some(node),
         None => None,
     };
-    let mut nodes: Vec<NodeId> = Vec::new(alloc);
-    for node in 0..SERVERS {
-        nodes.push(node).ok()?;
-    }
-    let mut download = Download::start(alloc, cap, from as u64, to as u64, &nodes, 7, 0).ok()?;
+    let mut download = Download::start(alloc, cap, from as u64, to as u64, &SERVERS, 7, 0).ok()?;
     let mut reads = Vec::new(alloc);
     let mut now: u64 = 0;
     let mut answers: usize = 0;

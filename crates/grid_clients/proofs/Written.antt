@@ -1,11 +1,11 @@
 -- What a download's client has written.
-use Rattle.std.proofs.Common.{◌≡◌, ℕ, ◌+◌, List, [], ◌∷◌, ◌++◌, length, Option, Some, true, false, ap, refl, subst, sym, ◌∙◌, append_assoc}
+use Rattle.std.proofs.Common.{◌≡◌, ℕ, ◌+◌, List, [], ◌∷◌, ◌++◌, length, Option, Some, None, true, false, ap, refl, subst, sym, ◌∙◌, append_assoc}
 use Rattle.std.proofs.KnownBytes.{Appends-nil, Appends-trans}
 use Rattle.std.proofs.lemmas.List.{flat_map_more}
 use Rattle.std.specs.Io.KnownBytes.{Appends}
-use Rattle.download_core.specs.declared.status.Piece.{Piece}
-use Rattle.download_core.specs.Moves.{TakesPiece}
-use Rattle.download_core.specs.State.{DownloadState}
+use Rattle.download_segments.specs.declared.piece.Piece.{Piece}
+use Rattle.download_core.specs.Moves.{TakesPiece, found_handed}
+use Rattle.download_core.specs.State.{DownloadState, Found, handed, handed_in, ready, ready_in}
 use Rattle.grid_clients.specs.DownloadCalls.{Downloading, Hands, MovesAndWrites, Writes, bytes_of, end_of}
 
 -- the pieces that were taken and written so far
@@ -14,9 +14,23 @@ pub record Written (old : DownloadState) (before : Option (List ℕ)) (new : Dow
   pub hands : Hands pieces old new
   pub added : Appends before after (bytes_of pieces)
 
+-- what is handed out of a file is what it says
+same_found : (from : ℕ) (f : Option Found) → found_handed (ready_in f) (handed_in from f) f ≡ f
+same_found from None = refl
+same_found from (Some f) = refl
+
+-- the last word stands
+found_twice : (first second : List Piece) (place after : ℕ) (f : Option Found) → found_handed second after (found_handed first place f) ≡ found_handed second after f
+found_twice first second place after None = refl
+found_twice first second place after (Some f) = refl
+
 -- nothing yet
 pub written_none : (d : DownloadState) (held : Option (List ℕ)) → Written d held d held
-written_none d held = record { pieces = []; hands = record { ready = refl; others = refl }; added = Appends-nil held }
+written_none d held = record {
+  pieces = [];
+  hands = record { taken = refl; others = ap (λ (f : Option Found). record d { found = f }) (sym (same_found d.from d.found)) };
+  added = Appends-nil held;
+}
 
 end_more : (place : ℕ) (ps : List Piece) (p : Piece) → end_of place (ps ++ p ∷ []) ≡ p.place + length p.bytes
 end_more place [] p = refl
@@ -25,9 +39,10 @@ end_more place (q ∷ ps) p = end_more (q.place + length q.bytes) ps p
 -- one piece more is taken
 pub hands_more : (pieces : List Piece) (old mid new : DownloadState) (p : Piece) → Hands pieces old mid → TakesPiece mid (Some p) new → Hands (pieces ++ p ∷ []) old new
 hands_more pieces old mid new p h t = record {
-  ready = h.ready ∙ ap (λ (ps : List Piece). pieces ++ ps) t.0 ∙ sym (append_assoc pieces (p ∷ []) new.ready);
-  others = t.1 ∙ ap (λ (d : DownloadState). record d { ready = new.ready; handed = p.place + length p.bytes }) h.others
-      ∙ ap (λ (n : ℕ). record old { ready = new.ready; handed = n }) (sym (end_more old.handed pieces p));
+  taken = h.taken ∙ ap (λ (ps : List Piece). pieces ++ ps) t.0 ∙ sym (append_assoc pieces (p ∷ []) (ready new));
+  others = t.1 ∙ ap (λ (d : DownloadState). record d { found = found_handed (ready new) (p.place + length p.bytes) d.found }) h.others
+      ∙ ap (λ (f : Option Found). record old { found = f }) (found_twice (ready mid) (ready new) (end_of (handed old) pieces) (p.place + length p.bytes) old.found)
+      ∙ ap (λ (n : ℕ). record old { found = found_handed (ready new) n old.found }) (sym (end_more (handed old) pieces p));
 }
 
 -- and written

@@ -7,11 +7,11 @@ use Rattle.download_core.specs.declared.status.DownloadStatus.{DownloadStatus}
 use Rattle.download_core.specs.declared.status.DownloadStatus.TheVariants.{Running, Done, Failed}
 use Rattle.download_core.specs.declared.status.DownloadStatus.TheVariants.{NotEnoughShares}
 use Rattle.download_core.specs.declared.status.DownloadStatus.TheVariants.{Inconsistent}
-use Rattle.download_core.specs.declared.status.Piece.{Piece}
-use Rattle.download_core.specs.Moves.{Advances, TicksOn}
+use Rattle.download_segments.specs.declared.piece.Piece.{Piece}
+use Rattle.download_core.specs.Moves.{Advances, TicksOn, found_handed}
 use Rattle.download_core.specs.Right.{IsRight}
 use Rattle.download_core.specs.Sending.{Takes}
-use Rattle.download_core.specs.State.{DownloadState}
+use Rattle.download_core.specs.State.{DownloadState, handed, ready}
 use Rattle.local_grid.specs.Clients.{ClientCalls}
 
 -- the download, the bytes that its writer holds, where they are known, and whether a write failed
@@ -42,8 +42,9 @@ end_of place (p ∷ ps) = end_of (p.place + length p.bytes) ps
 
 -- These pieces were taken: the first ones of those that were ready.
 pub record Hands (pieces : List Piece) (old new : DownloadState) : Type 0 where
-  pub ready : old.ready ≡ pieces ++ new.ready
-  pub others : new ≡ record old { ready = new.ready; handed = end_of old.handed pieces }
+  pub taken : ready old ≡ pieces ++ ready new
+  pub others : new
+      ≡ record old { found = found_handed (ready new) (end_of (handed old) pieces) old.found }
 
 -- What is ready is right, and all of it is taken and written, piece after piece. Where the writer
 -- fails at a piece, no further one is taken.
@@ -52,7 +53,7 @@ pub record Writes (old : DownloadState) (before : Option (List ℕ)) (new : Down
   pub right : IsRight old
   pub pieces : List Piece
   pub hands : Hands pieces old new
-  pub all : failed ≡ false → (new.ready ≡ []) × Appends before after (bytes_of pieces)
+  pub all : failed ≡ false → (ready new ≡ []) × Appends before after (bytes_of pieces)
 
 -- A call moves the download, and what is ready then is written. Once a write has failed, nothing
 -- more is.

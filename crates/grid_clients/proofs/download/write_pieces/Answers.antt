@@ -10,7 +10,7 @@ returns-in_err-write_all g c =
     record {
       right = c.status.ensures.right;
       pieces = taken.pieces ++ c.in-Some.piece ∷ [];
-      hands = hands_more taken.pieces c.args.download.now c.pieces.download c.take_bytes.new.self c.in-Some.piece taken.hands c.in-Some.ensures;
+      hands = hands_more taken.pieces c.args.download.now c.pieces.download c.take_bytes.new.self c.in-Some.piece taken.hands c.in-Some.ensures.takes;
       all = λ ok. absurd (true≢false (sym (ap not err) ∙ ok));
     }
 
@@ -18,4 +18,4 @@ pub pieces-preserved : goal.pieces-preserved
 pieces-preserved g c =
     let held = g.W.Write.contents in
     let more = subst (Appends (held c.pieces.out) (held c.write_all.new.self)) c.as_slice.ensures c.in_ok-write_all.ensures.bytes in
-    written_more c.args.download.now c.pieces.download c.take_bytes.new.self (held c.args.out.now) (held c.pieces.out) (held c.write_all.new.self) c.in-Some.piece c.pieces.invariant c.in-Some.ensures more
+    written_more c.args.download.now c.pieces.download c.take_bytes.new.self (held c.args.out.now) (held c.pieces.out) (held c.write_all.new.self) c.in-Some.piece c.pieces.invariant c.in-Some.ensures.takes more

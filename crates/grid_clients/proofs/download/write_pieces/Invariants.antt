@@ -1,5 +1,6 @@
 use Rattle.std.proofs.Common.{length}
 use Rattle.grid_clients.proofs.Written.{Written}
+use Rattle.download_core.specs.State.{ready}
 use Rattle.grid_clients.proofs.download.write_pieces.Given as goal
 
 abbrev pub invariant-pieces : goal.invariant-pieces
@@ -7,4 +8,4 @@ invariant-pieces g l = Written l.fn.download (g.W.Write.contents l.fn.out) l.dow
 
 -- a piece fewer is ready each time
 abbrev pub decreases-pieces : goal.decreases-pieces
-decreases-pieces g l = length l.download.ready
+decreases-pieces g l = length (ready l.download)

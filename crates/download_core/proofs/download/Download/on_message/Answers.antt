@@ -1,10 +1,15 @@
 use Rattle.std.proofs.Common.{subst}
 use Rattle.request_record.specs.Asking.{after_message}
+use Rattle.download_core.specs.declared.status.DownloadStatus.TheVariants.{Failed}
 use Rattle.download_core.specs.Moves.{GoesOn}
 use Rattle.download_core.specs.State.{DownloadState}
 use Rattle.download_core.specs.Steps.{state_of}
 use Rattle.download_core.proofs.download.Download.on_message.Goals as goal
 
-pub returns-in-Ok-clause-ok : goal.returns-in-Ok-clause-ok
-returns-in-Ok-clause-ok c =
+pub returns-in-Ok-clause-advances : goal.returns-in-Ok-clause-advances
+returns-in-Ok-clause-advances c =
     subst (λ (d : DownloadState). GoesOn (after_message c.args.from c.args.message c.args.now d.requests) d (state_of c.answer.new.self c.self.inside.servers.items c.in-Ok.status)) c.self.view_is (c.in-Ok.ensures.ok c.self.inside.servers.items)
+
+pub returns-in-Err-clause-advances : goal.returns-in-Err-clause-advances
+returns-in-Err-clause-advances c =
+    subst (λ (d : DownloadState). GoesOn (after_message c.args.from c.args.message c.args.now d.requests) d (state_of c.answer.new.self c.self.inside.servers.items Failed)) c.self.view_is (c.in-Err.ensures.err c.self.inside.servers.items)

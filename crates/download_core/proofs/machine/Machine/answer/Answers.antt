@@ -1,63 +1,103 @@
-use Rattle.std.proofs.Common.{◌≡◌, ◌∙◌, IfOk, List, ℕ, sym, true≢false}
+use Rattle.std.proofs.Common.{◌∙◌, ℕ, List, sym, true≢false}
 use Rattle.request_record.specs.Record.{RequestsState}
 use Rattle.request_record.specs.Asking.{after_message}
+use Rattle.download_core.specs.declared.status.DownloadStatus.TheVariants.{Failed}
 use Rattle.download_core.specs.Moves.{GoesOn}
 use Rattle.download_core.specs.Steps.{EndsAs, IsKept, state_of}
-use Rattle.download_core.proofs.Ends.{fails_by, fails_still, from_message, goes_by, if_any, if_ok, kept_by, kept_over, still_by, with_requests}
-use Rattle.download_core.proofs.Steps.{moves_trans}
+use Rattle.share_beginnings.proofs.Results.{if_ok_then}
+use Rattle.download_core.proofs.EndLemmas.{kept_ends, kept_fails, kept_still}
+use Rattle.download_core.proofs.Results.{if_any, on_any}
+use Rattle.download_core.proofs.Going.{goes_on, moves_none, moves_trans, stands_still}
+use Rattle.download_core.proofs.NewsLemmas.{hears_of}
+use Rattle.download_core.proofs.Records.{from_message}
 use Rattle.download_core.proofs.machine.Machine.answer.Goals as goal
-
-pub returns-in_default-clause-ok : goal.returns-in_default-clause-ok
-returns-in_default-clause-ok c =
-    let m = c.args.self.now in
-    still_by m (after_message c.args.from c.args.message c.args.now m.asking.requests) c.take_answer-counted.new.self c.args.status c.take_answer-counted.ensures.record
 
 pub returns-then-not-is_running-clause-ok : goal.returns-then-not-is_running-clause-ok
 returns-then-not-is_running-clause-ok c =
     let m = c.args.self.now in
-    still_by m (after_message c.args.from c.args.message c.args.now m.asking.requests) c.take_answer-counted.new.self c.args.status c.take_answer-counted.ensures.record
+    let e = c.take_answer-heard.ensures in
+    stands_still m c.take_answer-heard.new.self (after_message c.args.from c.args.message c.args.now m.beginnings.holdings.requests) c.args.status e.requests e.same.blamed
+    (from_message c.args.from c.args.message c.args.now m.beginnings.holdings.requests c.take_answer-heard.new.self.holdings.requests e.requests).stays c.requires.file
 
 pub returns-then-not-is_running-clause-kept : goal.returns-then-not-is_running-clause-kept
-returns-then-not-is_running-clause-kept c = λ k.
+returns-then-not-is_running-clause-kept c =
     let m = c.args.self.now in
-    let s = c.take_answer-counted.new.self in
-    kept_over m s c.args.status (from_message c.args.from c.args.message c.args.now m.asking.requests s c.take_answer-counted.ensures.record)
-    (λ e. true≢false (sym (c.is_running.ensures.1 e) ∙ c.if-not-is_running.true)) k
+    let t = c.take_answer-heard.new.self in
+    let e = c.take_answer-heard.ensures in
+    kept_still m c.args.status t c.requires (from_message c.args.from c.args.message c.args.now m.beginnings.holdings.requests t.holdings.requests e.requests)
+    (λ run. true≢false (sym (c.is_running.ensures.1 run) ∙ c.if-not-is_running.true)) e.same.blamed
 
 pub returns-then-not-is_running-clause-failed : goal.returns-then-not-is_running-clause-failed
-returns-then-not-is_running-clause-failed c = λ k.
+returns-then-not-is_running-clause-failed c =
     let m = c.args.self.now in
-    let s = c.take_answer-counted.new.self in
-    fails_still m s c.args.status (from_message c.args.from c.args.message c.args.now m.asking.requests s c.take_answer-counted.ensures.record) k
+    let t = c.take_answer-heard.new.self in
+    let e = c.take_answer-heard.ensures in
+    kept_fails m c.args.status t c.requires (from_message c.args.from c.args.message c.args.now m.beginnings.holdings.requests t.holdings.requests e.requests) (record m { beginnings = t }) (moves_none (record m { beginnings = t }))
+
+pub returns-in_err-news-clause-err : goal.returns-in_err-news-clause-err
+returns-in_err-news-clause-err c =
+    let m = c.args.self.now in
+    let t = c.take_answer-heard.new.self in
+    let e = c.take_answer-heard.ensures in
+    on_any c.from_residual.result _
+    (goes_on m (record m { beginnings = t }) t (after_message c.args.from c.args.message c.args.now m.beginnings.holdings.requests) c.args.status Failed e.requests e.same.blamed (from_message c.args.from c.args.message c.args.now m.beginnings.holdings.requests t.holdings.requests e.requests).stays c.requires.file
+    (c.is_running.ensures.0 c.if-not-is_running.false) (moves_none (record m { beginnings = t })))
+
+pub returns-in_err-news-clause-failed : goal.returns-in_err-news-clause-failed
+returns-in_err-news-clause-failed c =
+    let m = c.args.self.now in
+    let t = c.take_answer-heard.new.self in
+    let e = c.take_answer-heard.ensures in
+    kept_fails m c.args.status t c.requires (from_message c.args.from c.args.message c.args.now m.beginnings.holdings.requests t.holdings.requests e.requests) (record m { beginnings = t }) (moves_none (record m { beginnings = t }))
+
+pub take_in-requires : goal.take_in-requires
+take_in-requires c =
+    let m = c.args.self.now in
+    let t = c.take_answer-heard.new.self in
+    let e = c.take_answer-heard.ensures in
+    let k = c.in_ok-news.ensures in
+    hears_of m t c.args.from c.args.message c.args.now c.in_ok-news.news (c.requires.way (c.is_running.ensures.0 c.if-not-is_running.false))
+    (from_message c.args.from c.args.message c.args.now m.beginnings.holdings.requests t.holdings.requests e.requests) k.hears k.known k.bytes k.opening
+
+pub returns-in_err-take_in-clause-err : goal.returns-in_err-take_in-clause-err
+returns-in_err-take_in-clause-err c =
+    let m = c.args.self.now in
+    let t = c.take_answer-heard.new.self in
+    let e = c.take_answer-heard.ensures in
+    on_any c.from_residual-in_err-take_in.result _
+    (goes_on m c.take_in.new.self t (after_message c.args.from c.args.message c.args.now m.beginnings.holdings.requests) c.args.status Failed e.requests e.same.blamed (from_message c.args.from c.args.message c.args.now m.beginnings.holdings.requests t.holdings.requests e.requests).stays c.requires.file
+    (c.is_running.ensures.0 c.if-not-is_running.false) c.take_in.ensures.moves)
 
 pub returns-in_err-take_in-clause-failed : goal.returns-in_err-take_in-clause-failed
-returns-in_err-take_in-clause-failed c = λ k.
+returns-in_err-take_in-clause-failed c =
     let m = c.args.self.now in
-    let s = c.take_answer-counted.new.self in
-    fails_by m c.take_in.new.self s c.args.status (from_message c.args.from c.args.message c.args.now m.asking.requests s c.take_answer-counted.ensures.record) c.take_in.ensures k
+    let t = c.take_answer-heard.new.self in
+    let e = c.take_answer-heard.ensures in
+    kept_fails m c.args.status t c.requires (from_message c.args.from c.args.message c.args.now m.beginnings.holdings.requests t.holdings.requests e.requests) c.take_in.new.self c.take_in.ensures.moves
 
 pub returns-clause-ok : goal.returns-clause-ok
 returns-clause-ok c =
     let m = c.args.self.now in
-    let r : RequestsState = after_message c.args.from c.args.message c.args.now m.asking.requests in
+    let t = c.take_answer-heard.new.self in
     let n = c.settle.new.self in
+    let e = c.take_answer-heard.ensures in
+    let r : RequestsState = after_message c.args.from c.args.message c.args.now m.beginnings.holdings.requests in
     if_any c.settle.result (λ ended. (servers : List ℕ) → GoesOn r (state_of m servers c.args.status) (state_of n servers ended))
-    (λ ended servers. goes_by m c.take_in.new.self n r c.take_answer-counted.new.self c.args.status ended c.take_answer-counted.ensures.record
-    (c.is_running.ensures.0 c.if-not-is_running.false) c.take_in.ensures c.settle.ensures.moves servers)
+    (λ ended servers. goes_on m n t r c.args.status ended e.requests e.same.blamed (from_message c.args.from c.args.message c.args.now m.beginnings.holdings.requests t.holdings.requests e.requests).stays c.requires.file (c.is_running.ensures.0 c.if-not-is_running.false)
+    (moves_trans (record m { beginnings = t }) c.take_in.new.self n c.take_in.ensures.moves c.settle.ensures.moves) servers)
+
+pub returns-clause-err : goal.returns-clause-err
+returns-clause-err c =
+    let m = c.args.self.now in
+    let t = c.take_answer-heard.new.self in
+    let n = c.settle.new.self in
+    let e = c.take_answer-heard.ensures in
+    let r : RequestsState = after_message c.args.from c.args.message c.args.now m.beginnings.holdings.requests in
+    on_any c.settle.result ((servers : List ℕ) → GoesOn r (state_of m servers c.args.status) (state_of n servers Failed))
+    (λ servers. goes_on m n t r c.args.status Failed e.requests e.same.blamed (from_message c.args.from c.args.message c.args.now m.beginnings.holdings.requests t.holdings.requests e.requests).stays c.requires.file (c.is_running.ensures.0 c.if-not-is_running.false)
+    (moves_trans (record m { beginnings = t }) c.take_in.new.self n c.take_in.ensures.moves c.settle.ensures.moves) servers)
 
 pub returns-clause-kept : goal.returns-clause-kept
-returns-clause-kept c = λ k.
-    let m = c.args.self.now in
-    let s = c.take_answer-counted.new.self in
+returns-clause-kept c =
     let n = c.settle.new.self in
-    if_ok c.settle.result (EndsAs n) (IsKept n)
-    (λ ended e. kept_by m c.take_in.new.self n s c.args.status ended (from_message c.args.from c.args.message c.args.now m.asking.requests s c.take_answer-counted.ensures.record) c.take_in.ensures c.settle.ensures.moves e k)
-    c.settle.ensures.status
-
-pub returns-clause-failed : goal.returns-clause-failed
-returns-clause-failed c = λ k.
-    let m = c.args.self.now in
-    let s = c.take_answer-counted.new.self in
-    let n = c.settle.new.self in
-    fails_by m n s c.args.status (from_message c.args.from c.args.message c.args.now m.asking.requests s c.take_answer-counted.ensures.record)
-    (moves_trans (with_requests m s) c.take_in.new.self n c.take_in.ensures c.settle.ensures.moves) k
+    if_ok_then c.settle.result (EndsAs n) (IsKept n) c.settle.ensures.ends (λ ended e. kept_ends n ended e)

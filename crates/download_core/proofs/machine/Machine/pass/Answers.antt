@@ -1,52 +1,84 @@
-use Rattle.std.proofs.Common.{◌≡◌, ◌∙◌, IfOk, List, ℕ, sym, true≢false}
-use Rattle.request_record.specs.Record.{RequestsState}
+use Rattle.std.proofs.Common.{◌≡◌, ◌∙◌, ℕ, inl, inr, List, ap, sym, true≢false}
+use Rattle.request_record.specs.Record.{RequestsState, asked_all}
 use Rattle.request_record.specs.Asking.{after_tick}
-use Rattle.download_core.specs.Moves.{GoesOn}
-use Rattle.download_core.specs.Steps.{EndsAs, IsKept, state_of}
-use Rattle.download_core.proofs.Ends.{fails_by, fails_still, from_tick, goes_by, if_any, if_ok, kept_by, kept_over, still_by, with_requests}
-use Rattle.download_core.proofs.Steps.{moves_trans}
+use Rattle.share_beginnings.specs.State.{BeginningsState}
+use Rattle.download_core.specs.declared.status.DownloadStatus.TheVariants.{Failed}
+use Rattle.download_core.specs.Moves.{GoesOn, StopsAt}
+use Rattle.download_core.specs.Steps.{entries_of, EndsAs, IsKept, state_of}
+use Rattle.share_beginnings.proofs.Results.{if_ok_then}
+use Rattle.download_core.proofs.EndLemmas.{kept_ends, kept_fails, kept_still}
+use Rattle.download_core.proofs.Results.{if_any, on_any}
+use Rattle.download_core.proofs.Going.{goes_on, moves_none, moves_trans, same_on, stands_still}
+use Rattle.download_core.proofs.NewsLemmas.{passes_of}
+use Rattle.download_core.proofs.Records.{from_same, from_tick}
 use Rattle.download_core.proofs.machine.Machine.pass.Goals as goal
+
+pub returns-in_err-tick-clause-err : goal.returns-in_err-tick-clause-err
+returns-in_err-tick-clause-err c =
+    let m = c.args.self.now in
+    let t = c.tick.new.self in
+    let e : t ≡ m.beginnings = c.in_err-tick.ensures.err in
+    on_any c.from_residual.result ((servers : List ℕ) → StopsAt c.args.now (state_of m servers c.args.status) (state_of (record m { beginnings = t }) servers Failed))
+    (λ servers. record {
+      same = same_on m (record m { beginnings = t }) t c.args.status Failed (ap (λ (x : BeginningsState). x.holdings.blamed) e)
+          (from_same (entries_of m) t.holdings.requests.entries (ap (λ (x : BeginningsState). x.holdings.requests.entries) e)).stays c.requires.file (moves_none (record m { beginnings = t })) servers;
+      requests = inl (ap (λ (x : BeginningsState). x.holdings.requests) e);
+    })
 
 pub returns-then-not-is_running-clause-ok : goal.returns-then-not-is_running-clause-ok
 returns-then-not-is_running-clause-ok c =
     let m = c.args.self.now in
-    still_by m (after_tick c.args.now m.asking.requests) c.tick.new.self c.args.status c.in_ok-lost.ensures.ok
+    let ticks = c.in_ok-tick.ensures.ok in
+    stands_still m c.tick.new.self (after_tick c.args.now m.beginnings.holdings.requests) c.args.status ticks.requests ticks.same.blamed
+    (from_tick c.args.now m.beginnings.holdings.requests c.tick.new.self.holdings.requests ticks.requests).stays c.requires.file
 
 pub returns-then-not-is_running-clause-kept : goal.returns-then-not-is_running-clause-kept
-returns-then-not-is_running-clause-kept c = λ k.
+returns-then-not-is_running-clause-kept c =
     let m = c.args.self.now in
-    let s = c.tick.new.self in
-    kept_over m s c.args.status (from_tick c.args.now m.asking.requests s c.in_ok-lost.ensures.ok)
-    (λ e. true≢false (sym (c.is_running.ensures.1 e) ∙ c.if-not-is_running.true)) k
+    let t = c.tick.new.self in
+    let ticks = c.in_ok-tick.ensures.ok in
+    kept_still m c.args.status t c.requires (from_tick c.args.now m.beginnings.holdings.requests t.holdings.requests ticks.requests)
+    (λ run. true≢false (sym (c.is_running.ensures.1 run) ∙ c.if-not-is_running.true)) ticks.same.blamed
 
 pub returns-then-not-is_running-clause-failed : goal.returns-then-not-is_running-clause-failed
-returns-then-not-is_running-clause-failed c = λ k.
+returns-then-not-is_running-clause-failed c =
     let m = c.args.self.now in
-    let s = c.tick.new.self in
-    fails_still m s c.args.status (from_tick c.args.now m.asking.requests s c.in_ok-lost.ensures.ok) k
+    let t = c.tick.new.self in
+    let ticks = c.in_ok-tick.ensures.ok in
+    kept_fails m c.args.status t c.requires (from_tick c.args.now m.beginnings.holdings.requests t.holdings.requests ticks.requests) (record m { beginnings = t }) (moves_none (record m { beginnings = t }))
+
+pub end_lost-requires : goal.end_lost-requires
+end_lost-requires c =
+    let m = c.args.self.now in
+    let t = c.tick.new.self in
+    let ticks = c.in_ok-tick.ensures.ok in
+    passes_of m t c.args.now (c.requires.way (c.is_running.ensures.0 c.if-not-is_running.false)) (from_tick c.args.now m.beginnings.holdings.requests t.holdings.requests ticks.requests) ticks c.in_ok-tick.ensures.begun c.in_ok-tick.ensures.known c.in_ok-tick.ensures.opening
 
 pub returns-clause-ok : goal.returns-clause-ok
 returns-clause-ok c =
     let m = c.args.self.now in
-    let r : RequestsState = after_tick c.args.now m.asking.requests in
+    let t = c.tick.new.self in
     let n = c.settle.new.self in
+    let ticks = c.in_ok-tick.ensures.ok in
+    let r : RequestsState = after_tick c.args.now m.beginnings.holdings.requests in
     if_any c.settle.result (λ ended. (servers : List ℕ) → GoesOn r (state_of m servers c.args.status) (state_of n servers ended))
-    (λ ended servers. goes_by m c.lose.new.self n r c.tick.new.self c.args.status ended c.in_ok-lost.ensures.ok
-    (c.is_running.ensures.0 c.if-not-is_running.false) c.lose.ensures c.settle.ensures.moves servers)
+    (λ ended servers. goes_on m n t r c.args.status ended ticks.requests ticks.same.blamed (from_tick c.args.now m.beginnings.holdings.requests t.holdings.requests ticks.requests).stays c.requires.file (c.is_running.ensures.0 c.if-not-is_running.false)
+    (moves_trans (record m { beginnings = t }) c.end_lost.new.self n c.end_lost.ensures.moves c.settle.ensures.moves) servers)
+
+pub returns-clause-err : goal.returns-clause-err
+returns-clause-err c =
+    let m = c.args.self.now in
+    let t = c.tick.new.self in
+    let n = c.settle.new.self in
+    let ticks = c.in_ok-tick.ensures.ok in
+    let on = moves_trans (record m { beginnings = t }) c.end_lost.new.self n c.end_lost.ensures.moves c.settle.ensures.moves in
+    on_any c.settle.result ((servers : List ℕ) → StopsAt c.args.now (state_of m servers c.args.status) (state_of n servers Failed))
+    (λ servers. record {
+      same = same_on m n t c.args.status Failed ticks.same.blamed (from_tick c.args.now m.beginnings.holdings.requests t.holdings.requests ticks.requests).stays c.requires.file on servers;
+      requests = inr (on.goes.asks, on.goes.requests ∙ ap (asked_all on.goes.asks) ticks.requests);
+    })
 
 pub returns-clause-kept : goal.returns-clause-kept
-returns-clause-kept c = λ k.
-    let m = c.args.self.now in
-    let s = c.tick.new.self in
+returns-clause-kept c =
     let n = c.settle.new.self in
-    if_ok c.settle.result (EndsAs n) (IsKept n)
-    (λ ended e. kept_by m c.lose.new.self n s c.args.status ended (from_tick c.args.now m.asking.requests s c.in_ok-lost.ensures.ok) c.lose.ensures c.settle.ensures.moves e k)
-    c.settle.ensures.status
-
-pub returns-clause-failed : goal.returns-clause-failed
-returns-clause-failed c = λ k.
-    let m = c.args.self.now in
-    let s = c.tick.new.self in
-    let n = c.settle.new.self in
-    fails_by m n s c.args.status (from_tick c.args.now m.asking.requests s c.in_ok-lost.ensures.ok)
-    (moves_trans (with_requests m s) c.lose.new.self n c.lose.ensures c.settle.ensures.moves) k
+    if_ok_then c.settle.result (EndsAs n) (IsKept n) c.settle.ensures.ends (λ ended e. kept_ends n ended e)

@@ -1,30 +1,13 @@
-use Rattle.download_core.proofs.Steps.{asks_refl, moves_asks, moves_refl, moves_trans}
+use Rattle.share_beginnings.proofs.Results.{on_ok}
+use Rattle.download_core.proofs.Going.{moves_read, read_on}
 use Rattle.download_core.proofs.machine.Machine.take_in.Goals as goal
 
-pub returns-in_default : goal.returns-in_default
-returns-in_default c = moves_asks c.args.self.now c.take_holdings.new.self c.take_holdings.ensures
-
-pub returns-then-is_missing : goal.returns-then-is_missing
-returns-then-is_missing c =
+pub returns-in-Some-clause-way : goal.returns-in-Some-clause-way
+returns-in-Some-clause-way c =
     let m = c.args.self.now in
-    moves_asks m (record m.asking { holdings = c.retire.new.self }) (asks_refl m.asking.requests m.asking.blamed.items)
+    on_ok c.hear.result _ _ c.hear.ensures.reading (λ reading. read_on m c.in-Some.found c.hear.new.beginnings c.hear.new.self c.in-Some.is c.requires.wanted c.requires.file c.hear.ensures.continues reading)
 
-pub loop-init : goal.loop-init
-loop-init c = moves_refl c.args.self.now
-
-pub loop-preserved : goal.loop-preserved
-loop-preserved c =
-    let mid = record c.loop.self { asking = c.next_answer.new.self } in
-    moves_trans c.args.self.now c.loop.self c.take_answer.new.self c.loop.invariant
-    (moves_trans c.loop.self mid c.take_answer.new.self (moves_asks c.loop.self c.next_answer.new.self c.next_answer.ensures) c.take_answer.ensures)
-
-pub returns-in_err-take_answer : goal.returns-in_err-take_answer
-returns-in_err-take_answer c =
-    let mid = record c.loop.self { asking = c.next_answer.new.self } in
-    moves_trans c.args.self.now c.loop.self c.take_answer.new.self c.loop.invariant
-    (moves_trans c.loop.self mid c.take_answer.new.self (moves_asks c.loop.self c.next_answer.new.self c.next_answer.ensures) c.take_answer.ensures)
-
-pub returns-in_default-next_answer : goal.returns-in_default-next_answer
-returns-in_default-next_answer c =
-    let mid = record c.loop.self { asking = c.next_answer.new.self } in
-    moves_trans c.args.self.now c.loop.self mid c.loop.invariant (moves_asks c.loop.self c.next_answer.new.self c.next_answer.ensures)
+pub returns-in-Some-clause-moves : goal.returns-in-Some-clause-moves
+returns-in-Some-clause-moves c =
+    let m = c.args.self.now in
+    moves_read m c.in-Some.found c.hear.new.beginnings c.hear.new.self c.in-Some.is c.hear.ensures.continues

@@ -6,5 +6,5 @@ use Rattle.grid_clients.proofs.download.DownloadClientClient.on_message.Goals as
 pub returns-clause-ok : goal.returns-clause-ok
 returns-clause-ok g c =
     let before : Downloading = record { download = c.self.inside.download; written = g.W.Write.contents c.self.inside.out; failed = c.self.inside.failed } in
-    moves_and_writes (Advances c.args.from c.args.message c.args.now) before c.args.self.now c.on_message.new.self c.write_ready.new.self c.self.view_is c.in_ok-on_message.ensures.ok
+    moves_and_writes (Advances c.args.from c.args.message c.args.now) before c.args.self.now c.on_message.new.self c.write_ready.new.self c.self.view_is c.on_message.ensures.advances
     c.write_ready.ensures.goes_on c.write_ready.ensures.ended

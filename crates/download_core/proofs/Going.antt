@@ -1,0 +1,279 @@
+-- How a download goes on, step by step.
+use Rattle.std.proofs.Common.{◌≡◌, ℕ, ◌/◌, ◌≤◌, arith, List, [], ◌++◌, Option, Some, None, refl, sym, ap, subst, ◌∙◌}
+use Rattle.std.proofs.lemmas.List.{append-nil, append_assoc}
+use Rattle.cap_text.specs.Cap.{ReadCapValue, VerifyCapValue, verify_cap_of}
+use Rattle.ueb.specs.Shape.{Contents}
+use Rattle.share_layout.specs.Geometry.{Geometry}
+use Rattle.request_record.specs.declared.requests.Request.{Request}
+use Rattle.request_record.specs.Record.{RequestsState, asked_all}
+use Rattle.share_holdings.specs.declared.holding.Blame.{Blame}
+use Rattle.share_holdings.proofs.Records.{StaysTo, stays_asked}
+use Rattle.share_beginnings.specs.Moves.{GoesOn, IsBlockAt}
+use Rattle.share_beginnings.specs.Opening.{IsToldOf, nobody}
+use Rattle.share_beginnings.specs.declared.beginnings.News.{News}
+use Rattle.share_beginnings.specs.declared.beginnings.News.TheVariants as news
+use Rattle.share_beginnings.specs.State.{BeginningsState}
+use Rattle.share_beginnings.proofs.Opened.{goes_none}
+use Rattle.download_segments.specs.declared.piece.Piece.{Piece}
+use Rattle.download_segments.specs.State.{HandoutState}
+use Rattle.share_opening.specs.declared.block.Opened.{Opened}
+use Rattle.download_file.specs.Answers as file
+use Rattle.download_file.specs.State.{FileState, new_file}
+use Rattle.download_file.proofs.GrowLemmas.{given_keep}
+use Rattle.download_reading.specs.Reading.{AreReading}
+use Rattle.download_reading.specs.State.{ReadingState}
+use Rattle.download_reading.specs.Steps.{AddsPieces, Continues}
+use Rattle.download_reading.proofs.Ended.{file_none, file_trans}
+use Rattle.download_reading.proofs.Parts.{goes_trans}
+use Rattle.download_core.specs.declared.machine.FoundFile.{FoundFile}
+use Rattle.download_core.specs.declared.machine.Machine.{Machine}
+use Rattle.download_core.specs.declared.status.DownloadStatus.{DownloadStatus}
+use Rattle.download_core.specs.declared.status.DownloadStatus.TheVariants.{Running}
+use Rattle.download_core.specs.Given.{IsFileIfFound, IsHead}
+use Rattle.download_core.specs.Moves.{IsSame, StaysAccepted}
+use Rattle.download_core.specs.Moves as moves
+use Rattle.download_core.specs.Hashed.{IsGivenIn}
+use Rattle.download_core.specs.State.{Found, accepted_in, handed_in, ready_in}
+use Rattle.download_core.specs.Steps.{AreOpened, FoundGrows, IsFor, IsInPhase, IsUnderWay, MovesOn, entries_of, found_of, state_of}
+use Rattle.download_core.proofs.Records.{file_stays, keeps_answers}
+
+-- ---- pieces
+
+pub pieces_none : (h : HandoutState) → AddsPieces h h
+pieces_none h = record { handed = refl; more = []; ready = sym (append-nil h.ready) }
+
+pub pieces_trans : (x y z : HandoutState) → AddsPieces x y → AddsPieces y z → AddsPieces x z
+pieces_trans x y z first second = record {
+  handed = second.handed ∙ first.handed;
+  more = first.more ++ second.more;
+  ready = second.ready ∙ ap (λ (l : List Piece). l ++ second.more) first.ready ∙ append_assoc x.ready first.more second.more;
+}
+
+-- ---- the file
+
+pub grows_none : (from : ℕ) (f : Option FoundFile) → FoundGrows from f f
+grows_none from None = tt
+grows_none from (Some f) = record { place = refl; same = file_none f.reading.file; pieces = pieces_none f.reading.file.handout }
+
+pub grows_trans : (from : ℕ) (x y z : Option FoundFile) → FoundGrows from x y → FoundGrows from y z → FoundGrows from x z
+grows_trans from None None None first second = tt
+grows_trans from None None (Some c) first second = second
+grows_trans from None (Some b) None first second = absurd second
+grows_trans from None (Some b) (Some c) first second = second.pieces.handed ∙ first
+grows_trans from (Some a) None z first second = absurd first
+grows_trans from (Some a) (Some b) None first second = absurd second
+grows_trans from (Some a) (Some b) (Some c) first second = record {
+  place = second.place ∙ first.place;
+  same = file_trans a.reading.file b.reading.file c.reading.file first.same second.same;
+  pieces = pieces_trans a.reading.file.handout b.reading.file.handout c.reading.file.handout first.pieces second.pieces;
+}
+
+-- ---- the whole
+
+pub moves_none : (m : Machine) → MovesOn m m
+moves_none m = record { cap = refl; verify = refl; from_is = refl; to_is = refl; goes = goes_none m.beginnings m.beginnings refl refl; found = grows_none m.from m.found; file = λ k. k }
+
+pub moves_trans : (x y z : Machine) → MovesOn x y → MovesOn y z → MovesOn x z
+moves_trans x y z first second = record {
+  cap = second.cap ∙ first.cap;
+  verify = second.verify ∙ first.verify;
+  from_is = second.from_is ∙ first.from_is;
+  to_is = second.to_is ∙ first.to_is;
+  goes = goes_trans x.beginnings y.beginnings z.beginnings first.goes second.goes;
+  found = grows_trans x.from x.found y.found z.found first.found (subst (λ (n : ℕ). FoundGrows n y.found z.found) first.from_is second.found);
+  file = λ k. second.file (first.file k);
+}
+
+stays_on : (s t : BeginningsState) → GoesOn s t → StaysTo s.holdings.requests.entries t.holdings.requests.entries
+stays_on s t goes = subst (λ (r : RequestsState). StaysTo s.holdings.requests.entries r.entries) (sym goes.requests) (stays_asked goes.asks s.holdings.requests)
+
+-- shares are asked and blamed, and the file stays
+pub moves_asked : (m : Machine) (t : BeginningsState) → GoesOn m.beginnings t → MovesOn m (record m { beginnings = t })
+moves_asked m t goes = record {
+  cap = refl;
+  verify = refl;
+  from_is = refl;
+  to_is = refl;
+  goes = goes;
+  found = grows_none m.from m.found;
+  file = λ k. file_stays m.cap m.from m.to (entries_of m) t.holdings.requests.entries (found_of m.found) (stays_on m.beginnings t goes) k;
+}
+
+-- a file goes on
+pub moves_read : (m : Machine) (f : FoundFile) (t : BeginningsState) (r : ReadingState) → m.found ≡ Some f → Continues m.beginnings f.reading t r → MovesOn m (record m { beginnings = t; found = Some (record f { reading = r }) })
+moves_read m f t r is on = record {
+  cap = refl;
+  verify = refl;
+  from_is = refl;
+  to_is = refl;
+  goes = on.goes;
+  found = subst (λ (o : Option FoundFile). FoundGrows m.from o (Some (record f { reading = r }))) (sym is) (record { place = refl; same = on.same; pieces = on.pieces });
+  file = λ k. file (subst (λ (o : Option FoundFile). IsFileIfFound m.cap m.from m.to (entries_of m) (found_of o)) is k);
+}
+  where
+    file : IsFileIfFound m.cap m.from m.to (entries_of m) (found_of (Some f)) → IsFileIfFound m.cap m.from m.to t.holdings.requests.entries (found_of (Some (record f { reading = r })))
+    file k =
+        let more = file_stays m.cap m.from m.to (entries_of m) t.holdings.requests.entries (found_of (Some f)) (stays_on m.beginnings t on.goes) k in
+        record {
+          head = subst (λ (u : Contents). IsHead (verify_cap_of m.cap) t.holdings.requests.entries f.place u) (sym on.same.ueb) more.head;
+          key = on.same.key ∙ k.key;
+          first = on.same.first ∙ k.first ∙ ap (λ (g : Geometry). m.from / g.segment_size) (sym on.same.geometry);
+          to_is = on.same.to ∙ k.to_is;
+          answers = on.answers k.answers;
+        }
+
+-- an extension block is accepted
+pub moves_found : (m : Machine) (t : BeginningsState) (g : FoundFile) → m.found ≡ None → GoesOn m.beginnings t → g.reading.file.handout.handed ≡ m.from
+    → IsFileIfFound m.cap m.from m.to t.holdings.requests.entries (found_of (Some g)) → MovesOn m (record m { beginnings = t; found = Some g })
+moves_found m t g is goes handed file = record {
+  cap = refl;
+  verify = refl;
+  from_is = refl;
+  to_is = refl;
+  goes = goes;
+  found = subst (λ (o : Option FoundFile). FoundGrows m.from o (Some g)) (sym is) handed;
+  file = λ k. file;
+}
+
+-- ---- while it runs
+
+-- a file is read on
+pub read_on : (m : Machine) (f : FoundFile) (t : BeginningsState) (r : ReadingState) → m.found ≡ Some f → IsFor m → IsFileIfFound m.cap m.from m.to (entries_of m) (found_of m.found)
+    → Continues m.beginnings f.reading t r → AreReading t r → IsUnderWay (record m { beginnings = t; found = Some (record f { reading = r }) })
+read_on m f t r is wanted file on reading = record {
+  wanted = record { verify = wanted.verify; some = wanted.some; inside = wanted.inside };
+  file = (moves_read m f t r is on).file file;
+  phase = reading;
+}
+
+-- shares are opened on
+pub opened_on : (m : Machine) (t : BeginningsState) → m.found ≡ None → IsFor m → AreOpened m.cap.total nobody t → IsUnderWay (record m { beginnings = t })
+opened_on m t is wanted opened = record {
+  wanted = record { verify = wanted.verify; some = wanted.some; inside = wanted.inside };
+  file = subst (λ (f : Option FoundFile). IsFileIfFound m.cap m.from m.to t.holdings.requests.entries (found_of f)) (sym is) tt;
+  phase = subst (λ (f : Option FoundFile). IsInPhase m.cap.total t f) (sym is) opened;
+}
+
+-- it is for the same
+pub for_on : (m n : Machine) → MovesOn m n → IsFor m → IsFor n
+for_on m n on wanted = record {
+  verify = on.verify ∙ wanted.verify ∙ ap verify_cap_of (sym on.cap);
+  some = (let lt = wanted.some in let f = on.from_is in let t = on.to_is in omega (arith, lt, f, t));
+  inside = subst (λ (c : ReadCapValue). n.to ≤ c.size) (sym on.cap) (let le = wanted.inside in let t = on.to_is in omega (arith, le, t));
+}
+
+-- nothing came to the shares that are opened
+pub opened_still : (total : ℕ) (s : BeginningsState) (told : News) → ((holding place : ℕ) → told ≡ news.Beginning holding place → ⊥) → AreOpened total (IsToldOf told) s → AreOpened total nobody s
+opened_still total s news.Nothing other k = record { known = k.known; opening = k.opening; count = k.count }
+opened_still total s (news.Gone holding) other k = record { known = k.known; opening = k.opening; count = k.count }
+opened_still total s (news.Bytes holding place) other k = record { known = k.known; opening = k.opening; count = k.count }
+opened_still total s (news.Beginning holding place) other k = absurd (other holding place refl)
+
+-- an extension block is accepted, and nothing of its file is read yet
+module _ (m : Machine) (t : BeginningsState) (place : ℕ) (o : Opened) (r : ReadingState) (none : m.found ≡ None) (wanted : IsFor m) (block : IsBlockAt m.verify (entries_of m) place o)
+    (goes : GoesOn m.beginnings t) (same : t.holdings.requests ≡ m.beginnings.holdings.requests) (file : r.file ≡ new_file m.cap.key o.ueb o.geometry m.from m.to) (reading : AreReading t r) where
+  head : IsHead (verify_cap_of m.cap) t.holdings.requests.entries place o.ueb
+  head = subst (λ (q : RequestsState). IsHead (verify_cap_of m.cap) q.entries place o.ueb) (sym same)
+      (subst (λ (c : VerifyCapValue). IsHead c (entries_of m) place o.ueb) wanted.verify
+      (record { request = block.request; there = block.there; share = block.share; offset = block.offset; len = block.len; asked = block.asked; text = block.text; answer = block.answer; whole = block.whole; block = block.block }))
+
+  file_of : IsFileIfFound m.cap m.from m.to t.holdings.requests.entries (found_of (Some (record { place = place; reading = r })))
+  file_of = record {
+    head = subst (λ (f : FileState). IsHead (verify_cap_of m.cap) t.holdings.requests.entries place f.handout.ueb) (sym file) head;
+    key = ap (λ (f : FileState). f.handout.key) file;
+    first = ap (λ (f : FileState). f.first) file ∙ ap (λ (f : FileState). m.from / f.handout.geometry.segment_size) (sym file);
+    to_is = ap (λ (f : FileState). f.handout.to) file;
+    answers = reading.linked.kept.answers;
+  }
+
+  pub found_way : IsUnderWay (record m { beginnings = t; found = Some (record { place = place; reading = r }) })
+  found_way = record { wanted = record { verify = wanted.verify; some = wanted.some; inside = wanted.inside }; file = file_of; phase = reading }
+
+  pub found_moves : MovesOn m (record m { beginnings = t; found = Some (record { place = place; reading = r }) })
+  found_moves = moves_found m t (record { place = place; reading = r }) none goes (ap (λ (f : FileState). f.handout.handed) file) file_of
+
+-- ---- what contracts see of it
+
+head_grows : (from : ℕ) (f g : Option FoundFile) → FoundGrows from f g → StaysAccepted (accepted_in (found_of f)) (accepted_in (found_of g))
+head_grows from None g more = tt
+head_grows from (Some a) None more = absurd more
+head_grows from (Some a) (Some b) more = ap Some more.place
+
+handed_grows : (from : ℕ) (f g : Option FoundFile) → FoundGrows from f g → handed_in from (found_of g) ≡ handed_in from (found_of f)
+handed_grows from None None more = refl
+handed_grows from None (Some b) more = more
+handed_grows from (Some a) None more = absurd more
+handed_grows from (Some a) (Some b) more = more.pieces.handed
+
+pub record IsReadier (old new : List Piece) : Type 0 where
+  pub more : List Piece
+  pub is : new ≡ old ++ more
+
+ready_grows : (from : ℕ) (f g : Option FoundFile) → FoundGrows from f g → IsReadier (ready_in (found_of f)) (ready_in (found_of g))
+ready_grows from None None more = record { more = []; is = refl }
+ready_grows from None (Some b) more = record { more = b.reading.file.handout.ready; is = refl }
+ready_grows from (Some a) None more = absurd more
+ready_grows from (Some a) (Some b) more = record { more = more.pieces.more; is = more.pieces.ready }
+
+-- what was given stays given, where answers stay and the file goes on
+given_grows : (from : ℕ) (es ns : List Request) (f g : Option FoundFile) (cap : ReadCapValue) (to : ℕ) → StaysTo es ns → IsFileIfFound cap from to es (found_of f) → FoundGrows from f g
+    → (p : Piece) (found : Found) → found_of f ≡ Some found → file.IsGivenBy es found.file p → IsGivenIn ns (found_of g) p
+given_grows from es ns None g cap to stays has more p found there given = absurd cc
+given_grows from es ns (Some a) None cap to stays has more p found there given = absurd more
+given_grows from es ns (Some a) (Some b) cap to stays has more p found there given =
+    let same : record { place = a.place; file = a.reading.file } ≡ found = cc in
+    let here : file.IsGivenBy es a.reading.file p = subst (λ (x : Found). file.IsGivenBy es x.file p) (sym same) given in
+    record {
+      found = record { place = b.place; file = b.reading.file };
+      there = refl;
+      given = more.same.given ns p (given_keep es ns a.reading.file p (keeps_answers es ns stays) has.answers here);
+    }
+
+-- what a download is for stays, where its record went on before
+pub same_on : (m n : Machine) (t : BeginningsState) (status ended : DownloadStatus) → t.holdings.blamed ≡ m.beginnings.holdings.blamed → StaysTo (entries_of m) t.holdings.requests.entries
+    → IsFileIfFound m.cap m.from m.to (entries_of m) (found_of m.found) → MovesOn (record m { beginnings = t }) n
+    → (servers : List ℕ) → IsSame (state_of m servers status) (state_of n servers ended)
+same_on m n t status ended blamed stays file on servers =
+    let ready = ready_grows m.from m.found n.found on.found in
+    record {
+      cap = on.cap;
+      range = (on.from_is, on.to_is);
+      servers = refl;
+      given = ap (λ (from : ℕ). handed_in from (found_of n.found)) on.from_is ∙ handed_grows m.from m.found n.found on.found;
+      more = ready.more;
+      made = ready.is;
+      others = on.goes.more;
+      blamed = on.goes.blamed ∙ ap (λ (l : List Blame). l ++ on.goes.more) blamed;
+      head = head_grows m.from m.found n.found on.found;
+      stays = λ p g.
+          let k = given_grows m.from (entries_of m) (entries_of n) m.found n.found m.cap m.to (λ i r there quiet. stays_on t n.beginnings on.goes i r (stays i r there quiet) quiet)
+          file on.found p g.found g.there g.given in
+          record { found = k.found; there = k.there; given = k.given };
+    }
+
+-- a download that runs goes on from a record
+pub goes_on : (m n : Machine) (t : BeginningsState) (r : RequestsState) (status ended : DownloadStatus) → t.holdings.requests ≡ r → t.holdings.blamed ≡ m.beginnings.holdings.blamed
+    → StaysTo (entries_of m) t.holdings.requests.entries → IsFileIfFound m.cap m.from m.to (entries_of m) (found_of m.found) → status ≡ Running
+    → MovesOn (record m { beginnings = t }) n → (servers : List ℕ) → moves.GoesOn r (state_of m servers status) (state_of n servers ended)
+goes_on m n t r status ended requests blamed stays file running on servers = record {
+  same = same_on m n t status ended blamed stays file on servers;
+  asks = on.goes.asks;
+  requests = on.goes.requests ∙ ap (asked_all on.goes.asks) requests;
+  ended = λ other. absurd (other running);
+}
+
+-- nothing changes but the record
+pub stands_still : (m : Machine) (t : BeginningsState) (r : RequestsState) (status : DownloadStatus) → t.holdings.requests ≡ r → t.holdings.blamed ≡ m.beginnings.holdings.blamed
+    → StaysTo (entries_of m) t.holdings.requests.entries → IsFileIfFound m.cap m.from m.to (entries_of m) (found_of m.found)
+    → (servers : List ℕ) → moves.GoesOn r (state_of m servers status) (state_of (record m { beginnings = t }) servers status)
+stands_still m t r status requests blamed stays file servers =
+    subst (λ (x : RequestsState). moves.GoesOn x (state_of m servers status) (state_of (record m { beginnings = t }) servers status)) requests
+    (record {
+      same = same_on m (record m { beginnings = t }) t status status blamed stays file (moves_none (record m { beginnings = t })) servers;
+      asks = [];
+      requests = refl;
+      ended = λ other. ended;
+    })
+  where
+    ended : state_of (record m { beginnings = t }) servers status ≡ record (state_of m servers status) { requests = t.holdings.requests }
+    ended = ap (λ (l : List Blame). record (state_of m servers status) { requests = t.holdings.requests; blamed = l }) blamed

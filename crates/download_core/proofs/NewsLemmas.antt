@@ -1,0 +1,106 @@
+-- What a message or a second brings to a download that runs.
+use Rattle.std.proofs.Common.{◌≡◌, ℕ, inl, inr, false, Option, Some, None, refl, sym, subst, ◌∙◌, arith}
+use Rattle.std.specs.Prelude.{slice_index_or}
+use Rattle.std.proofs.lemmas.Option.{slice_get-get_or, slice_get_within}
+use Rattle.wire.specs.declared.message.Message.{Message}
+use Rattle.share_opening.specs.declared.opening.Opening.{Opening}
+use Rattle.share_holdings.specs.Moves.{Ticks}
+use Rattle.share_holdings.specs.Table.{IsHolding}
+use Rattle.share_holdings.specs.declared.holding.Holding.{Holding}
+use Rattle.share_holdings.specs.declared.holdings.Heard.{Heard}
+use Rattle.share_holdings.specs.declared.holdings.Heard.TheVariants as heard
+use Rattle.share_beginnings.specs.Known.{AreBegun, IsNextAt}
+use Rattle.share_beginnings.specs.Moves.{Awaits, BringsBytes, HearsNews, IsNewsOf, WaitsAt}
+use Rattle.share_beginnings.specs.Opening.{AreOpening, IsToldOf, nobody}
+use Rattle.share_beginnings.specs.State.{BeginningsState, IsBegun}
+use Rattle.share_beginnings.specs.declared.begun.Begun.{Begun}
+use Rattle.share_beginnings.specs.declared.beginnings.News.{News}
+use Rattle.share_beginnings.specs.declared.beginnings.News.TheVariants as news
+use Rattle.share_beginnings.proofs.Hearing.{becomes}
+use Rattle.download_core.specs.declared.machine.FoundFile.{FoundFile}
+use Rattle.download_core.specs.declared.machine.Machine.{Machine}
+use Rattle.download_core.specs.Steps.{AwaitsNews, HasNews, HasPassed, HearsOf, IsInPhase, IsUnderWay, PassesOn, entries_of, found_of}
+use Rattle.download_core.proofs.Records.{GoesFrom, file_stays}
+
+-- ---- the opening that waits for the answer
+
+held_of : (s : BeginningsState) (holding : ℕ) (b : Begun) → AreBegun s → IsBegun s holding b → (h : Holding) × IsHolding s.holdings.table holding h
+held_of s holding b known there =
+    let none : Holding = record { server = 0; share = 0; left = false; suspended = false } in
+    (slice_index_or s.holdings.table.holdings holding none, slice_get-get_or s.holdings.table.holdings holding none (let w = slice_get_within s.begun holding b there in let c = known.counted in omega (arith, w, c)))
+
+awaits_at : (s : BeginningsState) (holding place : ℕ) → AreBegun s → WaitsAt s holding place → (o : Opening) × Awaits s holding place o
+awaits_at s holding place known w =
+    let h = held_of s holding w.0 known w.1 in
+    by h.0 h.1 w.0.opening refl ((known.each holding h.0 w.0 h.1 w.1).waits place w.2)
+  where
+    by : (h : Holding) → IsHolding s.holdings.table holding h → (opening : Option Opening) → w.0.opening ≡ opening → IsNextAt s.holdings.requests.entries h opening place → (o : Opening) × Awaits s holding place o
+    by h is None e next = absurd next
+    by h is (Some o) e next = (o, record { held = h; is = is; begun = w.0; there = w.1; of_opening = e; waiting = w.2 })
+
+waits_of : (s : BeginningsState) (what : Heard) (holding place : ℕ) → IsNewsOf s what (news.Beginning holding place) → WaitsAt s holding place
+waits_of s heard.Nothing holding place e = absurd cc
+waits_of s heard.Held holding place e = absurd cc
+waits_of s (heard.Gone other) holding place e = absurd cc
+waits_of s (heard.Bytes other at) holding place (inl k) =
+    let same = k.0 in
+    let one : holding ≡ other = cc in
+    let two : place ≡ at = cc in
+    subst (λ (x : ℕ). WaitsAt s x place) (sym one) (subst (λ (x : ℕ). WaitsAt s other x) (sym two) k.1)
+waits_of s (heard.Bytes other at) holding place (inr k) = (let same = k.0 in absurd cc)
+
+awaits_news : (s : BeginningsState) (what : Heard) (told : News) → AreBegun s → IsNewsOf s what told → AwaitsNews s told
+awaits_news s what news.Nothing known tells = tt
+awaits_news s what (news.Gone holding) known tells = tt
+awaits_news s what (news.Bytes holding place) known tells = tt
+awaits_news s what (news.Beginning holding place) known tells = awaits_at s holding place known (waits_of s what holding place tells)
+
+-- ---- a message
+
+module _ (m : Machine) (t : BeginningsState) (from : ℕ) (message : Message) (now : ℕ) (told : News) (way : IsUnderWay m) (goes : GoesFrom (entries_of m) t.holdings.requests.entries)
+    (hears : HearsNews from message now m.beginnings t told) (known : AreBegun m.beginnings → AreBegun t) (bytes : AreBegun m.beginnings → BringsBytes t.holdings.requests.entries told)
+    (opening : AreBegun m.beginnings → AreOpening nobody m.beginnings → AreOpening (IsToldOf told) t) where
+  news_of : (f : Option FoundFile) → IsInPhase m.cap.total m.beginnings f → HasNews m.cap.total t f told
+  news_of None k = (
+      let now_known = known k.known in
+      record {
+        opened = record {
+          known = now_known;
+          opening = opening k.known k.opening;
+          count = (becomes m.beginnings t from message now hears.heard k.known hears.hears now_known.right).count ∙ k.count;
+        };
+        bytes = bytes k.known;
+        awaits = awaits_news t hears.heard told now_known hears.tells;
+      })
+  news_of (Some f) k = record {
+    before = m.beginnings;
+    reading = k;
+    from = from;
+    message = message;
+    now = now;
+    hears = hears;
+    bytes = bytes k.linked.kept.known;
+    known = known k.linked.kept.known;
+  }
+
+  pub hears_of : HearsOf (record m { beginnings = t }) told
+  hears_of = record {
+    wanted = record { verify = way.wanted.verify; some = way.wanted.some; inside = way.wanted.inside };
+    file = file_stays m.cap m.from m.to (entries_of m) t.holdings.requests.entries (found_of m.found) goes.stays way.file;
+    news = news_of m.found way.phase;
+  }
+
+-- ---- a second
+
+module _ (m : Machine) (t : BeginningsState) (now : ℕ) (way : IsUnderWay m) (goes : GoesFrom (entries_of m) t.holdings.requests.entries) (ticks : Ticks now m.beginnings.holdings t.holdings) (same : t.begun ≡ m.beginnings.begun)
+    (known : AreBegun m.beginnings → AreBegun t) (opening : AreBegun m.beginnings → AreOpening nobody m.beginnings → AreOpening nobody t) where
+  passed_of : (f : Option FoundFile) → IsInPhase m.cap.total m.beginnings f → HasPassed m.cap.total t f
+  passed_of None k = record { known = known k.known; opening = opening k.known k.opening; count = ticks.table.count ∙ k.count }
+  passed_of (Some f) k = record { before = m.beginnings; reading = k; now = now; ticks = ticks; begun = same; known = known k.linked.kept.known }
+
+  pub passes_of : PassesOn (record m { beginnings = t })
+  passes_of = record {
+    wanted = record { verify = way.wanted.verify; some = way.wanted.some; inside = way.wanted.inside };
+    file = file_stays m.cap m.from m.to (entries_of m) t.holdings.requests.entries (found_of m.found) goes.stays way.file;
+    passed = passed_of m.found way.phase;
+  }

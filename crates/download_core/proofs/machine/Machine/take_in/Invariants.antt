@@ -1,5 +1,0 @@
-use Rattle.download_core.specs.Steps.{MovesOn}
-use Rattle.download_core.proofs.machine.Machine.take_in.Given as goal
-
-abbrev pub invariant-loop : goal.invariant-loop
-invariant-loop l = MovesOn l.initial.self l.self
