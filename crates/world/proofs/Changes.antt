@@ -29,10 +29,11 @@ use Rattle.world_operations.specs.declared.operation.Operation.{Operation}
 use Rattle.world_operations.specs.declared.task.Task.{Task}
 use Rattle.world_operations.specs.declared.task.Task.TheVariants.{Gone}
 use Rattle.world_operations.specs.Follow.{GoesOn, IsFrameOf, IsLostTask, IsSaid, IsSameOperation, Moves, Nothing, Said, SendsSome}
+use Rattle.world_operations.specs.Given.{AreGivenBy}
 use Rattle.world_operations.specs.Jobs.{IsFor}
 use Rattle.world_operations.specs.Moves.{sent_to}
 use Rattle.world_operations.specs.Tasks.{IsRightTask, requests_of}
-use Rattle.world_operations.proofs.Places.{append_none, get_push, get_push_old, get_set, get_set_back, get_set_same, length_set, member_here, member_there, push_last, same_some}
+use Rattle.world_operations.proofs.Places.{append_none, get_push, get_push_old, get_set, get_set_back, get_set_same, length_set, member_here, member_none, member_there, push_last, same_some}
 use Rattle.world_operations.proofs.TaskMoves.{IsNewTask, request_on}
 use Rattle.world.specs.State.{shelved}
 use Rattle.world.specs.Step.{forgotten_by, is_live_at, new_operation, with_life}
@@ -124,6 +125,7 @@ fine_more honest sent more i op f = record {
   before = omega (arith, f.before, length-append sent more);
   answers = λ place r said e o. came_more sent more i op.node place r.server r.asked said (f.answers place r said e o);
   right = f.right;
+  given = f.given;
 }
 
 pub sent_more : (servers : List (Machine MemoryState)) (operations : List Operation) (sent : List Sent) (y : Sent) → IsFounded servers operations sent y
@@ -235,8 +237,9 @@ came_of sent i node place r s said server asks a =
 -- where its machine goes on it stays fine
 fine_on : (New : Said) (honest : ℕ) (sent : List Sent) (i : ℕ) (old new : Operation) → IsSameOperation old new → GoesOn New old.task new.task
     → ((place server : ℕ) (asks : Asked) (said : Body) → New place server asks said → CameFrom sent i old.node place server asks said) → IsRightTask new.task
-    → IsFine honest sent i old → IsFine honest sent i new
-fine_on New honest sent i old new same g came right f = record {
+    → (AreGivenBy old.task old.given → AreGivenBy new.task new.given) → IsFine honest sent i old → IsFine honest sent i new
+fine_on New honest sent i old new same g came right given f = record {
+  given = given f.given;
   node = subst (λ (n : ℕ). n < honest) (sym same.node) f.node;
   started = subst (λ (j : Job). IsFor j new.task) (sym same.job) (g.is_for old.job f.started);
   session = g.follows.session_is ∙ f.session;
@@ -254,8 +257,10 @@ for_gone (Download cap from to) number = tt
 for_gone (Check cap) number = tt
 
 -- where it is gone nothing is left to be said
-fine_gone : (honest : ℕ) (sent : List Sent) (i : ℕ) (old new : Operation) → IsSameOperation old new → new.task ≡ Gone i → IsRightTask new.task → IsFine honest sent i old → IsFine honest sent i new
-fine_gone honest sent i old new same is right f = record {
+fine_gone : (honest : ℕ) (sent : List Sent) (i : ℕ) (old new : Operation) → IsSameOperation old new → new.task ≡ Gone i → IsRightTask new.task
+    → (AreGivenBy old.task old.given → AreGivenBy new.task new.given) → IsFine honest sent i old → IsFine honest sent i new
+fine_gone honest sent i old new same is right given f = record {
+  given = given f.given;
   node = subst (λ (n : ℕ). n < honest) (sym same.node) f.node;
   started = subst (IsFor new.job) (sym is) (for_gone new.job i);
   session = ap (λ (t : Task). (requests_of t).session) is;
@@ -294,7 +299,7 @@ operation_moves New servers operations sent after i old new at moves came right 
   goes : SendsSome New old.node old.task new.task sent after → AreConsistent servers (slice_set operations i new) after
   goes s =
       let here : slice_get (slice_set operations i new) i ≡ Some new = get_set_same operations i old new at in
-      let stays : IsFine (length servers) sent i new = fine_on New (length servers) sent i old new moves.same s.goes came right fine in
+      let stays : IsFine (length servers) sent i new = fine_on New (length servers) sent i old new moves.same s.goes came right moves.given fine in
       let changed : AreConsistent servers (slice_set operations i new) sent =
       one_changes servers operations sent i old new at (λ x m r. request_moves New old new x m moves.same.node s.goes r) stays c in
       subst (AreConsistent servers (slice_set operations i new)) (sym s.appended)
@@ -303,7 +308,7 @@ operation_moves New servers operations sent after i old new at moves came right 
 
   lost : IsLostTask i old.task new.task sent after → AreConsistent servers (slice_set operations i new) after
   lost l =
-      let stays : IsFine (length servers) sent i new = fine_gone (length servers) sent i old new moves.same l.gone right fine in
+      let stays : IsFine (length servers) sent i new = fine_gone (length servers) sent i old new moves.same l.gone right moves.given fine in
       subst (AreConsistent servers (slice_set operations i new)) (sym l.nothing)
       (one_changes servers operations sent i old new at (λ x m r. gone i l.gone) stays c)
 
@@ -331,6 +336,7 @@ operation_begins servers operations sent node job task honest begins right c =
         | inr n ↦ absurd n
       ];
       right = right;
+      given = λ q k. absurd (member_none q k);
     } in
     operations_change servers operations (operations ++ op ∷ []) sent (push_keeps operations op)
     (λ j o e. elim (get_push operations j o op e) [
@@ -346,7 +352,7 @@ pub record HaveOtherLives (old new : List Operation) : Type 0 where
   pub on : (i : ℕ) (op : Operation) → slice_get old i ≡ Some op → (fate : Life) × (slice_get new i ≡ Some (with_life fate op))
 
 fine_with : (honest : ℕ) (sent : List Sent) (i : ℕ) (op : Operation) (fate : Life) → IsFine honest sent i op → IsFine honest sent i (with_life fate op)
-fine_with honest sent i op fate f = record { node = f.node; started = f.started; session = f.session; before = f.before; answers = f.answers; right = f.right }
+fine_with honest sent i op fate f = record { node = f.node; started = f.started; session = f.session; before = f.before; answers = f.answers; right = f.right; given = f.given }
 
 request_with : (op : Operation) (fate : Life) (x : Sent) (m : Message) → IsRequestOf op x m → IsRequestOf (with_life fate op) x m
 request_with op fate x m (gone number is) = gone number is

@@ -3,7 +3,6 @@ use Rattle.std.proofs.Common.{◌≡◌, ℕ, ◌<◌, List, [], ◌∷◌, leng
 use Rattle.std.specs.Prelude.{slice_get}
 use Rattle.std.proofs.lemmas.List.{get_or-map, length-map}
 use Rattle.std.proofs.lemmas.List.Elements.{All-contains, Contains-append_right, Contains-get_or}
-use Rattle.tagged_hash.specs.Clash.{HasNoClash}
 use Rattle.tagged_hash.specs.TaggedHash.{share_digest, tagged_hash, tagged_input}
 use Rattle.tagged_hash.specs.declared.tag.Tag.TheVariants.{StorageIndex, WholeShare}
 use Rattle.tagged_hash.specs.ConvergentKey.{convergent_key_of, key_input}
@@ -17,7 +16,7 @@ use Rattle.request_record.specs.declared.requests.Request.{Request}
 use Rattle.share_store.specs.Memory.{MemoryState}
 use Rattle.server_core.specs.Machine.{Machine}
 use Rattle.placement.specs.Matching.{IsMatching, Pair}
-use Rattle.proved_parts.proofs.Segments.{data_agrees}
+use Rattle.proved_parts.proofs.Segments.{data_agrees_in}
 use Rattle.file_encoding.specs.Encoding.{encoding_of}
 use Rattle.file_encoding.specs.Inputs.{ciphertext_inputs, encoding_inputs}
 use Rattle.file_encoding.specs.Params.{UploadParameters, parameters_of}
@@ -29,7 +28,7 @@ use Rattle.world_operations.specs.Tasks.{requests_of}
 use Rattle.world_operations.proofs.Places.{get_below, member_flat_cases, member_map, member_none, place_of_member}
 use Rattle.world.specs.State.{WorldState, shelved}
 use Rattle.world.specs.Consistent.{IsConsistent}
-use Rattle.world.specs.Headline.{AcknowledgedKeep, HonestKeep, IsAcknowledgement, IsUploadOf, Keeps, goal, hashed}
+use Rattle.world.specs.Headline.{AcknowledgedKeep, HasNoClash, HonestKeep, IsAcknowledgement, IsHashed, IsUploadOf, Keeps, goal}
 use Rattle.world.proofs.Acked as acked
 use Rattle.world.proofs.Happy.{Up, for_upload, happy_is_matched}
 use Rattle.world.proofs.Hashed.{encoding_among, share_among}
@@ -46,7 +45,7 @@ share_hashed file secret p n low =
     Contains-append_right (key_input p.needed p.total g.segment_size secret file ∷ tagged_input StorageIndex key ∷ ciphertext_inputs g (xored key file))
     (map (tagged_input WholeShare) shares) (tagged_input WholeShare share) (member_map (tagged_input WholeShare) shares share (Contains-get_or shares n [] low))
 
-pub acknowledged_keep : (w : WorldState) → IsConsistent w → HasNoClash (hashed w) → AcknowledgedKeep w
+pub acknowledged_keep : (w : WorldState) → IsConsistent w → HasNoClash w → AcknowledgedKeep w
 acknowledged_keep w c no_clash file secret p pair a honest =
     let aim : Goal = goal file secret p in
     let shares : List (List ℕ) = (encoding_of file secret (parameters_of p)).shares in
@@ -64,7 +63,7 @@ acknowledged_keep w c no_clash file secret p pair a honest =
     let digest : slice_index_or aim.digests pair.1 [] ≡ tagged_hash WholeShare (slice_index_or shares pair.1 []) = get_or-map share_digest shares pair.1 [] [] low in
     let right : closed.share.digest ≡ tagged_hash WholeShare closed.share.bytes = (c.sound pair.0 m server.1).right.digests id closed.share closed.found in
     let bytes : closed.share.bytes ≡ slice_index_or shares pair.1 [] =
-    data_agrees (hashed w) no_clash WholeShare closed.share.bytes (slice_index_or shares pair.1 []) (share_among w pair.0 m id closed.share server.1 closed.found)
+    data_agrees_in (IsHashed w) no_clash WholeShare closed.share.bytes (slice_index_or shares pair.1 []) (share_among w pair.0 m id closed.share server.1 closed.found)
     (encoding_among w a.answer.session a.operation file secret p _ a.upload_of.at a.upload_of.job (share_hashed file secret p pair.1 low))
     (sym right ∙ closed.digest_is ∙ digest) in
     subst (λ (g : Goal). Keeps w pair.0 g.cap.storage_index pair.1 (slice_index_or shares pair.1 [])) is_for.0
@@ -108,7 +107,7 @@ acknowledged w c file secret p pair number op u of counted =
       acknowledges = subst (λ (b : Body). Contains (acked_answer aim r.server r.asked b) pair) (sym came.says.body_is) said.2;
     }
 
-pub honest_keep : (w : WorldState) → IsConsistent w → HasNoClash (hashed w) → HonestKeep w
+pub honest_keep : (w : WorldState) → IsConsistent w → HasNoClash w → HonestKeep w
 honest_keep w c no_clash file secret p pairs pair up chosen =
     let entries : List Request = up.upload.course.requests.entries in
     let matched : IsMatching (acked_pairs (goal file secret p) entries) pairs = (happy_is_matched w c file secret p pairs up).matching in

@@ -8,7 +8,7 @@ use Rattle.share_store.specs.Memory.{MemoryState}
 use Rattle.server_core.specs.Machine.{Machine}
 use Rattle.server_core.specs.Sound.{ClosedStay}
 use Rattle.upload_core.specs.declared.status.UploadStatus.TheVariants.{Happy}
-use Rattle.download_core.specs.declared.status.Piece.{Piece}
+use Rattle.download_segments.specs.declared.piece.Piece.{Piece}
 use Rattle.world_operations.specs.declared.message.Sent.{Sent}
 use Rattle.world_operations.specs.declared.operation.Operation.{Operation}
 use Rattle.world_operations.specs.declared.task.Task.{Task}

@@ -15,6 +15,7 @@ use Rattle.world_operations.specs.declared.message.Sent.{Sent}
 use Rattle.world_operations.specs.declared.operation.Operation.{Operation}
 use Rattle.world_operations.specs.declared.task.Task.TheVariants.{Gone}
 use Rattle.world_operations.specs.Follow.{IsRequestBy, IsSaid}
+use Rattle.world_operations.specs.Given.{AreGivenBy}
 use Rattle.world_operations.specs.Jobs.{IsFor}
 use Rattle.world_operations.specs.Tasks.{IsRightTask, requests_of}
 use Rattle.world.specs.Headline.{IsLater}
@@ -52,7 +53,8 @@ pub record CameFrom (sent : List Sent) (session node place server : ℕ) (asked 
   pub to : frame.to ≡ node
   pub says : IsSaid frame.from answer session place server asked said
 
--- an operation is what it was started for, at an honest node, and has its place as session
+-- An operation is what it was started for, at an honest node, and has its place as session. Its
+-- machine is right, and gave what it handed out.
 pub record IsFine (honest : ℕ) (sent : List Sent) (number : ℕ) (op : Operation) : Type 0 where
   pub node : op.node < honest
   pub started : IsFor op.job op.task
@@ -63,6 +65,7 @@ pub record IsFine (honest : ℕ) (sent : List Sent) (number : ℕ) (op : Operati
       → request.outcome ≡ Answered said
       → CameFrom sent number op.node place request.server request.asked said
   pub right : IsRightTask op.task
+  pub given : AreGivenBy op.task op.given
 
 -- Of a world its servers, its operations and what was sent: its time, and what liars heard, are
 -- nothing to it.

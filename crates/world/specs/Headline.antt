@@ -1,9 +1,8 @@
 -- The headline: what holds of every world, however its nodes lie and whatever comes in which order.
 use Rattle.std.specs.Prelude.{◌≡◌, ℕ, ◌+◌, ◌<◌, ◌≤◌, List, [], ◌++◌, Some, length, map, slice_get}
 use Rattle.std.specs.Prelude.{slice_index_or, Contains}
-use Rattle.std.specs.List.{flat_map}
 use Rattle.std.specs.Map.{values_of}
-use Rattle.tagged_hash.specs.Clash.{HasNoClash}
+use Rattle.tagged_hash.specs.Clash.{HasNoClashIn}
 use Rattle.tagged_hash.specs.TaggedHash.{tagged_input}
 use Rattle.tagged_hash.specs.declared.tag.Tag.TheVariants.{WholeShare}
 use Rattle.cap_text.specs.Cap.{ReadCapValue}
@@ -22,12 +21,13 @@ use Rattle.upload_core.specs.declared.status.UploadStatus.TheVariants.{Happy}
 use Rattle.upload_core.specs.Acknowledged.{acked_answer, acked_pairs}
 use Rattle.upload_core.specs.Sending as upload_sends
 use Rattle.upload_core.specs.State.{Goal}
-use Rattle.download_core.specs.declared.status.Piece.{Piece}
+use Rattle.download_segments.specs.declared.piece.Piece.{Piece}
 use Rattle.world_operations.specs.declared.job.Job.{Job}
 use Rattle.world_operations.specs.declared.job.Job.TheVariants.{Upload, Download}
 use Rattle.world_operations.specs.declared.message.Sent.{Sent}
 use Rattle.world_operations.specs.declared.operation.Operation.{Operation}
 use Rattle.world_operations.specs.declared.task.Task.TheVariants.{Uploading}
+use Rattle.world_operations.specs.Given.{IsHashedBy}
 use Rattle.world.specs.State.{WorldState}
 
 -- ---- what was hashed
@@ -40,11 +40,19 @@ abbrev pub closed_inputs : Machine MemoryState → List (List ℕ)
 closed_inputs m =
     map (λ (c : ClosedShare). tagged_input WholeShare c.bytes) (values_of m.store.shelf.closed)
 
--- for the files whose uploads were started, and of the shares that are closed at honest servers
-abbrev pub hashed : WorldState → List (List ℕ)
-hashed w =
-    flat_map (λ (op : Operation). started_inputs op.job) w.operations
-    ++ flat_map closed_inputs w.servers
+-- For the files whose uploads were started, by downloads for what they found, and of the shares
+-- that are closed at honest servers.
+pub data IsHashed (w : WorldState) (input : List ℕ) : Type 0 where
+  started : (op : Operation) → Contains w.operations op → Contains (started_inputs op.job) input
+      → IsHashed w input
+  downloaded : (op : Operation) → Contains w.operations op → IsHashedBy op.task input
+      → IsHashed w input
+  closed : (m : Machine MemoryState) → Contains w.servers m → Contains (closed_inputs m) input
+      → IsHashed w input
+
+-- no two of these clash
+abbrev pub HasNoClash : WorldState → Type 0
+HasNoClash w = HasNoClashIn (IsHashed w)
 
 -- ---- what was answered
 
@@ -145,12 +153,27 @@ AcknowledgedKeep w =
     (file secret : List ℕ) (p : UploadParameters) (pair : Pair)
     → IsAcknowledgement w file secret p pair → KeepsShare w file secret p pair
 
+-- No place of a cap's file has two bytes in what downloads were handed: running, ended or forgotten,
+-- and whoever made the cap.
+abbrev pub DownloadsAgree : WorldState → Type 0
+DownloadsAgree w = (cap : ReadCapValue) (place a b : ℕ) → IsGiven w cap place a
+    → IsGiven w cap place b → a ≡ b
+
+-- And where an upload answered Happy with that cap, each byte is its file's.
+abbrev pub FilesAreGiven : WorldState → Type 0
+FilesAreGiven w =
+    (file secret : List ℕ) (p : UploadParameters) (pairs : List Pair) (place byte : ℕ)
+    → IsUploaded w file secret p pairs → IsGiven w (prepared_of file secret p).cap place byte
+    → slice_get file place ≡ Some byte
+
 -- The headline, of one world. It holds of every world: each is made by `new`, and changed by events
 -- alone.
 pub record IsTrusted (w : WorldState) : Type 0 where
   pub happy_is_matched : HappyIsMatched w
-  pub honest_keep : HasNoClash (hashed w) → HonestKeep w
-  pub acknowledged_keep : HasNoClash (hashed w) → AcknowledgedKeep w
+  pub honest_keep : HasNoClash w → HonestKeep w
+  pub acknowledged_keep : HasNoClash w → AcknowledgedKeep w
+  pub downloads_agree : HasNoClash w → DownloadsAgree w
+  pub files_are_given : HasNoClash w → FilesAreGiven w
 
 -- What was answered stays: a later world has every byte that was handed out, every upload that
 -- answered Happy, every share that was closed, and all that was sent, and its nodes are the same.

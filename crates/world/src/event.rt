@@ -1,6 +1,7 @@
 //! Events, and why one is refused.
 
 use proved_parts::Bytes;
+use std::alloc::{AllocError, AllocFailed};
 use wire::message::NodeId;
 use world_operations::job::Job;
 
@@ -37,4 +38,26 @@ pub enum WorldError {
     BadEvent,
     /// The world was stopped before.
     Stopped,
+}
+
+impl From<AllocError> for WorldError {
+    ghost use Rattle.std.specs.Prelude.{◌≡◌};
+    ghost use Rattle.world.specs.declared.event.WorldError.TheVariants.{OutOfMemory};
+
+    ghost from_gives = { λ _ error. error ≡ OutOfMemory };
+
+    fn from(_error: AllocError) -> WorldError {
+        WorldError::OutOfMemory
+    }
+}
+
+impl<T: Drop> From<AllocFailed<T>> for WorldError {
+    ghost use Rattle.std.specs.Prelude.{◌≡◌};
+    ghost use Rattle.world.specs.declared.event.WorldError.TheVariants.{OutOfMemory};
+
+    ghost from_gives = { λ _ error. error ≡ OutOfMemory };
+
+    fn from(_error: AllocFailed<T>) -> WorldError {
+        WorldError::OutOfMemory
+    }
 }

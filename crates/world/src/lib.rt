@@ -14,4 +14,5 @@ mod scene;
 mod taking;
 mod world;
 
+pub use parts::{is_request, read_body};
 pub use world::World;

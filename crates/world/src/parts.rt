@@ -27,7 +27,7 @@ use world_operations::message::Sent;
 use world_operations::operation::{Life, Operation};
 
 /// Is it a message that a server answers?
-pub(crate) fn is_request(body: &Body) -> bool
+pub fn is_request(body: &Body) -> bool
     ensures { result ≡ is_request body.now }
 {
     matches!(
@@ -42,7 +42,7 @@ pub(crate) fn is_request(body: &Body) -> bool
 }
 
 /// The message of a body, or none where the bytes are no body.
-pub(crate) fn read_body(alloc: Global, body: &[u8]) -> Result<Option<Message>, AllocError>
+pub fn read_body(alloc: Global, body: &[u8]) -> Result<Option<Message>, AllocError>
     ensures some { IfOk result (λ read. IfSome read (λ m. IsBodyOf m body.now)) }
     ensures none { IfOk result
         (λ read. IfNone read ((m : Message) → IsBodyOf m body.now → ⊥)) }

@@ -1,7 +1,9 @@
 //! A world: its nodes, and what its events make of it.
 
 ghost use Rattle.std.specs.Prelude.{◌≡◌, ◌+◌, ◌<◌, ◌≤◌, [], IfErr, IfOk, false, length, replicate};
-ghost use Rattle.std.specs.Prelude.{vec_len};
+ghost use Rattle.std.specs.Prelude.{option_map, slice_get, vec_len};
+ghost use Rattle.world_operations.specs.Status.{status_of};
+ghost use Rattle.world_operations.specs.declared.operation.Operation.{Operation};
 ghost use Rattle.world.specs.Headline.{IsLater, IsTrusted};
 ghost use Rattle.world.specs.State.{new_server, new_world};
 ghost use Rattle.world.specs.Taking.{IsRun, StepGives};
@@ -9,12 +11,14 @@ ghost use Rattle.world.specs.Taking.{IsRun, StepGives};
 use crate::event::{Event, WorldError};
 use crate::liar::{Heard, Liar};
 use crate::scene::Scene;
+use download_core::status::Piece;
 use server_core::server::Server;
 use share_store::memory::MemoryStore;
 use std::alloc::{AllocError, Global};
 use std::marker::Model;
 use world_operations::message::Sent;
 use world_operations::operation::Operation;
+use world_operations::status::Status;
 use world_operations::task::StartError;
 
 /// The bytes that a server takes at most.
@@ -141,6 +145,27 @@ impl World {
         ensures { result.now ≡ self.now.state.operations }
     {
         self.scene.operations.as_slice()
+    }
+
+    /// What became of the operation of this number, if there is one.
+    pub fn status(&self, number: usize) -> Option<Status>
+        ensures { result ≡ option_map status_of (slice_get self.now.state.operations number) }
+    {
+        match self.operations().get(number) {
+            Some(operation) => Some(operation.status()),
+            None => None,
+        }
+    }
+
+    /// What the operation of this number handed out, if there is one.
+    pub fn given(&self, number: usize) -> Option<&[Piece]>
+        ensures { option_map (λ given. given.now) result ≡ option_map (λ (op : Operation). op.given)
+            (slice_get self.now.state.operations number) }
+    {
+        match self.operations().get(number) {
+            Some(operation) => Some(operation.given.as_slice()),
+            None => None,
+        }
     }
 
     /// All messages that were ever sent, in order.

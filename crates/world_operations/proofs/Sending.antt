@@ -1,25 +1,27 @@
 -- Sending all that there is to send, and handing out all that was made, one after another.
-use Rattle.std.proofs.Common.{◌≡◌, ◌∙◌, ℕ, ◌+◌, ◌<◌, Bool, true, false, List, [], ◌∷◌, ◌++◌, length, Option, Some, None, Result, Ok, Err, refl, sym, ap, subst, inl, arith}
+use Rattle.std.proofs.Common.{◌≡◌, ◌∙◌, ℕ, ◌+◌, ◌<◌, Bool, true, List, [], ◌∷◌, ◌++◌, length, Option, Some, None, Result, Ok, Err, refl, sym, ap, subst, inl, inr, false, arith}
 use Rattle.std.specs.Prelude.{OnOk, drop, slice_get}
 use Rattle.std.proofs.lemmas.List.{append_assoc}
+use Rattle.std.proofs.lemmas.List.Elements.{Contains-push_cases}
 use Rattle.wire.specs.declared.message.Message.{Message}
 use Rattle.wire.specs.Frames.{IsMessage}
 use Rattle.upload_core.specs.declared.status.UploadStatus.{UploadStatus}
 use Rattle.upload_core.specs.declared.status.UploadStatus.TheVariants as uploads
 use Rattle.upload_core.specs.State.{UploadState}
 use Rattle.upload_core.specs.Sending as upload_sends
-use Rattle.download_core.specs.State.{DownloadState}
-use Rattle.download_core.specs.declared.status.Piece.{Piece}
+use Rattle.download_core.specs.State.{DownloadState, ready}
+use Rattle.download_segments.specs.declared.piece.Piece.{Piece}
 use Rattle.checker.specs.State.{CheckState}
 use Rattle.world_operations.specs.declared.message.Sent.{Sent}
 use Rattle.world_operations.specs.declared.operation.Operation.{Operation}
 use Rattle.world_operations.specs.declared.task.Task.{Task}
 use Rattle.world_operations.specs.declared.task.Task.TheVariants.{Uploading, Downloading, Checking, Gone}
-use Rattle.world_operations.specs.Tasks.{requests_of}
+use Rattle.world_operations.specs.Given.{AreGivenBy, IsGivenBy}
+use Rattle.world_operations.specs.Tasks.{MayFail, is_download, requests_of}
 use Rattle.world_operations.specs.Moves.{HandsOne, HandsOut, HandsSome, IsFlushed, Sends, SendsAll, SendsOne, Takes, TakesPiece, gives, never_fails, sent_to}
 use Rattle.world_operations.specs.Follow.{GoesOn, IsSameOperation, Moves, Nothing, Said, SendsSome}
 use Rattle.world_operations.proofs.Places.{append_none}
-use Rattle.world_operations.proofs.TaskMoves.{goes_nowhere, goes_on, handed, sends_none, sends_on, sends_one, taken}
+use Rattle.world_operations.proofs.TaskMoves.{fails_unhappy, goes_nowhere, goes_on, handed, sends_none, sends_on, sends_one, taken}
 
 -- ---- messages
 
@@ -91,27 +93,30 @@ sending_less node old new before after one = taken_less old new (one.0, one.1) o
 
 -- how many pieces wait to be handed out
 abbrev pub waiting : Task → ℕ
-waiting (Downloading d) = length d.ready
+waiting (Downloading d) = length (ready d)
 waiting (Uploading u) = 0
 waiting (Checking c) = 0
 waiting (Gone number) = 0
 
 pub record IsHanding (first now : Task) (before after : List Piece) : Type 0 where
   pub goes : GoesOn Nothing first now
+  pub given : AreGivenBy first before → AreGivenBy now after
   pub pieces : List Piece
   pub appended : after ≡ before ++ pieces
   pub hands : HandsSome first pieces now
 
 pub handing_begins : (t : Task) (given : List Piece) → IsHanding t t given given
-handing_begins t given = record { goes = goes_nowhere Nothing t; pieces = []; appended = sym (append_none given); hands = refl }
+handing_begins t given = record { goes = goes_nowhere Nothing t; given = λ all. all; pieces = []; appended = sym (append_none given); hands = refl }
 
 hands_push : (ps : List Piece) (first now next : Task) (p : Piece) → HandsSome first ps now → TakesPiece now (Some p) next → HandsSome first (ps ++ p ∷ []) next
 hands_push [] first now next p s t = (next, subst (λ (x : Task). TakesPiece x (Some p) next) s t, refl)
 hands_push (q ∷ qs) first now next p s t = (s.0, s.1, hands_push qs s.0 now next p s.2 t)
 
-pub handing_more : (first now next : Task) (before mid after : List Piece) → IsHanding first now before mid → HandsOne now mid true next after → IsHanding first next before after
-handing_more first now next before mid after i one = record {
+pub handing_more : (first now next : Task) (before mid after : List Piece) → IsHanding first now before mid → HandsOne now mid true next after → (AreGivenBy now mid → AreGivenBy next after)
+    → IsHanding first next before after
+handing_more first now next before mid after i one given = record {
   goes = goes_on Nothing first now next i.goes (handed now next (Some one.0) one.1);
+  given = λ all. given (i.given all);
   pieces = i.pieces ++ one.0 ∷ [];
   appended = one.2 ∙ ap (λ (l : List Piece). l ++ one.0 ∷ []) i.appended ∙ append_assoc before i.pieces (one.0 ∷ []);
   hands = hands_push i.pieces first now next one.0 i.hands one.1;
@@ -122,7 +127,7 @@ pub handing_ends : (first now next : Task) (before mid after : List Piece) → I
 handing_ends first now next before mid after i one = (i.pieces, one.1 ∙ i.appended, (now, i.hands, one.0))
 
 pub handing_less : (old new : Task) (before after : List Piece) → HandsOne old before true new after → waiting new < waiting old
-handing_less (Downloading d) (Downloading e) before after one = (let t = one.1 in (let same : length d.ready ≡ length e.ready + 1 = ap length t.0 ∙ omega arith in omega (arith, same)))
+handing_less (Downloading d) (Downloading e) before after one = (let t = one.1 in (let same : length (ready d) ≡ length (ready e) + 1 = ap length t.0 ∙ omega arith in omega (arith, same)))
 handing_less (Uploading u) new before after one = absurd cc
 handing_less (Checking c) new before after one = absurd cc
 handing_less (Gone number) new before after one = absurd cc
@@ -160,8 +165,9 @@ flushed old handed last given before after h s = (
 
 -- first it goes on, and then it hands out and sends
 pub moves_by : (New : Said) (number : ℕ) (old new : Operation) (mid : Task) (before after : List Sent) → GoesOn New old.task mid → IsSameOperation (record old { task = mid }) new
-    → SendsSome Nothing old.node mid new.task before after → Moves New number old new before after
-moves_by New number old new mid before after goes same some = record {
+    → (AreGivenBy mid old.given → AreGivenBy new.task new.given) → SendsSome Nothing old.node mid new.task before after → Moves New number old new before after
+moves_by New number old new mid before after goes same given some = record {
+  given = λ all. given (λ p among. goes.given p (all p among));
   same = record { node = same.node; job = same.job; sent_before = same.sent_before; life = same.life; pieces = same.pieces; given = same.given };
   task = inl (sends_on New old.node old.task mid new.task before before after (sends_none New old.node old.task mid before goes) some);
 }
@@ -169,6 +175,38 @@ moves_by New number old new mid before after goes same some = record {
 -- it stays as it is
 pub moves_nowhere : (New : Said) (number : ℕ) (op : Operation) (sent : List Sent) → Moves New number op op sent sent
 moves_nowhere New number op sent = record {
+  given = λ all. all;
   same = record { node = refl; job = refl; sent_before = refl; life = refl; pieces = []; given = sym (append_none op.given) };
   task = inl (sends_none New op.node op.task op.task sent (goes_nowhere New op.task));
 }
+
+-- a download goes on, whatever came of the call
+pub moves_on : (New : Said) (number : ℕ) (old new : Operation) (sent : List Sent) → new ≡ record old { task = new.task } → GoesOn New old.task new.task → Moves New number old new sent sent
+moves_on New number old new sent same goes = subst (λ (op : Operation). Moves New number old op sent sent) (sym same) (record {
+  same = record { node = refl; job = refl; sent_before = refl; life = refl; pieces = []; given = sym (append_none old.given) };
+  task = inl (sends_none New old.node old.task new.task sent goes);
+  given = λ all p among. goes.given p (all p among);
+})
+
+-- nothing was given by a machine that is no download
+pub none_given : (task : Task) (p : Piece) → is_download task ≡ false → IsGivenBy task p → ⊥
+none_given (Downloading d) p not_one g = absurd cc
+none_given (Uploading u) p not_one g = g
+none_given (Checking c) p not_one g = g
+none_given (Gone number) p not_one g = g
+
+-- any other machine is gone
+pub moves_lost : (New : Said) (number : ℕ) (old : Operation) (sent : List Sent) → MayFail old.task → is_download old.task ≡ false
+    → Moves New number old (record old { task = Gone number }) sent sent
+moves_lost New number old sent may not_one = record {
+  same = record { node = refl; job = refl; sent_before = refl; life = refl; pieces = []; given = sym (append_none old.given) };
+  task = inr (record { unhappy = fails_unhappy old.task may; no_download = not_one; gone = refl; nothing = refl });
+  given = λ all p among. none_given old.task p not_one (all p among);
+}
+
+-- a piece more is given
+pub given_more : (task : Task) (given : List Piece) (p : Piece) → AreGivenBy task given → IsGivenBy task p → AreGivenBy task (given ++ p ∷ [])
+given_more task given p all own q among = elim (Contains-push_cases given p q among) [
+  | inl old ↦ all q old
+  | inr new ↦ subst (IsGivenBy task) new own
+]

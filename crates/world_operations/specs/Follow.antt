@@ -1,6 +1,6 @@
 -- How an operation's machine goes on, whatever it is: what was asked stays at its place, and what
 -- is answered was answered before, or is by the message that came.
-use Rattle.std.specs.Prelude.{◌≡◌, ◌⊎◌, ℕ, ◌+◌, List, ◌++◌, Some, true, slice_get, Contains}
+use Rattle.std.specs.Prelude.{◌≡◌, ◌⊎◌, ℕ, ◌+◌, List, ◌++◌, Some, true, false, slice_get, Contains}
 use Rattle.placement.specs.Matching.{Pair}
 use Rattle.wire.specs.declared.message.Body.{Body}
 use Rattle.wire.specs.declared.message.Message.{Message}
@@ -11,14 +11,15 @@ use Rattle.request_record.specs.declared.requests.Request.{Request}
 use Rattle.request_record.specs.Asking.{Spells}
 use Rattle.request_record.specs.Record.{RequestsState, fits}
 use Rattle.server_core.specs.Sound.{is_request}
-use Rattle.download_core.specs.declared.status.Piece.{Piece}
+use Rattle.download_segments.specs.declared.piece.Piece.{Piece}
 use Rattle.world_operations.specs.declared.job.Job.{Job}
 use Rattle.world_operations.specs.declared.message.Sent.{Sent}
 use Rattle.world_operations.specs.declared.operation.Operation.{Operation}
 use Rattle.world_operations.specs.declared.task.Task.{Task}
 use Rattle.world_operations.specs.declared.task.Task.TheVariants.{Gone}
+use Rattle.world_operations.specs.Given.{AreGivenBy, IsGivenBy}
 use Rattle.world_operations.specs.Jobs.{IsFor}
-use Rattle.world_operations.specs.Tasks.{IsHappyTask, index_of, requests_of}
+use Rattle.world_operations.specs.Tasks.{IsHappyTask, index_of, is_download, requests_of}
 
 -- what was asked of a server, and what came for an answer: the place of a request, its server, what
 -- it asks and what was answered
@@ -62,13 +63,14 @@ pub record Follows (New : Said) (old new : RequestsState) : Type 0 where
       → s.outcome ≡ Answered said
       → WasAnswered old.entries place s said ⊎ New place s.server s.asked said
 
--- A machine goes on: it is for the same, its record follows, and an upload that is Happy stays so.
--- One that is gone stays gone.
+-- A machine goes on: it is for the same, its record follows, an upload that is Happy stays so, and
+-- what a download gave stays given. One that is gone stays gone.
 pub record GoesOn (New : Said) (old new : Task) : Type 0 where
   pub follows : Follows New (requests_of old) (requests_of new)
   pub index : index_of new ≡ index_of old
   pub is_for : (job : Job) → IsFor job old → IsFor job new
   pub happy : (pairs : List Pair) → IsHappyTask old pairs → IsHappyTask new pairs
+  pub given : (p : Piece) → IsGivenBy old p → IsGivenBy new p
   pub gone : (number : ℕ) → old ≡ Gone number → new ≡ Gone number
 
 -- a message is a request of this machine, by its number
@@ -106,9 +108,10 @@ pub record IsSameOperation (old new : Operation) : Type 0 where
   pub pieces : List Piece
   pub given : new.given ≡ old.given ++ pieces
 
--- its machine is gone, which was no Happy upload, and nothing is sent
+-- its machine is gone, which was no Happy upload and no download, and nothing is sent
 pub record IsLostTask (number : ℕ) (old new : Task) (before after : List Sent) : Type 0 where
   pub unhappy : (pairs : List Pair) → IsHappyTask old pairs → ⊥
+  pub no_download : is_download old ≡ false
   pub gone : new ≡ Gone number
   pub nothing : after ≡ before
 
@@ -118,3 +121,4 @@ pub record Moves (New : Said) (number : ℕ) (old new : Operation) (before after
   pub same : IsSameOperation old new
   pub task : SendsSome New old.node old.task new.task before after
       ⊎ IsLostTask number old.task new.task before after
+  pub given : AreGivenBy old.task old.given → AreGivenBy new.task new.given

@@ -1,7 +1,7 @@
 -- What an operation may be started for, and what it is then for.
 use Rattle.std.specs.Prelude.{◌≡◌, ℕ, ◌≤◌, List, length, ⊤}
 use Rattle.ueb.specs.Limits.{min_file_size}
-use Rattle.file_encoding.specs.Params.{IsEncodable, UploadParameters}
+use Rattle.file_encoding.specs.Params.{AreChosen, IsEncodable, UploadParameters}
 use Rattle.file_upload.specs.Prepared.{goal_of, prepared_of}
 use Rattle.world_operations.specs.declared.job.Job.{Job}
 use Rattle.world_operations.specs.declared.job.Job.TheVariants.{Upload, Download, Check}
@@ -10,10 +10,11 @@ use Rattle.world_operations.specs.declared.task.Task.TheVariants.{Uploading, Dow
 use Rattle.world_operations.specs.declared.task.Task.TheVariants.{Checking, Gone}
 
 -- What an upload may be started with: a file whose cap is not literal, a secret that is not too
--- long, and parameters by which the file has an encoding.
+-- long, and parameters in their ranges, by which the file has an encoding.
 pub record IsUpload (file secret : List ℕ) (p : UploadParameters) : Type 0 where
   pub not_small : min_file_size ≤ length file
   pub secret_short : length secret ≤ 64
+  pub chosen : AreChosen p.needed p.happy p.total p.max_segment
   pub encodable : IsEncodable (length file) p
 
 -- a range of a download lies in its file

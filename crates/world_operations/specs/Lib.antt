@@ -1,5 +1,7 @@
 -- what public contracts rest on
 pub mod Tasks
 pub mod Jobs
+pub mod Given
 pub mod Moves
 pub mod Follow
+pub mod Status

@@ -10,7 +10,7 @@ use Rattle.upload_core.specs.declared.status.UploadStatus.TheVariants as uploads
 use Rattle.upload_core.specs.Pieces.{piece_of}
 use Rattle.upload_core.specs.Moves as upload
 use Rattle.upload_core.specs.Sending as upload_sends
-use Rattle.download_core.specs.declared.status.Piece.{Piece}
+use Rattle.download_segments.specs.declared.piece.Piece.{Piece}
 use Rattle.download_core.specs.Moves as download
 use Rattle.download_core.specs.Sending as download_sends
 use Rattle.checker.specs.Moves as check

@@ -1,5 +1,5 @@
 -- What the kinds of operation have in common.
-use Rattle.std.specs.Prelude.{◌≡◌, ◌≢◌, ℕ, List, [], ⊤}
+use Rattle.std.specs.Prelude.{◌≡◌, ◌≢◌, ℕ, Bool, true, false, List, [], ⊤}
 use Rattle.cap_text.specs.Cap.{verify_cap_of}
 use Rattle.request_record.specs.Asking.{fresh}
 use Rattle.request_record.specs.Record.{RequestsState}
@@ -47,6 +47,12 @@ IsHappyTask (Uploading u) pairs = u.course.status ≡ uploads.Happy pairs
 IsHappyTask (Downloading d) pairs = ⊥
 IsHappyTask (Checking c) pairs = ⊥
 IsHappyTask (Gone number) pairs = ⊥
+
+abbrev pub is_download : Task → Bool
+is_download (Downloading d) = true
+is_download (Uploading u) = false
+is_download (Checking c) = false
+is_download (Gone number) = false
 
 -- A call of it may find no memory. One of an upload that ended is not made.
 abbrev pub MayFail : Task → Type 0

@@ -9,4 +9,5 @@ pub mod job;
 pub mod message;
 pub mod operation;
 pub mod pieces;
+pub mod status;
 pub mod task;

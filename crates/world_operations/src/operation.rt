@@ -4,10 +4,11 @@ ghost use Rattle.std.specs.Prelude.{◌≡◌, ◌++◌, [], List, ℕ, nat_eq, 
 ghost use Rattle.std.specs.Prelude.{IfOk, IsErrOf, OnErr, OnOk, length};
 ghost use Rattle.std.specs.List.{IsDistinct};
 ghost use Rattle.upload_core.specs.declared.status.ServerInfo.{ServerInfo};
-ghost use Rattle.download_core.specs.declared.status.Piece.{Piece};
+ghost use Rattle.download_segments.specs.declared.piece.Piece.{Piece};
 ghost use Rattle.world_operations.specs.declared.message.Sent.{Sent};
 ghost use Rattle.world_operations.specs.Follow.{GoesOn, IsSaid, IsSameOperation, Moves};
 ghost use Rattle.world_operations.specs.Follow.{Nothing, SendsSome};
+ghost use Rattle.world_operations.specs.Given.{AreGivenBy};
 ghost use Rattle.world_operations.specs.Jobs.{MayStart};
 ghost use Rattle.world_operations.specs.Moves.{HandsOne, HandsOut, IsFlushed, OperationGets};
 ghost use Rattle.world_operations.specs.Moves.{OperationTicks, SendsAll, SendsOne};
@@ -71,7 +72,8 @@ impl Operation {
     }
 
     /// Takes a message from a node over, at a second. `number` is the operation's own: without
-    /// memory its machine is gone, or less was handed out and sent than there was.
+    /// memory its machine is gone, unless it is a download, or less was handed out and sent than
+    /// there was.
     pub fn on_message(
         &mut self,
         alloc: Global,
@@ -86,10 +88,13 @@ impl Operation {
         ensures some { Moves (IsSaid from message (requests_of self.old.task).session) number
             self.old self.new sent.old.items sent.new.items }
     {
+        let stays = self.task.is_download();
         match self.task.on_message(from, message, now) {
             Ok(()) => self.flush(alloc, sent),
             Err(error) => {
-                self.task = Task::Gone(number);
+                if !stays {
+                    self.task = Task::Gone(number);
+                }
                 Err(error)
             }
         }
@@ -107,10 +112,13 @@ impl Operation {
             × OperationTicks now self.old more self.new) }
         ensures some { Moves Nothing number self.old self.new sent.old.items sent.new.items }
     {
+        let stays = self.task.is_download();
         match self.task.tick(now) {
             Ok(()) => self.flush(alloc, sent),
             Err(error) => {
-                self.task = Task::Gone(number);
+                if !stays {
+                    self.task = Task::Gone(number);
+                }
                 Err(error)
             }
         }
@@ -121,6 +129,8 @@ impl Operation {
         ensures ok { OnOk result ((more : List Sent) × (sent.new.items ≡ sent.old.items ++ more)
             × IsFlushed self.old more self.new) }
         ensures same { IsSameOperation self.old self.new }
+        ensures given { AreGivenBy self.old.task self.old.given
+            → AreGivenBy self.new.task self.new.given }
         ensures some { SendsSome Nothing self.old.node self.old.task self.new.task sent.old.items
             sent.new.items }
     {
@@ -173,6 +183,7 @@ fn send_all(
 fn hand_one(task: &mut Task, given: &mut PieceList) -> Result<bool, AllocError>
     ensures one { IfOk result (λ more. HandsOne task.old given.old more task.new given.new) }
     ensures goes { GoesOn Nothing task.old task.new }
+    ensures given { AreGivenBy task.old given.old → AreGivenBy task.new given.new }
     ensures some { (pieces : List Piece) × (given.new ≡ given.old ++ pieces) }
 {
     let Some(piece) = task.take_piece() else {
@@ -187,6 +198,7 @@ fn hand_out(task: &mut Task, given: &mut PieceList) -> Result<(), AllocError>
     ensures all { OnOk result ((pieces : List Piece) × (given.new ≡ given.old ++ pieces)
         × HandsOut task.old pieces task.new) }
     ensures goes { GoesOn Nothing task.old task.new }
+    ensures given { AreGivenBy task.old given.old → AreGivenBy task.new given.new }
     ensures some { (pieces : List Piece) × (given.new ≡ given.old ++ pieces) }
 {
     while hand_one(task, given)? {}

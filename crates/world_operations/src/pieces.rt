@@ -14,7 +14,7 @@ pub struct PieceList {
 
 impl Model for PieceList {
     ghost use Rattle.std.specs.Prelude.{List};
-    ghost use Rattle.download_core.specs.declared.status.Piece.{Piece};
+    ghost use Rattle.download_segments.specs.declared.piece.Piece.{Piece};
 
     ghost Value = { List Piece };
 

@@ -1,16 +1,19 @@
 //! The machine of an operation.
 
-ghost use Rattle.std.specs.Prelude.{◌≡◌, ◌↔◌, ℕ, List, IfOk, IsErrOf, IsTrue, None, OnErr, OnOk};
-ghost use Rattle.std.specs.Prelude.{map, nat_eq};
+ghost use Rattle.std.specs.Prelude.{◌≡◌, ◌↔◌, ℕ, List, IfOk, IfSome, IsErrOf, IsTrue, None, OnErr};
+ghost use Rattle.std.specs.Prelude.{OnOk, map, nat_eq, true};
 ghost use Rattle.std.specs.List.{IsDistinct};
 ghost use Rattle.upload_core.specs.declared.status.ServerInfo.{ServerInfo};
 ghost use Rattle.upload_core.specs.declared.status.UploadStatus.TheVariants as uploads;
 ghost use Rattle.world_operations.specs.declared.job.Job.TheVariants as jobs;
 ghost use Rattle.world_operations.specs.declared.task.StartError.{StartError};
+ghost use Rattle.world_operations.specs.Follow.{GoesOn, IsSaid, Nothing};
+ghost use Rattle.world_operations.specs.Given.{IsGivenBy};
 ghost use Rattle.world_operations.specs.Jobs.{MayStart};
 ghost use Rattle.world_operations.specs.Moves.{Advances, Begins, Takes, TakesPiece, TicksOn};
 ghost use Rattle.world_operations.specs.Moves.{UploadAdvances, UploadTicks};
-ghost use Rattle.world_operations.specs.Tasks.{IsRightTask, IsRunningTask, MayFail};
+ghost use Rattle.world_operations.specs.Tasks.{IsRightTask, IsRunningTask, MayFail, is_download};
+ghost use Rattle.world_operations.specs.Tasks.{requests_of};
 
 use crate::job::Job;
 use cap_text::{ReadCap, VerifyCap};
@@ -50,8 +53,8 @@ pub enum Task {
     Uploading(Upload<WholeShares>),
     Downloading(Download),
     Checking(Check),
-    /// A call found no memory, which leaves nothing to be said of the machine: only the operation's
-    /// number is left.
+    /// A call of an upload or of a check found no memory, which leaves nothing to be said of the
+    /// machine: only the operation's number is left.
     Gone(u64),
 }
 
@@ -93,6 +96,9 @@ impl Task {
     pub fn on_message(&mut self, from: NodeId, message: Message, now: u64) -> Result<(), AllocError>
         ensures ok { OnOk result (Advances from message now self.old self.new) }
         ensures err { OnErr result (MayFail self.old) }
+        // A download goes on even so.
+        ensures download { is_download self.old ≡ true
+            → GoesOn (IsSaid from message (requests_of self.old).session) self.old self.new }
     {
         match self {
             Task::Uploading(upload) => answer_upload(upload, from, &message, now),
@@ -106,6 +112,8 @@ impl Task {
     pub fn tick(&mut self, now: u64) -> Result<(), AllocError>
         ensures ok { OnOk result (TicksOn now self.old self.new) }
         ensures err { OnErr result (MayFail self.old) }
+        // A download goes on even so.
+        ensures download { is_download self.old ≡ true → GoesOn Nothing self.old self.new }
     {
         match self {
             Task::Uploading(upload) => tick_upload(upload, now),
@@ -130,12 +138,20 @@ impl Task {
 
     /// Takes the next piece of a download's file.
     pub fn take_piece(&mut self) -> Option<Piece>
-        ensures { TakesPiece self.old result self.new }
+        ensures takes { TakesPiece self.old result self.new }
+        ensures given { IfSome result (IsGivenBy self.new) }
     {
         match self {
             Task::Downloading(download) => download.take_bytes(),
             Task::Uploading(_) | Task::Checking(_) | Task::Gone(_) => None,
         }
+    }
+
+    /// Is it a download?
+    pub fn is_download(&self) -> bool
+        ensures { result ≡ is_download self.now }
+    {
+        matches!(self, Task::Downloading(_))
     }
 
     /// Does it still run?
@@ -189,6 +205,7 @@ fn begin_upload(
     if (file.len() as u64) < MIN_FILE_SIZE || secret.len() > 64 {
         return Err(StartError::Refused);
     }
+    let _ = params.needed();
     match prepare(alloc, file, secret, params) {
         Ok(FileUpload::Shares(prepared)) => match prepared.start(alloc, servers, session, now) {
             Ok(upload) => Ok(Task::Uploading(upload)),
@@ -210,6 +227,7 @@ fn begin_download(
     session: u64,
     now: u64,
 ) -> Result<Task, StartError>
+    requires { IsDistinct nat_eq nodes.now }
     ensures begins { (servers : List ServerInfo) → IfOk result
         (Begins (jobs.Download cap from to) servers nodes.now session now) }
     ensures may { IfOk result (λ _. MayStart (jobs.Download cap from to)) }

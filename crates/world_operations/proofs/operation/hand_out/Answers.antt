@@ -16,7 +16,7 @@ loop-smaller c =
 pub loop-preserved : goal.loop-preserved
 loop-preserved c =
     handing_more c.args.task.now c.loop.task c.hand_one.new.task c.args.given.now c.loop.given c.hand_one.new.given c.loop.invariant
-    (subst (λ (b : Bool). HandsOne c.loop.task c.loop.given b c.hand_one.new.task c.hand_one.new.given) c.if-branch.true c.in_ok-hand_one.ensures.one)
+    (subst (λ (b : Bool). HandsOne c.loop.task c.loop.given b c.hand_one.new.task c.hand_one.new.given) c.if-branch.true c.in_ok-hand_one.ensures.one) c.in_ok-hand_one.ensures.given
 
 pub returns-clause-all : goal.returns-clause-all
 returns-clause-all c =
@@ -38,3 +38,9 @@ pub returns-clause-some : goal.returns-clause-some
 returns-clause-some c =
     let last = c.in_ok-hand_one.ensures.some in
     more_pieces c.args.given.now c.loop.given c.hand_one.new.given c.loop.invariant.pieces last.0 c.loop.invariant.appended last.1
+
+pub returns-in_err-hand_one-clause-given : goal.returns-in_err-hand_one-clause-given
+returns-in_err-hand_one-clause-given c = λ all. c.in_err-hand_one.ensures.given (c.loop.invariant.given all)
+
+pub returns-clause-given : goal.returns-clause-given
+returns-clause-given c = λ all. c.in_ok-hand_one.ensures.given (c.loop.invariant.given all)

@@ -13,3 +13,6 @@ returns-clause-some c =
     let old = c.args.self.now in
     sends_on Nothing old.node old.task c.hand_out.new.task c.send_all.new.task c.args.sent.now.items c.args.sent.now.items c.send_all.new.sent.items
     (sends_none Nothing old.node old.task c.hand_out.new.task c.args.sent.now.items c.in_ok-hand_out.ensures.goes) c.send_all.ensures.some
+
+pub returns-clause-given : goal.returns-clause-given
+returns-clause-given c = λ all p among. c.send_all.ensures.some.goes.given p (c.in_ok-hand_out.ensures.given all p among)

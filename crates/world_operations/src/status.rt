@@ -1,0 +1,99 @@
+//! What became of operations.
+
+ghost use Rattle.std.specs.Prelude.{◌≡◌};
+ghost use Rattle.world_operations.specs.Status.{check_status, download_status, happy_of};
+ghost use Rattle.world_operations.specs.Status.{machine_status, status_of, upload_status};
+
+use crate::job::Job;
+use crate::operation::{Life, Operation};
+use crate::task::Task;
+use checker::status::CheckStatus;
+use download_core::status::DownloadStatus;
+use upload_core::status::UploadStatus;
+
+/// What became of an operation.
+#[derive(Clone, Copy, Debug, PartialEq, Eq)]
+pub enum Status {
+    Running,
+    /// A restart of its node forgot it while it ran.
+    Forgotten,
+    /// So many servers hold a share of their own.
+    Happy(usize),
+    /// So many servers do, which is less than the second number, that was wanted.
+    Unhappy(u16, u16),
+    /// A download handed all of its range out, or a check has a verdict on each share.
+    Done,
+    NotEnoughShares,
+    Inconsistent,
+    Failed,
+}
+
+impl Operation {
+    /// What became of it. A restart forgets what runs, and leaves what ended as it is.
+    pub fn status(&self) -> Status
+        ensures { result ≡ status_of self.now }
+    {
+        let status = machine_status(&self.job, &self.task);
+        match self.life {
+            Life::Live => status,
+            Life::Refused => Status::Failed,
+            Life::Forgotten if status == Status::Running => Status::Forgotten,
+            Life::Forgotten => status,
+        }
+    }
+}
+
+// What the machine of a job came to.
+fn machine_status(job: &Job, task: &Task) -> Status
+    ensures { result ≡ machine_status job.now task.now }
+{
+    match task {
+        Task::Uploading(upload) => upload_status(happy_of(job), upload.status()),
+        Task::Downloading(download) => download_status(download.status()),
+        Task::Checking(check) => check_status(check.status()),
+        Task::Gone(_) => Status::Failed,
+    }
+}
+
+// On how many servers an upload's file has to be.
+fn happy_of(job: &Job) -> u16
+    ensures { result ≡ happy_of job.now }
+{
+    match job {
+        Job::Upload(_, _, params) => params.happy(),
+        Job::Download(_, _, _) | Job::Check(_) => 0,
+    }
+}
+
+fn upload_status(wanted: u16, status: &UploadStatus) -> Status
+    ensures { result ≡ upload_status wanted status.now }
+{
+    match status {
+        UploadStatus::Running => Status::Running,
+        UploadStatus::Happy(pairs) => Status::Happy(pairs.as_slice().len()),
+        UploadStatus::Unhappy(reached, _) => Status::Unhappy(*reached, wanted),
+        UploadStatus::Failed(_) => Status::Failed,
+    }
+}
+
+fn download_status(status: DownloadStatus) -> Status
+    ensures { result ≡ download_status status }
+{
+    match status {
+        DownloadStatus::Running => Status::Running,
+        DownloadStatus::Done => Status::Done,
+        DownloadStatus::NotEnoughShares => Status::NotEnoughShares,
+        DownloadStatus::Inconsistent => Status::Inconsistent,
+        DownloadStatus::Failed => Status::Failed,
+    }
+}
+
+fn check_status(status: CheckStatus) -> Status
+    ensures { result ≡ check_status status }
+{
+    match status {
+        CheckStatus::Running => Status::Running,
+        CheckStatus::Done => Status::Done,
+        CheckStatus::Failed => Status::Failed,
+    }
+}
