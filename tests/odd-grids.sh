@@ -90,7 +90,7 @@ sees 'a link to the script' ends 0 '' ./link cap URI:LIT:
 calls_with_cdpath() { (CDPATH=/ && export CDPATH && cd "$here" && ends 0 '' ./grid cap URI:LIT:); }
 sees 'CDPATH set' calls_with_cdpath
 for words in '--version version' '--help grid' 'put --help put' 'get --help get' 'check --help check' \
-    'cap --help cap'; do
+    'world --help world' 'cap --help cap'; do
     "$grid" ${words% *} > out 2> err
     sees "the stored text of ${words% *}" cmp -s out "$here/docs/help/${words##* }"
 done

@@ -1,6 +1,7 @@
 //! `grid get`: bytes of a cap's file, from the servers of a grid.
 
-ghost use Rattle.std.specs.Prelude.{◌≡◌, ◌≤◌, length};
+ghost use Rattle.std.specs.Prelude.{◌≡◌, ◌≤◌, length, nat_eq};
+ghost use Rattle.std.specs.List.{IsDistinct};
 ghost use Rattle.grid_rules.specs.Range.{IsWithin};
 
 use crate::progress::{Counted, Progress};
@@ -77,13 +78,15 @@ where
     }
 }
 
-// The download of a range of a file, from these servers.
+// The download of a range of a file, from these servers, which are distinct.
 fn begin_download(
     alloc: Global,
     cap: ReadCap,
     range: &ByteRange,
     servers: &[NodeId],
-) -> Result<Download, Fault> {
+) -> Result<Download, Fault>
+    requires { IsDistinct nat_eq servers.now }
+{
     let (from, to) = (range.from, range.to);
     Ok(Download::start(alloc, cap, from, to, servers, SESSION, 0)?)
 }

@@ -2,13 +2,15 @@
 //!
 //! `grid` takes the words of the command line and two writers, and gives the exit status. A `put`
 //! is an upload, a `get` a download, and a `check` a check, which `local_grid` carries on, and what
-//! is told stands in `grid_rules`; what stands here is which words there are.
+//! is told stands in `grid_rules`; `world` is a script that `world_runner` runs. What stands here is
+//! which words there are.
 #![tactic(auto)]
 
 mod check;
 mod get;
 mod progress;
 mod put;
+mod script;
 mod words;
 
 ghost use Rattle.std.specs.Prelude.{◌≡◌};
@@ -59,7 +61,7 @@ impl From<Fault> for Failure {
 ///
 /// The exit status is 0 where it is done, 2 for wrong words, 3 for refused input, 4 for an unhappy
 /// upload, 5 for too few shares, also where a `check` finds too few good ones and prints so, 6 for
-/// inconsistent ones, and 7 for a file, a folder, a socket or memory, or a fault of `out` or `err`,
+/// inconsistent ones, also where the bytes of a `world` do not agree and it prints so, and 7 for a file, a folder, a socket or memory, or a fault of `out` or `err`,
 /// after which nothing more is written.
 pub fn grid<R, S, O, E>(rt: &R, words: &[S], out: &mut O, err: &mut E) -> u8
 where
@@ -113,6 +115,7 @@ where
         Ok(Request::Put(words)) => done(print(out, &put::put(rt, &words, progress)?)),
         Ok(Request::Get(words)) => done(get::get(rt, &words, out, progress)),
         Ok(Request::Check(words)) => check::check(rt, &words, out, progress),
+        Ok(Request::World(path)) => script::world(rt, path, out),
         Ok(Request::Describe(text)) => done(print(out, &describe(rt.alloc(), text)?)),
     }
 }

@@ -10,6 +10,8 @@ pub(crate) enum Request<'a> {
     Put(PutWords<'a>),
     Get(GetWords<'a>),
     Check(CheckWords<'a>),
+    /// `grid world SCRIPT`, with the path of the script.
+    World(&'a str),
     /// `grid cap CAP`, with the cap's text.
     Describe(&'a str),
 }
@@ -58,6 +60,7 @@ pub(crate) fn read_words<'a, S: AsStr>(
         Some(("put", put)) => Request::Put(put_words(put)),
         Some(("get", get)) => Request::Get(get_words(get)),
         Some(("check", check)) => Request::Check(check_words(check)),
+        Some(("world", world)) => Request::World(text_of(world, "SCRIPT")),
         // A command is required, and this is the only other one.
         Some((_, cap)) => Request::Describe(text_of(cap, "CAP")),
         None => Request::Describe(text_of(&matches, "CAP")),
@@ -80,6 +83,7 @@ encrypted, erasure-coded and checked.",
         .subcommand(put_command(alloc)?)?
         .subcommand(get_command(alloc)?)?
         .subcommand(check_command(alloc)?)?
+        .subcommand(world_command(alloc)?)?
         .subcommand(cap_command(alloc)?)
 }
 
@@ -153,6 +157,16 @@ and on the file.",
         ))?
         .arg(grid_folder(alloc))?
         .arg(net(alloc))
+}
+
+fn world_command<'a>(alloc: Global) -> Result<Command<'a>, AllocError> {
+    Command::new(alloc, "world")
+        .about(
+            "Runs the script of a world: honest nodes and liars, with every delivery and fault as \
+the script has it. Prints what became of each operation, and whether all bytes agree.",
+        )
+        .after_help(STATUSES)
+        .arg(required(alloc, "SCRIPT", "The file of the script"))
 }
 
 fn cap_command<'a>(alloc: Global) -> Result<Command<'a>, AllocError> {

@@ -1,5 +1,5 @@
 -- What the end of an upload or a download is for its user.
-use Rattle.std.specs.Prelude.{ℕ, Result, Ok, Err, length}
+use Rattle.std.specs.Prelude.{ℕ, Bool, Result, Ok, Err, if◌then◌else◌, length}
 use Rattle.download_core.specs.declared.status.DownloadStatus.{DownloadStatus}
 use Rattle.download_core.specs.declared.status.DownloadStatus.TheVariants as downloads
 use Rattle.upload_core.specs.declared.status.UploadStatus.{UploadStatus}
@@ -25,3 +25,7 @@ end_of_download downloads.Done = Ok tt
 end_of_download downloads.NotEnoughShares = Err faults.NotEnoughShares
 end_of_download downloads.Inconsistent = Err faults.Inconsistent
 end_of_download downloads.Failed = Err faults.OutOfMemory
+
+-- 0 where all bytes agree that a script's world handed out, else that of inconsistent shares
+abbrev pub world_status : Bool → ℕ
+world_status agrees = if agrees then 0 else 6

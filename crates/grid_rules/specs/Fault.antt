@@ -15,7 +15,12 @@ use Rattle.grid_rules.specs.declared.fault.Fault.TheVariants.{OutOfMemory, BadPa
 use Rattle.grid_rules.specs.declared.fault.Fault.TheVariants.{TooLarge, TooManySegments, Unhappy}
 use Rattle.grid_rules.specs.declared.fault.Fault.TheVariants.{NotEnoughShares, Inconsistent, File}
 use Rattle.grid_rules.specs.declared.fault.Fault.TheVariants.{BadRange, NeedsReadCap, Socket}
-use Rattle.grid_rules.specs.declared.fault.Fault.TheVariants.{TurnLimit}
+use Rattle.grid_rules.specs.declared.fault.Fault.TheVariants.{TurnLimit, BadEvent, Stopped}
+use Rattle.grid_rules.specs.declared.fault.Fault.TheVariants.{BadScript}
+use Rattle.world.specs.declared.event.WorldError.{WorldError}
+use Rattle.world.specs.declared.event.WorldError.TheVariants as worlds
+use Rattle.world_script.specs.declared.error.ScriptError.{ScriptError}
+use Rattle.world_script.specs.declared.error.ScriptError.TheVariants as scripts
 
 -- the number of a fault
 abbrev pub fault_number : Fault → ℕ
@@ -28,9 +33,12 @@ fault_number (Unhappy _ _) = 70
 fault_number NotEnoughShares = 71
 fault_number Inconsistent = 72
 fault_number BadRange = 73
+fault_number BadEvent = 80
+fault_number Stopped = 81
 fault_number (File _) = 90
 fault_number Socket = 91
 fault_number TurnLimit = 92
+fault_number (BadScript _) = 93
 fault_number NeedsReadCap = 94
 
 -- the exit status that it gives
@@ -44,9 +52,12 @@ fault_status (Unhappy _ _) = 4
 fault_status NotEnoughShares = 5
 fault_status Inconsistent = 6
 fault_status BadRange = 3
+fault_status BadEvent = 3
+fault_status Stopped = 7
 fault_status (File _) = 7
 fault_status Socket = 7
 fault_status TurnLimit = 7
+fault_status (BadScript _) = 3
 fault_status NeedsReadCap = 3
 
 -- the fault that a cap's error becomes
@@ -75,6 +86,17 @@ fault_of_download downloads.BadRange = BadRange
 abbrev pub fault_of_loop : LoopError → Fault
 fault_of_loop loops.OutOfMemory = OutOfMemory
 fault_of_loop loops.TurnLimit = TurnLimit
+
+-- the fault that a script's refusal becomes
+abbrev pub fault_of_script : ScriptError → Fault
+fault_of_script scripts.OutOfMemory = OutOfMemory
+fault_of_script (scripts.BadScript line) = BadScript line
+
+-- the fault that the refusal of a script's world becomes
+abbrev pub fault_of_world : WorldError → Fault
+fault_of_world worlds.OutOfMemory = OutOfMemory
+fault_of_world worlds.BadEvent = BadEvent
+fault_of_world worlds.Stopped = Stopped
 
 -- It is the fault of what has this path, or there was no memory to tell the path.
 abbrev pub TellsPath : List ℕ → Fault → Type 0

@@ -1,7 +1,7 @@
 //! What the end of an upload or a download is for its user.
 
 ghost use Rattle.std.specs.Prelude.{◌≡◌};
-ghost use Rattle.grid_rules.specs.Ending.{end_of_download, ending_of};
+ghost use Rattle.grid_rules.specs.Ending.{end_of_download, ending_of, world_status};
 
 use crate::fault::Fault;
 use download_core::status::DownloadStatus;
@@ -21,6 +21,13 @@ pub fn reached_happiness(status: &UploadStatus, wanted: u16) -> Result<usize, Fa
         }),
         UploadStatus::Failed(_) => Err(Fault::OutOfMemory),
     }
+}
+
+/// The exit status of a script: 0 where all bytes agree that its world handed out, else 6.
+pub fn world_status(agrees: bool) -> u8
+    ensures { result ≡ world_status agrees }
+{
+    if agrees { 0 } else { 6 }
 }
 
 /// Refuses a download that did not hand out all bytes of its range, with the fault that it ended

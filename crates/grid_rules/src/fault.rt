@@ -4,7 +4,7 @@ ghost use Rattle.std.specs.Prelude.{◌≡◌, ◌↔◌, IsTrue};
 ghost use Rattle.std.specs.IoError.{error_kind};
 ghost use Rattle.grid_rules.specs.Fault.{fault_number, fault_of_cap, fault_of_encoding};
 ghost use Rattle.grid_rules.specs.Fault.{TellsPath, fault_of_download, fault_of_loop};
-ghost use Rattle.grid_rules.specs.Fault.{fault_status};
+ghost use Rattle.grid_rules.specs.Fault.{fault_of_script, fault_of_world, fault_status};
 
 use cap_text::CapError;
 use download_core::status::DownloadError;
@@ -13,6 +13,8 @@ use local_grid::error::LoopError;
 use std::alloc::{AllocError, AllocFailed, Global};
 use std::io::{self, ErrorKind};
 use thiserror::Error;
+use world::event::WorldError;
+use world_script::ScriptError;
 
 /// A fault. Its text is its name and what belongs to it.
 #[derive(Debug, Drop, Error)]
@@ -44,6 +46,12 @@ pub enum Fault {
     /// The range ends before it begins, or behind the file's end.
     #[error("BadRange")]
     BadRange,
+    /// What a script says is not there, or cannot be.
+    #[error("BadEvent")]
+    BadEvent,
+    /// The world of a script was stopped before.
+    #[error("Stopped")]
+    Stopped,
     /// The file or the folder of this path could not be read or written.
     #[error("FileFault {0}")]
     File(String),
@@ -53,6 +61,9 @@ pub enum Fault {
     /// The servers did not come to an end within the turns that a command takes.
     #[error("TurnLimit")]
     TurnLimit,
+    /// The line of this number, from 1 on, spells no command of a script that may stand there.
+    #[error("BadScript {0}")]
+    BadScript(usize),
     /// The cap has no key, and the command needs one.
     #[error("NeedsReadCap")]
     NeedsReadCap,
@@ -73,15 +84,19 @@ impl Fault {
             Fault::NotEnoughShares => 71,
             Fault::Inconsistent => 72,
             Fault::BadRange => 73,
+            Fault::BadEvent => 80,
+            Fault::Stopped => 81,
             Fault::File(_) => 90,
             Fault::Socket => 91,
             Fault::TurnLimit => 92,
+            Fault::BadScript(_) => 93,
             Fault::NeedsReadCap => 94,
         }
     }
 
     /// The exit status: 3 for refused input, 4 for an unhappy upload, 5 for too few shares, 6 for
-    /// inconsistent ones, and 7 for memory, a file, a folder or a socket, and for too many turns.
+    /// inconsistent ones, and 7 for memory, a file, a folder or a socket, for too many turns, and for
+    /// a world that was stopped.
     pub fn status(&self) -> u8
         ensures { result ≡ fault_status self.now }
     {
@@ -91,11 +106,17 @@ impl Fault {
             | Fault::TooLarge
             | Fault::TooManySegments
             | Fault::BadRange
+            | Fault::BadEvent
+            | Fault::BadScript(_)
             | Fault::NeedsReadCap => 3,
             Fault::Unhappy { .. } => 4,
             Fault::NotEnoughShares => 5,
             Fault::Inconsistent => 6,
-            Fault::OutOfMemory | Fault::File(_) | Fault::Socket | Fault::TurnLimit => 7,
+            Fault::OutOfMemory
+            | Fault::Stopped
+            | Fault::File(_)
+            | Fault::Socket
+            | Fault::TurnLimit => 7,
         }
     }
 
@@ -164,6 +185,29 @@ impl From<LoopError> for Fault {
         match error {
             LoopError::OutOfMemory => Fault::OutOfMemory,
             LoopError::TurnLimit => Fault::TurnLimit,
+        }
+    }
+}
+
+impl From<ScriptError> for Fault {
+    ghost from_gives = { λ error fault. fault ≡ fault_of_script error };
+
+    fn from(error: ScriptError) -> Fault {
+        match error {
+            ScriptError::OutOfMemory => Fault::OutOfMemory,
+            ScriptError::BadScript(line) => Fault::BadScript(line),
+        }
+    }
+}
+
+impl From<WorldError> for Fault {
+    ghost from_gives = { λ error fault. fault ≡ fault_of_world error };
+
+    fn from(error: WorldError) -> Fault {
+        match error {
+            WorldError::OutOfMemory => Fault::OutOfMemory,
+            WorldError::BadEvent => Fault::BadEvent,
+            WorldError::Stopped => Fault::Stopped,
         }
     }
 }

@@ -16,7 +16,7 @@ mod servers;
 
 pub use checking::{report_lines, report_status};
 pub use describing::cap_lines;
-pub use ending::{reached_happiness, reached_range_end};
+pub use ending::{reached_happiness, reached_range_end, world_status};
 pub use fault::{Fault, is_memory};
 pub use progress::{Amount, Work, progress_line};
 pub use range::{ByteRange, range_of};

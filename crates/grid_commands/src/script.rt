@@ -1,0 +1,39 @@
+//! `grid world`: a script of a world, run.
+
+use crate::{Failure, print};
+use grid_rules::{Fault, world_status};
+use grid_servers::{at_path, read_at_most};
+use std::alloc::Global;
+use std::io::Write;
+use std::rt::Files;
+use world_runner::{Ending, run_script};
+use world_script::parse;
+
+/// The greatest script, in bytes.
+const MAX_SCRIPT_SIZE: u64 = 1 << 40;
+
+/// Runs the script of a file, writes what it tells, and gives the exit status: that of inconsistent
+/// shares where bytes that were handed out do not agree.
+pub(crate) fn world<R, O>(rt: &R, path: &str, out: &mut O) -> Result<u8, Failure>
+where
+    R: Files + AllocGlobal,
+    O: Write,
+{
+    let ending = ending_of(rt.alloc(), &read(rt, path)?)?;
+    print(out, ending.lines.as_bytes())?;
+    Ok(world_status(ending.agrees))
+}
+
+// The bytes of a script's file.
+fn read<R: Files + AllocGlobal>(rt: &R, path: &str) -> Result<Vec<u8>, Fault> {
+    let read = read_at_most(rt, path, MAX_SCRIPT_SIZE);
+    match at_path(rt.alloc(), read, path)? {
+        Some(text) => Ok(text),
+        None => Err(Fault::TooLarge),
+    }
+}
+
+// How the script of a text ends. The whole text is read before anything runs.
+fn ending_of(alloc: Global, text: &[u8]) -> Result<Ending, Fault> {
+    Ok(run_script(alloc, &parse(alloc, text)?)?)
+}

@@ -1,0 +1,5 @@
+pub mod Agreeing
+pub mod Marking
+pub mod OperationLines
+pub mod Planning
+pub mod Plays
