@@ -1,9 +1,9 @@
 -- How a download begins.
-use Rattle.std.proofs.Common.{◌≡◌, ◌≢◌, ℕ, ◌+◌, Bool, true, false, true≢false, cond, ◌<◌, ◌≤◌, inl, inr, List, [], ◌∷◌, Option, Some, None, length, refl, sym, ap, subst, ◌∙◌, arith}
+use Rattle.std.proofs.Common.{◌≡◌, ◌≢◌, ℕ, ◌+◌, Bool, true, false, cond, ◌<◌, ◌≤◌, inl, inr, List, [], ◌∷◌, Option, Some, None, length, refl, sym, ap, subst, ◌∙◌, arith}
 use Rattle.std.specs.Prelude.{slice_get}
 use Rattle.std.specs.Prelude.{◌==◌, nat_eq}
 use Rattle.std.specs.List.{IsDistinct}
-use Rattle.std.proofs.lemmas.Bool.{cases_lt, eq-eqb, eqb-true}
+use Rattle.std.proofs.lemmas.Bool.{cases_lt, eqb-true}
 use Rattle.cap_text.specs.Cap.{ReadCapValue, verify_cap_of}
 use Rattle.request_record.specs.declared.requests.Asked.TheVariants.{Holdings}
 use Rattle.request_record.specs.declared.requests.Request.{Request}
@@ -18,8 +18,9 @@ use Rattle.download_core.specs.declared.status.DownloadStatus.{DownloadStatus}
 use Rattle.download_core.specs.declared.status.DownloadStatus.TheVariants.{Running, Done, NotEnoughShares, Inconsistent}
 use Rattle.download_core.specs.Given.{IsFileIfFound}
 use Rattle.download_core.specs.Moves.{Begins, asked_servers}
-use Rattle.download_core.specs.Reads.{ReadsNoMore}
-use Rattle.download_core.specs.Steps.{AreOpened, IsComplete, IsInPhase, IsKept, IsUnderWay, entries_of, found_of, state_of}
+use Rattle.share_holdings.specs.declared.holding.Blame.{Blame}
+use Rattle.download_core.specs.Reads.{ReadsBeside}
+use Rattle.download_core.specs.Steps.{AreOpened, IsComplete, IsFair, IsInPhase, IsKept, IsUnderWay, entries_of, found_of, state_of}
 use Rattle.download_core.proofs.ReadLemmas.{opened_reads}
 
 count_asks : (servers : List ℕ) (r : RequestsState) → outstanding_count (asked_all (asks_of servers) r).entries ≡ outstanding_count r.entries + length servers
@@ -39,10 +40,9 @@ pub record BeginsAs (from to : ℕ) (servers : List ℕ) (status : DownloadStatu
   pub runs : status ≡ Running → (from ≢ to) × (servers ≢ [])
   pub few : status ≡ NotEnoughShares → servers ≡ []
   pub same : status ≢ Inconsistent
-  pub ended : status ≢ Running → servers ≡ []
 
 module _ (m : Machine) (servers : List ℕ) (session now : ℕ) (status : DownloadStatus) (verify : m.verify ≡ verify_cap_of m.cap) (ordered : m.from ≤ m.to) (inside : m.to ≤ m.cap.size) (needed : 0 < m.cap.needed)
-    (asks : m.beginnings.holdings.requests ≡ begun servers session now) (opened : AreOpened m.cap.total nobody m.beginnings) (is : m.found ≡ None) (begins : BeginsAs m.from m.to servers status) where
+    (asks : m.beginnings.holdings.requests ≡ begun servers session now) (blamed : m.beginnings.holdings.blamed ≡ []) (opened : AreOpened m.cap.total nobody m.beginnings) (is : m.found ≡ None) (begins : BeginsAs m.from m.to servers status) where
   no_file : IsFileIfFound m.cap m.from m.to (entries_of m) (found_of m.found)
   no_file = subst (λ (f : Option FoundFile). IsFileIfFound m.cap m.from m.to (entries_of m) (found_of f)) (sym is) tt
 
@@ -78,12 +78,15 @@ module _ (m : Machine) (servers : List ℕ) (session now : ℕ) (status : Downlo
     inside = inside;
     file = no_file;
     way = λ e. way (begins.runs e).0;
-    reads = λ ok. subst (λ (f : Option FoundFile). ReadsNoMore (entries_of m) m.beginnings.holdings.blamed (found_of f)) (sym is) (opened_reads m.cap.total m.beginnings opened);
+    fair = subst (λ (f : Option FoundFile). IsFair (verify_cap_of m.cap) m.beginnings (found_of f)) (sym is) (record {
+      causes = λ i b there. (let two : None ≡ Some b = ap (λ (l : List Blame). slice_get l i) (sym blamed) ∙ there in absurd cc);
+      reads = opened_reads m.cap.total m.beginnings opened;
+    });
+    beside = λ ok. subst (λ (f : Option FoundFile). ReadsBeside (entries_of m) m.beginnings.holdings.blamed (found_of f)) (sym is) tt;
     done = λ e. subst (λ (f : Option FoundFile). IsComplete m.from m.to f) (sym is) (begins.done e);
     works = λ e. subst (λ (r : RequestsState). 0 < outstanding_count r.entries) (sym asks) (begun_waits servers session now (begins.runs e).1);
     few = λ e. record { quiet = nothing (begins.few e); few = begun_few (begins.few e) };
     inconsistent = λ e. absurd (begins.same e);
-    quiet = λ none other ok. nothing (begins.ended other);
   }
 
 -- the servers that are asked are distinct
@@ -95,14 +98,13 @@ distinct_asked from to servers d = by (from == to)
     by true = tt
     by false = d
 
-pub begins_as : (from to : ℕ) (servers : List ℕ) (status : DownloadStatus) → (from ≢ to → servers ≢ [] → status ≡ Running) → (status ≡ Done → from ≡ to) → (status ≡ Running → (from ≢ to) × (servers ≢ []))
+pub begins_as : (from to : ℕ) (servers : List ℕ) (status : DownloadStatus) → (status ≡ Done → from ≡ to) → (status ≡ Running → (from ≢ to) × (servers ≢ []))
     → (status ≡ NotEnoughShares → servers ≡ []) → status ≢ Inconsistent → BeginsAs from to (asked_servers from to servers) status
-begins_as from to servers status runs is_done is_running is_alone others = record {
+begins_as from to servers status is_done is_running is_alone others = record {
   done = is_done;
   runs = λ e. (let k = is_running e in (k.0, λ none. some (from == to) refl k.0 k.1 none));
   few = λ e. few (from == to) (is_alone e);
   same = others;
-  ended = λ e. ended (from == to) refl servers refl e;
 }
   where
     some : (b : Bool) → (from == to) ≡ b → from ≢ to → servers ≢ [] → cond b [] servers ≡ [] → ⊥
@@ -112,11 +114,6 @@ begins_as from to servers status runs is_done is_running is_alone others = recor
     few : (b : Bool) → servers ≡ [] → cond b [] servers ≡ []
     few true e = refl
     few false e = e
-
-    ended : (b : Bool) → (from == to) ≡ b → (l : List ℕ) → servers ≡ l → status ≢ Running → cond b [] servers ≡ []
-    ended true at l is other = refl
-    ended false at [] is other = is
-    ended false at (x ∷ xs) is other = absurd (other (runs (λ e. true≢false (sym (eq-eqb from to e) ∙ at)) (λ e. (let two : x ∷ xs ≡ [] = sym is ∙ e in cc))))
 
 pub begins_by : (m : Machine) (cap : ReadCapValue) (from to : ℕ) (servers : List ℕ) (session now : ℕ) (status : DownloadStatus) → m.cap ≡ cap → m.from ≡ from → m.to ≡ to
     → m.beginnings.holdings.requests ≡ begun (asked_servers from to servers) session now → m.beginnings.holdings.blamed ≡ [] → m.found ≡ None

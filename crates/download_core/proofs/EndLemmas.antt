@@ -7,6 +7,7 @@ use Rattle.request_record.specs.Record.{outstanding_count}
 use Rattle.request_record.specs.Asking.{AsksOnce}
 use Rattle.share_holdings.specs.Left.{FewAreLeft}
 use Rattle.share_holdings.specs.declared.holding.Blame.{Blame}
+use Rattle.share_beginnings.specs.Causes.{AddsBlames}
 use Rattle.share_beginnings.specs.Opening.{nobody}
 use Rattle.share_beginnings.specs.State.{BeginningsState}
 use Rattle.share_layout.specs.Geometry.{Geometry}
@@ -24,14 +25,16 @@ use Rattle.download_core.specs.declared.machine.FoundFile.{FoundFile}
 use Rattle.download_core.specs.declared.machine.Machine.{Machine}
 use Rattle.download_core.specs.declared.status.DownloadStatus.{DownloadStatus}
 use Rattle.download_core.specs.declared.status.DownloadStatus.TheVariants.{Running, Done, NotEnoughShares, Inconsistent, Failed}
+use Rattle.download_core.specs.Causes.{IsCause}
 use Rattle.download_core.specs.Given.{GivenIsProved, IsFileIfFound, IsRightIfFound}
-use Rattle.download_core.specs.Reads.{ReadsNoMore}
+use Rattle.download_core.specs.Reads.{ReadsBeside}
 use Rattle.download_core.specs.Right.{IsRight}
 use Rattle.download_core.specs.State.{accepted_in, handed_in, ready_in}
-use Rattle.download_core.specs.Steps.{AreOpened, EndsAs, IsComplete, IsFor, IsInPhase, IsKept, IsTooFew, IsUnderWay, MovesOn, entries_of, found_of, state_of, status_of}
+use Rattle.download_core.specs.Steps.{AllIsFair, AreOpened, EndsAs, IsComplete, IsFor, IsInPhase, IsKept, IsTooFew, IsUnderWay, MovesOn, entries_of, found_of, state_of, status_of}
 use Rattle.download_core.proofs.FewLemmas.{few_opened}
 use Rattle.download_core.proofs.Going.{opened_on, read_on}
-use Rattle.download_core.proofs.ReadLemmas.{opened_reads, reading_reads, reads_stay}
+use Rattle.download_core.proofs.ReadLemmas.{beside_stays, reading_beside}
+use Rattle.download_core.proofs.FairLemmas.{fair_goes}
 use Rattle.download_core.proofs.Records.{GoesFrom, file_stays}
 
 -- ---- what holds of each download
@@ -72,7 +75,9 @@ module _ (m : Machine) (servers : List ℕ) (status : DownloadStatus) (k : IsKep
     few = λ e. (let w = k.few e in record { quiet = w.quiet; few = w.few });
     inconsistent = k.inconsistent;
     once = once;
-    reads = k.reads;
+    reads = k.fair.reads;
+    beside = k.beside;
+    causes = k.fair.causes;
   }
 
 -- ---- what is kept
@@ -89,34 +94,35 @@ failed_few e = cc
 failed_other : Failed ≡ Inconsistent → ⊥
 failed_other e = cc
 
-phase_reads : (total : ℕ) (s : BeginningsState) (f : Option FoundFile) → IsInPhase total s f → ReadsNoMore s.holdings.requests.entries s.holdings.blamed (found_of f)
-phase_reads total s None k = opened_reads total s k
-phase_reads total s (Some f) k = reading_reads s f.place f.reading k.linked.kept
+phase_beside : (total : ℕ) (s : BeginningsState) (f : Option FoundFile) → IsInPhase total s f → ReadsBeside s.holdings.requests.entries s.holdings.blamed (found_of f)
+phase_beside total s None k = tt
+phase_beside total s (Some f) k = reading_beside s f.place f.reading k.linked.kept
 
 -- a download that ran stands so
-pub kept_ends : (m : Machine) (status : DownloadStatus) → EndsAs m status → IsKept m status
-kept_ends m status e = record {
+pub kept_ends : (m : Machine) (status : DownloadStatus) → AllIsFair m → EndsAs m status → IsKept m status
+kept_ends m status fair e = record {
   verify = e.way.wanted.verify;
   ordered = (let lt = e.way.wanted.some in omega (arith, lt));
   inside = e.way.wanted.inside;
   file = e.way.file;
   way = λ is. e.way;
-  reads = λ other. phase_reads m.cap.total m.beginnings m.found e.way.phase;
+  fair = fair;
+  beside = λ other. phase_beside m.cap.total m.beginnings m.found e.way.phase;
   done = e.done;
   works = e.works;
   few = e.few;
   inconsistent = e.inconsistent;
-  quiet = λ none other ok. e.quiet none other;
 }
 
 -- ---- a file is read
 
-module _ (m : Machine) (f : FoundFile) (t : BeginningsState) (r : ReadingState) (is : m.found ≡ Some f) (way : IsUnderWay m) (on : Continues m.beginnings f.reading t r) (reading : AreReading t r) where
+module _ (m : Machine) (f : FoundFile) (t : BeginningsState) (r : ReadingState) (is : m.found ≡ Some f) (way : IsUnderWay m) (on : Continues m.beginnings f.reading t r)
+    (blames : AddsBlames (IsCause (verify_cap_of m.cap) t.holdings.requests.entries (found_of (Some f))) m.beginnings.holdings.blamed t.holdings.blamed) (reading : AreReading t r) where
   abbrev pub read_machine : Machine
   read_machine = record m { beginnings = t; found = Some (record f { reading = r }) }
 
   settled_way : IsUnderWay read_machine
-  settled_way = read_on m f t r is way.wanted way.file on reading
+  settled_way = read_on m f t r is way.wanted way.file on blames reading
 
   -- the numbers of the file are the cap's
   needed_is : r.file.handout.geometry.needed ≡ m.cap.needed
@@ -134,10 +140,10 @@ module _ (m : Machine) (f : FoundFile) (t : BeginningsState) (r : ReadingState) 
 
   pub settled_ends : (how : Settled) → (how ≡ settled.Complete → file.IsComplete r.file) → (how ≡ settled.Inconsistent → IsNoCodeWord r.file.handout.ueb)
       → (how ≡ settled.Waits → 0 < outstanding_count t.holdings.requests.entries) → (how ≡ settled.TooFew → IsAtEnd t r) → EndsAs read_machine (status_of how)
-  settled_ends settled.Complete complete inconsistent waits few = record { way = settled_way; done = λ e. complete refl; works = λ e. absurd cc; few = λ e. absurd cc; inconsistent = λ e. absurd cc; quiet = λ e. absurd cc }
-  settled_ends settled.Inconsistent complete inconsistent waits few = record { way = settled_way; done = λ e. absurd cc; works = λ e. absurd cc; few = λ e. absurd cc; inconsistent = λ e. inconsistent refl; quiet = λ e. absurd cc }
-  settled_ends settled.Waits complete inconsistent waits few = record { way = settled_way; done = λ e. absurd cc; works = λ e. waits refl; few = λ e. absurd cc; inconsistent = λ e. absurd cc; quiet = λ e. absurd cc }
-  settled_ends settled.TooFew complete inconsistent waits few = record { way = settled_way; done = λ e. absurd cc; works = λ e. absurd cc; few = λ e. too_few (few refl); inconsistent = λ e. absurd cc; quiet = λ e. absurd cc }
+  settled_ends settled.Complete complete inconsistent waits few = record { way = settled_way; done = λ e. complete refl; works = λ e. absurd cc; few = λ e. absurd cc; inconsistent = λ e. absurd cc }
+  settled_ends settled.Inconsistent complete inconsistent waits few = record { way = settled_way; done = λ e. absurd cc; works = λ e. absurd cc; few = λ e. absurd cc; inconsistent = λ e. inconsistent refl }
+  settled_ends settled.Waits complete inconsistent waits few = record { way = settled_way; done = λ e. absurd cc; works = λ e. waits refl; few = λ e. absurd cc; inconsistent = λ e. absurd cc }
+  settled_ends settled.TooFew complete inconsistent waits few = record { way = settled_way; done = λ e. absurd cc; works = λ e. absurd cc; few = λ e. too_few (few refl); inconsistent = λ e. absurd cc }
 
 -- ---- shares are opened
 
@@ -146,7 +152,7 @@ module _ (m : Machine) (is : m.found ≡ None) (wanted : IsFor m) (opened : AreO
   opening_way = opened_on m m.beginnings is wanted opened
 
   pub opening_runs : 0 < outstanding_count (entries_of m) → EndsAs m Running
-  opening_runs waits = record { way = opening_way; done = λ e. absurd cc; works = λ e. waits; few = λ e. absurd cc; inconsistent = λ e. absurd cc; quiet = λ e other. absurd (other refl) }
+  opening_runs waits = record { way = opening_way; done = λ e. absurd cc; works = λ e. waits; few = λ e. absurd cc; inconsistent = λ e. absurd cc }
 
   pub opening_few : 0 < m.cap.needed → outstanding_count (entries_of m) ≡ 0 → (0 < read_count m.beginnings.holdings.table.numbers) ⊎ NoneIsFree m.beginnings.holdings.table → EndsAs m NotEnoughShares
   opening_few some idle enough = record {
@@ -155,11 +161,13 @@ module _ (m : Machine) (is : m.found ≡ None) (wanted : IsFor m) (opened : AreO
     works = λ e. absurd cc;
     few = λ e. record { quiet = idle; few = few_opened m.cap.total m.cap.needed m.beginnings opened some idle enough };
     inconsistent = λ e. absurd cc;
-    quiet = λ e other. idle;
   }
 
 -- no memory was found
-module _ (m : Machine) (status : DownloadStatus) (t : BeginningsState) (k : IsKept m status) (goes : GoesFrom (entries_of m) t.holdings.requests.entries) where
+module _ (m : Machine) (status : DownloadStatus) (t : BeginningsState) (k : IsKept m status) (goes : GoesFrom (entries_of m) t.holdings.requests.entries) (blamed : t.holdings.blamed ≡ m.beginnings.holdings.blamed) where
+  pub fair_still : AllIsFair (record m { beginnings = t })
+  fair_still = fair_goes (verify_cap_of m.cap) m.beginnings t (found_of m.found) goes blamed k.fair
+
   pub kept_fails : (n : Machine) → MovesOn (record m { beginnings = t }) n → IsKept n Failed
   kept_fails n on = record {
     verify = on.verify ∙ k.verify ∙ ap verify_cap_of (sym on.cap);
@@ -167,33 +175,29 @@ module _ (m : Machine) (status : DownloadStatus) (t : BeginningsState) (k : IsKe
     inside = subst (λ (c : ReadCapValue). n.to ≤ c.size) (sym on.cap) (let le = k.inside in let t = on.to_is in omega (arith, le, t));
     file = on.file (file_stays m.cap m.from m.to (entries_of m) t.holdings.requests.entries (found_of m.found) goes.stays k.file);
     way = λ e. absurd (failed_running e);
-    reads = λ other. absurd (other refl);
+    fair = on.fair fair_still;
+    beside = λ other. absurd (other refl);
     done = λ e. absurd (failed_done e);
     works = λ e. absurd (failed_running e);
     few = λ e. absurd (failed_few e);
     inconsistent = λ e. absurd (failed_other e);
-    quiet = λ none other ok. absurd (ok refl);
   }
 
-  not_found : (f : Option FoundFile) → found_of f ≡ None → f ≡ None
-  not_found None e = refl
-  not_found (Some f) e = absurd cc
-
   -- one that ended stays so
-  pub kept_still : status ≢ Running → t.holdings.blamed ≡ m.beginnings.holdings.blamed → IsKept (record m { beginnings = t }) status
-  kept_still ended blamed = record {
+  pub kept_still : status ≢ Running → IsKept (record m { beginnings = t }) status
+  kept_still ended = record {
     verify = k.verify;
     ordered = k.ordered;
     inside = k.inside;
     file = file_stays m.cap m.from m.to (entries_of m) t.holdings.requests.entries (found_of m.found) goes.stays k.file;
     way = λ e. absurd (ended e);
-    reads = λ ok. subst (λ (b : List Blame). ReadsNoMore t.holdings.requests.entries b (found_of m.found)) (sym blamed)
-        (reads_stay (entries_of m) t.holdings.requests.entries m.beginnings.holdings.blamed (found_of m.found) goes (λ none. k.quiet (not_found m.found none) ended ok) (k.reads ok));
+    fair = fair_still;
+    beside = λ ok. subst (λ (b : List Blame). ReadsBeside t.holdings.requests.entries b (found_of m.found)) (sym blamed)
+        (beside_stays (entries_of m) t.holdings.requests.entries m.beginnings.holdings.blamed (found_of m.found) goes (k.beside ok));
     done = k.done;
     works = λ e. absurd (ended e);
     few = λ e. few (k.few e);
     inconsistent = k.inconsistent;
-    quiet = λ none other ok. quiet (k.quiet none other ok);
   }
     where
       quiet : outstanding_count (entries_of m) ≡ 0 → outstanding_count t.holdings.requests.entries ≡ 0

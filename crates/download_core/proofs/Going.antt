@@ -8,23 +8,27 @@ use Rattle.request_record.specs.declared.requests.Request.{Request}
 use Rattle.request_record.specs.Record.{RequestsState, asked_all}
 use Rattle.share_holdings.specs.declared.holding.Blame.{Blame}
 use Rattle.share_holdings.proofs.Records.{StaysTo, stays_asked}
+use Rattle.placement.proofs.Members.{Contains-nil}
+use Rattle.share_beginnings.specs.Causes.{AddsBlames, IsOpeningFault, IsOtherHeader}
 use Rattle.share_beginnings.specs.Moves.{GoesOn, IsBlockAt}
+use Rattle.share_beginnings.specs.Reads.{AddsReads, IsInBeginning}
 use Rattle.share_beginnings.specs.Opening.{IsToldOf, nobody}
 use Rattle.share_beginnings.specs.declared.beginnings.News.{News}
 use Rattle.share_beginnings.specs.declared.beginnings.News.TheVariants as news
 use Rattle.share_beginnings.specs.State.{BeginningsState}
-use Rattle.share_beginnings.proofs.Opened.{goes_none}
+use Rattle.share_beginnings.proofs.Opened.{goes_none, goes_trans}
 use Rattle.download_segments.specs.declared.piece.Piece.{Piece}
 use Rattle.download_segments.specs.State.{HandoutState}
 use Rattle.share_opening.specs.declared.block.Opened.{Opened}
 use Rattle.download_file.specs.Answers as file
+use Rattle.download_file.specs.Answers.{IsRead}
 use Rattle.download_file.specs.State.{FileState, new_file}
 use Rattle.download_file.proofs.GrowLemmas.{given_keep}
 use Rattle.download_reading.specs.Reading.{AreReading}
 use Rattle.download_reading.specs.State.{ReadingState}
 use Rattle.download_reading.specs.Steps.{AddsPieces, Continues}
+use Rattle.download_reading.proofs.Causes.{alike_back, alike_of}
 use Rattle.download_reading.proofs.Ended.{file_none, file_trans}
-use Rattle.download_reading.proofs.Parts.{goes_trans}
 use Rattle.download_core.specs.declared.machine.FoundFile.{FoundFile}
 use Rattle.download_core.specs.declared.machine.Machine.{Machine}
 use Rattle.download_core.specs.declared.status.DownloadStatus.{DownloadStatus}
@@ -34,7 +38,9 @@ use Rattle.download_core.specs.Moves.{IsSame, StaysAccepted}
 use Rattle.download_core.specs.Moves as moves
 use Rattle.download_core.specs.Hashed.{IsGivenIn}
 use Rattle.download_core.specs.State.{Found, accepted_in, handed_in, ready_in}
-use Rattle.download_core.specs.Steps.{AreOpened, FoundGrows, IsFor, IsInPhase, IsUnderWay, MovesOn, entries_of, found_of, state_of}
+use Rattle.download_core.specs.Causes.{IsCause}
+use Rattle.download_core.specs.Steps.{AreOpened, FoundGrows, IsFair, IsFor, IsInPhase, IsUnderWay, MovesOn, entries_of, found_of, state_of}
+use Rattle.download_core.proofs.FairLemmas.{fair_accepted, fair_grows, fair_on, fair_opened, reads_for}
 use Rattle.download_core.proofs.Records.{file_stays, keeps_answers}
 
 -- ---- pieces
@@ -71,7 +77,7 @@ grows_trans from (Some a) (Some b) (Some c) first second = record {
 -- ---- the whole
 
 pub moves_none : (m : Machine) → MovesOn m m
-moves_none m = record { cap = refl; verify = refl; from_is = refl; to_is = refl; goes = goes_none m.beginnings m.beginnings refl refl; found = grows_none m.from m.found; file = λ k. k }
+moves_none m = record { cap = refl; verify = refl; from_is = refl; to_is = refl; goes = goes_none m.beginnings m.beginnings refl refl; found = grows_none m.from m.found; file = λ k. k; fair = λ k. k }
 
 pub moves_trans : (x y z : Machine) → MovesOn x y → MovesOn y z → MovesOn x z
 moves_trans x y z first second = record {
@@ -82,14 +88,16 @@ moves_trans x y z first second = record {
   goes = goes_trans x.beginnings y.beginnings z.beginnings first.goes second.goes;
   found = grows_trans x.from x.found y.found z.found first.found (subst (λ (n : ℕ). FoundGrows n y.found z.found) first.from_is second.found);
   file = λ k. second.file (first.file k);
+  fair = λ k. second.fair (first.fair k);
 }
 
 stays_on : (s t : BeginningsState) → GoesOn s t → StaysTo s.holdings.requests.entries t.holdings.requests.entries
 stays_on s t goes = subst (λ (r : RequestsState). StaysTo s.holdings.requests.entries r.entries) (sym goes.requests) (stays_asked goes.asks s.holdings.requests)
 
--- shares are asked and blamed, and the file stays
-pub moves_asked : (m : Machine) (t : BeginningsState) → GoesOn m.beginnings t → MovesOn m (record m { beginnings = t })
-moves_asked m t goes = record {
+-- shares are opened
+pub moves_asked : (m : Machine) (t : BeginningsState) → GoesOn m.beginnings t → AddsBlames (IsOpeningFault (verify_cap_of m.cap) (entries_of m)) m.beginnings.holdings.blamed t.holdings.blamed
+    → AddsReads (IsInBeginning t.holdings.requests.entries) (entries_of m) t.holdings.requests.entries → MovesOn m (record m { beginnings = t })
+moves_asked m t goes blames reads = record {
   cap = refl;
   verify = refl;
   from_is = refl;
@@ -97,11 +105,13 @@ moves_asked m t goes = record {
   goes = goes;
   found = grows_none m.from m.found;
   file = λ k. file_stays m.cap m.from m.to (entries_of m) t.holdings.requests.entries (found_of m.found) (stays_on m.beginnings t goes) k;
+  fair = λ k. fair_opened (verify_cap_of m.cap) m.beginnings t (found_of m.found) goes blames reads k;
 }
 
 -- a file goes on
-pub moves_read : (m : Machine) (f : FoundFile) (t : BeginningsState) (r : ReadingState) → m.found ≡ Some f → Continues m.beginnings f.reading t r → MovesOn m (record m { beginnings = t; found = Some (record f { reading = r }) })
-moves_read m f t r is on = record {
+pub moves_read : (m : Machine) (f : FoundFile) (t : BeginningsState) (r : ReadingState) → m.found ≡ Some f → Continues m.beginnings f.reading t r
+    → AddsBlames (IsCause (verify_cap_of m.cap) t.holdings.requests.entries (found_of (Some f))) m.beginnings.holdings.blamed t.holdings.blamed → MovesOn m (record m { beginnings = t; found = Some (record f { reading = r }) })
+moves_read m f t r is on blames = record {
   cap = refl;
   verify = refl;
   from_is = refl;
@@ -109,8 +119,17 @@ moves_read m f t r is on = record {
   goes = on.goes;
   found = subst (λ (o : Option FoundFile). FoundGrows m.from o (Some (record f { reading = r }))) (sym is) (record { place = refl; same = on.same; pieces = on.pieces });
   file = λ k. file (subst (λ (o : Option FoundFile). IsFileIfFound m.cap m.from m.to (entries_of m) (found_of o)) is k);
+  fair = λ k. fair (subst (λ (o : Option FoundFile). IsFair (verify_cap_of m.cap) m.beginnings (found_of o)) is k);
 }
   where
+    fair : IsFair (verify_cap_of m.cap) m.beginnings (found_of (Some f)) → IsFair (verify_cap_of m.cap) t (found_of (Some (record f { reading = r })))
+    fair k =
+        let old : Found = record { place = f.place; file = f.reading.file } in
+        let new : Found = record { place = f.place; file = r.file } in
+        let same = alike_of f.reading.file r.file on.same in
+        fair_on (verify_cap_of m.cap) t old new same (alike_back f.reading.file r.file same)
+        (fair_grows (verify_cap_of m.cap) m.beginnings t (Some old) on.goes blames (reads_for t.holdings.requests.entries old (entries_of m) t.holdings.requests.entries on.reads) k)
+
     file : IsFileIfFound m.cap m.from m.to (entries_of m) (found_of (Some f)) → IsFileIfFound m.cap m.from m.to t.holdings.requests.entries (found_of (Some (record f { reading = r })))
     file k =
         let more = file_stays m.cap m.from m.to (entries_of m) t.holdings.requests.entries (found_of (Some f)) (stays_on m.beginnings t on.goes) k in
@@ -123,9 +142,10 @@ moves_read m f t r is on = record {
         }
 
 -- an extension block is accepted
-pub moves_found : (m : Machine) (t : BeginningsState) (g : FoundFile) → m.found ≡ None → GoesOn m.beginnings t → g.reading.file.handout.handed ≡ m.from
+moves_found : (m : Machine) (t : BeginningsState) (g : FoundFile) → m.found ≡ None → GoesOn m.beginnings t → g.reading.file.handout.handed ≡ m.from
+    → t.holdings.requests ≡ m.beginnings.holdings.requests → AddsBlames (IsOtherHeader g.reading.file.handout.geometry (entries_of m)) m.beginnings.holdings.blamed t.holdings.blamed
     → IsFileIfFound m.cap m.from m.to t.holdings.requests.entries (found_of (Some g)) → MovesOn m (record m { beginnings = t; found = Some g })
-moves_found m t g is goes handed file = record {
+moves_found m t g is goes handed same blames file = record {
   cap = refl;
   verify = refl;
   from_is = refl;
@@ -133,16 +153,18 @@ moves_found m t g is goes handed file = record {
   goes = goes;
   found = subst (λ (o : Option FoundFile). FoundGrows m.from o (Some g)) (sym is) handed;
   file = λ k. file;
+  fair = λ k. fair_accepted (verify_cap_of m.cap) m.beginnings t g.reading.file.handout.geometry (record { place = g.place; file = g.reading.file }) goes same refl blames
+      (subst (λ (f : Option FoundFile). IsFair (verify_cap_of m.cap) m.beginnings (found_of f)) is k);
 }
 
 -- ---- while it runs
 
 -- a file is read on
 pub read_on : (m : Machine) (f : FoundFile) (t : BeginningsState) (r : ReadingState) → m.found ≡ Some f → IsFor m → IsFileIfFound m.cap m.from m.to (entries_of m) (found_of m.found)
-    → Continues m.beginnings f.reading t r → AreReading t r → IsUnderWay (record m { beginnings = t; found = Some (record f { reading = r }) })
-read_on m f t r is wanted file on reading = record {
+    → Continues m.beginnings f.reading t r → AddsBlames (IsCause (verify_cap_of m.cap) t.holdings.requests.entries (found_of (Some f))) m.beginnings.holdings.blamed t.holdings.blamed → AreReading t r → IsUnderWay (record m { beginnings = t; found = Some (record f { reading = r }) })
+read_on m f t r is wanted file on blames reading = record {
   wanted = record { verify = wanted.verify; some = wanted.some; inside = wanted.inside };
-  file = (moves_read m f t r is on).file file;
+  file = (moves_read m f t r is on blames).file file;
   phase = reading;
 }
 
@@ -171,11 +193,18 @@ opened_still total s (news.Beginning holding place) other k = absurd (other hold
 
 -- an extension block is accepted, and nothing of its file is read yet
 module _ (m : Machine) (t : BeginningsState) (place : ℕ) (o : Opened) (r : ReadingState) (none : m.found ≡ None) (wanted : IsFor m) (block : IsBlockAt m.verify (entries_of m) place o)
-    (goes : GoesOn m.beginnings t) (same : t.holdings.requests ≡ m.beginnings.holdings.requests) (file : r.file ≡ new_file m.cap.key o.ueb o.geometry m.from m.to) (reading : AreReading t r) where
+    (goes : GoesOn m.beginnings t) (same : t.holdings.requests ≡ m.beginnings.holdings.requests) (file : r.file ≡ new_file m.cap.key o.ueb o.geometry m.from m.to) where
   head : IsHead (verify_cap_of m.cap) t.holdings.requests.entries place o.ueb
   head = subst (λ (q : RequestsState). IsHead (verify_cap_of m.cap) q.entries place o.ueb) (sym same)
       (subst (λ (c : VerifyCapValue). IsHead c (entries_of m) place o.ueb) wanted.verify
       (record { request = block.request; there = block.there; share = block.share; offset = block.offset; len = block.len; asked = block.asked; text = block.text; answer = block.answer; whole = block.whole; block = block.block }))
+
+  nothing_read : IsRead t.holdings.requests.entries (new_file m.cap.key o.ueb o.geometry m.from m.to)
+  nothing_read = record {
+    held = λ place r at. absurd cc;
+    made = λ group number among. absurd (Contains-nil group among);
+    ready = λ p among. absurd (Contains-nil p among);
+  }
 
   file_of : IsFileIfFound m.cap m.from m.to t.holdings.requests.entries (found_of (Some (record { place = place; reading = r })))
   file_of = record {
@@ -183,14 +212,15 @@ module _ (m : Machine) (t : BeginningsState) (place : ℕ) (o : Opened) (r : Rea
     key = ap (λ (f : FileState). f.handout.key) file;
     first = ap (λ (f : FileState). f.first) file ∙ ap (λ (f : FileState). m.from / f.handout.geometry.segment_size) (sym file);
     to_is = ap (λ (f : FileState). f.handout.to) file;
-    answers = reading.linked.kept.answers;
+    answers = subst (IsRead t.holdings.requests.entries) (sym file) nothing_read;
   }
 
-  pub found_way : IsUnderWay (record m { beginnings = t; found = Some (record { place = place; reading = r }) })
-  found_way = record { wanted = record { verify = wanted.verify; some = wanted.some; inside = wanted.inside }; file = file_of; phase = reading }
+  pub found_way : AreReading t r → IsUnderWay (record m { beginnings = t; found = Some (record { place = place; reading = r }) })
+  found_way reading = record { wanted = record { verify = wanted.verify; some = wanted.some; inside = wanted.inside }; file = file_of; phase = reading }
 
-  pub found_moves : MovesOn m (record m { beginnings = t; found = Some (record { place = place; reading = r }) })
-  found_moves = moves_found m t (record { place = place; reading = r }) none goes (ap (λ (f : FileState). f.handout.handed) file) file_of
+  pub found_moves : AddsBlames (IsOtherHeader o.geometry (entries_of m)) m.beginnings.holdings.blamed t.holdings.blamed → MovesOn m (record m { beginnings = t; found = Some (record { place = place; reading = r }) })
+  found_moves blames = moves_found m t (record { place = place; reading = r }) none goes (ap (λ (f : FileState). f.handout.handed) file) same
+      (subst (λ (f : FileState). AddsBlames (IsOtherHeader f.handout.geometry (entries_of m)) m.beginnings.holdings.blamed t.holdings.blamed) (sym file) blames) file_of
 
 -- ---- what contracts see of it
 

@@ -1,5 +1,6 @@
 mod Results
 mod Records
+mod FairLemmas
 mod Going
 pub mod HashedLemmas
 mod ReadLemmas

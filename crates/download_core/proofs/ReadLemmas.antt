@@ -10,7 +10,6 @@ use Rattle.download_plan.specs.declared.part.Part.TheVariants.{ShareHashes, Bloc
 use Rattle.download_source.specs.Source.{IsSource, SourceState, first_of}
 use Rattle.request_record.specs.declared.requests.Asked.TheVariants.{Holdings, Reading}
 use Rattle.request_record.specs.declared.requests.Request.{Request}
-use Rattle.request_record.specs.Record.{outstanding_count}
 use Rattle.share_holdings.specs.Left.{IsBlamed, IsGone, IsLeft}
 use Rattle.share_holdings.specs.Right.{IsRight}
 use Rattle.share_holdings.specs.State.{HoldingsState}
@@ -21,7 +20,7 @@ use Rattle.share_holdings.proofs.Goes.{gone_stays}
 use Rattle.share_opening.specs.Reads.{IsLedToBy}
 use Rattle.share_opening.specs.declared.opening.Opening.{Opening}
 use Rattle.share_beginnings.specs.Opening.{nobody}
-use Rattle.share_beginnings.specs.Reads.{IsBeginning, IsReadAt, brought_of}
+use Rattle.share_beginnings.specs.Reads.{IsBeginning, IsInBeginning, IsReadAt, brought_of}
 use Rattle.share_beginnings.specs.State.{BeginningsState, IsBegun, unbegun}
 use Rattle.share_beginnings.specs.declared.begun.Begun.{Begun}
 use Rattle.share_beginnings.proofs.Entries.{same_of}
@@ -31,7 +30,7 @@ use Rattle.download_file.specs.State.{FileState}
 use Rattle.download_file.proofs.WantedLemmas.{asked_passed}
 use Rattle.download_reading.specs.Reading.{AreKept}
 use Rattle.download_reading.specs.State.{ReadingState}
-use Rattle.download_core.specs.Reads.{IsInBeginning, IsPlannedOrBeside, ReadsNoMore}
+use Rattle.download_core.specs.Reads.{IsPlannedOrBeside, ReadsBeside, ReadsNoMore}
 use Rattle.download_core.specs.State.{Found}
 use Rattle.download_core.specs.Steps.{AreOpened}
 use Rattle.download_core.proofs.Records.{GoesFrom}
@@ -103,7 +102,7 @@ begun_at s holding h counted is = slice_get-get_or s.begun holding unbegun (let 
 
 -- ---- before an extension block is accepted
 
-pub opened_reads : (total : ℕ) (s : BeginningsState) → AreOpened total nobody s → ReadsNoMore s.holdings.requests.entries s.holdings.blamed None
+pub opened_reads : (total : ℕ) (s : BeginningsState) → AreOpened total nobody s → ReadsNoMore s.holdings.requests.entries None
 opened_reads total s k place r share offset len there asked =
     let o = read_of s.holdings k.known.right place r share offset len there asked in
     let b = slice_index_or s.begun o.holding unbegun in
@@ -149,8 +148,8 @@ planned f reader offset len right has =
           (record { part = has.part; is = part; place_is = has.place; len_is = has.long }));
     }
 
-pub reading_reads : (s : BeginningsState) (place : ℕ) (r : ReadingState) → AreKept s r → ReadsNoMore s.holdings.requests.entries s.holdings.blamed (Some (record { place = place; file = r.file }))
-reading_reads s head r k place q share offset len there asked left =
+pub reading_beside : (s : BeginningsState) (place : ℕ) (r : ReadingState) → AreKept s r → ReadsBeside s.holdings.requests.entries s.holdings.blamed (Some (record { place = place; file = r.file }))
+reading_beside s head r k place q share offset len there asked left =
     let o = read_of s.holdings k.known.right place q share offset len there asked in
     let b = slice_index_or s.begun o.holding unbegun in
     let at = begun_at s o.holding o.held k.known.counted o.is in
@@ -169,9 +168,9 @@ reading_reads s head r k place q share offset len there asked left =
 
 -- ---- the record goes on
 
-pub reads_stay : (es ns : List Request) (blamed : List Blame) (f : Option Found) → GoesFrom es ns → (f ≡ None → outstanding_count es ≡ 0) → ReadsNoMore es blamed f → ReadsNoMore ns blamed f
-reads_stay es ns blamed None goes quiet reads = subst (λ (l : List Request). ReadsNoMore l blamed None) (sym (goes.quiet (quiet refl))) reads
-reads_stay es ns blamed (Some f) goes quiet reads =
+pub beside_stays : (es ns : List Request) (blamed : List Blame) (f : Option Found) → GoesFrom es ns → ReadsBeside es blamed f → ReadsBeside ns blamed f
+beside_stays es ns blamed None goes reads = tt
+beside_stays es ns blamed (Some f) goes reads =
     λ place r share offset len there asked left.
     let was = goes.alike place r there in
     reads place was.request share offset len was.there (was.same ∙ asked)

@@ -1,5 +1,5 @@
 -- A request is sent: nothing else changes.
-use Rattle.std.proofs.Common.{◌≡◌, ℕ, inl, inr, List, drop, Option, Some, None, refl, sym, ap, subst, ◌∙◌}
+use Rattle.std.proofs.Common.{◌≡◌, ◌≢◌, ℕ, inl, inr, List, drop, Option, Some, None, refl, sym, ap, subst, ◌∙◌}
 use Rattle.std.specs.Prelude.{slice_get}
 use Rattle.cap_text.specs.Cap.{VerifyCapValue, verify_cap_of}
 use Rattle.wire.specs.declared.message.Body.{Body}
@@ -15,7 +15,8 @@ use Rattle.download_reading.proofs.Sent.{sent}
 use Rattle.download_core.proofs.ReadLemmas.{asked_of}
 use Rattle.download_core.specs.declared.machine.Machine.{Machine}
 use Rattle.download_core.specs.declared.status.DownloadStatus.{DownloadStatus}
-use Rattle.download_core.specs.Sending.{Takes, one_sent}
+use Rattle.download_core.specs.declared.status.DownloadStatus.TheVariants.{Running, Done, NotEnoughShares, Inconsistent, Failed}
+use Rattle.download_core.specs.Sending.{Takes, first_of, one_sent}
 use Rattle.download_core.specs.Steps.{AreOpened, state_of}
 
 -- the record with another list of what to send
@@ -32,16 +33,24 @@ next_sent old new None place first t = absurd (let e : None ≡ Some place = ap 
 next_sent old new (Some p) place first t =
     t.1 ∙ ap (λ (l : List ℕ). record { session = old.session; entries = old.entries; outgoing = l; clock = old.clock }) (sym (ap (drop 1) t.0))
 
+-- one that has not failed sends
+pub first_still : (status : DownloadStatus) (outgoing : List ℕ) → status ≢ Failed → first_of status outgoing ≡ slice_get outgoing 0
+first_still Running outgoing runs = refl
+first_still Done outgoing runs = refl
+first_still NotEnoughShares outgoing runs = refl
+first_still Inconsistent outgoing runs = refl
+first_still Failed outgoing runs = absurd (runs refl)
+
 -- ---- its message
 
 pub sends : (m : Machine) (out : RequestsState) (o : Option ℕ) (place : ℕ) (r : Request) (body : Body) (message : Message) (index : List ℕ)
     → slice_get m.beginnings.holdings.requests.outgoing 0 ≡ Some place → slice_get m.beginnings.holdings.requests.entries place ≡ Some r → Spells index r.asked body
     → index ≡ m.verify.storage_index → m.verify ≡ verify_cap_of m.cap
     → message ≡ message_at place body m.beginnings.holdings.requests → TakesNext m.beginnings.holdings.requests o out
-    → (servers : List ℕ) (status : DownloadStatus) → Takes (state_of m servers status) (Some (r.server, message)) (state_of (record m { beginnings = sent_with m.beginnings out }) servers status)
-sends m out o place r body message index first there spells is verify says next servers status = (
+    → (servers : List ℕ) (status : DownloadStatus) → status ≢ Failed → Takes (state_of m servers status) (Some (r.server, message)) (state_of (record m { beginnings = sent_with m.beginnings out }) servers status)
+sends m out o place r body message index first there spells is verify says next servers status runs = (
   place,
-  first,
+  first_still status m.beginnings.holdings.requests.outgoing runs ∙ first,
   record {
     request = r;
     there = there;

@@ -21,11 +21,14 @@ use Rattle.download_segments.specs.declared.piece.Piece.{Piece}
 use Rattle.download_segments.specs.Handout.{TakesPiece}
 use Rattle.download_segments.specs.State.{HandoutState}
 use Rattle.download_file.specs.Changes.{StaysRead}
-use Rattle.download_core.specs.Reads.{IsPlannedOrBeside, ReadsNoMore}
+use Rattle.download_core.specs.Reads.{IsPlannedOrBeside, ReadsBeside}
 use Rattle.download_reading.specs.Laws.{with_outgoing}
 use Rattle.download_reading.proofs.Sent.{sent}
 use Rattle.download_core.proofs.Sending.{sent_opened}
-use Rattle.download_core.specs.Steps.{IsComplete, IsInPhase, IsKept, entries_of, found_of}
+use Rattle.download_reading.specs.Causes.{IsFileAlike}
+use Rattle.download_reading.proofs.Causes.{alike_back}
+use Rattle.download_core.proofs.FairLemmas.{fair_on}
+use Rattle.download_core.specs.Steps.{IsComplete, IsFair, IsInPhase, IsKept, entries_of, found_of}
 
 -- a request is sent
 module _ (m : Machine) (outgoing : List ℕ) (status : DownloadStatus) (k : IsKept m status) where
@@ -40,12 +43,12 @@ module _ (m : Machine) (outgoing : List ℕ) (status : DownloadStatus) (k : IsKe
     inside = k.inside;
     file = k.file;
     way = λ run. (let way = k.way run in record { wanted = record { verify = way.wanted.verify; some = way.wanted.some; inside = way.wanted.inside }; file = way.file; phase = sent_phase m.found way.phase });
-    reads = k.reads;
+    fair = record { causes = k.fair.causes; reads = k.fair.reads };
+    beside = k.beside;
     done = k.done;
     works = k.works;
     few = λ f. (let few = k.few f in record { quiet = few.quiet; few = few.few });
     inconsistent = k.inconsistent;
-    quiet = k.quiet;
   }
 
 -- ---- a piece is taken
@@ -93,6 +96,9 @@ module _ (m : Machine) (f : FoundFile) (r : ReadingState) (p : Option Piece) (st
   end_is : r.file.end ≡ f.reading.file.end
   end_is = ap (λ (x : ReadingState). x.file.end) rest
 
+  alike : IsFileAlike f.reading.file r.file
+  alike = record { key = same.key; ueb = same.ueb; geometry = same.geometry; to = same.to; first = first_is; end = end_is }
+
   taken_file : IsFileIfFound m.cap m.from m.to (entries_of m) (found_of taken_machine.found)
   taken_file =
       let o = subst (λ (x : Option FoundFile). IsFileIfFound m.cap m.from m.to (entries_of m) (found_of x)) is k.file in
@@ -113,7 +119,7 @@ module _ (m : Machine) (f : FoundFile) (r : ReadingState) (p : Option Piece) (st
     planned = subst (λ (g : Geometry). IsPlanned g plan.from r.file.end offset len) (sym same.geometry) (subst (λ (n : ℕ). IsPlanned f.reading.file.handout.geometry plan.from n offset len) (sym end_is) plan.planned);
   })
 
-  read_still : ReadsNoMore (entries_of m) m.beginnings.holdings.blamed (found_of (Some f)) → ReadsNoMore (entries_of m) m.beginnings.holdings.blamed (found_of taken_machine.found)
+  read_still : ReadsBeside (entries_of m) m.beginnings.holdings.blamed (found_of (Some f)) → ReadsBeside (entries_of m) m.beginnings.holdings.blamed (found_of taken_machine.found)
   read_still old = λ place q share offset len there asked left. planned_still offset len (old place q share offset len there asked left)
 
   complete_still : IsComplete m.from m.to (Some f) → IsComplete m.from m.to taken_machine.found
@@ -132,10 +138,11 @@ module _ (m : Machine) (f : FoundFile) (r : ReadingState) (p : Option Piece) (st
           file = taken_file;
           phase = reading m.beginnings (subst (λ (x : Option FoundFile). IsInPhase m.cap.total m.beginnings x) is way.phase);
         });
-    reads = λ ok. read_still (subst (λ (x : Option FoundFile). ReadsNoMore (entries_of m) m.beginnings.holdings.blamed (found_of x)) is (k.reads ok));
+    fair = fair_on (verify_cap_of m.cap) m.beginnings (record { place = f.place; file = f.reading.file }) (record { place = f.place; file = r.file }) alike (alike_back f.reading.file r.file alike)
+        (subst (λ (x : Option FoundFile). IsFair (verify_cap_of m.cap) m.beginnings (found_of x)) is k.fair);
+    beside = λ ok. read_still (subst (λ (x : Option FoundFile). ReadsBeside (entries_of m) m.beginnings.holdings.blamed (found_of x)) is (k.beside ok));
     done = λ d. complete_still (subst (λ (x : Option FoundFile). IsComplete m.from m.to x) is (k.done d));
     works = k.works;
     few = λ d. (let few = k.few d in record { quiet = few.quiet; few = few.few });
     inconsistent = λ d. subst IsNoCodeWord (sym same.ueb) (subst (λ (x : Option FoundFile). HasNoCodeWord (found_of x)) is (k.inconsistent d));
-    quiet = λ none other ok. absurd cc;
   }

@@ -2,6 +2,7 @@
 pub mod State
 pub mod Given
 pub mod Reads
+pub mod Causes
 pub mod Evidence
 pub mod Ends
 pub mod Hashed

@@ -1,14 +1,16 @@
 -- What holds of each download.
 use Rattle.std.specs.Prelude.{◌≡◌, ◌≢◌, ℕ, ◌<◌, ◌≤◌}
+use Rattle.cap_text.specs.Cap.{verify_cap_of}
 use Rattle.request_record.specs.Asking.{AsksOnce}
 use Rattle.request_record.specs.Record.{outstanding_count}
 use Rattle.download_segments.specs.Pieces.{AreConsecutive}
 use Rattle.download_core.specs.declared.status.DownloadStatus.TheVariants.{Running, Done, Failed}
 use Rattle.download_core.specs.declared.status.DownloadStatus.TheVariants.{NotEnoughShares}
 use Rattle.download_core.specs.declared.status.DownloadStatus.TheVariants.{Inconsistent}
+use Rattle.download_core.specs.Causes.{AreCaused}
 use Rattle.download_core.specs.Ends.{HasNoCodeWord, HasTooFew}
 use Rattle.download_core.specs.Given.{GivenIsProved, IsFileIfFound, IsRightIfFound}
-use Rattle.download_core.specs.Reads.{ReadsNoMore}
+use Rattle.download_core.specs.Reads.{ReadsBeside, ReadsNoMore}
 use Rattle.download_core.specs.State.{DownloadState, accepted, handed, ready}
 
 -- The pieces follow one another from the place up to which bytes were taken, and none passes the
@@ -16,7 +18,7 @@ use Rattle.download_core.specs.State.{DownloadState, accepted, handed, ready}
 -- done, they end at the range's end; while it runs, a request waits for its answer. It gives up
 -- only where too few shares are left, and is inconsistent only where the file is no code word. No
 -- server is asked the same thing twice, nor for a byte of a share twice, and no more is read than
--- may be.
+-- may be. Each share that is blamed failed its check.
 pub record IsRight (d : DownloadState) : Type 0 where
   pub end : ℕ
   pub consecutive : AreConsecutive (handed d) (ready d) end
@@ -29,4 +31,6 @@ pub record IsRight (d : DownloadState) : Type 0 where
   pub few : d.status ≡ NotEnoughShares → HasTooFew d
   pub inconsistent : d.status ≡ Inconsistent → HasNoCodeWord d.found
   pub once : AsksOnce d.requests.entries
-  pub reads : d.status ≢ Failed → ReadsNoMore d.requests.entries d.blamed d.found
+  pub reads : ReadsNoMore d.requests.entries d.found
+  pub beside : d.status ≢ Failed → ReadsBeside d.requests.entries d.blamed d.found
+  pub causes : AreCaused (verify_cap_of d.cap) d.requests.entries d.found d.blamed

@@ -1,16 +1,28 @@
 -- What a download sends.
-use Rattle.std.specs.Prelude.{◌≡◌, ℕ, Option, Some, None, drop, slice_get}
+use Rattle.std.specs.Prelude.{◌≡◌, ℕ, List, Option, Some, None, drop, slice_get}
 use Rattle.wire.specs.declared.message.Body.{Body}
 use Rattle.wire.specs.declared.message.Message.{Message}
 use Rattle.request_record.specs.declared.requests.Request.{Request}
 use Rattle.request_record.specs.Asking.{Spells, message_at}
 use Rattle.request_record.specs.Record.{RequestsState}
 use Rattle.cap_text.specs.Cap.{verify_cap_of}
+use Rattle.download_core.specs.declared.status.DownloadStatus.{DownloadStatus}
+use Rattle.download_core.specs.declared.status.DownloadStatus.TheVariants.{Running, Done, Failed}
+use Rattle.download_core.specs.declared.status.DownloadStatus.TheVariants.{NotEnoughShares}
+use Rattle.download_core.specs.declared.status.DownloadStatus.TheVariants.{Inconsistent}
 use Rattle.download_core.specs.State.{DownloadState, with_record}
+
+-- nothing is sent after a download failed
+abbrev pub first_of : DownloadStatus → List ℕ → Option ℕ
+first_of Running outgoing = slice_get outgoing 0
+first_of Done outgoing = slice_get outgoing 0
+first_of NotEnoughShares outgoing = slice_get outgoing 0
+first_of Inconsistent outgoing = slice_get outgoing 0
+first_of Failed outgoing = None
 
 -- the place of the request that is sent next
 abbrev pub first_to_send : DownloadState → Option ℕ
-first_to_send d = slice_get d.requests.outgoing 0
+first_to_send d = first_of d.status d.requests.outgoing
 
 -- the record after its first request to send was sent
 abbrev pub one_sent : RequestsState → RequestsState

@@ -1,6 +1,6 @@
 -- How the parts of a download go on.
 use Rattle.std.specs.Prelude.{◌≡◌, ◌≢◌, ℕ, ◌<◌, ◌≤◌, Option, Some, None, List, length, ⊤}
-use Rattle.cap_text.specs.Cap.{verify_cap_of}
+use Rattle.cap_text.specs.Cap.{VerifyCapValue, verify_cap_of}
 use Rattle.share_opening.specs.declared.opening.Opening.{Opening}
 use Rattle.request_record.specs.declared.requests.Request.{Request}
 use Rattle.request_record.specs.Record.{outstanding_count}
@@ -22,9 +22,10 @@ use Rattle.download_core.specs.declared.status.DownloadStatus.{DownloadStatus}
 use Rattle.download_core.specs.declared.status.DownloadStatus.TheVariants.{Running, Done, Failed}
 use Rattle.download_core.specs.declared.status.DownloadStatus.TheVariants.{NotEnoughShares}
 use Rattle.download_core.specs.declared.status.DownloadStatus.TheVariants.{Inconsistent}
+use Rattle.download_core.specs.Causes.{AreCaused}
 use Rattle.download_core.specs.Ends.{HasNoCodeWord}
 use Rattle.download_core.specs.Given.{IsFileIfFound}
-use Rattle.download_core.specs.Reads.{ReadsNoMore}
+use Rattle.download_core.specs.Reads.{ReadsBeside, ReadsNoMore}
 use Rattle.download_core.specs.State.{DownloadState, Found}
 
 -- ---- what contracts see of it
@@ -119,7 +120,17 @@ FoundGrows from None (Some g) = g.reading.file.handout.handed ≡ from
 FoundGrows from (Some f) None = ⊥
 FoundGrows from (Some f) (Some g) = FileGoesOn f g
 
--- it is for the same, more is asked and blamed, and what is read of a file stays right
+-- each share that is blamed has its cause, and no more is read than may be
+pub record IsFair (cap : VerifyCapValue) (s : BeginningsState) (found : Option Found)
+    : Type 0 where
+  pub causes : AreCaused cap s.holdings.requests.entries found s.holdings.blamed
+  pub reads : ReadsNoMore s.holdings.requests.entries found
+
+abbrev pub AllIsFair : Machine → Type 0
+AllIsFair m = IsFair (verify_cap_of m.cap) m.beginnings (found_of m.found)
+
+-- It is for the same, more is asked and blamed, and what is read of a file stays right. What is
+-- blamed and read stays fair.
 pub record MovesOn (old new : Machine) : Type 0 where
   pub cap : new.cap ≡ old.cap
   pub verify : new.verify ≡ old.verify
@@ -129,6 +140,7 @@ pub record MovesOn (old new : Machine) : Type 0 where
   pub found : FoundGrows old.from old.found new.found
   pub file : IsFileIfFound old.cap old.from old.to (entries_of old) (found_of old.found)
       → IsFileIfFound new.cap new.from new.to (entries_of new) (found_of new.found)
+  pub fair : AllIsFair old → AllIsFair new
 
 -- ---- how it ends
 
@@ -148,7 +160,6 @@ pub record EndsAs (m : Machine) (status : DownloadStatus) : Type 0 where
   pub works : status ≡ Running → 0 < outstanding_count (entries_of m)
   pub few : status ≡ NotEnoughShares → IsTooFew m
   pub inconsistent : status ≡ Inconsistent → HasNoCodeWord (found_of m.found)
-  pub quiet : m.found ≡ None → status ≢ Running → outstanding_count (entries_of m) ≡ 0
 
 -- what is kept of each download
 pub record IsKept (m : Machine) (status : DownloadStatus) : Type 0 where
@@ -157,14 +168,13 @@ pub record IsKept (m : Machine) (status : DownloadStatus) : Type 0 where
   pub inside : m.to ≤ m.cap.size
   pub file : IsFileIfFound m.cap m.from m.to (entries_of m) (found_of m.found)
   pub way : status ≡ Running → IsUnderWay m
-  pub reads : status ≢ Failed
-      → ReadsNoMore (entries_of m) m.beginnings.holdings.blamed (found_of m.found)
+  pub fair : AllIsFair m
+  pub beside : status ≢ Failed
+      → ReadsBeside (entries_of m) m.beginnings.holdings.blamed (found_of m.found)
   pub done : status ≡ Done → IsComplete m.from m.to m.found
   pub works : status ≡ Running → 0 < outstanding_count (entries_of m)
   pub few : status ≡ NotEnoughShares → IsTooFew m
   pub inconsistent : status ≡ Inconsistent → HasNoCodeWord (found_of m.found)
-  pub quiet : m.found ≡ None → status ≢ Running → status ≢ Failed
-      → outstanding_count (entries_of m) ≡ 0
 
 -- where a download stands whose file stands so
 abbrev pub status_of : Settled → DownloadStatus

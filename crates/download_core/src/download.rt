@@ -1,7 +1,7 @@
 //! A download: bytes of a file by its cap, from servers, only with what proves them.
 
 ghost use Rattle.std.specs.Prelude.{◌≡◌, ◌≢◌, ◌↔◌, ℕ, ◌<◌, ◌≤◌, [], Err, IfOk, IfSome, IsOk, OnErr};
-ghost use Rattle.std.specs.Prelude.{OnOk, is_some, nat_eq};
+ghost use Rattle.std.specs.Prelude.{IsTrue, OnOk, is_some, nat_eq};
 ghost use Rattle.std.specs.List.{IsDistinct};
 ghost use Rattle.cap_text.specs.Cap.{verify_cap_of};
 ghost use Rattle.proved_parts.specs.Evidence.{IsProved};
@@ -147,10 +147,13 @@ impl Download {
         self.machine.beginnings.holdings().blamed()
     }
 
-    /// Takes the next message to send, and the node that it is for.
+    /// Takes the next message to send, and the node that it is for. One that failed sends nothing.
     pub fn take_outgoing(&mut self) -> Option<(NodeId, Message)>
         ensures { Takes self.old result self.new }
     {
+        if has_failed(self.status) {
+            return None;
+        }
         self.machine.take_outgoing()
     }
 
@@ -158,12 +161,8 @@ impl Download {
     pub fn has_outgoing(&self) -> bool
         ensures { result ≡ is_some (first_to_send self.now) }
     {
-        self.machine
-            .beginnings
-            .holdings()
-            .requests()
-            .first()
-            .is_some()
+        let requests = self.machine.beginnings.holdings().requests();
+        !has_failed(self.status) && requests.first().is_some()
     }
 
     /// Takes the next piece of the file.
@@ -213,6 +212,13 @@ fn first_status(from: u64, to: u64, servers: &[NodeId]) -> DownloadStatus
     } else {
         DownloadStatus::Running
     }
+}
+
+// Whether a download that stands so has failed.
+fn has_failed(status: DownloadStatus) -> bool
+    ensures { IsTrue result ↔ (status ≡ Failed) }
+{
+    matches!(status, DownloadStatus::Failed)
 }
 
 /// A law of the definitions: each piece that a download gave is proved by what the download hashed.

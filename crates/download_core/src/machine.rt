@@ -123,7 +123,7 @@ impl Machine {
         }
         let news = heard?;
         self.take_in(news)?;
-        self.settle()
+        self.settle(true)
     }
 
     /// Takes note of a second, and tells where it stands then.
@@ -145,13 +145,13 @@ impl Machine {
             return Ok(status);
         }
         self.end_lost();
-        self.settle()
+        self.settle(false)
     }
 
     /// Takes the next message to send, and the node that it is for.
     pub(crate) fn take_outgoing(&mut self) -> Option<(NodeId, Message)>
         requires verify { self.old.verify ≡ verify_cap_of self.old.cap }
-        ensures takes { (servers : List ℕ) (status : DownloadStatus) → Takes
+        ensures takes { (servers : List ℕ) (status : DownloadStatus) → status ≢ Failed → Takes
             (state_of self.old servers status) result (state_of self.new servers status) }
         ensures kept { (status : DownloadStatus) → IsKept self.old status
             → IsKept self.new status }
@@ -241,7 +241,6 @@ impl Machine {
         ensures way { OnOk result (IsUnderWay self.new) }
         ensures moves { MovesOn self.old self.new }
     {
-        self.beginnings.accept(&opened.geometry, holding)?;
         let reading = Reading::new(
             self.alloc,
             self.cap.key(),
@@ -251,7 +250,7 @@ impl Machine {
             self.to,
         )?;
         self.found = Some(FoundFile { place, reading });
-        Ok(())
+        self.beginnings.accept(&opened.geometry, holding)
     }
 
     // After a second the shares of which a request is lost are read no more.
@@ -265,15 +264,16 @@ impl Machine {
         }
     }
 
-    // Goes on as far as it can without another answer, and tells where it stands.
-    fn settle(&mut self) -> Result<DownloadStatus, AllocError>
+    // Goes on as far as it can without another answer, and tells where it stands. Where it is
+    // patient it waits for eight segments that are on their way.
+    fn settle(&mut self, patient: bool) -> Result<DownloadStatus, AllocError>
         requires { IsUnderWay self.old }
         ensures moves { MovesOn self.old self.new }
         ensures ends { IfOk result (EndsAs self.new) }
     {
         match &mut self.found {
             Some(found) => {
-                let settled = found.reading.settle(&mut self.beginnings)?;
+                let settled = found.reading.settle(&mut self.beginnings, patient)?;
                 Ok(status_by(settled))
             }
             None => self.settle_opening(),

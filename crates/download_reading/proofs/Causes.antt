@@ -8,9 +8,9 @@ use Rattle.share_verify.specs.declared.check.Check.TheVariants as checks
 use Rattle.share_holdings.specs.Table.{IsHolding}
 use Rattle.share_holdings.specs.declared.holding.Blame.{Blame}
 use Rattle.share_holdings.specs.declared.holding.Holding.{Holding}
-use Rattle.share_holdings.proofs.Telling.{append_cases}
+use Rattle.share_holdings.proofs.Records.{StaysTo}
 use Rattle.share_beginnings.specs.Causes.{AddsBlames}
-use Rattle.share_beginnings.specs.Moves.{GoesOn}
+use Rattle.share_beginnings.proofs.Caused.{adds_as, adds_trans}
 use Rattle.share_beginnings.specs.Reads.{IsAnsweredBy}
 use Rattle.share_beginnings.specs.State.{BeginningsState}
 use Rattle.share_beginnings.proofs.Entries.{same_of}
@@ -21,33 +21,40 @@ use Rattle.download_file.specs.Taking.{IsRefused}
 use Rattle.cap_text.specs.Cap.{VerifyCapValue}
 use Rattle.share_beginnings.specs.Causes.{IsBeginningFault}
 use Rattle.download_segments.specs.State.{HandoutState}
-use Rattle.download_reading.specs.Causes.{HasCause, IsBlameOf, IsBlockFault, IsPartFault}
+use Rattle.download_reading.specs.Causes.{HasCause, IsBlameOf, IsBlockFault, IsFileAlike, IsPartFault}
 use Rattle.download_reading.specs.Reading.{AreReadingBut}
 use Rattle.download_reading.specs.State.{ReadingState}
 use Rattle.download_reading.specs.Steps.{Continues}
-use Rattle.request_record.specs.Record.{RequestsState}
-use Rattle.download_reading.proofs.Awaited.{Stays, first_is, goes_stays}
-use Rattle.download_reading.proofs.Ended.{file_none, file_trans}
+use Rattle.request_record.specs.Record.{RequestsState, is_outstanding}
+use Rattle.download_reading.proofs.Awaited.{first_is, goes_stays}
+use Rattle.download_reading.proofs.Ended.{file_none}
 
-pub adds_trans : (P : Blame → Type 0) (s t u : BeginningsState) → GoesOn t u → AddsBlames P s.holdings.blamed t.holdings.blamed → AddsBlames P t.holdings.blamed u.holdings.blamed → AddsBlames P s.holdings.blamed u.holdings.blamed
-adds_trans P s t u goes first second i b is le = elim (append_cases t.holdings.blamed goes.more i b (sym (ap (λ (l : List Blame). slice_get l i) goes.blamed) ∙ is)) [
-  | inl was ↦ first i b was le
-  | inr new ↦ second i b is new.0
-]
+-- ---- the same file
 
-pub adds_as : (P Q : Blame → Type 0) (old new : List Blame) → ((b : Blame) → P b → Q b) → AddsBlames P old new → AddsBlames Q old new
-adds_as P Q old new from adds i b is le = from b (adds i b is le)
+pub alike_of : (f g : FileState) → IsSameFile f g → IsFileAlike f g
+alike_of f g k = record { key = k.key; ueb = k.ueb; geometry = k.geometry; to = k.to; first = k.first; end = k.end }
 
-pub part_moved : (es ns : List Request) (f g : FileState) (b : Blame) → es ≡ ns → IsSameFile f g → IsPartFault es g b → IsPartFault ns f b
-part_moved es ns f g b e same k = record {
+pub alike_back : (f g : FileState) → IsFileAlike f g → IsFileAlike g f
+alike_back f g k = record { key = sym k.key; ueb = sym k.ueb; geometry = sym k.geometry; to = sym k.to; first = sym k.first; end = sym k.end }
+
+alike_trans : (f g h : FileState) → IsFileAlike f g → IsFileAlike g h → IsFileAlike f h
+alike_trans f g h a b = record { key = b.key ∙ a.key; ueb = b.ueb ∙ a.ueb; geometry = b.geometry ∙ a.geometry; to = b.to ∙ a.to; first = b.first ∙ a.first; end = b.end ∙ a.end }
+
+pub alike_none : (f : FileState) → IsFileAlike f f
+alike_none f = alike_of f f (file_none f)
+
+-- ---- what stays of a cause
+
+pub part_moved : (es ns : List Request) (f g : FileState) (b : Blame) → StaysTo es ns → IsFileAlike f g → IsPartFault es g b → IsPartFault ns f b
+part_moved es ns f g b stays same k = record {
   file = k.file;
   right = k.right;
-  same = file_trans f g k.file same k.same;
+  same = alike_trans f g k.file same k.same;
   reader = k.reader;
   place = k.place;
   first = k.first;
   request = k.request;
-  there = ap (λ (l : List Request). slice_get l k.place) (sym e) ∙ k.there;
+  there = stays k.place k.request k.there (ap is_outstanding k.answer);
   of_server = k.of_server;
   offset = k.offset;
   len = k.len;
@@ -57,13 +64,13 @@ part_moved es ns f g b e same k = record {
   refused = k.refused;
 }
 
-pub block_moved : (es ns : List Request) (f g : FileState) (b : Blame) → Stays es ns → IsSameFile f g → IsBlockFault es g b → IsBlockFault ns f b
+pub block_moved : (es ns : List Request) (f g : FileState) (b : Blame) → StaysTo es ns → IsFileAlike f g → IsBlockFault es g b → IsBlockFault ns f b
 block_moved es ns f g b stays same k = record {
   file = k.file;
   right = k.right;
-  same = file_trans f g k.file same k.same;
+  same = alike_trans f g k.file same k.same;
   answered = k.answered;
-  keeps = λ place q body there answer. stays place q (k.keeps place q body there answer);
+  keeps = λ place q body there answer. stays place q (k.keeps place q body there answer) (ap is_outstanding answer);
   read = k.read;
   reader = k.reader;
   share = k.share;
@@ -84,7 +91,7 @@ part_fault but s r reader place check bytes b reading live first answered refuse
     record {
       file = r.file;
       right = reading.linked.kept.right;
-      same = file_none r.file;
+      same = alike_none r.file;
       reader = reader;
       place = place;
       first = first;
@@ -107,7 +114,7 @@ block_fault but s r reader b reading refuted blame =
     record {
       file = r.file;
       right = reading.linked.kept.right;
-      same = file_none r.file;
+      same = alike_none r.file;
       answered = s.holdings.requests.entries;
       keeps = λ place q body there answer. there;
       read = reading.linked.kept.answers;
@@ -117,6 +124,9 @@ block_fault but s r reader b reading refuted blame =
       check = blame.check_is;
     }
 
+stays_same : (s t : BeginningsState) → t.holdings.requests ≡ s.holdings.requests → StaysTo t.holdings.requests.entries s.holdings.requests.entries
+stays_same s t same i q e quiet = ap (λ (x : RequestsState). slice_get x.entries i) (sym same) ∙ e
+
 -- more is taken
 pub taken_causes : (s t u : BeginningsState) (r q p : ReadingState) → Continues s r t q → Continues t q u p → t.holdings.requests ≡ s.holdings.requests
     → AddsBlames (IsPartFault s.holdings.requests.entries r.file) s.holdings.blamed t.holdings.blamed → AddsBlames (IsPartFault t.holdings.requests.entries q.file) t.holdings.blamed u.holdings.blamed
@@ -124,7 +134,7 @@ pub taken_causes : (s t u : BeginningsState) (r q p : ReadingState) → Continue
 taken_causes s t u r q p first second same before after =
     adds_trans (IsPartFault s.holdings.requests.entries r.file) s t u second.goes before
     (adds_as (IsPartFault t.holdings.requests.entries q.file) (IsPartFault s.holdings.requests.entries r.file) t.holdings.blamed u.holdings.blamed
-    (λ b k. part_moved t.holdings.requests.entries s.holdings.requests.entries r.file q.file b (ap (λ (x : RequestsState). x.entries) same) first.same k) after)
+    (λ b k. part_moved t.holdings.requests.entries s.holdings.requests.entries r.file q.file b (stays_same s t same) (alike_of r.file q.file first.same) k) after)
 
 -- ---- a message
 
@@ -137,7 +147,7 @@ pub took_causes : (cap : VerifyCapValue) (s t u : BeginningsState) (r q : Readin
     → AddsBlames (IsPartFault t.holdings.requests.entries q.file) t.holdings.blamed u.holdings.blamed
     → AddsBlames (HasCause cap s.holdings.requests.entries r.file) t.holdings.blamed u.holdings.blamed
 took_causes cap s t u r q first same adds i b is le =
-    inr (part_moved t.holdings.requests.entries s.holdings.requests.entries r.file q.file b (ap (λ (x : RequestsState). x.entries) same) first.same (adds i b is le))
+    inr (part_moved t.holdings.requests.entries s.holdings.requests.entries r.file q.file b (stays_same s t same) (alike_of r.file q.file first.same) (adds i b is le))
 
 pub heard_causes : (cap : VerifyCapValue) (s t u : BeginningsState) (r q p : ReadingState) → Continues s r t q → Continues t q u p → t.holdings.requests ≡ s.holdings.requests
     → AddsBlames (HasCause cap s.holdings.requests.entries r.file) s.holdings.blamed t.holdings.blamed → AddsBlames (IsPartFault t.holdings.requests.entries q.file) t.holdings.blamed u.holdings.blamed
@@ -171,5 +181,5 @@ pub settled_causes : (s t u : BeginningsState) (r q p : ReadingState) → Contin
 settled_causes s t u r q p first second before after =
     let entries = u.holdings.requests.entries in
     adds_trans (IsBlockFault entries r.file) s t u second.goes
-    (adds_as (IsBlockFault t.holdings.requests.entries r.file) (IsBlockFault entries r.file) s.holdings.blamed t.holdings.blamed (λ b k. block_moved t.holdings.requests.entries entries r.file r.file b (goes_stays t u second.goes) (file_none r.file) k) before)
-    (adds_as (IsBlockFault entries q.file) (IsBlockFault entries r.file) t.holdings.blamed u.holdings.blamed (λ b k. block_moved entries entries r.file q.file b (λ i x e. e) first.same k) after)
+    (adds_as (IsBlockFault t.holdings.requests.entries r.file) (IsBlockFault entries r.file) s.holdings.blamed t.holdings.blamed (λ b k. block_moved t.holdings.requests.entries entries r.file r.file b (λ i q e quiet. goes_stays t u second.goes i q e) (alike_none r.file) k) before)
+    (adds_as (IsBlockFault entries q.file) (IsBlockFault entries r.file) t.holdings.blamed u.holdings.blamed (λ b k. block_moved entries entries r.file q.file b (λ i x e quiet. e) (alike_of r.file q.file first.same) k) after)

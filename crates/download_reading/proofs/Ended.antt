@@ -1,6 +1,6 @@
 -- A reader whose share is not left is read no more.
 use Rattle.std.proofs.Common.{◌≡◌, ℕ, ◌+◌, ◌<◌, ◌≤◌, ◌⊎◌, inl, inr, Bool, true, false, cond, not, List, [], ◌∷◌, ◌++◌, Contains, length, take, refl, sym, ap, subst, ◌∙◌, arith, true≢false}
-use Rattle.std.specs.Prelude.{◌==◌, slice_get, slice_index_or}
+use Rattle.std.specs.Prelude.{◌==◌, All, slice_get, slice_index_or}
 use Rattle.std.proofs.lemmas.Bool.{eq-eqb}
 use Rattle.std.proofs.lemmas.List.{append-nil, append_assoc, length-map, take_more}
 use Rattle.std.proofs.lemmas.List.Elements.{All-contains, Contains-push_cases}
@@ -11,20 +11,24 @@ use Rattle.download_segments.specs.State.{HandoutState}
 use Rattle.share_holdings.specs.Table.{IsHolding}
 use Rattle.share_holdings.specs.declared.holding.Holding.{Holding}
 use Rattle.share_holdings.proofs.Lists.{from_without, without_keeps}
-use Rattle.share_beginnings.specs.Reads.{IsBeside}
+use Rattle.request_record.specs.Record.{RequestsState}
+use Rattle.share_beginnings.specs.Reads.{AddsReads, IsBeside}
 use Rattle.share_beginnings.specs.State.{BeginningsState}
 use Rattle.share_beginnings.specs.declared.begun.Begun.{Begun}
+use Rattle.share_beginnings.proofs.Caused.{reads_none, reads_trans}
 use Rattle.share_beginnings.proofs.Entries.{same_of}
-use Rattle.share_beginnings.proofs.Opened.{goes_none}
-use Rattle.download_file.specs.Asked.{AsksNoMore}
+use Rattle.share_beginnings.proofs.Opened.{goes_none, goes_trans}
+use Rattle.download_plan.specs.Plan.{IsPlanned}
+use Rattle.download_file.specs.Asked.{AsksNoMore, IsOneOf, IsPlannedRead}
 use Rattle.download_file.specs.Changes.{IsSameFile, StaysRead}
+use Rattle.download_source.specs.declared.wanted.Wanted.{Wanted}
 use Rattle.download_file.specs.Right.{IsFile}
 use Rattle.download_file.specs.State.{FileState, IsLive, ReaderState, shares, without}
 use Rattle.download_file.proofs.GrowLemmas.{same_itself}
 use Rattle.download_reading.specs.Reading.{AreKept, AreLinked, IsGone, IsOf, IsOfReader, IsReadNow}
 use Rattle.download_reading.specs.State.{ReadingState}
-use Rattle.download_reading.specs.Steps.{AddsPieces, Continues}
-use Rattle.download_reading.proofs.Parts.{goes_trans}
+use Rattle.download_reading.specs.Steps.{AddsPieces, Continues, IsReadFor}
+use Rattle.download_reading.proofs.Awaited.{goes_stays}
 
 pub file_none : (f : FileState) → IsSameFile f f
 file_none f = same_itself f
@@ -40,6 +44,15 @@ file_trans f g h a b = record {
   given = λ entries p known. b.given entries p (a.given entries p known);
 }
 
+-- the plan of the same file
+planned_alike : (f g : FileState) (offset len : ℕ) → IsSameFile f g → IsPlannedRead g offset len → IsPlannedRead f offset len
+planned_alike f g offset len same k = record {
+  from = k.from;
+  begins = (let a = k.begins in let b = same.first in omega (arith, a, b));
+  before = (let a = k.before in let b = same.end in omega (arith, a, b));
+  planned = subst (λ (x : Geometry). IsPlanned x k.from f.end offset len) same.geometry (subst (λ n. IsPlanned g.handout.geometry k.from n offset len) same.end k.planned);
+}
+
 pub adds_none : (h g : HandoutState) → g ≡ h → AddsPieces h g
 adds_none h g e = record { handed = ap (λ (x : HandoutState). x.handed) e; more = []; ready = ap (λ (x : HandoutState). x.ready) e ∙ sym (append-nil h.ready) }
 
@@ -50,8 +63,18 @@ adds_trans h g k a b = record {
   ready = b.ready ∙ ap (λ l. l ++ b.more) a.ready ∙ append_assoc h.ready a.more b.more;
 }
 
+-- one of the parts that are planned
+pub planned_of : (f : FileState) (wanted : List Wanted) (offset len : ℕ) → All (λ (w : Wanted). IsPlannedRead f w.read.place w.read.length) wanted → IsOneOf wanted offset len → IsPlannedRead f offset len
+planned_of f wanted offset len all o =
+    let k = All-contains (λ (w : Wanted). IsPlannedRead f w.read.place w.read.length) wanted o.one all o.among in
+    subst (λ n. IsPlannedRead f n len) (sym o.place) (subst (λ n. IsPlannedRead f o.one.read.place n) (sym o.long) k)
+
+-- nothing is asked
+pub asks_none : (f : FileState) (s t : BeginningsState) → t.holdings.requests ≡ s.holdings.requests → AddsReads (IsReadFor f) s.holdings.requests.entries t.holdings.requests.entries
+asks_none f s t e = reads_none (IsReadFor f) s.holdings.requests.entries t.holdings.requests.entries (ap (λ (q : RequestsState). q.entries) e)
+
 pub continues_none : (s : BeginningsState) (r : ReadingState) → Continues s r s r
-continues_none s r = record { goes = goes_none s s refl refl; same = file_none r.file; pieces = adds_none r.file.handout r.file.handout refl; answers = λ a. a }
+continues_none s r = record { goes = goes_none s s refl refl; same = file_none r.file; pieces = adds_none r.file.handout r.file.handout refl; answers = λ a. a; reads = asks_none r.file s s refl }
 
 pub continues_trans : (s t u : BeginningsState) (r q p : ReadingState) → Continues s r t q → Continues t q u p → Continues s r u p
 continues_trans s t u r q p f g = record {
@@ -59,6 +82,8 @@ continues_trans s t u r q p f g = record {
   same = file_trans r.file q.file p.file f.same g.same;
   pieces = adds_trans r.file.handout q.file.handout p.file.handout f.pieces g.pieces;
   answers = λ a. g.answers (f.answers a);
+  reads = reads_trans (IsReadFor r.file) s.holdings.requests.entries t.holdings.requests.entries u.holdings.requests.entries (goes_stays t u g.goes) f.reads
+      (λ place n share offset len there le asked. planned_alike r.file q.file offset len f.same (g.reads place n share offset len there le asked));
 }
 
 module _ (s : BeginningsState) (r : ReadingState) (f : FileState) (reader : ℕ) (before : AreKept s r) (gone : IsGone s r reader) (lives : f.live ≡ without reader r.file.live) (shared : shares f ≡ shares r.file)

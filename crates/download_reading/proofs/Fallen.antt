@@ -3,9 +3,9 @@ use Rattle.std.proofs.Common.{◌≡◌, ℕ, ◌⊎◌, inl, inr, Bool, true, f
 use Rattle.std.specs.Prelude.{◌≢◌, ◌≤◌, Result, Ok, Err, slice_get}
 use Rattle.std.proofs.lemmas.Option.{slice_get_within}
 use Rattle.std.specs.declared.alloc.AllocError.{AllocError}
-use Rattle.download_segments.specs.Handout.{next_piece}
-use Rattle.download_segments.specs.State.{HandoutState}
-use Rattle.download_file.specs.Making.{MakesNext}
+use Rattle.download_segments.specs.State.{HandoutState, IsHandout}
+use Rattle.download_file.specs.Making.{MakesPieces}
+use Rattle.download_file.proofs.ManyLemmas.{gets_pieces}
 use Rattle.download_file.specs.declared.file.Made.{Made}
 use Rattle.download_file.specs.declared.file.Made.TheVariants as made_as
 use Rattle.std.proofs.lemmas.List.{length-map}
@@ -26,7 +26,7 @@ use Rattle.download_file.specs.Changes.{IsSameFile}
 use Rattle.share_holdings.specs.Moves.{Blames}
 use Rattle.share_verify.specs.declared.check.Check.{Check}
 use Rattle.download_reading.specs.Steps.{AddsPieces, Continues}
-use Rattle.download_reading.proofs.Ended.{adds_none, file_none}
+use Rattle.download_reading.proofs.Ended.{adds_none, asks_none, file_none}
 use Rattle.download_reading.proofs.Follows.{Follows, KeepsReaders, WasHeld, follows_falls, none_asked_behind, readers_same}
 use Rattle.download_file.specs.Answers.{IsRead}
 use Rattle.download_file.specs.Asked.{AsksNoMore}
@@ -178,6 +178,7 @@ module _ (s t : BeginningsState) (r : ReadingState) (holding : ℕ) (check : Che
     same = file_none r.file;
     pieces = adds_none r.file.handout r.file.handout refl;
     answers = λ a. subst (λ (q : RequestsState). IsRead q.entries r.file) (sym requests_are) a;
+    reads = asks_none r.file s t requests_are;
   }
 
 -- ---- a segment is made, or not
@@ -188,14 +189,12 @@ module _ (s : BeginningsState) (r : ReadingState) (f : FileState) (before : AreL
   made_reading = file_goes s r f before lives (ap (λ (l : List ReaderState). map (λ (x : ReaderState). x.share) l) readers) asked answers right same.geometry
 
   pub made_continues : AddsPieces r.file.handout f.handout → Continues s r s (record r { file = f })
-  made_continues pieces = record { goes = goes_none s s refl refl; same = same; pieces = pieces; answers = λ a. answers }
+  made_continues pieces = record { goes = goes_none s s refl refl; same = same; pieces = pieces; answers = λ a. answers; reads = asks_none r.file s s refl }
 
 -- what was taken of the pieces stays so
-pub pieces_made : (f g : FileState) (made : Result Made AllocError) → (made ≡ Ok made_as.Ready → MakesNext f g) → (made ≢ Ok made_as.Ready → g.handout ≡ f.handout) → AddsPieces f.handout g.handout
-pieces_made f g (Ok made_as.Waits) ready others = adds_none f.handout g.handout (others (λ e. cc))
-pieces_made f g (Ok made_as.Ready) ready others =
-    let m = ready refl in
-    record { handed = ap (λ (h : HandoutState). h.handed) m.handed; more = next_piece f.handout m.segment ∷ []; ready = ap (λ (h : HandoutState). h.ready) m.handed }
-pieces_made f g (Ok (made_as.Wrong q)) ready others = adds_none f.handout g.handout (others (λ e. cc))
-pieces_made f g (Ok made_as.Inconsistent) ready others = adds_none f.handout g.handout (others (λ e. cc))
-pieces_made f g (Err x) ready others = adds_none f.handout g.handout (others (λ e. cc))
+pub pieces_made : (f g : FileState) (made : Result Made AllocError) → IsHandout f.handout → (made ≡ Ok made_as.Ready → MakesPieces f g) → (made ≢ Ok made_as.Ready → g.handout ≡ f.handout) → AddsPieces f.handout g.handout
+pieces_made f g (Ok made_as.Waits) right ready others = adds_none f.handout g.handout (others (λ e. cc))
+pieces_made f g (Ok made_as.Ready) right ready others = (let k = gets_pieces f g right (ready refl) in record { handed = k.handed; more = k.more; ready = k.ready })
+pieces_made f g (Ok (made_as.Wrong q)) right ready others = adds_none f.handout g.handout (others (λ e. cc))
+pieces_made f g (Ok made_as.Inconsistent) right ready others = adds_none f.handout g.handout (others (λ e. cc))
+pieces_made f g (Err x) right ready others = adds_none f.handout g.handout (others (λ e. cc))

@@ -2,13 +2,12 @@
 use Rattle.std.proofs.Common.{◌≡◌, ℕ, ◌<◌, List, Contains, None, refl, ap, subst, arith}
 use Rattle.std.specs.Prelude.{slice_get}
 use Rattle.share_beginnings.specs.State.{BeginningsState}
-use Rattle.download_segments.specs.Handout.{next_end}
 use Rattle.download_segments.specs.State.{HandoutState, IsHandout}
-use Rattle.download_segments.proofs.HandoutLemmas.{ends_of, next_is}
 use Rattle.download_file.specs.Answers.{IsRead}
 use Rattle.download_file.specs.Asked.{AsksNoMore}
 use Rattle.download_file.specs.Changes.{IsSameFile}
-use Rattle.download_file.specs.Making.{MakesNext}
+use Rattle.download_file.specs.Making.{MakesPieces}
+use Rattle.download_file.proofs.ManyLemmas.{gets_pieces}
 use Rattle.download_file.specs.Right.{IsFile}
 use Rattle.download_file.specs.State.{FileState, ReaderState, waiting_in}
 use Rattle.download_reading.specs.Reading.{AreReading}
@@ -27,16 +26,13 @@ all_made s r f before lives readers asked answers right same = record {
 }
 
 -- less is to be made
-pub less_made : (s : BeginningsState) (r : ReadingState) (f : FileState) → IsHandout r.file.handout → MakesNext r.file f → work s (record r { file = f }) < work s r
+pub less_made : (s : BeginningsState) (r : ReadingState) (f : FileState) → IsHandout r.file.handout → MakesPieces r.file f → work s (record r { file = f }) < work s r
 less_made s r f right made =
-    let n = next_is r.file.handout made.number made.next in
-    let wanted = n.0 in
-    let e = ends_of r.file.handout right wanted in
-    let more = e.more in
-    let within = e.within in
-    let reached : f.handout.reached ≡ next_end r.file.handout = ap (λ (h : HandoutState). h.reached) made.handed in
-    let to : f.handout.to ≡ r.file.handout.to = ap (λ (h : HandoutState). h.to) made.handed in
-    omega (arith, wanted, more, within, reached, to)
+    let k = gets_pieces r.file f right made in
+    let far = k.far in
+    let within = k.right.within in
+    let to = k.to in
+    omega (arith, far, within, to)
 
 -- one less may be blamed
 pub less_blamed : (s t : BeginningsState) (r q : ReadingState) → q.file.handout ≡ r.file.handout → left_count t.holdings.table.holdings < left_count s.holdings.table.holdings → work t q < work s r

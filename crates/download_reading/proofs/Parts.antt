@@ -1,23 +1,21 @@
 -- Parts of a share are asked for, one after another.
 use Rattle.std.proofs.Common.{◌≡◌, ℕ, zero, suc, ◌+◌, ◌<◌, ◌≤◌, ◌⊎◌, inl, inr, List, [], ◌∷◌, ◌++◌, Contains, length, take, Some, refl, sym, ap, subst, ◌∙◌, arith}
 use Rattle.std.specs.Prelude.{slice_get, slice_index_or, All, AllPairs}
-use Rattle.std.proofs.lemmas.List.{append_assoc, get_or-take, length-append, length-take, take_more}
+use Rattle.std.proofs.lemmas.List.{get_or-take, length-append, length-take, take_more}
 use Rattle.std.proofs.lemmas.List.Elements.{Contains-append_left, Contains-append_right, Contains-push_cases}
 use Rattle.std.proofs.lemmas.Option.{slice_get_within}
 use Rattle.placement.proofs.Members.{Contains-head, Contains-nil}
 use Rattle.request_record.specs.declared.requests.Asked.{Asked}
 use Rattle.request_record.specs.declared.requests.Asked.TheVariants.{Reading}
 use Rattle.request_record.specs.Asking.{AreApart as AsksApart}
-use Rattle.request_record.specs.Record.{RequestsState, asked_all, asked_more, first_request}
+use Rattle.request_record.specs.Record.{RequestsState, first_request}
 use Rattle.request_record.specs.declared.requests.Request.{Request}
 use Rattle.request_record.proofs.RecordLaws.{get_last, get_push}
 use Rattle.share_holdings.specs.Moves.{Asks, IsUnasked}
 use Rattle.share_holdings.specs.State.{HoldingsState, TableState}
 use Rattle.share_holdings.specs.Table.{IsHolding}
-use Rattle.share_holdings.specs.declared.holding.Blame.{Blame}
 use Rattle.share_holdings.specs.declared.holding.Holding.{Holding}
 use Rattle.share_beginnings.specs.Known.{AreBegun}
-use Rattle.share_beginnings.specs.Moves.{GoesOn}
 use Rattle.share_beginnings.specs.Reads.{IsReadAt}
 use Rattle.share_beginnings.specs.State.{BeginningsState}
 use Rattle.share_beginnings.proofs.Asking.{unasked_by}
@@ -30,19 +28,7 @@ use Rattle.download_file.specs.declared.reader.Waiting.{Waiting}
 use Rattle.download_file.proofs.AskLemmas.{placed_more}
 use Rattle.download_reading.specs.Steps.{AsksParts, Grows, IsAskedNow, IsSamePair}
 
--- ---- more is asked
-
-asked_joined : (asks more : List (ℕ × Asked)) (r : RequestsState) → asked_all (asks ++ more) r ≡ asked_all more (asked_all asks r)
-asked_joined [] more r = refl
-asked_joined (ask ∷ asks) more r = asked_joined asks more (asked_more ask.0 ask.1 r)
-
-pub goes_trans : (s t u : BeginningsState) → GoesOn s t → GoesOn t u → GoesOn s u
-goes_trans s t u f g = record {
-  asks = f.asks ++ g.asks;
-  requests = g.requests ∙ ap (asked_all g.asks) f.requests ∙ sym (asked_joined f.asks g.asks s.holdings.requests);
-  more = f.more ++ g.more;
-  blamed = g.blamed ∙ ap (λ (l : List Blame). l ++ g.more) f.blamed ∙ append_assoc s.holdings.blamed f.more g.more;
-}
+-- ---- what was answered stays
 
 pub keeps_none : (s t : BeginningsState) → t.holdings.requests ≡ s.holdings.requests → Grows s t
 keeps_none s t e = record { stays = λ place r body there answer. ap (λ (q : RequestsState). slice_get q.entries place) e ∙ there }
@@ -101,6 +87,12 @@ this_one wanted i d lt = record {
   place = refl;
   long = refl;
 }
+
+-- one of all
+pub one_of : (wanted : List Wanted) (i : ℕ) (d : Wanted) → i < length wanted → IsOneOf wanted (slice_index_or wanted i d).read.place (slice_index_or wanted i d).read.length
+one_of wanted i d lt =
+    let w = slice_index_or wanted i d in
+    record { one = w; among = (i, lt, any_default wanted i w d lt); place = refl; long = refl }
 
 -- ---- the next one
 

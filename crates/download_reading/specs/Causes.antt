@@ -13,7 +13,6 @@ use Rattle.share_holdings.specs.declared.holding.Holding.{Holding}
 use Rattle.share_beginnings.specs.Causes.{IsBeginningFault}
 use Rattle.share_beginnings.specs.State.{BeginningsState}
 use Rattle.download_file.specs.Answers.{IsRead, KeepsAnswers}
-use Rattle.download_file.specs.Changes.{IsSameFile}
 use Rattle.download_file.specs.Making.{RefutesReader}
 use Rattle.download_file.specs.Right.{IsFile}
 use Rattle.download_file.specs.State.{FileState, first_waiting, shares}
@@ -21,12 +20,21 @@ use Rattle.download_file.specs.Taking.{IsRefused}
 use Rattle.download_reading.specs.Reading.{IsOf}
 use Rattle.download_reading.specs.State.{ReadingState}
 
+-- It is a download of the same part of the same file: earlier or later.
+pub record IsFileAlike (f g : FileState) : Type 0 where
+  pub key : g.handout.key ≡ f.handout.key
+  pub ueb : g.handout.ueb ≡ f.handout.ueb
+  pub geometry : g.handout.geometry ≡ f.handout.geometry
+  pub to : g.handout.to ≡ f.handout.to
+  pub first : g.first ≡ f.first
+  pub end : g.end ≡ f.end
+
 -- What the share's server answered to a read of it is refused as the part that a reader of this
 -- file took next.
 pub record IsPartFault (entries : List Request) (f : FileState) (b : Blame) : Type 0 where
   pub file : FileState
   pub right : IsFile file
-  pub same : IsSameFile f file
+  pub same : IsFileAlike f file
   pub reader : ℕ
   pub place : ℕ
   pub first : first_waiting file reader ≡ Some place
@@ -45,7 +53,7 @@ pub record IsPartFault (entries : List Request) (f : FileState) (b : Blame) : Ty
 pub record IsBlockFault (entries : List Request) (f : FileState) (b : Blame) : Type 0 where
   pub file : FileState
   pub right : IsFile file
-  pub same : IsSameFile f file
+  pub same : IsFileAlike f file
   pub answered : List Request
   pub keeps : KeepsAnswers answered entries
   pub read : IsRead answered file

@@ -10,9 +10,9 @@ use Rattle.share_holdings.specs.Moves.{Ticks}
 use Rattle.share_holdings.specs.Table.{IsHolding, NoneIsFree}
 use Rattle.share_holdings.specs.declared.holding.Holding.{Holding}
 use Rattle.download_source.specs.declared.wanted.Wanted.{Wanted}
-use Rattle.download_file.specs.Asked.{IsOneOf}
+use Rattle.download_file.specs.Asked.{IsOneOf, IsPlannedRead}
 use Rattle.share_beginnings.specs.Known.{AreBegun}
-use Rattle.share_beginnings.specs.Reads.{IsAnsweredBy, IsOutAt, IsReadAt}
+use Rattle.share_beginnings.specs.Reads.{AddsReads, IsAnsweredBy, IsOutAt, IsReadAt}
 use Rattle.download_file.specs.Answers.{IsRead, KeepsAnswers}
 use Rattle.download_file.specs.Changes.{IsSameFile}
 use Rattle.share_beginnings.specs.Moves.{BringsBytes, GoesOn, HearsNews, WaitsAt}
@@ -23,7 +23,7 @@ use Rattle.share_beginnings.specs.declared.beginnings.News.TheVariants as news
 use Rattle.download_segments.specs.State.{HandoutState}
 use Rattle.download_segments.specs.declared.piece.Piece.{Piece}
 use Rattle.download_file.specs.Making.{SomeWaits}
-use Rattle.download_file.specs.State.{placed}
+use Rattle.download_file.specs.State.{FileState, placed}
 use Rattle.download_file.specs.declared.reader.Waiting.{Waiting}
 use Rattle.download_reading.specs.Reading.{AreAwaited, AreBusy, AreLinked, AreReading}
 use Rattle.download_reading.specs.State.{ReadingState}
@@ -34,7 +34,12 @@ pub record AddsPieces (old new : HandoutState) : Type 0 where
   pub more : List Piece
   pub ready : new.ready ≡ old.ready ++ more
 
--- more is asked, blamed and made, of the same file, and what was made of it stays proved
+-- a read of a share for the file is a part of its plan
+abbrev pub IsReadFor : FileState → ℕ → ℕ → ℕ → ℕ → Type 0
+IsReadFor f server share offset len = IsPlannedRead f offset len
+
+-- More is asked, blamed and made, of the same file, and what was made of it stays proved. Each read
+-- that was asked for is a part of the file's plan.
 pub record Continues (s : BeginningsState) (r : ReadingState) (t : BeginningsState)
     (q : ReadingState) : Type 0 where
   pub goes : GoesOn s t
@@ -42,6 +47,8 @@ pub record Continues (s : BeginningsState) (r : ReadingState) (t : BeginningsSta
   pub pieces : AddsPieces r.file.handout q.file.handout
   pub answers : IsRead s.holdings.requests.entries r.file
       → IsRead t.holdings.requests.entries q.file
+  pub reads : AddsReads (IsReadFor r.file) s.holdings.requests.entries
+      t.holdings.requests.entries
 
 -- answered requests stay, and each asks the same
 pub record Grows (s t : BeginningsState) : Type 0 where

@@ -6,6 +6,8 @@ ghost use Rattle.download_plan.specs.Plan.{max_read};
 ghost use Rattle.share_holdings.specs.Moves.{IsUnasked};
 ghost use Rattle.share_beginnings.specs.Known.{AreBegun};
 ghost use Rattle.share_beginnings.specs.Moves.{GoesOn};
+ghost use Rattle.share_beginnings.specs.Reads.{AddsReads};
+ghost use Rattle.download_file.specs.Asked.{IsOneOf};
 ghost use Rattle.download_reading.specs.Steps.{AsksParts, Grows};
 
 use download_source::Wanted;
@@ -30,6 +32,8 @@ pub(crate) fn ask_parts(
     ensures goes { GoesOn beginnings.old beginnings.new }
     ensures grows { Grows beginnings.old beginnings.new }
     ensures blamed { beginnings.new.holdings.blamed ≡ beginnings.old.holdings.blamed }
+    ensures adds { AddsReads (λ _ _ offset len. IsOneOf wanted.now offset len)
+        beginnings.old.holdings.requests.entries beginnings.new.holdings.requests.entries }
 {
     for part in wanted {
         beginnings.ask(holding, part.read.place, length_of(part.read.length))?;

@@ -28,8 +28,7 @@ ghost use Rattle.download_reading.specs.Causes.{HasCause, IsBlameOf, IsBlockFaul
 ghost use Rattle.download_reading.specs.Reading.{AreAwaited, AreKept, AreLinked, AreReading};
 ghost use Rattle.download_reading.specs.Reading.{AreReadingBut, IsGone, IsReadNow};
 ghost use Rattle.download_reading.specs.State.{ReadingState};
-ghost use Rattle.download_reading.specs.Steps.{Continues, HasHeard, HasTicked};
-ghost use Rattle.download_reading.specs.Steps.{IsAtEnd};
+ghost use Rattle.download_reading.specs.Steps.{Continues, HasHeard, HasTicked, IsAtEnd};
 ghost use Rattle.download_reading.specs.Steps.{IsStill, IsStuck, IsTold, left_count, work};
 
 use crate::asking::ask_parts;
@@ -171,8 +170,13 @@ impl Reading {
     }
 
     /// Begins to read shares, asks for what is wanted of them, and makes segments, as far as the
-    /// answers allow.
-    pub fn settle(&mut self, beginnings: &mut Beginnings) -> Result<Settled, AllocError>
+    /// answers allow. Where it is patient it makes none of eight segments while all of them are on
+    /// their way.
+    pub fn settle(
+        &mut self,
+        beginnings: &mut Beginnings,
+        patient: bool,
+    ) -> Result<Settled, AllocError>
         requires reading { AreReading beginnings.old self.old }
         ensures reading { OnOk result (AreReading beginnings.new self.new) }
         ensures continues { Continues beginnings.old self.old beginnings.new self.new }
@@ -188,7 +192,7 @@ impl Reading {
         ensures too_few { result ≡ Ok Settled.TooFew → IsAtEnd beginnings.new self.new }
     {
         while !self.file.is_complete() {
-            match self.go_on(beginnings)? {
+            match self.go_on(beginnings, patient)? {
                 Made::Ready | Made::Wrong(_) => {}
                 Made::Inconsistent => return Ok(Settled::Inconsistent),
                 Made::Waits => return Ok(why_not(self, beginnings)),
@@ -197,8 +201,8 @@ impl Reading {
         Ok(Settled::Complete)
     }
 
-    // Asks for what the next segment needs, and makes it where it is there.
-    fn go_on(&mut self, beginnings: &mut Beginnings) -> Result<Made, AllocError>
+    // Asks for what the next segment needs, and makes it, or eight, where they are there.
+    fn go_on(&mut self, beginnings: &mut Beginnings, patient: bool) -> Result<Made, AllocError>
         requires reading { AreReading beginnings.old self.old }
         requires more { ¬ IsComplete self.old.file }
         ensures reading { OnOk result (AreReading beginnings.new self.new) }
@@ -217,7 +221,7 @@ impl Reading {
     {
         self.begin_more(beginnings)?;
         self.ask_all(beginnings)?;
-        self.make(beginnings)
+        self.make(beginnings, patient)
     }
 
     // Begins to read more shares, where fewer are read than are needed, and one may be chosen.
@@ -305,8 +309,8 @@ impl Reading {
         ask_parts(beginnings, self.holdings[reader], &wanted)
     }
 
-    // Makes the next segment. A share whose block of it is wrong is blamed.
-    fn make(&mut self, beginnings: &mut Beginnings) -> Result<Made, AllocError>
+    // Makes the next segments. A share whose block of the next is wrong is blamed.
+    fn make(&mut self, beginnings: &mut Beginnings, patient: bool) -> Result<Made, AllocError>
         requires reading { AreReading beginnings.old self.old }
         ensures reading { OnOk result (AreReading beginnings.new self.new) }
         ensures continues { Continues beginnings.old self.old beginnings.new self.new }
@@ -324,7 +328,7 @@ impl Reading {
         ensures wrong { (reader : ℕ) → result ≡ Ok (Made.Wrong reader)
             → work beginnings.new self.new < work beginnings.old self.old }
     {
-        let made = self.file.make_next(beginnings.holdings().requests())?;
+        let made = self.file.make(beginnings.holdings().requests(), patient)?;
         if let Made::Wrong(reader) = made {
             self.blame(beginnings, reader, Check::Data)?;
         }

@@ -1,5 +1,5 @@
 -- One header is compared.
-use Rattle.std.proofs.Common.{◌≡◌, ℕ, ◌+◌, inr, Bool, true, List, Some, None, refl, sym, ap, ◌∙◌, arith, true≢false}
+use Rattle.std.proofs.Common.{◌≡◌, ℕ, ◌+◌, inr, Bool, true, List, [], ◌∷◌, ◌++◌, Some, None, refl, sym, ap, ◌∙◌, arith, true≢false}
 use Rattle.std.specs.Prelude.{slice_get}
 use Rattle.share_layout.specs.Geometry.{Geometry, IsGeometry}
 use Rattle.share_opening.specs.Opening.{Agrees}
@@ -8,9 +8,13 @@ use Rattle.share_holdings.specs.Moves.{Blames}
 use Rattle.share_holdings.specs.Right.{IsRight}
 use Rattle.share_holdings.specs.State.{HoldingsState}
 use Rattle.share_holdings.specs.Table.{IsHolding, IsTable, Releases, Suspends}
+use Rattle.share_holdings.specs.declared.holding.Blame.{Blame}
 use Rattle.share_holdings.specs.declared.holding.Holding.{Holding}
 use Rattle.share_holdings.proofs.Lists.{get_set}
 use Rattle.share_verify.specs.declared.check.Check.{Check}
+use Rattle.share_verify.specs.declared.check.Check.TheVariants as checks
+use Rattle.share_beginnings.specs.Causes.{AddsBlames, IsOtherHeader}
+use Rattle.share_beginnings.proofs.Caused.{adds_one}
 use Rattle.share_beginnings.specs.Known.{AreBegun}
 use Rattle.share_beginnings.specs.Moves.{GoesOn}
 use Rattle.share_beginnings.specs.Opening.{AreComparedUpTo, IsCompared}
@@ -64,6 +68,12 @@ module _ (g : Geometry) (holding : ℕ) (valid : IsGeometry g) (s : BeginningsSt
 
     pub refused_goes : GoesOn s blamed_state
     refused_goes = goes_from s released_state blamed_state released_requests released_blamed (goes_blamed released_state blamed_state holding check blames)
+
+    pub refused_causes : (o : Opening) → b.opening ≡ Some o → ¬ Agrees g o → check ≡ checks.Layout → AddsBlames (IsOtherHeader g s.holdings.requests.entries) s.holdings.blamed u.blamed
+    refused_causes o e other same =
+        let one : Blame = record { server = blames.held.server; share = blames.held.share; check = check } in
+        adds_one (IsOtherHeader g s.holdings.requests.entries) s.holdings.blamed u.blamed one (blames.blamed ∙ ap (λ (l : List Blame). l ++ one ∷ []) released_blamed)
+        (record { opening = o; led = (known.each holding blames.held b (held_before blames.held blames.is) at).led o e; other = other; check = same })
 
     pub refused_compared : (found : ℕ) → AreComparedUpTo g found holding s → AreComparedUpTo g found (holding + 1) blamed_state
     refused_compared found before =

@@ -118,7 +118,7 @@ module _ (s w : BeginningsState) (holding : ℕ) (known : AreBegun s) (rests : R
       pub next_unasked : (next : Opening) → Advances verify o bytes (Next next) → IsUnasked w.holdings holding (next_place next) (next_length next)
       next_unasked next a = unasked_next w verify holding awaits.begun o next bytes a (λ h i offset len is read. reads_up_to h i offset len is read)
 
-      led_now : (next : Opening) → Advances verify o bytes (Next next) → (h : Holding) → IsHolding w.holdings.table holding h → IsLedToBy (brought_of w.holdings.requests.entries h.server h.share) next
+      pub led_now : (next : Opening) → Advances verify o bytes (Next next) → (h : Holding) → IsHolding w.holdings.table holding h → IsLedToBy (brought_of w.holdings.requests.entries h.server h.share) next
       led_now next a h is =
           subst (λ (r : RequestsState). IsLedToBy (brought_of r.entries h.server h.share) next) (sym rested_requests)
           (subst (λ (x : Holding). IsLedToBy (brought_of s.holdings.requests.entries x.server x.share) next) (held_now h is)

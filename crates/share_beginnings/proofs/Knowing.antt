@@ -36,7 +36,7 @@ more_header reads more grows One text held = grows _ held
 more_header reads more grows Two text held = (grows _ held.0, grows _ held.1)
 
 -- more reads lead to the same opening
-led_more : (reads more : List Brought) → ((read : Brought) → Contains reads read → Contains more read) → (o : Opening) → IsLedToBy reads o → IsLedToBy more o
+pub led_more : (reads more : List Brought) → ((read : Brought) → Contains reads read → Contains more read) → (o : Opening) → IsLedToBy reads o → IsLedToBy more o
 led_more reads more grows Start led = led
 led_more reads more grows (Second s) led = grows _ led
 led_more reads more grows (Header h) led = more_header reads more grows h.places.layout (text_of h) led

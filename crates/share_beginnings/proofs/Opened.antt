@@ -1,13 +1,14 @@
 -- A share is begun to be read.
 use Rattle.std.proofs.Common.{◌≡◌, ℕ, zero, suc, ◌+◌, ◌<◌, inr, List, [], ◌∷◌, ◌++◌, length, Some, None, refl, sym, ap, subst, ◌∙◌, arith}
 use Rattle.std.specs.Prelude.{slice_get, slice_set}
-use Rattle.std.proofs.lemmas.List.{append-nil}
+use Rattle.std.proofs.lemmas.List.{append-nil, append_assoc}
 use Rattle.std.proofs.lemmas.Option.{slice_get_within}
 use Rattle.share_opening.specs.Opening.{next_length, next_place}
 use Rattle.share_opening.specs.declared.opening.Opening.{Opening}
 use Rattle.share_opening.specs.declared.opening.Opening.TheVariants.{Start}
+use Rattle.request_record.specs.declared.requests.Asked.{Asked}
 use Rattle.request_record.specs.declared.requests.Asked.TheVariants.{Reading}
-use Rattle.request_record.specs.Record.{RequestsState, asked_all}
+use Rattle.request_record.specs.Record.{RequestsState, asked_all, asked_more}
 use Rattle.share_holdings.specs.Moves.{Asks, Blames, IsUnasked}
 use Rattle.share_holdings.specs.Numbers.{read_count, taken_up}
 use Rattle.share_holdings.proofs.Lists.{get_set}
@@ -55,6 +56,18 @@ goes_from s t u e f g = record {
   requests = g.requests ∙ ap (asked_all g.asks) e;
   more = g.more;
   blamed = g.blamed ∙ ap (λ (l : List Blame). l ++ g.more) f;
+}
+
+asked_joined : (asks more : List (ℕ × Asked)) (r : RequestsState) → asked_all (asks ++ more) r ≡ asked_all more (asked_all asks r)
+asked_joined [] more r = refl
+asked_joined (ask ∷ asks) more r = asked_joined asks more (asked_more ask.0 ask.1 r)
+
+pub goes_trans : (s t u : BeginningsState) → GoesOn s t → GoesOn t u → GoesOn s u
+goes_trans s t u f g = record {
+  asks = f.asks ++ g.asks;
+  requests = g.requests ∙ ap (asked_all g.asks) f.requests ∙ sym (asked_joined f.asks g.asks s.holdings.requests);
+  more = f.more ++ g.more;
+  blamed = g.blamed ∙ ap (λ (l : List Blame). l ++ g.more) f.blamed ∙ append_assoc s.holdings.blamed f.more g.more;
 }
 
 pub goes_next : (s u : BeginningsState) (holding : ℕ) (o : Opening) → AsksNext holding o s u → GoesOn s u

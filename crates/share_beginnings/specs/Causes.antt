@@ -22,18 +22,18 @@ abbrev pub AddsBlames : (Blame → Type 0) → List Blame → List Blame → Typ
 AddsBlames cause old new =
     (i : ℕ) (b : Blame) → slice_get new i ≡ Some b → length old ≤ i → cause b
 
--- the next bytes of an opening are refused, or the header that they tell is another than that of a
--- file with this geometry
+-- The next bytes of an opening are refused, or the header that they tell is another than that of a
+-- file with this geometry.
 abbrev pub FailsAs : VerifyCapValue → Geometry → Opening → List ℕ → Check → Type 0
 FailsAs cap g opening bytes check =
     ((error : OpeningError) × IsRefused cap opening bytes error × (check ≡ check_of error))
     ⊎ ((next : Opening) × Advances cap opening bytes (Next next) × (¬ Agrees g next)
     × (check ≡ checks.Layout))
 
--- The share fails the check by what its server answered to a read of its beginning, which follows
--- what the server answered before.
-pub record IsBeginningFault (cap : VerifyCapValue) (g : Geometry) (entries : List Request)
-    (b : Blame) : Type 0 where
+-- What the share's server answered to a read of its beginning, which follows what the server
+-- answered before, is refused by the cap.
+pub record IsOpeningFault (cap : VerifyCapValue) (entries : List Request) (b : Blame)
+    : Type 0 where
   pub opening : Opening
   pub led : IsLedToBy (brought_of entries b.server b.share) opening
   pub place : ℕ
@@ -43,4 +43,18 @@ pub record IsBeginningFault (cap : VerifyCapValue) (g : Geometry) (entries : Lis
   pub asked : request.asked ≡ Reading b.share (next_place opening) (next_length opening)
   pub bytes : List ℕ
   pub answer : request.outcome ≡ Answered (Data bytes)
-  pub fails : FailsAs cap g opening bytes b.check
+  pub error : OpeningError
+  pub refused : IsRefused cap opening bytes error
+  pub check : b.check ≡ check_of error
+
+-- what the share's server answered led to a header that is another than that of a file with this
+-- geometry
+pub record IsOtherHeader (g : Geometry) (entries : List Request) (b : Blame) : Type 0 where
+  pub opening : Opening
+  pub led : IsLedToBy (brought_of entries b.server b.share) opening
+  pub other : ¬ Agrees g opening
+  pub check : b.check ≡ checks.Layout
+
+-- the share fails the check in its beginning
+abbrev pub IsBeginningFault : VerifyCapValue → Geometry → List Request → Blame → Type 0
+IsBeginningFault cap g entries b = IsOpeningFault cap entries b ⊎ IsOtherHeader g entries b

@@ -1,11 +1,11 @@
 -- The reads of the beginning of a share.
 use Rattle.std.specs.Prelude.{◌≡◌, ◌⊎◌, ℕ, ◌+◌, ◌≤◌, ◌==◌, ◌&&◌, Bool, true, false, List, [], ◌∷◌}
-use Rattle.std.specs.Prelude.{Option, Some, None, if◌then◌else◌, slice_get}
+use Rattle.std.specs.Prelude.{Option, Some, None, if◌then◌else◌, length, slice_get}
 use Rattle.std.specs.List.{flat_map}
 use Rattle.share_layout.specs.Geometry.{Geometry}
 use Rattle.share_layout.specs.Layout.{header_size, layout_of, places_of}
 use Rattle.share_opening.specs.Opening.{next_length, next_place}
-use Rattle.share_opening.specs.Reads.{Brought}
+use Rattle.share_opening.specs.Reads.{Brought, IsLedToBy}
 use Rattle.share_opening.specs.declared.opening.Opening.{Opening}
 use Rattle.share_opening.specs.declared.opening.Opening.TheVariants.{Start, Second, Header, Block}
 use Rattle.wire.specs.declared.message.Body.TheVariants.{Data}
@@ -78,3 +78,16 @@ brought_by server share r =
 -- what all reads of a share at a server brought
 abbrev pub brought_of : List Request → ℕ → ℕ → List Brought
 brought_of entries server share = flat_map (brought_by server share) entries
+
+-- Bytes of a share lie in its beginning, as far as what was read of it led: in the header, or where
+-- that names the extension block.
+pub record IsInBeginning (entries : List Request) (server share offset len : ℕ) : Type 0 where
+  pub opening : Opening
+  pub led : IsLedToBy (brought_of entries server share) opening
+  pub lies : IsReadUpTo opening offset len
+
+-- each read of a share at a server that was asked for more is of such bytes
+abbrev pub AddsReads : (ℕ → ℕ → ℕ → ℕ → Type 0) → List Request → List Request → Type 0
+AddsReads may old new = (place : ℕ) (r : Request) (share offset len : ℕ)
+    → slice_get new place ≡ Some r → length old ≤ place → r.asked ≡ Reading share offset len
+    → may r.server share offset len

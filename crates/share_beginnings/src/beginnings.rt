@@ -1,17 +1,14 @@
 //! The shares that servers hold, and how far the beginning of each is read.
 
-ghost use Rattle.std.specs.Prelude.{◌≡◌, ◌↔◌, ◌<◌, ◌+◌, ℕ, List, [], IfErr, IfOk, false, true};
-ghost use Rattle.std.specs.Prelude.{IfSome, IfNone, None};
-ghost use Rattle.std.specs.Prelude.{IsTrue, OnErr, OnOk, length, nat_eq};
+ghost use Rattle.std.specs.Prelude.{◌≡◌, ◌<◌, ◌+◌, ℕ, List, [], IfErr, IfNone, IfOk, IfSome, None};
+ghost use Rattle.std.specs.Prelude.{OnErr, OnOk, false, length, nat_eq, true};
 ghost use Rattle.std.specs.List.{IsDistinct};
-ghost use Rattle.wire.specs.declared.message.Body.TheVariants.{Data};
 ghost use Rattle.share_layout.specs.Geometry.{IsGeometry};
 ghost use Rattle.share_opening.specs.Opening.{Advances, Agrees, next_length, next_place};
 ghost use Rattle.share_opening.specs.Refusal.{IsRefused};
 ghost use Rattle.share_opening.specs.declared.opening.Opening.{Opening};
 ghost use Rattle.request_record.specs.Asking.{after_message};
 ghost use Rattle.request_record.specs.Record.{TakesNext};
-ghost use Rattle.request_record.specs.declared.requests.Outcome.TheVariants.{Answered};
 ghost use Rattle.share_holdings.specs.Moves as holdings;
 ghost use Rattle.share_holdings.specs.Moves.{Asks, Begins, Blames, IsUnasked, Ticks};
 ghost use Rattle.share_holdings.specs.Numbers.{read_count};
@@ -19,29 +16,27 @@ ghost use Rattle.share_holdings.specs.Right.{IsRight};
 ghost use Rattle.share_holdings.specs.Table.{IsFree, IsHolding, IsTable};
 ghost use Rattle.share_holdings.specs.declared.holding.Holding.{Holding};
 ghost use Rattle.share_beginnings.specs.Causes.{AddsBlames, FailsAs, IsBeginningFault};
+ghost use Rattle.share_beginnings.specs.Causes.{IsOpeningFault, IsOtherHeader};
 ghost use Rattle.share_beginnings.specs.Known.{AreBegun};
 ghost use Rattle.share_beginnings.specs.Moves.{AsksNext, Awaits, BringsBytes, Compares};
 ghost use Rattle.share_beginnings.specs.Moves.{CountsAsMany, GoesOn};
-ghost use Rattle.share_beginnings.specs.Moves.{HearsNews, IsBlockAt, IsFilled, IsNewsOf};
-ghost use Rattle.share_beginnings.specs.Moves.{IsReaderOf, Rests};
-ghost use Rattle.share_beginnings.specs.Moves.{WaitsAt};
+ghost use Rattle.share_beginnings.specs.Moves.{HearsNews, IsBlockAt, IsFilled, IsReaderOf, Rests};
 ghost use Rattle.share_beginnings.specs.Opening.{AreCompared, AreComparedUpTo, AreOpening, IsFound};
 ghost use Rattle.share_beginnings.specs.Opening.{IsToldOf, nobody};
-ghost use Rattle.share_beginnings.specs.Reads.{IsAnsweredBy};
-ghost use Rattle.share_beginnings.specs.State.{BeginningsState, IsBegun};
+ghost use Rattle.share_beginnings.specs.Reads.{AddsReads, IsAnsweredBy, IsInBeginning};
+ghost use Rattle.share_beginnings.specs.State.{IsBegun};
 ghost use Rattle.share_beginnings.specs.declared.begun.Begun.{Begun};
 
+use crate::answers::{bytes_at, news_of};
 use crate::begun::Begun;
 use cap_text::VerifyCap;
-use request_record::requests::{Outcome, Requests};
 use share_holdings::Holdings;
-use share_holdings::holdings::Heard;
 use share_layout::Geometry;
 use share_opening::{Opened, Opening, OpeningError, Progress};
 use share_verify::Check;
 use std::alloc::{AllocError, Global};
 use std::marker::Model;
-use wire::message::{Body, Message, NodeId, ReadLength};
+use wire::message::{Message, NodeId, ReadLength};
 
 /// The shares that servers hold, with the record of what was asked of each, and how far the
 /// beginning of each is read.
@@ -170,6 +165,9 @@ impl Beginnings {
         ensures reads { OnOk result (read_count self.new.holdings.table.numbers
             ≡ read_count self.old.holdings.table.numbers + 1) }
         ensures goes { GoesOn self.old self.new }
+        ensures blamed { self.new.holdings.blamed ≡ self.old.holdings.blamed }
+        ensures adds { AddsReads (IsInBeginning self.new.holdings.requests.entries)
+            self.old.holdings.requests.entries self.new.holdings.requests.entries }
         ensures count { CountsAsMany self.old self.new }
     {
         self.holdings.take_up(holding);
@@ -196,6 +194,10 @@ impl Beginnings {
         ensures block { IfOk result (λ o. IfSome o
             (IsBlockAt cap.now self.new.holdings.requests.entries place)) }
         ensures goes { GoesOn self.old self.new }
+        ensures causes { AddsBlames (IsOpeningFault cap.now self.old.holdings.requests.entries)
+            self.old.holdings.blamed self.new.holdings.blamed }
+        ensures adds { AddsReads (IsInBeginning self.new.holdings.requests.entries)
+            self.old.holdings.requests.entries self.new.holdings.requests.entries }
         ensures count { CountsAsMany self.old self.new }
     {
         let Some(opening) = self.take_waiting(holding) else {
@@ -228,6 +230,8 @@ impl Beginnings {
         ensures compared { OnOk result (AreCompared geometry.now self.new) }
         ensures requests { self.new.holdings.requests ≡ self.old.holdings.requests }
         ensures goes { GoesOn self.old self.new }
+        ensures causes { AddsBlames (IsOtherHeader geometry.now
+            self.old.holdings.requests.entries) self.old.holdings.blamed self.new.holdings.blamed }
         ensures count { CountsAsMany self.old self.new }
     {
         for holding in 0..self.begun.len() {
@@ -247,6 +251,8 @@ impl Beginnings {
             → OnOk result (AreComparedUpTo geometry.now found (holding + 1) self.new) }
         ensures requests { self.new.holdings.requests ≡ self.old.holdings.requests }
         ensures goes { GoesOn self.old self.new }
+        ensures causes { AddsBlames (IsOtherHeader geometry.now
+            self.old.holdings.requests.entries) self.old.holdings.blamed self.new.holdings.blamed }
         ensures count { CountsAsMany self.old self.new }
     {
         let begun = self.begun[holding];
@@ -442,7 +448,8 @@ fn length_of(opening: &Opening) -> ReadLength
 
 // Whether the header that was read is another than that of a file with this geometry.
 fn differs(opening: &Opening, geometry: &Geometry) -> bool
-    ensures { result ≡ false → Agrees geometry.now opening.now }
+    ensures same { result ≡ false → Agrees geometry.now opening.now }
+    ensures other { result ≡ true → ¬ Agrees geometry.now opening.now }
 {
     !opening.agrees(geometry)
 }
@@ -455,56 +462,5 @@ fn is_header_out(begun: &Begun) -> bool
     match begun.opening {
         Some(Opening::Start | Opening::Second(_)) => begun.waiting.is_some(),
         _ => false,
-    }
-}
-
-// What is told of what was heard.
-fn news_of(begun: &[Begun], heard: Heard) -> News
-    ensures { (s : BeginningsState) → s.begun ≡ begun.now → IsNewsOf s heard result }
-{
-    match heard {
-        Heard::Nothing | Heard::Held => News::Nothing,
-        Heard::Gone(holding) => News::Gone(holding),
-        Heard::Bytes(holding, place) => {
-            if waits_at(begun, holding, place) {
-                News::Beginning(holding, place)
-            } else {
-                News::Bytes(holding, place)
-            }
-        }
-    }
-}
-
-// Whether the beginning of a holding waits for the answer to the request at this place.
-fn waits_at(begun: &[Begun], holding: usize, place: usize) -> bool
-    ensures { (s : BeginningsState) → s.begun ≡ begun.now
-        → IsTrue result ↔ WaitsAt s holding place }
-{
-    match begun.get(holding) {
-        Some(begun) => begun.waiting == Some(place),
-        None => false,
-    }
-}
-
-/// The bytes that answered the request at a place.
-pub fn bytes_at(requests: &Requests, place: usize) -> Option<&[u8]>
-    ensures some { IfSome result (λ bytes. IsAnsweredBy requests.now.entries place bytes.now) }
-    ensures none { IfNone result ((bytes : List ℕ)
-        → IsAnsweredBy requests.now.entries place bytes → ⊥) }
-{
-    match requests.entries().get(place) {
-        Some(request) => data_of(&request.outcome),
-        None => None,
-    }
-}
-
-// The bytes that answered a request.
-fn data_of(outcome: &Outcome) -> Option<&[u8]>
-    ensures some { IfSome result (λ bytes. outcome.now ≡ Answered (Data bytes.now)) }
-    ensures none { IfNone result ((bytes : List ℕ) → outcome.now ≡ Answered (Data bytes) → ⊥) }
-{
-    match outcome {
-        Outcome::Answered(Body::Data(bytes)) => Some(bytes.as_slice()),
-        _ => None,
     }
 }

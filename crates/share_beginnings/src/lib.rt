@@ -6,8 +6,10 @@
 //! for, and what is read of shares is another's task.
 #![tactic(auto)]
 
+pub mod answers;
 pub mod beginnings;
 pub mod begun;
 
-pub use beginnings::{Beginnings, News, bytes_at};
+pub use answers::bytes_at;
+pub use beginnings::{Beginnings, News};
 pub use begun::Begun;

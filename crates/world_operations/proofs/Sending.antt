@@ -1,5 +1,5 @@
 -- Sending all that there is to send, and handing out all that was made, one after another.
-use Rattle.std.proofs.Common.{◌≡◌, ◌∙◌, ℕ, ◌+◌, ◌<◌, Bool, true, List, [], ◌∷◌, ◌++◌, length, Option, Some, None, Result, Ok, Err, refl, sym, ap, subst, inl, inr, false, arith}
+use Rattle.std.proofs.Common.{◌≡◌, ◌∙◌, ℕ, ◌+◌, ◌<◌, true, List, [], ◌∷◌, ◌++◌, length, Some, Result, Ok, Err, refl, sym, ap, subst, inl, inr, false, arith}
 use Rattle.std.specs.Prelude.{OnOk, drop, slice_get}
 use Rattle.std.proofs.lemmas.List.{append_assoc}
 use Rattle.std.proofs.lemmas.List.Elements.{Contains-push_cases}
@@ -9,6 +9,9 @@ use Rattle.upload_core.specs.declared.status.UploadStatus.{UploadStatus}
 use Rattle.upload_core.specs.declared.status.UploadStatus.TheVariants as uploads
 use Rattle.upload_core.specs.State.{UploadState}
 use Rattle.upload_core.specs.Sending as upload_sends
+use Rattle.download_core.specs.declared.status.DownloadStatus.{DownloadStatus}
+use Rattle.download_core.specs.declared.status.DownloadStatus.TheVariants as downloads
+use Rattle.download_core.specs.Sending as download_sends
 use Rattle.download_core.specs.State.{DownloadState, ready}
 use Rattle.download_segments.specs.declared.piece.Piece.{Piece}
 use Rattle.checker.specs.State.{CheckState}
@@ -21,7 +24,7 @@ use Rattle.world_operations.specs.Tasks.{MayFail, is_download, requests_of}
 use Rattle.world_operations.specs.Moves.{HandsOne, HandsOut, HandsSome, IsFlushed, Sends, SendsAll, SendsOne, Takes, TakesPiece, gives, never_fails, sent_to}
 use Rattle.world_operations.specs.Follow.{GoesOn, IsSameOperation, Moves, Nothing, Said, SendsSome}
 use Rattle.world_operations.proofs.Places.{append_none}
-use Rattle.world_operations.proofs.TaskMoves.{fails_unhappy, goes_nowhere, goes_on, handed, sends_none, sends_on, sends_one, taken}
+use Rattle.world_operations.proofs.TaskMoves.{fails_unhappy, goes_nowhere, goes_on, handed, sends_none, sends_on}
 
 -- ---- messages
 
@@ -62,6 +65,13 @@ upload_dropped (uploads.Happy pairs) xs ys place e f = dropped xs ys place e f
 upload_dropped (uploads.Unhappy reached blocking) xs ys place e f = dropped xs ys place e f
 upload_dropped (uploads.Failed fault) xs ys place e f = absurd cc
 
+download_dropped : (s : DownloadStatus) (xs ys : List ℕ) (place : ℕ) → download_sends.first_of s xs ≡ Some place → ys ≡ drop 1 xs → length ys < length xs
+download_dropped downloads.Running xs ys place e f = dropped xs ys place e f
+download_dropped downloads.Done xs ys place e f = dropped xs ys place e f
+download_dropped downloads.NotEnoughShares xs ys place e f = dropped xs ys place e f
+download_dropped downloads.Inconsistent xs ys place e f = dropped xs ys place e f
+download_dropped downloads.Failed xs ys place e f = absurd cc
+
 upload_less : (u v : upload_sends.Uploading (List (List ℕ))) (f : ℕ × Message) → upload_sends.Takes gives never_fails u (Some f) v
     → length v.course.requests.outgoing < length u.course.requests.outgoing
 upload_less u v f (upload_sends.nothing first none is) = absurd cc
@@ -72,7 +82,7 @@ upload_less u v f (upload_sends.sends place server asked body first there tells 
 -- one less is to be sent
 taken_less : (old new : Task) (f : ℕ × Message) → Takes old (Some f) new → length (requests_of new).outgoing < length (requests_of old).outgoing
 taken_less (Uploading u) (Uploading v) f t = upload_less u v f t
-taken_less (Downloading d) (Downloading e) f t = dropped d.requests.outgoing e.requests.outgoing t.0 t.1 (ap (λ (x : DownloadState). x.requests.outgoing) t.3)
+taken_less (Downloading d) (Downloading e) f t = download_dropped d.status d.requests.outgoing e.requests.outgoing t.0 t.1 (ap (λ (x : DownloadState). x.requests.outgoing) t.3)
 taken_less (Checking c) (Checking e) f t = dropped c.requests.outgoing e.requests.outgoing t.0 t.1 (ap (λ (x : CheckState). x.requests.outgoing) t.3)
 taken_less (Gone number) new f t = absurd cc
 taken_less (Uploading u) (Downloading e) f t = absurd t

@@ -1,10 +1,15 @@
 use Rattle.share_holdings.specs.State.{HoldingsState}
 use Rattle.std.proofs.Common.{ap, ◌∙◌, get_or, refl, sym, subst}
 use Rattle.share_holdings.specs.Moves.{Asks, IsUnasked}
-use Rattle.share_beginnings.proofs.Opened.{goes_asked, goes_none}
+use Rattle.share_beginnings.proofs.Opened.{goes_asked, goes_none, goes_trans}
 use Rattle.download_plan.specs.declared.part.Part.TheVariants.{ShareHashes}
 use Rattle.download_source.specs.declared.wanted.Wanted.{Wanted}
-use Rattle.download_reading.proofs.Parts.{goes_trans, keeps_asked, keeps_none, keeps_trans, next_asked, next_unasked, none_asked}
+use Rattle.share_beginnings.proofs.Caused.{reads_asked, reads_none, reads_trans}
+use Rattle.download_file.specs.Asked.{IsOneOf}
+use Rattle.share_beginnings.specs.Reads.{AddsReads}
+use Rattle.share_beginnings.specs.State.{BeginningsState}
+use Rattle.download_reading.proofs.Awaited.{goes_stays}
+use Rattle.download_reading.proofs.Parts.{keeps_asked, keeps_none, keeps_trans, next_asked, next_unasked, none_asked, one_of}
 use Rattle.download_reading.proofs.asking.ask_parts.Goals as goal
 
 abbrev nothing : Wanted
@@ -16,6 +21,7 @@ loop-part-init c = record {
   goes = goes_none c.args.beginnings.now c.args.beginnings.now refl refl;
   grows = keeps_none c.args.beginnings.now c.args.beginnings.now refl;
   blamed = refl;
+  adds = reads_none (λ server share offset len. IsOneOf c.args.wanted.now offset len) c.args.beginnings.now.holdings.requests.entries c.args.beginnings.now.holdings.requests.entries refl;
 }
 
 pub ask-requires-clause-unasked : goal.ask-requires-clause-unasked
@@ -34,4 +40,11 @@ loop-part-preserved c =
       goes = goes_trans c.args.beginnings.now c.loop-part.beginnings c.ask.new.self c.loop-part.invariant.goes (goes_asked c.loop-part.beginnings c.ask.new.self c.args.holding w.read.place w.read.length a);
       grows = keeps_trans c.args.beginnings.now c.loop-part.beginnings c.ask.new.self c.loop-part.invariant.grows (keeps_asked c.loop-part.beginnings c.ask.new.self c.args.holding w.read.place w.read.length a);
       blamed = ap (λ (h : HoldingsState). h.blamed) a.2 ∙ c.loop-part.invariant.blamed;
+      adds = reads_trans (λ server share offset len. IsOneOf c.args.wanted.now offset len) c.args.beginnings.now.holdings.requests.entries c.loop-part.beginnings.holdings.requests.entries c.ask.new.self.holdings.requests.entries
+          (goes_stays c.loop-part.beginnings c.ask.new.self (goes_asked c.loop-part.beginnings c.ask.new.self c.args.holding w.read.place w.read.length a)) c.loop-part.invariant.adds
+          (reads_asked (λ server share offset len. IsOneOf c.args.wanted.now offset len) c.loop-part.beginnings.holdings c.ask.new.self.holdings c.args.holding w.read.place w.read.length a (one_of c.args.wanted.now c.loop-part.part-index nothing c.loop-part-test.true));
     }
+
+pub returns-in_err-ask-clause-adds : goal.returns-in_err-ask-clause-adds
+returns-in_err-ask-clause-adds c =
+    subst (λ (x : BeginningsState). AddsReads (λ server share offset len. IsOneOf c.args.wanted.now offset len) c.args.beginnings.now.holdings.requests.entries x.holdings.requests.entries) (sym c.in_err-ask.ensures.err) c.loop-part.invariant.adds

@@ -1,5 +1,7 @@
 use Rattle.std.proofs.Common.{◌≡◌, take}
 use Rattle.share_beginnings.specs.Moves.{GoesOn}
+use Rattle.share_beginnings.specs.Reads.{AddsReads}
+use Rattle.download_file.specs.Asked.{IsOneOf}
 use Rattle.download_reading.specs.Steps.{AsksParts, Grows}
 use Rattle.download_reading.proofs.asking.ask_parts.Given as goal
 
@@ -10,4 +12,5 @@ invariant-loop-part l = record {
   goes : GoesOn l.initial.beginnings l.beginnings;
   grows : Grows l.initial.beginnings l.beginnings;
   blamed : l.beginnings.holdings.blamed ≡ l.initial.beginnings.holdings.blamed;
+  adds : AddsReads (λ server share offset len. IsOneOf l.wanted offset len) l.initial.beginnings.holdings.requests.entries l.beginnings.holdings.requests.entries;
 }

@@ -17,13 +17,14 @@ invariant_of-result c =
     let m = c.in_ok-machine.machine in
     let e = c.in_ok-machine.ensures in
     let s = c.first_status.ensures in
-    let begins : BeginsAs c.args.from c.args.to (asked_servers c.args.from c.args.to c.args.servers.now) c.first_status.result = begins_as c.args.from c.args.to c.args.servers.now c.first_status.result s.runs s.is_done s.is_running s.is_alone s.others in
+    let begins : BeginsAs c.args.from c.args.to (asked_servers c.args.from c.args.to c.args.servers.now) c.first_status.result = begins_as c.args.from c.args.to c.args.servers.now c.first_status.result s.is_done s.is_running s.is_alone s.others in
     kept_begun m (asked_servers c.args.from c.args.to c.args.servers.now) c.args.session c.args.now c.first_status.result
     (e.verify ∙ ap verify_cap_of (sym e.cap))
     (omega (arith, e.from_is, e.to_is, c.requires.ordered))
     (subst (λ (x : ReadCapValue). m.to ≤ x.size) (sym e.cap) (omega (arith, e.to_is, c.requires.within)))
     (subst (λ (x : ReadCapValue). 0 < x.needed) (sym e.cap) e.needed)
     (e.requests ∙ ap (λ (l : List ℕ). begun l c.args.session c.args.now) c.servers_to_ask-asked.ensures)
+    e.blamed
     (subst (λ (x : ReadCapValue). AreOpened x.total nobody m.beginnings) (sym e.cap) e.opened)
     e.found
     (subst (λ (n : ℕ). BeginsAs n m.to (asked_servers c.args.from c.args.to c.args.servers.now) c.first_status.result) (sym e.from_is)

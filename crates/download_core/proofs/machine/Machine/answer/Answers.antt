@@ -5,7 +5,7 @@ use Rattle.download_core.specs.declared.status.DownloadStatus.TheVariants.{Faile
 use Rattle.download_core.specs.Moves.{GoesOn}
 use Rattle.download_core.specs.Steps.{EndsAs, IsKept, state_of}
 use Rattle.share_beginnings.proofs.Results.{if_ok_then}
-use Rattle.download_core.proofs.EndLemmas.{kept_ends, kept_fails, kept_still}
+use Rattle.download_core.proofs.EndLemmas.{fair_still, kept_ends, kept_fails, kept_still}
 use Rattle.download_core.proofs.Results.{if_any, on_any}
 use Rattle.download_core.proofs.Going.{goes_on, moves_none, moves_trans, stands_still}
 use Rattle.download_core.proofs.NewsLemmas.{hears_of}
@@ -24,15 +24,15 @@ returns-then-not-is_running-clause-kept c =
     let m = c.args.self.now in
     let t = c.take_answer-heard.new.self in
     let e = c.take_answer-heard.ensures in
-    kept_still m c.args.status t c.requires (from_message c.args.from c.args.message c.args.now m.beginnings.holdings.requests t.holdings.requests e.requests)
-    (λ run. true≢false (sym (c.is_running.ensures.1 run) ∙ c.if-not-is_running.true)) e.same.blamed
+    kept_still m c.args.status t c.requires (from_message c.args.from c.args.message c.args.now m.beginnings.holdings.requests t.holdings.requests e.requests) e.same.blamed
+    (λ run. true≢false (sym (c.is_running.ensures.1 run) ∙ c.if-not-is_running.true))
 
 pub returns-then-not-is_running-clause-failed : goal.returns-then-not-is_running-clause-failed
 returns-then-not-is_running-clause-failed c =
     let m = c.args.self.now in
     let t = c.take_answer-heard.new.self in
     let e = c.take_answer-heard.ensures in
-    kept_fails m c.args.status t c.requires (from_message c.args.from c.args.message c.args.now m.beginnings.holdings.requests t.holdings.requests e.requests) (record m { beginnings = t }) (moves_none (record m { beginnings = t }))
+    kept_fails m c.args.status t c.requires (from_message c.args.from c.args.message c.args.now m.beginnings.holdings.requests t.holdings.requests e.requests) e.same.blamed (record m { beginnings = t }) (moves_none (record m { beginnings = t }))
 
 pub returns-in_err-news-clause-err : goal.returns-in_err-news-clause-err
 returns-in_err-news-clause-err c =
@@ -48,7 +48,7 @@ returns-in_err-news-clause-failed c =
     let m = c.args.self.now in
     let t = c.take_answer-heard.new.self in
     let e = c.take_answer-heard.ensures in
-    kept_fails m c.args.status t c.requires (from_message c.args.from c.args.message c.args.now m.beginnings.holdings.requests t.holdings.requests e.requests) (record m { beginnings = t }) (moves_none (record m { beginnings = t }))
+    kept_fails m c.args.status t c.requires (from_message c.args.from c.args.message c.args.now m.beginnings.holdings.requests t.holdings.requests e.requests) e.same.blamed (record m { beginnings = t }) (moves_none (record m { beginnings = t }))
 
 pub take_in-requires : goal.take_in-requires
 take_in-requires c =
@@ -73,7 +73,7 @@ returns-in_err-take_in-clause-failed c =
     let m = c.args.self.now in
     let t = c.take_answer-heard.new.self in
     let e = c.take_answer-heard.ensures in
-    kept_fails m c.args.status t c.requires (from_message c.args.from c.args.message c.args.now m.beginnings.holdings.requests t.holdings.requests e.requests) c.take_in.new.self c.take_in.ensures.moves
+    kept_fails m c.args.status t c.requires (from_message c.args.from c.args.message c.args.now m.beginnings.holdings.requests t.holdings.requests e.requests) e.same.blamed c.take_in.new.self c.take_in.ensures.moves
 
 pub returns-clause-ok : goal.returns-clause-ok
 returns-clause-ok c =
@@ -99,5 +99,17 @@ returns-clause-err c =
 
 pub returns-clause-kept : goal.returns-clause-kept
 returns-clause-kept c =
+    let m = c.args.self.now in
+    let t = c.take_answer-heard.new.self in
     let n = c.settle.new.self in
-    if_ok_then c.settle.result (EndsAs n) (IsKept n) c.settle.ensures.ends (λ ended e. kept_ends n ended e)
+    let e = c.take_answer-heard.ensures in
+    let fair = fair_still m c.args.status t c.requires (from_message c.args.from c.args.message c.args.now m.beginnings.holdings.requests t.holdings.requests e.requests) e.same.blamed in
+    if_ok_then c.settle.result (EndsAs n) (IsKept n) c.settle.ensures.ends (λ ended k. kept_ends n ended (c.settle.ensures.moves.fair (c.take_in.ensures.moves.fair fair)) k)
+
+pub returns-clause-failed : goal.returns-clause-failed
+returns-clause-failed c =
+    let m = c.args.self.now in
+    let t = c.take_answer-heard.new.self in
+    let e = c.take_answer-heard.ensures in
+    kept_fails m c.args.status t c.requires (from_message c.args.from c.args.message c.args.now m.beginnings.holdings.requests t.holdings.requests e.requests) e.same.blamed c.settle.new.self
+    (moves_trans (record m { beginnings = t }) c.take_in.new.self c.settle.new.self c.take_in.ensures.moves c.settle.ensures.moves)

@@ -1,6 +1,11 @@
 use Rattle.std.proofs.Common.{◌∙◌, inr, refl, subst}
 use Rattle.share_holdings.specs.State.{HoldingsState}
 use Rattle.share_holdings.specs.Table.{NoneIsFree}
+use Rattle.cap_text.specs.Cap.{verify_cap_of}
+use Rattle.share_beginnings.specs.Causes.{IsOpeningFault}
+use Rattle.share_beginnings.proofs.Caused.{adds_none}
+use Rattle.download_core.specs.Steps.{MovesOn, entries_of}
+use Rattle.download_core.proofs.machine.Machine.open_more.Goals.{After-open}
 use Rattle.download_core.proofs.Going.{moves_asked, moves_none, moves_trans}
 use Rattle.download_core.proofs.machine.Machine.open_more.Goals as goal
 
@@ -10,13 +15,20 @@ loop-self-init c = record { opened = c.requires.opened; moves = moves_none c.arg
 pub returns-in_default-clause-enough : goal.returns-in_default-clause-enough
 returns-in_default-clause-enough c = inr (subst (λ (x : HoldingsState). NoneIsFree x.table) c.holdings-in-loop-self.ensures c.in_default.ensures.none)
 
+-- one more is opened
+opened : (c : After-open) → MovesOn c.loop-self.self (record c.loop-self.self { beginnings = c.open.new.self })
+opened c =
+    let m = c.loop-self.self in
+    let t = c.open.new.self in
+    moves_asked m t c.open.ensures.goes (adds_none (IsOpeningFault (verify_cap_of m.cap) (entries_of m)) m.beginnings.holdings.blamed t.holdings.blamed c.open.ensures.blamed) c.open.ensures.adds
+
 pub loop-self-preserved : goal.loop-self-preserved
 loop-self-preserved c = record {
   opened = record { known = c.in_ok-open.ensures.known; opening = c.in_ok-open.ensures.opening; count = c.open.ensures.count ∙ c.loop-self.invariant.opened.count };
-  moves = moves_trans c.args.self.now c.loop-self.self (record c.loop-self.self { beginnings = c.open.new.self }) c.loop-self.invariant.moves (moves_asked c.loop-self.self c.open.new.self c.open.ensures.goes);
+  moves = moves_trans c.args.self.now c.loop-self.self (record c.loop-self.self { beginnings = c.open.new.self }) c.loop-self.invariant.moves (opened (goal.at.loop-self-preserved c).After-open);
   found = c.loop-self.invariant.found;
 }
 
 pub returns-in_err-open-clause-moves : goal.returns-in_err-open-clause-moves
 returns-in_err-open-clause-moves c =
-    moves_trans c.args.self.now c.loop-self.self (record c.loop-self.self { beginnings = c.open.new.self }) c.loop-self.invariant.moves (moves_asked c.loop-self.self c.open.new.self c.open.ensures.goes)
+    moves_trans c.args.self.now c.loop-self.self (record c.loop-self.self { beginnings = c.open.new.self }) c.loop-self.invariant.moves (opened (goal.at.returns-in_err-open-clause-moves c).After-open)

@@ -1,3 +1,8 @@
+use Rattle.std.proofs.Common.{subst}
+use Rattle.cap_text.specs.Cap.{VerifyCapValue}
+use Rattle.share_beginnings.specs.Causes.{AddsBlames, IsOpeningFault}
+use Rattle.download_core.specs.Steps.{MovesOn, entries_of}
+use Rattle.download_core.proofs.machine.Machine.open_on.Goals.{After-go_on}
 use Rattle.download_core.proofs.Going.{moves_asked, moves_none, moves_trans, opened_on, opened_still}
 use Rattle.download_core.proofs.machine.Machine.open_on.Goals as goal
 
@@ -9,7 +14,20 @@ returns-in_default c =
       moves = moves_none m;
     }
 
+-- what the answer to the next read brings
+asked : (c : After-go_on) → MovesOn c.args.self.now (record c.args.self.now { beginnings = c.go_on.new.self })
+asked c =
+    let m = c.args.self.now in
+    let t = c.go_on.new.self in
+    moves_asked m t c.go_on.ensures.goes (subst (λ (v : VerifyCapValue). AddsBlames (IsOpeningFault v (entries_of m)) m.beginnings.holdings.blamed t.holdings.blamed) c.requires.wanted.verify c.go_on.ensures.causes) c.go_on.ensures.adds
+
+pub returns-in_err-opened-clause-moves : goal.returns-in_err-opened-clause-moves
+returns-in_err-opened-clause-moves c = asked (goal.at.returns-in_err-opened-clause-moves c).After-go_on
+
+pub returns-in-None-clause-moves : goal.returns-in-None-clause-moves
+returns-in-None-clause-moves c = asked (goal.at.returns-in-None-clause-moves c).After-go_on
+
 pub returns-in-Some-clause-moves : goal.returns-in-Some-clause-moves
 returns-in-Some-clause-moves c =
     let m = c.args.self.now in
-    moves_trans m (record m { beginnings = c.go_on.new.self }) c.accept.new.self (moves_asked m c.go_on.new.self c.go_on.ensures.goes) c.accept.ensures.moves
+    moves_trans m (record m { beginnings = c.go_on.new.self }) c.accept.new.self (asked (goal.at.returns-in-Some-clause-moves c).After-go_on) c.accept.ensures.moves

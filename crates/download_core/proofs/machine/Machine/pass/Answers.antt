@@ -6,7 +6,7 @@ use Rattle.download_core.specs.declared.status.DownloadStatus.TheVariants.{Faile
 use Rattle.download_core.specs.Moves.{GoesOn, StopsAt}
 use Rattle.download_core.specs.Steps.{entries_of, EndsAs, IsKept, state_of}
 use Rattle.share_beginnings.proofs.Results.{if_ok_then}
-use Rattle.download_core.proofs.EndLemmas.{kept_ends, kept_fails, kept_still}
+use Rattle.download_core.proofs.EndLemmas.{fair_still, kept_ends, kept_fails, kept_still}
 use Rattle.download_core.proofs.Results.{if_any, on_any}
 use Rattle.download_core.proofs.Going.{goes_on, moves_none, moves_trans, same_on, stands_still}
 use Rattle.download_core.proofs.NewsLemmas.{passes_of}
@@ -37,15 +37,15 @@ returns-then-not-is_running-clause-kept c =
     let m = c.args.self.now in
     let t = c.tick.new.self in
     let ticks = c.in_ok-tick.ensures.ok in
-    kept_still m c.args.status t c.requires (from_tick c.args.now m.beginnings.holdings.requests t.holdings.requests ticks.requests)
-    (λ run. true≢false (sym (c.is_running.ensures.1 run) ∙ c.if-not-is_running.true)) ticks.same.blamed
+    kept_still m c.args.status t c.requires (from_tick c.args.now m.beginnings.holdings.requests t.holdings.requests ticks.requests) ticks.same.blamed
+    (λ run. true≢false (sym (c.is_running.ensures.1 run) ∙ c.if-not-is_running.true))
 
 pub returns-then-not-is_running-clause-failed : goal.returns-then-not-is_running-clause-failed
 returns-then-not-is_running-clause-failed c =
     let m = c.args.self.now in
     let t = c.tick.new.self in
     let ticks = c.in_ok-tick.ensures.ok in
-    kept_fails m c.args.status t c.requires (from_tick c.args.now m.beginnings.holdings.requests t.holdings.requests ticks.requests) (record m { beginnings = t }) (moves_none (record m { beginnings = t }))
+    kept_fails m c.args.status t c.requires (from_tick c.args.now m.beginnings.holdings.requests t.holdings.requests ticks.requests) ticks.same.blamed (record m { beginnings = t }) (moves_none (record m { beginnings = t }))
 
 pub end_lost-requires : goal.end_lost-requires
 end_lost-requires c =
@@ -80,5 +80,25 @@ returns-clause-err c =
 
 pub returns-clause-kept : goal.returns-clause-kept
 returns-clause-kept c =
+    let m = c.args.self.now in
+    let t = c.tick.new.self in
     let n = c.settle.new.self in
-    if_ok_then c.settle.result (EndsAs n) (IsKept n) c.settle.ensures.ends (λ ended e. kept_ends n ended e)
+    let ticks = c.in_ok-tick.ensures.ok in
+    let fair = fair_still m c.args.status t c.requires (from_tick c.args.now m.beginnings.holdings.requests t.holdings.requests ticks.requests) ticks.same.blamed in
+    if_ok_then c.settle.result (EndsAs n) (IsKept n) c.settle.ensures.ends (λ ended k. kept_ends n ended (c.settle.ensures.moves.fair (c.end_lost.ensures.moves.fair fair)) k)
+
+pub returns-clause-failed : goal.returns-clause-failed
+returns-clause-failed c =
+    let m = c.args.self.now in
+    let t = c.tick.new.self in
+    let ticks = c.in_ok-tick.ensures.ok in
+    kept_fails m c.args.status t c.requires (from_tick c.args.now m.beginnings.holdings.requests t.holdings.requests ticks.requests) ticks.same.blamed c.settle.new.self
+    (moves_trans (record m { beginnings = t }) c.end_lost.new.self c.settle.new.self c.end_lost.ensures.moves c.settle.ensures.moves)
+
+pub returns-in_err-tick-clause-failed : goal.returns-in_err-tick-clause-failed
+returns-in_err-tick-clause-failed c =
+    let m = c.args.self.now in
+    let t = c.tick.new.self in
+    let e : t ≡ m.beginnings = c.in_err-tick.ensures.err in
+    kept_fails m c.args.status t c.requires (from_same (entries_of m) t.holdings.requests.entries (ap (λ (x : BeginningsState). x.holdings.requests.entries) e)) (ap (λ (x : BeginningsState). x.holdings.blamed) e)
+    (record m { beginnings = t }) (moves_none (record m { beginnings = t }))

@@ -1,19 +1,31 @@
 use Rattle.std.proofs.Common.{◌∙◌, Ok, Some, ap, subst, sym}
-use Rattle.download_core.specs.Steps.{EndsAs}
+use Rattle.cap_text.specs.Cap.{verify_cap_of}
+use Rattle.share_beginnings.specs.Causes.{AddsBlames}
+use Rattle.download_core.specs.Causes.{IsCause}
+use Rattle.download_core.specs.Steps.{EndsAs, found_of}
+use Rattle.download_core.proofs.FairLemmas.{made_fair}
+use Rattle.download_core.proofs.machine.Machine.settle.Goals.{After-settle}
 use Rattle.download_core.proofs.EndLemmas.{settled_ends}
 use Rattle.download_core.proofs.Going.{moves_read}
 use Rattle.download_core.proofs.machine.Machine.settle.Goals as goal
 
+-- each blame has its cause
+caused : (c : After-settle) → AddsBlames (IsCause (verify_cap_of c.args.self.now.cap) c.settle.new.beginnings.holdings.requests.entries (found_of (Some c.in-Some.found))) c.args.self.now.beginnings.holdings.blamed c.settle.new.beginnings.holdings.blamed
+caused c =
+    let m = c.args.self.now in
+    let f = c.in-Some.found in
+    made_fair (verify_cap_of m.cap) m.beginnings c.settle.new.beginnings (record { place = f.place; file = f.reading.file }) c.settle.ensures.causes
+
 pub returns-in_err-settled-in-Some-clause-moves : goal.returns-in_err-settled-in-Some-clause-moves
-returns-in_err-settled-in-Some-clause-moves c = moves_read c.args.self.now c.in-Some.found c.settle.new.beginnings c.settle.new.self c.in-Some.is c.settle.ensures.continues
+returns-in_err-settled-in-Some-clause-moves c = moves_read c.args.self.now c.in-Some.found c.settle.new.beginnings c.settle.new.self c.in-Some.is c.settle.ensures.continues (caused (goal.at.returns-in_err-settled-in-Some-clause-moves c).After-settle)
 
 pub returns-in_ok-settled-in-Some-clause-moves : goal.returns-in_ok-settled-in-Some-clause-moves
-returns-in_ok-settled-in-Some-clause-moves c = moves_read c.args.self.now c.in-Some.found c.settle.new.beginnings c.settle.new.self c.in-Some.is c.settle.ensures.continues
+returns-in_ok-settled-in-Some-clause-moves c = moves_read c.args.self.now c.in-Some.found c.settle.new.beginnings c.settle.new.self c.in-Some.is c.settle.ensures.continues (caused (goal.at.returns-in_ok-settled-in-Some-clause-moves c).After-settle)
 
 pub returns-in_ok-settled-in-Some-clause-ends : goal.returns-in_ok-settled-in-Some-clause-ends
 returns-in_ok-settled-in-Some-clause-ends c =
     let m = c.args.self.now in
     let k = c.in_ok-settled-in-Some in
     subst (EndsAs (record m { beginnings = c.settle.new.beginnings; found = Some (record c.in-Some.found { reading = c.settle.new.self }) })) (sym c.status_by.ensures)
-    (settled_ends m c.in-Some.found c.settle.new.beginnings c.settle.new.self c.in-Some.is c.requires c.settle.ensures.continues k.ensures.reading k.settled
+    (settled_ends m c.in-Some.found c.settle.new.beginnings c.settle.new.self c.in-Some.is c.requires c.settle.ensures.continues (caused (goal.at.returns-in_ok-settled-in-Some-clause-ends c).After-settle) k.ensures.reading k.settled
     (λ e. k.ensures.complete.0 e) (λ e. c.settle.ensures.inconsistent (k.was ∙ ap Ok e)) (λ e. c.settle.ensures.waits (k.was ∙ ap Ok e)) (λ e. c.settle.ensures.too_few (k.was ∙ ap Ok e)))

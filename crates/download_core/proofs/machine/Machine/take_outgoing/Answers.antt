@@ -34,10 +34,10 @@ returns-clause-takes c =
     let is : r ≡ get_or (entries_of m) at r = c.index-entries-place.is ∙ ap (λ (es : List Request). get_or es at r) list in
     let there : slice_get (entries_of m) at ≡ Some r = slice_get-get_or (entries_of m) at r (subst (λ (x : RequestsState). at < length x.entries) requests c.in_ok-place.ensures.there) ∙ ap Some (sym is) in
     let first : slice_get m.beginnings.holdings.requests.outgoing 0 ≡ Some at = ap (λ (x : RequestsState). slice_get x.outgoing 0) (sym requests) ∙ sym c.in_ok-place.ensures.value in
-    λ servers status.
+    λ servers status runs.
     subst (λ (t : BeginningsState). Takes (state_of m servers status) (Some (r.server, c.message_at-message.result)) (state_of (record m { beginnings = t }) servers status)) (sym c.take_next.ensures.others)
     (sends m c.take_next.new.self.holdings.requests c.take_next.result at r c.in_ok-body.body c.message_at-message.result c.storage_index.result.now
-    first there c.in_ok-body.ensures.spells c.storage_index.ensures.value c.requires.verify (c.message_at-message.ensures ∙ ap (λ (x : RequestsState). message_at at c.in_ok-body.body x) requests) c.take_next.ensures.takes servers status)
+    first there c.in_ok-body.ensures.spells c.storage_index.ensures.value c.requires.verify (c.message_at-message.ensures ∙ ap (λ (x : RequestsState). message_at at c.in_ok-body.body x) requests) c.take_next.ensures.takes servers status runs)
 
 pub returns-clause-kept : goal.returns-clause-kept
 returns-clause-kept c =

@@ -12,12 +12,12 @@ use Rattle.download_file.specs.State.{IsLive, placed, waiting_at}
 use Rattle.download_reading.specs.Reading.{AreLinked, AreReading, IsOf}
 use Rattle.download_reading.specs.State.{ReadingState}
 use Rattle.download_plan.specs.Laws.{AreApart}
-use Rattle.download_file.specs.Asked.{IsAskedUp}
+use Rattle.download_file.specs.Asked.{IsAskedUp, IsOneOf}
 use Rattle.download_file.specs.Changes.{StaysAskedUp}
 use Rattle.download_file.proofs.GrowLemmas.{reads_keep}
 use Rattle.download_reading.proofs.Awaited.{asked_awaits}
 use Rattle.download_reading.proofs.Busy.{busy_file, busy_goes}
-use Rattle.download_reading.proofs.Ended.{adds_none}
+use Rattle.download_reading.proofs.Ended.{adds_none, asks_none, planned_of}
 use Rattle.download_reading.specs.Steps.{Continues}
 use Rattle.download_reading.specs.Steps as steps
 use Rattle.download_reading.proofs.Asked.{asked_reading, held_is, parts_unasked}
@@ -34,6 +34,7 @@ returns-in_err-wanted-clause-continues c =
       same = c.in_err-wanted.ensures.same;
       pieces = adds_none r.file.handout q.file.handout c.in_err-wanted.ensures.handout;
       answers = λ a. c.in_err-wanted.ensures.reads bs.holdings.requests.entries a;
+      reads = asks_none r.file bs bs refl;
     })
 
 pub index-requires : goal.index-requires
@@ -114,4 +115,6 @@ returns-clause-continues c =
       same = c.in_ok-wanted.ensures.same;
       pieces = adds_none r.file.handout q.file.handout c.in_ok-wanted.ensures.handout;
       answers = λ a. reads_keep bs.holdings.requests.entries c.ask_parts.new.beginnings.holdings.requests.entries c.wanted.new.self c.ask_parts.ensures.grows.stays (c.in_ok-wanted.ensures.reads bs.holdings.requests.entries a);
+      reads = λ place n share offset len there le asked. planned_of r.file c.in_ok-wanted.wanted.items offset len c.in_ok-wanted.ensures.asks.planned
+          (subst (λ (l : List Wanted). IsOneOf l offset len) c.deref.ensures.value (c.ask_parts.ensures.adds place n share offset len there le asked));
     })

@@ -16,7 +16,7 @@ use Rattle.download_reading.specs.Steps.{Continues}
 use Rattle.download_reading.proofs.Awaited.{begun_awaits}
 use Rattle.download_reading.proofs.Begun.{begun_reading, free_not_taken}
 use Rattle.download_reading.proofs.Busy.{busy_begun}
-use Rattle.download_reading.proofs.Ended.{adds_none}
+use Rattle.download_reading.proofs.Ended.{adds_none, asks_none}
 use Rattle.download_reading.proofs.reading.Reading.begin.Goals as goal
 
 abbrev nobody : Holding
@@ -61,6 +61,7 @@ returns-in_err-reader-clause-continues c =
       same = c.in_err-reader.ensures.same;
       pieces = adds_none r.file.handout c.begin.new.self.handout c.in_err-reader.ensures.handout;
       answers = λ a. c.in_err-reader.ensures.reads bs.holdings.requests.entries a;
+      reads = asks_none r.file bs bs refl;
     })
 
 pub returns-in_err-push-clause-continues : goal.returns-in_err-push-clause-continues
@@ -73,6 +74,7 @@ returns-in_err-push-clause-continues c =
       same = c.in_ok-reader.ensures.same;
       pieces = adds_none c.self.inside.file.handout c.begin.new.self.handout c.in_ok-reader.ensures.handout;
       answers = λ a. c.in_ok-reader.ensures.reads bs.holdings.requests.entries a;
+      reads = asks_none c.self.inside.file bs bs refl;
     })
 
 pub returns-clause-reading : goal.returns-clause-reading
@@ -104,6 +106,7 @@ returns-clause-continues c =
       same = c.in_ok-reader.ensures.same;
       pieces = adds_none c.self.inside.file.handout c.begin.new.self.handout c.in_ok-reader.ensures.handout;
       answers = λ a. subst (λ (x : HoldingsState). IsRead x.requests.entries c.begin.new.self) (sym e) (c.in_ok-reader.ensures.reads bs.holdings.requests.entries a);
+      reads = asks_none c.self.inside.file bs t (ap (λ (x : HoldingsState). x.requests) e);
     })
 
 pub returns-clause-live : goal.returns-clause-live

@@ -6,7 +6,7 @@ use Rattle.request_record.specs.Record.{RequestsState}
 use Rattle.download_file.specs.Answers.{IsRead}
 use Rattle.download_reading.specs.Steps.{Continues}
 use Rattle.download_reading.proofs.Compared.{awaited, compared_kept, compared_live, compared_told}
-use Rattle.download_reading.proofs.Ended.{adds_none, continues_trans, file_none}
+use Rattle.download_reading.proofs.Ended.{adds_none, asks_none, continues_trans, file_none}
 use Rattle.download_reading.proofs.reading.Reading.compare.Goals as goal
 
 pub compare-requires-clause-awaits : goal.compare-requires-clause-awaits
@@ -18,6 +18,7 @@ returns-in_err-compare-clause-continues c = record {
   same = file_none c.args.self.now.file;
   pieces = adds_none c.args.self.now.file.handout c.args.self.now.file.handout refl;
   answers = λ a. subst (λ (q : RequestsState). IsRead q.entries c.args.self.now.file) (sym c.in_err-compare.ensures.requests) a;
+  reads = asks_none c.args.self.now.file c.args.beginnings.now c.compare.new.self c.in_err-compare.ensures.requests;
 }
 
 pub end_gone-requires-clause-kept : goal.end_gone-requires-clause-kept
@@ -45,10 +46,16 @@ returns-clause-continues c =
       same = file_none c.args.self.now.file;
       pieces = adds_none c.args.self.now.file.handout c.args.self.now.file.handout refl;
       answers = λ a. subst (λ (q : RequestsState). IsRead q.entries c.args.self.now.file) (sym k.requests) a;
+      reads = asks_none c.args.self.now.file c.args.beginnings.now t k.requests;
     } in
     continues_trans c.args.beginnings.now t t c.args.self.now c.args.self.now c.end_gone.new.self first c.end_gone.ensures.continues
 
 pub returns-clause-causes : goal.returns-clause-causes
 returns-clause-causes c =
+    subst (λ g. AddsBlames (IsBeginningFault c.args.cap.now g c.args.beginnings.now.holdings.requests.entries) c.args.beginnings.now.holdings.blamed c.compare.new.self.holdings.blamed)
+    (c.geometry.ensures.value ∙ ap (λ (x : ReadingState). x.file.handout.geometry) c.self.view_is) c.compare.ensures.causes
+
+pub returns-in_err-compare-clause-causes : goal.returns-in_err-compare-clause-causes
+returns-in_err-compare-clause-causes c =
     subst (λ g. AddsBlames (IsBeginningFault c.args.cap.now g c.args.beginnings.now.holdings.requests.entries) c.args.beginnings.now.holdings.blamed c.compare.new.self.holdings.blamed)
     (c.geometry.ensures.value ∙ ap (λ (x : ReadingState). x.file.handout.geometry) c.self.view_is) c.compare.ensures.causes

@@ -5,7 +5,7 @@ use Rattle.download_reading.specs.Reading.{AreAwaited, AreKept, IsGone, IsReadNo
 use Rattle.download_reading.specs.State.{ReadingState}
 use Rattle.download_reading.specs.Steps.{Continues}
 use Rattle.download_reading.proofs.Awaited.{ended_awaits}
-use Rattle.download_reading.proofs.Ended.{adds_none, all_live, continues_none, continues_trans, ended_kept, fewer, still_live}
+use Rattle.download_reading.proofs.Ended.{adds_none, all_live, asks_none, continues_none, continues_trans, ended_kept, fewer, still_live}
 use Rattle.download_reading.proofs.reading.Reading.end_gone.Goals as goal
 
 pub loop-reader-init : goal.loop-reader-init
@@ -26,7 +26,7 @@ loop-reader-preserved c =
     let live = subst (λ (x : ReadingState). (q : ℕ) → IsLive x.file q → IsReadNow bs x q ⊎ IsGone bs x q) (sym c.self.view_is) c.loop-reader.invariant.live in
     let k = c.end.ensures in
     let q : ReadingState = record { file = c.end.new.self; holdings = c.self.inside.holdings.items } in
-    let more : Continues bs r bs q = record { goes = goes_none bs bs refl refl; same = k.same; pieces = adds_none r.file.handout c.end.new.self.handout k.handout; answers = λ a. k.reads bs.holdings.requests.entries a } in
+    let more : Continues bs r bs q = record { goes = goes_none bs bs refl refl; same = k.same; pieces = adds_none r.file.handout c.end.new.self.handout k.handout; answers = λ a. k.reads bs.holdings.requests.entries a; reads = asks_none r.file bs bs refl } in
     record {
       kept = ended_kept bs r c.end.new.self c.in-Some.reader kept gone k.live k.shares k.asked k.reads k.right k.same.geometry;
       live = still_live bs r c.end.new.self c.in-Some.reader kept gone k.live k.shares k.asked k.reads k.right k.same.geometry live;

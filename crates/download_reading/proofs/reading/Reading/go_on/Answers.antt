@@ -1,9 +1,9 @@
 use Rattle.share_holdings.specs.declared.holding.Blame.{Blame}
 use Rattle.std.proofs.Common.{List}
 use Rattle.share_beginnings.specs.Causes.{AddsBlames}
-use Rattle.share_beginnings.proofs.Caused.{adds_none}
+use Rattle.share_beginnings.proofs.Caused.{adds_as, adds_none}
 use Rattle.download_reading.specs.Causes.{IsBlockFault}
-use Rattle.download_reading.proofs.Causes.{adds_as, block_moved}
+use Rattle.download_reading.proofs.Causes.{alike_of, block_moved}
 use Rattle.download_reading.proofs.Ended.{file_trans}
 use Rattle.std.proofs.Common.{◌≡◌, ◌∙◌, ◌<◌, sym, subst, ap}
 use Rattle.share_holdings.specs.State.{TableState}
@@ -76,4 +76,4 @@ returns-clause-causes c =
     let same = file_trans g c.begin_more.new.self.file f c.begin_more.ensures.continues.same c.ask_all.ensures.continues.same in
     subst (λ (l : List Blame). AddsBlames (IsBlockFault u.holdings.requests.entries g) l u.holdings.blamed) (c.ask_all.ensures.blamed ∙ c.begin_more.ensures.blamed)
     (adds_as (IsBlockFault u.holdings.requests.entries f) (IsBlockFault u.holdings.requests.entries g) t.holdings.blamed u.holdings.blamed
-    (λ b k. block_moved u.holdings.requests.entries u.holdings.requests.entries g f b (λ i x e. e) same k) c.make.ensures.causes)
+    (λ b k. block_moved u.holdings.requests.entries u.holdings.requests.entries g f b (λ i x e quiet. e) (alike_of g f same) k) c.make.ensures.causes)

@@ -32,8 +32,8 @@ ok_is a b e = cc
 not_wrong : (made : Made) (reader : ℕ) (other : Made) → made ≡ made_as.Wrong reader → ◌≡◌ {A = Result Made AllocError} (Ok made) (Ok other) → (made_as.Wrong reader ≡ other → ⊥) → ⊥
 not_wrong made reader other is e none = none (sym is ∙ ok_is made other e)
 
-pub make_next-requires : goal.make_next-requires
-make_next-requires c =
+pub make-requires : goal.make-requires
+make-requires c =
     let bs = c.args.beginnings.now in
     let r : ReadingState = record { file = c.self.inside.file; holdings = c.self.inside.holdings.items } in
     let before : AreReading bs r = subst (AreReading bs) (sym c.self.view_is) c.requires.reading in
@@ -44,25 +44,25 @@ returns-in_err-made-clause-continues c =
     let bs = c.args.beginnings.now in
     let r : ReadingState = record { file = c.self.inside.file; holdings = c.self.inside.holdings.items } in
     let before : AreReading bs r = subst (AreReading bs) (sym c.self.view_is) c.requires.reading in
-    let k = c.make_next.ensures in
-    let f = c.make_next.new.self in
+    let k = c.make.ensures in
+    let f = c.make.new.self in
     let read = read_in bs c.holdings.result.now c.requests.result.now f c.requests.ensures.value c.holdings.ensures k.reads in
     subst (λ (x : ReadingState). Continues bs x bs (record { file = f; holdings = c.self.inside.holdings.items })) c.self.view_is
-    (made_continues bs r f before.linked k.live k.readers k.asked read k.right k.same (pieces_made r.file f c.make_next.result k.ready k.same_handout))
+    (made_continues bs r f before.linked k.live k.readers k.asked read k.right k.same (pieces_made r.file f c.make.result before.linked.kept.right.handout k.ready k.same_handout))
 
 pub blame-requires-clause-reading : goal.blame-requires-clause-reading
 blame-requires-clause-reading c =
     let bs = c.args.beginnings.now in
     let r : ReadingState = record { file = c.self.inside.file; holdings = c.self.inside.holdings.items } in
     let before : AreReading bs r = subst (AreReading bs) (sym c.self.view_is) c.requires.reading in
-    let k = c.make_next.ensures in
-    let f = c.make_next.new.self in
+    let k = c.make.ensures in
+    let f = c.make.new.self in
     let read = read_in bs c.holdings.result.now c.requests.result.now f c.requests.ensures.value c.holdings.ensures k.reads in
     reading_less (Some c.in-Wrong.reader) bs (record { file = f; holdings = c.self.inside.holdings.items }) (all_made bs r f before k.live k.readers k.asked read k.right k.same)
 
 pub blame-requires-clause-live : goal.blame-requires-clause-live
 blame-requires-clause-live c =
-    let k = c.make_next.ensures in
+    let k = c.make.ensures in
     let wrong = k.wrong c.in-Wrong.reader (c.in_ok-made.was ∙ ap Ok c.in-Wrong.is) in
     subst (λ (l : List ℕ). Contains l c.in-Wrong.reader) (sym k.live) wrong.live
 
@@ -71,12 +71,12 @@ returns-in_ok-blame-clause-continues c =
     let bs = c.args.beginnings.now in
     let r : ReadingState = record { file = c.self.inside.file; holdings = c.self.inside.holdings.items } in
     let before : AreReading bs r = subst (AreReading bs) (sym c.self.view_is) c.requires.reading in
-    let k = c.make_next.ensures in
-    let f = c.make_next.new.self in
+    let k = c.make.ensures in
+    let f = c.make.new.self in
     let read = read_in bs c.holdings.result.now c.requests.result.now f c.requests.ensures.value c.holdings.ensures k.reads in
     let q : ReadingState = (record { file = f; holdings = c.self.inside.holdings.items }) in
     let first : Continues bs c.args.self.now bs q = subst (λ (x : ReadingState). Continues bs x bs q) c.self.view_is
-    (made_continues bs r f before.linked k.live k.readers k.asked read k.right k.same (pieces_made r.file f c.make_next.result k.ready k.same_handout)) in
+    (made_continues bs r f before.linked k.live k.readers k.asked read k.right k.same (pieces_made r.file f c.make.result before.linked.kept.right.handout k.ready k.same_handout)) in
     continues_trans bs bs c.blame.new.beginnings c.args.self.now q c.blame.new.self first c.in_ok-blame.ensures.continues
 
 pub returns-in_err-blame-clause-continues : goal.returns-in_err-blame-clause-continues
@@ -84,12 +84,12 @@ returns-in_err-blame-clause-continues c =
     let bs = c.args.beginnings.now in
     let r : ReadingState = record { file = c.self.inside.file; holdings = c.self.inside.holdings.items } in
     let before : AreReading bs r = subst (AreReading bs) (sym c.self.view_is) c.requires.reading in
-    let k = c.make_next.ensures in
-    let f = c.make_next.new.self in
+    let k = c.make.ensures in
+    let f = c.make.new.self in
     let read = read_in bs c.holdings.result.now c.requests.result.now f c.requests.ensures.value c.holdings.ensures k.reads in
     let q : ReadingState = (record { file = f; holdings = c.self.inside.holdings.items }) in
     let first : Continues bs c.args.self.now bs q = subst (λ (x : ReadingState). Continues bs x bs q) c.self.view_is
-    (made_continues bs r f before.linked k.live k.readers k.asked read k.right k.same (pieces_made r.file f c.make_next.result k.ready k.same_handout)) in
+    (made_continues bs r f before.linked k.live k.readers k.asked read k.right k.same (pieces_made r.file f c.make.result before.linked.kept.right.handout k.ready k.same_handout)) in
     continues_trans bs bs c.blame.new.beginnings c.args.self.now q c.blame.new.self first c.in_err-blame.ensures.continues
 
 pub returns-in_default : goal.returns-in_default
@@ -97,14 +97,14 @@ returns-in_default c =
     let bs = c.args.beginnings.now in
     let r : ReadingState = record { file = c.self.inside.file; holdings = c.self.inside.holdings.items } in
     let before : AreReading bs r = subst (AreReading bs) (sym c.self.view_is) c.requires.reading in
-    let k = c.make_next.ensures in
-    let f = c.make_next.new.self in
+    let k = c.make.ensures in
+    let f = c.make.new.self in
     let q : ReadingState = (record { file = f; holdings = c.self.inside.holdings.items }) in
     let read = read_in bs c.holdings.result.now c.requests.result.now f c.requests.ensures.value c.holdings.ensures k.reads in
     record {
       reading = all_made bs r f before k.live k.readers k.asked read k.right k.same;
       continues = subst (λ (x : ReadingState). Continues bs x bs q) c.self.view_is
-          (made_continues bs r f before.linked k.live k.readers k.asked read k.right k.same (pieces_made r.file f c.make_next.result k.ready k.same_handout));
+          (made_continues bs r f before.linked k.live k.readers k.asked read k.right k.same (pieces_made r.file f c.make.result before.linked.kept.right.handout k.ready k.same_handout));
       causes = adds_none (IsBlockFault bs.holdings.requests.entries c.args.self.now.file) bs.holdings.blamed bs.holdings.blamed refl;
       inconsistent = λ e. subst (λ (x : ReadingState). IsNoCodeWord x.file.handout.ueb) c.self.view_is (k.inconsistent (c.in_ok-made.was ∙ e));
       waits = λ e. subst (λ (x : ReadingState). CanNotGoOn x.file) c.self.view_is (k.waits (c.in_ok-made.was ∙ e));
@@ -132,12 +132,12 @@ returns-in_ok-blame-clause-ready c e = absurd (not_wrong (made_as.Wrong c.in-Wro
 
 pub returns-in_ok-blame-clause-handout : goal.returns-in_ok-blame-clause-handout
 returns-in_ok-blame-clause-handout c made e other =
-    c.in_ok-blame.ensures.handout ∙ c.make_next.ensures.same_handout (λ e2. other (ok_is made made_as.Ready (sym e ∙ ap Ok (sym c.in-Wrong.is) ∙ sym c.in_ok-made.was ∙ e2)))
+    c.in_ok-blame.ensures.handout ∙ c.make.ensures.same_handout (λ e2. other (ok_is made made_as.Ready (sym e ∙ ap Ok (sym c.in-Wrong.is) ∙ sym c.in_ok-made.was ∙ e2)))
     ∙ ap (λ (x : ReadingState). x.file.handout) c.self.view_is
 
 pub returns-in_ok-blame-clause-wrong : goal.returns-in_ok-blame-clause-wrong
 returns-in_ok-blame-clause-wrong c reader e =
-    let same = c.make_next.ensures.same_handout (λ e2. not_wrong c.in_ok-made.made c.in-Wrong.reader made_as.Ready c.in-Wrong.is (sym c.in_ok-made.was ∙ e2) (λ f. cc)) in
+    let same = c.make.ensures.same_handout (λ e2. not_wrong c.in_ok-made.made c.in-Wrong.reader made_as.Ready c.in-Wrong.is (sym c.in_ok-made.was ∙ e2) (λ f. cc)) in
     less_blamed c.args.beginnings.now c.blame.new.beginnings c.args.self.now c.blame.new.self (c.in_ok-blame.ensures.handout ∙ same ∙ ap (λ (x : ReadingState). x.file.handout) c.self.view_is) c.in_ok-blame.ensures.fewer
 
 pub returns-in_err-made-clause-causes : goal.returns-in_err-made-clause-causes
@@ -148,15 +148,15 @@ returns-in_err-made-clause-causes c =
 pub returns-in_err-blame-clause-causes : goal.returns-in_err-blame-clause-causes
 returns-in_err-blame-clause-causes c =
     let bs = c.args.beginnings.now in
-    let wrong = c.make_next.ensures.wrong c.in-Wrong.reader (c.in_ok-made.was ∙ ap Ok c.in-Wrong.is) in
-    made_causes bs c.blame.new.beginnings (record { file = c.self.inside.file; holdings = c.self.inside.holdings.items }) c.args.self.now c.make_next.new.self c.in-Wrong.reader c.self.view_is c.requires.reading
+    let wrong = c.make.ensures.wrong c.in-Wrong.reader (c.in_ok-made.was ∙ ap Ok c.in-Wrong.is) in
+    made_causes bs c.blame.new.beginnings (record { file = c.self.inside.file; holdings = c.self.inside.holdings.items }) c.args.self.now c.make.new.self c.in-Wrong.reader c.self.view_is c.requires.reading
     (subst (λ (q : RequestsState). RefutesReader q.entries c.self.inside.file c.in-Wrong.reader) (c.requests.ensures.value ∙ ap (λ (x : HoldingsState). x.requests) c.holdings.ensures) wrong)
     c.blame.ensures.requests c.blame.ensures.adds
 
 pub returns-in_ok-blame-clause-causes : goal.returns-in_ok-blame-clause-causes
 returns-in_ok-blame-clause-causes c =
     let bs = c.args.beginnings.now in
-    let wrong = c.make_next.ensures.wrong c.in-Wrong.reader (c.in_ok-made.was ∙ ap Ok c.in-Wrong.is) in
-    made_causes bs c.blame.new.beginnings (record { file = c.self.inside.file; holdings = c.self.inside.holdings.items }) c.args.self.now c.make_next.new.self c.in-Wrong.reader c.self.view_is c.requires.reading
+    let wrong = c.make.ensures.wrong c.in-Wrong.reader (c.in_ok-made.was ∙ ap Ok c.in-Wrong.is) in
+    made_causes bs c.blame.new.beginnings (record { file = c.self.inside.file; holdings = c.self.inside.holdings.items }) c.args.self.now c.make.new.self c.in-Wrong.reader c.self.view_is c.requires.reading
     (subst (λ (q : RequestsState). RefutesReader q.entries c.self.inside.file c.in-Wrong.reader) (c.requests.ensures.value ∙ ap (λ (x : HoldingsState). x.requests) c.holdings.ensures) wrong)
     c.blame.ensures.requests c.blame.ensures.adds

@@ -1,8 +1,8 @@
-use Rattle.share_beginnings.proofs.Caused.{adds_none}
+use Rattle.share_beginnings.proofs.Caused.{adds_as, adds_none}
 use Rattle.std.specs.Prelude.{Err}
 use Rattle.download_file.specs.Taking.{IsRefused}
 use Rattle.download_reading.specs.Causes.{IsBlameOf, IsPartFault}
-use Rattle.download_reading.proofs.Causes.{adds_as, part_fault}
+use Rattle.download_reading.proofs.Causes.{part_fault}
 use Rattle.std.proofs.Common.{◌≡◌, ◌∙◌, ℕ, List, [], Some, None, refl, sym, subst, ap}
 use Rattle.std.proofs.lemmas.List.{append-nil}
 use Rattle.request_record.specs.Record.{RequestsState}
@@ -19,7 +19,7 @@ use Rattle.download_reading.specs.State.{ReadingState}
 use Rattle.download_reading.specs.Steps.{Continues}
 use Rattle.download_reading.proofs.Awaited.{awaits_last, taken_awaits, unanswered}
 use Rattle.download_reading.proofs.Busy.{busy_file}
-use Rattle.download_reading.proofs.Ended.{continues_none}
+use Rattle.download_reading.proofs.Ended.{asks_none, continues_none}
 use Rattle.download_reading.proofs.Fallen.{file_goes}
 use Rattle.download_reading.proofs.reading.Reading.take_one.Goals as goal
 
@@ -78,6 +78,7 @@ returns-in-Ok-clause-continues c =
       pieces = record { handed = ap (λ (h : HandoutState). h.handed) c.in-Ok.ensures.handout.handout; more = []; ready = ap (λ (h : HandoutState). h.ready) c.in-Ok.ensures.handout.handout ∙ sym (append-nil c.self.inside.file.handout.ready) };
       answers = λ a. c.in-Ok.ensures.reads bs.holdings.requests.entries c.args.place a waits
           (answered bs c.holdings.result.now c.requests.result.now c.args.place c.in-Some.bytes.now c.holdings.ensures c.requests.ensures.value c.in-Some.ensures.some);
+      reads = asks_none r.file bs bs refl;
     })
 
 pub returns-in-Err-OutOfMemory-clause-continues : goal.returns-in-Err-OutOfMemory-clause-continues

@@ -1,7 +1,12 @@
-use Rattle.std.proofs.Common.{◌≡◌, ◌∙◌, length, refl, ap, arith}
+use Rattle.std.proofs.Common.{◌≡◌, ◌∙◌, length, refl, ap, arith, subst}
+use Rattle.request_record.specs.Record.{RequestsState}
+use Rattle.share_beginnings.specs.Causes.{AddsBlames}
 use Rattle.share_beginnings.specs.State.{BeginningsState}
+use Rattle.share_beginnings.specs.Causes.{IsOtherHeader}
+use Rattle.share_beginnings.proofs.Caused.{adds_none, adds_trans}
 use Rattle.share_beginnings.proofs.Comparing.{compared_all, compared_none}
-use Rattle.share_beginnings.proofs.Opened.{goes_none}
+use Rattle.share_beginnings.proofs.Opened.{goes_none, goes_trans}
+use Rattle.share_beginnings.proofs.beginnings.Beginnings.accept.Goals.{After-compare_one}
 use Rattle.share_beginnings.proofs.beginnings.Beginnings.accept.Goals as goal
 
 pub loop-holding-init : goal.loop-holding-init
@@ -10,6 +15,7 @@ loop-holding-init c = record {
   compared = compared_none c.args.geometry.now c.args.found c.args.self.now c.requires.found;
   begun = refl;
   requests = refl;
+  causes = adds_none (IsOtherHeader c.args.geometry.now c.args.self.now.holdings.requests.entries) c.args.self.now.holdings.blamed c.args.self.now.holdings.blamed refl;
   goes = goes_none c.args.self.now c.args.self.now refl refl;
   count = refl;
 }
@@ -22,3 +28,29 @@ returns-clause-compared c =
     compared_all c.args.geometry.now c.args.found c.loop-holding.holding c.loop-holding.self k.known
     (let f = c.requires.found.inside in omega (arith, f, same))
     (let e = c.loop-holding-test.false in omega (arith, e, len, same)) k.compared
+
+-- one more is compared
+compared_causes : (c : After-compare_one) → AddsBlames (IsOtherHeader c.args.geometry.now c.args.self.now.holdings.requests.entries) c.args.self.now.holdings.blamed c.compare_one.new.self.holdings.blamed
+compared_causes c =
+    let s = c.args.self.now in
+    let k = c.loop-holding.invariant in
+    let e = c.compare_one.ensures in
+    adds_trans (IsOtherHeader c.args.geometry.now s.holdings.requests.entries) s c.loop-holding.self c.compare_one.new.self e.goes k.causes
+    (subst (λ (r : RequestsState). AddsBlames (IsOtherHeader c.args.geometry.now r.entries) c.loop-holding.self.holdings.blamed c.compare_one.new.self.holdings.blamed) k.requests e.causes)
+
+pub returns-in_err-compare_one-clause-causes : goal.returns-in_err-compare_one-clause-causes
+returns-in_err-compare_one-clause-causes c = compared_causes (goal.at.returns-in_err-compare_one-clause-causes c).After-compare_one
+
+pub loop-holding-preserved : goal.loop-holding-preserved
+loop-holding-preserved c =
+    let k = c.loop-holding.invariant in
+    let e = c.compare_one.ensures in
+    record {
+      known = c.in_ok-compare_one.ensures.known;
+      compared = c.in_ok-compare_one.ensures.compared c.args.found k.compared;
+      begun = e.begun ∙ k.begun;
+      requests = e.requests ∙ k.requests;
+      causes = compared_causes (goal.at.loop-holding-preserved c).After-compare_one;
+      goes = goes_trans c.args.self.now c.loop-holding.self c.compare_one.new.self k.goes e.goes;
+      count = e.count ∙ k.count;
+    }

@@ -1,4 +1,5 @@
 use Rattle.std.proofs.Common.{◌≡◌}
+use Rattle.share_beginnings.specs.Causes.{AddsBlames, IsOtherHeader}
 use Rattle.share_beginnings.specs.Known.{AreBegun}
 use Rattle.share_beginnings.specs.Moves.{CountsAsMany, GoesOn}
 use Rattle.share_beginnings.specs.Opening.{AreComparedUpTo}
@@ -11,6 +12,7 @@ invariant-loop-holding l = record {
   compared : AreComparedUpTo l.geometry l.found l.holding l.self;
   begun : l.self.begun ≡ l.initial.self.begun;
   requests : l.self.holdings.requests ≡ l.initial.self.holdings.requests;
+  causes : AddsBlames (IsOtherHeader l.geometry l.initial.self.holdings.requests.entries) l.initial.self.holdings.blamed l.self.holdings.blamed;
   goes : GoesOn l.initial.self l.self;
   count : CountsAsMany l.initial.self l.self;
 }

@@ -101,8 +101,8 @@ returns-in-Some-compared-clause-causes c =
     by_result c.blame.result _ _ (AddsBlames P s.holdings.blamed c.blame.new.self.blamed) c.blame.ensures.ok c.blame.ensures.err
     (λ b. adds_one P s.holdings.blamed c.blame.new.self.blamed (record { server = b.held.server; share = b.held.share; check = c.in-Some-compared.check })
     (b.blamed ∙ ap (λ (h : HoldingsState). h.blamed ++ record { server = b.held.server; share = b.held.share; check = c.in-Some-compared.check } ∷ []) same)
-    (fault_of s c.args.cap.now c.args.geometry.now c.args.holding c.args.place c.in-Some.opening b.held c.in-Some-compared.check a.0 c.requires.known c.requires.awaits c.in-Some.ensures.opening
-    (subst (λ (h : HoldingsState). IsHolding h.table c.args.holding b.held) same b.is) a.1
+    (fault_of s c.args.holding c.args.place c.in-Some.opening b.held a.0 c.requires.known c.requires.awaits c.in-Some.ensures.opening
+    (subst (λ (h : HoldingsState). IsHolding h.table c.args.holding b.held) same b.is) a.1 c.args.cap.now c.args.geometry.now c.in-Some-compared.check
     (c.in-Some-compared.ensures a.0 (subst (λ (h : HoldingsState). IsAnsweredBy h.requests.entries c.args.place a.0) (sym (ap (λ (x : BeginningsState). x.holdings) c.take_waiting.ensures.rests.is)) a.1))))
     (λ e. adds_none P s.holdings.blamed c.blame.new.self.blamed (ap (λ (h : HoldingsState). h.blamed) e ∙ ap (λ (h : HoldingsState). h.blamed) same))
 

@@ -1,4 +1,4 @@
-use Rattle.std.proofs.Common.{◌≡◌, ◌∙◌, ◌<◌, List, length, get_or, Some, true, false, true≢false, sym, subst, ap}
+use Rattle.std.proofs.Common.{◌≡◌, ◌∙◌, ◌<◌, List, length, get_or, Some, true, false, true≢false, refl, sym, subst, ap}
 use Rattle.std.specs.Prelude.{slice_get}
 use Rattle.share_opening.specs.Opening.{Agrees}
 use Rattle.share_opening.specs.declared.opening.Opening.{Opening}
@@ -6,11 +6,13 @@ use Rattle.share_holdings.proofs.Lists.{got}
 use Rattle.share_holdings.specs.State.{HoldingsState}
 use Rattle.share_holdings.specs.declared.holding.Holding.{Holding}
 use Rattle.share_verify.specs.declared.check.Check.TheVariants as checks
+use Rattle.share_beginnings.specs.Causes.{AddsBlames, IsOtherHeader}
+use Rattle.share_beginnings.proofs.Caused.{adds_none}
 use Rattle.share_beginnings.specs.Known.{AreBegun}
 use Rattle.share_beginnings.specs.Moves.{GoesOn}
 use Rattle.share_beginnings.specs.Opening.{AreComparedUpTo}
 use Rattle.share_beginnings.specs.State.{BeginningsState, IsBegun}
-use Rattle.share_beginnings.proofs.Accepting.{refused_compared, refused_goes, refused_known, released_goes, released_known, released_requests, released_blamed, suspended_compared, suspended_goes, suspended_known, unopened_compared}
+use Rattle.share_beginnings.proofs.Accepting.{refused_causes, refused_compared, refused_goes, refused_known, released_goes, released_known, released_requests, released_blamed, suspended_compared, suspended_goes, suspended_known, unopened_compared}
 use Rattle.share_beginnings.proofs.Opened.{goes_from, goes_none}
 use Rattle.share_beginnings.proofs.Results.{by_result, on_ok}
 use Rattle.share_beginnings.proofs.beginnings.Beginnings.compare_one.Goals.{else-left-via-then-left+else-differs, else-left-via-else-left}
@@ -76,7 +78,7 @@ agrees c h is left o e = elim c.else-left.branch [
   | else-left-via-then-left+else-differs w ↦ (
       let two : Some c.in-Some.opening ≡ Some o = sym c.in-Some.is ∙ e in
       let one : c.in-Some.opening ≡ o = cc in
-      subst (Agrees c.args.geometry.now) one (w.differs.ensures w.if-differs.false))
+      subst (Agrees c.args.geometry.now) one (w.differs.ensures.same w.if-differs.false))
   | else-left-via-else-left w ↦ (
       let d : Holding = record { server = 0; share = 0; left = false; suspended = false } in
       let same : get_or c.release.new.self.table.holdings c.args.holding d ≡ h = get_or_from_slice_get c.release.new.self.table.holdings c.args.holding h d is in
@@ -108,3 +110,27 @@ returns-clause-goes c =
     let b = c.index.result.now in
     let at : IsBegun s c.args.holding b = got s.begun c.args.holding b (subst (λ (x : BeginningsState). c.args.holding < length x.begun) (sym c.self.view_is) c.requires.there) c.index.ensures in
     subst (λ (x : BeginningsState). GoesOn x (record { holdings = c.suspend.new.self; begun = s.begun })) c.self.view_is (suspended_goes c.args.geometry.now c.args.holding c.requires.valid s known b at c.release.new.self c.release.ensures.releases c.release.ensures.others c.release.ensures.right c.holdings.ensures.table c.is_header_out.result c.suspend.new.self c.suspend.ensures.suspends c.suspend.ensures.others c.suspend.ensures.right)
+
+pub returns-in_default-clause-causes : goal.returns-in_default-clause-causes
+returns-in_default-clause-causes c =
+    adds_none (IsOtherHeader c.args.geometry.now c.args.self.now.holdings.requests.entries) c.args.self.now.holdings.blamed c.release.new.self.blamed
+    (ap (λ (x : HoldingsState). x.blamed) c.release.ensures.others ∙ ap (λ (x : BeginningsState). x.holdings.blamed) c.self.view_is)
+
+pub returns-then-differs-clause-causes : goal.returns-then-differs-clause-causes
+returns-then-differs-clause-causes c =
+    let s : BeginningsState = record { holdings = c.self.inside.holdings; begun = c.self.inside.begun.items } in
+    let known : AreBegun s = subst AreBegun (sym c.self.view_is) c.requires.known in
+    let b = c.index.result.now in
+    let at : IsBegun s c.args.holding b = got s.begun c.args.holding b (subst (λ (x : BeginningsState). c.args.holding < length x.begun) (sym c.self.view_is) c.requires.there) c.index.ensures in
+    let blamed = c.blame.new.self.blamed in
+    let adds : AddsBlames (IsOtherHeader c.args.geometry.now s.holdings.requests.entries) s.holdings.blamed blamed =
+    by_result c.blame.result _ _ (AddsBlames (IsOtherHeader c.args.geometry.now s.holdings.requests.entries) s.holdings.blamed blamed) c.blame.ensures.ok c.blame.ensures.err
+    (λ k. refused_causes c.args.geometry.now c.args.holding c.requires.valid s known b at c.release.new.self c.release.ensures.releases c.release.ensures.others c.release.ensures.right c.holdings.ensures.table checks.Layout c.blame.new.self k c.blame.ensures.right
+    c.in-Some.opening c.in-Some.is (c.differs.ensures.other c.if-differs.true) refl)
+    (λ e. adds_none (IsOtherHeader c.args.geometry.now s.holdings.requests.entries) s.holdings.blamed blamed (ap (λ (x : HoldingsState). x.blamed) e ∙ ap (λ (x : HoldingsState). x.blamed) c.release.ensures.others)) in
+    subst (λ (x : BeginningsState). AddsBlames (IsOtherHeader c.args.geometry.now x.holdings.requests.entries) x.holdings.blamed blamed) c.self.view_is adds
+
+pub returns-clause-causes : goal.returns-clause-causes
+returns-clause-causes c =
+    adds_none (IsOtherHeader c.args.geometry.now c.args.self.now.holdings.requests.entries) c.args.self.now.holdings.blamed c.suspend.new.self.blamed
+    (ap (λ (x : HoldingsState). x.blamed) c.suspend.ensures.others ∙ ap (λ (x : HoldingsState). x.blamed) c.release.ensures.others ∙ ap (λ (x : BeginningsState). x.holdings.blamed) c.self.view_is)

@@ -1,4 +1,4 @@
-use Rattle.std.proofs.Common.{◌≡◌, ◌∙◌, ℕ, ◌<◌, List, length, get_or, Some, false, sym, subst, ap, arith}
+use Rattle.std.proofs.Common.{◌≡◌, ◌∙◌, ℕ, ◌<◌, List, [], ◌∷◌, ◌++◌, length, get_or, Some, false, sym, subst, ap, arith}
 use Rattle.std.proofs.lemmas.Option.{slice_get-get_or, slice_get_within}
 use Rattle.share_opening.specs.Opening.{Advances}
 use Rattle.share_opening.specs.declared.opening.Opening.{Opening}
@@ -10,10 +10,15 @@ use Rattle.share_holdings.specs.declared.holding.Holding.{Holding}
 use Rattle.share_beginnings.specs.Known.{AreBegun}
 use Rattle.share_beginnings.specs.Moves.{Awaits, GoesOn, Rests}
 use Rattle.request_record.specs.Record.{RequestsState}
-use Rattle.share_beginnings.specs.Reads.{IsAnsweredBy}
+use Rattle.share_beginnings.specs.Reads.{AddsReads, IsAnsweredBy, IsInBeginning}
+use Rattle.share_beginnings.specs.Causes.{IsOpeningFault}
+use Rattle.share_holdings.specs.declared.holding.Blame.{Blame}
+use Rattle.request_record.specs.declared.requests.Request.{Request}
+use Rattle.cap_text.specs.Cap.{VerifyCapValue}
 use Rattle.share_beginnings.specs.State.{BeginningsState, IsBegun}
 use Rattle.share_beginnings.specs.declared.begun.Begun.{Begun}
-use Rattle.share_beginnings.proofs.Going.{block_at, blamed_known, blamed_opening, found, gone_opening, goes_on_from, next_unasked, nexts_known, nexts_opening, rested_goes, rested_known, rested_requests}
+use Rattle.share_beginnings.proofs.Going.{block_at, blamed_known, blamed_opening, found, gone_opening, goes_on_from, led_now, next_unasked, nexts_known, nexts_opening, rested_goes, rested_known, rested_requests}
+use Rattle.share_beginnings.proofs.Caused.{adds_none, adds_one, opening_fault, reads_next, reads_none}
 use Rattle.share_beginnings.proofs.Opened.{goes_blamed, goes_next, goes_none}
 use Rattle.share_beginnings.proofs.beginnings.Beginnings.go_on.Goals as goal
 
@@ -125,3 +130,97 @@ returns-in-Ok-Done-clause-block c =
 
 pub returns-in-Ok-Done-clause-goes : goal.returns-in-Ok-Done-clause-goes
 returns-in-Ok-Done-clause-goes c = rested_goes c.args.self.now c.take_waiting.new.self c.args.holding c.requires.known c.take_waiting.ensures.rests
+
+-- ---- what is blamed, and why
+
+abbrev fault : VerifyCapValue → BeginningsState → Blame → Type 0
+fault cap s = IsOpeningFault cap s.holdings.requests.entries
+
+blamed_still : (s w : BeginningsState) (holding : ℕ) → Rests holding s w → w.holdings.blamed ≡ s.holdings.blamed
+blamed_still s w holding rests = ap (λ (x : BeginningsState). x.holdings.blamed) rests.is
+
+pub returns-then-not-holdings-holding-clause-causes : goal.returns-then-not-holdings-holding-clause-causes
+returns-then-not-holdings-holding-clause-causes c =
+    let s = c.args.self.now in
+    adds_none (fault c.args.cap.now s) s.holdings.blamed c.take_waiting.new.self.holdings.blamed (blamed_still s c.take_waiting.new.self c.args.holding c.take_waiting.ensures.rests)
+
+pub returns-in_err-blame-in-Err-clause-causes : goal.returns-in_err-blame-in-Err-clause-causes
+returns-in_err-blame-in-Err-clause-causes c =
+    let s = c.args.self.now in
+    adds_none (fault c.args.cap.now s) s.holdings.blamed c.blame.new.self.blamed
+    (ap (λ (x : HoldingsState). x.blamed) c.in_err-blame-in-Err.ensures.err ∙ ap (λ (x : BeginningsState). x.holdings.blamed) c.self.view_is ∙ blamed_still s c.take_waiting.new.self c.args.holding c.take_waiting.ensures.rests)
+
+pub returns-in_err-ask_next-in-Ok-Next-clause-causes : goal.returns-in_err-ask_next-in-Ok-Next-clause-causes
+returns-in_err-ask_next-in-Ok-Next-clause-causes c =
+    let s = c.args.self.now in
+    adds_none (fault c.args.cap.now s) s.holdings.blamed c.ask_next.new.self.holdings.blamed
+    (ap (λ (x : BeginningsState). x.holdings.blamed) c.in_err-ask_next-in-Ok-Next.ensures.err ∙ blamed_still s c.take_waiting.new.self c.args.holding c.take_waiting.ensures.rests)
+
+pub returns-in_ok-blame-in-Err-clause-causes : goal.returns-in_ok-blame-in-Err-clause-causes
+returns-in_ok-blame-in-Err-clause-causes c =
+    let s = c.args.self.now in
+    let w = c.take_waiting.new.self in
+    let b = c.in_ok-blame-in-Err.ensures.ok in
+    let one : Blame = record { server = b.held.server; share = b.held.share; check = c.check.result } in
+    let same : c.self.inside.holdings ≡ s.holdings = ap (λ (x : BeginningsState). x.holdings) c.self.view_is ∙ ap (λ (x : BeginningsState). x.holdings) c.take_waiting.ensures.rests.is in
+    let a = c.requires.answered in
+    adds_one (fault c.args.cap.now s) s.holdings.blamed c.blame.new.self.blamed one (b.blamed ∙ ap (λ (h : HoldingsState). h.blamed ++ one ∷ []) same)
+    (opening_fault s c.args.holding c.args.place c.in-Some.opening b.held a.0 c.requires.known c.requires.awaits (λ k is. sym c.in-Some.is ∙ c.take_waiting.ensures.opening k is)
+    (subst (λ (h : HoldingsState). IsHolding h.table c.args.holding b.held) same b.is) a.1 c.args.cap.now c.check.result c.in-Err.error
+    (c.in-Err.ensures.refused a.0 (answered_still s w c.args.holding c.args.place c.requires.known c.take_waiting.ensures.rests a.0 a.1)) c.check.ensures)
+
+pub returns-in_ok-ask_next-in-Ok-Next-clause-causes : goal.returns-in_ok-ask_next-in-Ok-Next-clause-causes
+returns-in_ok-ask_next-in-Ok-Next-clause-causes c =
+    let s = c.args.self.now in
+    adds_none (fault c.args.cap.now s) s.holdings.blamed c.ask_next.new.self.holdings.blamed
+    (ap (λ (x : HoldingsState). x.blamed) c.in_ok-ask_next-in-Ok-Next.ensures.asks.asks.2 ∙ blamed_still s c.take_waiting.new.self c.args.holding c.take_waiting.ensures.rests)
+
+pub returns-in-Ok-Done-clause-causes : goal.returns-in-Ok-Done-clause-causes
+returns-in-Ok-Done-clause-causes c =
+    let s = c.args.self.now in
+    adds_none (fault c.args.cap.now s) s.holdings.blamed c.take_waiting.new.self.holdings.blamed (blamed_still s c.take_waiting.new.self c.args.holding c.take_waiting.ensures.rests)
+
+-- ---- what is read
+
+entries_still : (s w : BeginningsState) (holding : ℕ) → Rests holding s w → w.holdings.requests.entries ≡ s.holdings.requests.entries
+entries_still s w holding rests = ap (λ (x : BeginningsState). x.holdings.requests.entries) rests.is
+
+pub returns-then-not-holdings-holding-clause-adds : goal.returns-then-not-holdings-holding-clause-adds
+returns-then-not-holdings-holding-clause-adds c =
+    let w = c.take_waiting.new.self in
+    reads_none (IsInBeginning w.holdings.requests.entries) c.args.self.now.holdings.requests.entries w.holdings.requests.entries (entries_still c.args.self.now w c.args.holding c.take_waiting.ensures.rests)
+
+pub returns-in_err-blame-in-Err-clause-adds : goal.returns-in_err-blame-in-Err-clause-adds
+returns-in_err-blame-in-Err-clause-adds c =
+    let u = c.blame.new.self in
+    reads_none (IsInBeginning u.requests.entries) c.args.self.now.holdings.requests.entries u.requests.entries
+    (ap (λ (x : HoldingsState). x.requests.entries) c.in_err-blame-in-Err.ensures.err ∙ ap (λ (x : BeginningsState). x.holdings.requests.entries) c.self.view_is ∙ entries_still c.args.self.now c.take_waiting.new.self c.args.holding c.take_waiting.ensures.rests)
+
+pub returns-in_err-ask_next-in-Ok-Next-clause-adds : goal.returns-in_err-ask_next-in-Ok-Next-clause-adds
+returns-in_err-ask_next-in-Ok-Next-clause-adds c =
+    let u = c.ask_next.new.self in
+    reads_none (IsInBeginning u.holdings.requests.entries) c.args.self.now.holdings.requests.entries u.holdings.requests.entries
+    (ap (λ (x : BeginningsState). x.holdings.requests.entries) c.in_err-ask_next-in-Ok-Next.ensures.err ∙ entries_still c.args.self.now c.take_waiting.new.self c.args.holding c.take_waiting.ensures.rests)
+
+pub returns-in_ok-blame-in-Err-clause-adds : goal.returns-in_ok-blame-in-Err-clause-adds
+returns-in_ok-blame-in-Err-clause-adds c =
+    let u = c.blame.new.self in
+    reads_none (IsInBeginning u.requests.entries) c.args.self.now.holdings.requests.entries u.requests.entries
+    (ap (λ (x : HoldingsState). x.requests.entries) c.in_ok-blame-in-Err.ensures.ok.others ∙ ap (λ (x : BeginningsState). x.holdings.requests.entries) c.self.view_is ∙ entries_still c.args.self.now c.take_waiting.new.self c.args.holding c.take_waiting.ensures.rests)
+
+pub returns-in_ok-ask_next-in-Ok-Next-clause-adds : goal.returns-in_ok-ask_next-in-Ok-Next-clause-adds
+returns-in_ok-ask_next-in-Ok-Next-clause-adds c =
+    let s = c.args.self.now in
+    let w = c.take_waiting.new.self in
+    let u = c.ask_next.new.self in
+    let awaits = awaits_it s w c.args.holding c.args.place c.in-Some.opening c.requires.awaits (λ b is. sym c.in-Some.is ∙ c.take_waiting.ensures.opening b is) in
+    let a = c.requires.answered in
+    subst (λ (es : List Request). AddsReads (IsInBeginning u.holdings.requests.entries) es u.holdings.requests.entries) (entries_still s w c.args.holding c.take_waiting.ensures.rests)
+    (reads_next w u c.args.holding c.in-Ok-Next.next c.in_ok-ask_next-in-Ok-Next.ensures.asks
+    (led_now s w c.args.holding c.requires.known c.take_waiting.ensures.rests c.requires.opening c.in-Some.opening c.args.place awaits a.0 a.1 c.args.cap.now c.in-Ok-Next.next
+    (subst (λ (p : Progress). Advances c.args.cap.now c.in-Some.opening a.0 p) c.in-Ok-Next.field-0-is (c.in-Ok-Next.ensures.taken a.0 (answered_still s w c.args.holding c.args.place c.requires.known c.take_waiting.ensures.rests a.0 a.1)))))
+
+pub returns-in-Ok-Done-clause-adds : goal.returns-in-Ok-Done-clause-adds
+returns-in-Ok-Done-clause-adds c =
+    let w = c.take_waiting.new.self in
+    reads_none (IsInBeginning w.holdings.requests.entries) c.args.self.now.holdings.requests.entries w.holdings.requests.entries (entries_still c.args.self.now w c.args.holding c.take_waiting.ensures.rests)

@@ -1,4 +1,4 @@
-use Rattle.std.proofs.Common.{◌∙◌, ◌+◌, OnOk, refl, sym, subst, ap}
+use Rattle.std.proofs.Common.{◌≡◌, ◌∙◌, ◌+◌, List, OnOk, refl, sym, subst, ap}
 use Rattle.share_opening.specs.Opening.{next_length, next_place}
 use Rattle.share_opening.specs.declared.opening.Opening.{Opening}
 use Rattle.share_opening.specs.declared.opening.Opening.TheVariants.{Start}
@@ -11,6 +11,9 @@ use Rattle.share_beginnings.specs.Known.{AreBegun}
 use Rattle.share_beginnings.specs.Moves.{AsksNext, GoesOn}
 use Rattle.share_beginnings.specs.Opening.{AreOpening, nobody}
 use Rattle.share_beginnings.specs.State.{BeginningsState}
+use Rattle.request_record.specs.declared.requests.Request.{Request}
+use Rattle.share_beginnings.specs.Reads.{AddsReads, IsInBeginning}
+use Rattle.share_beginnings.proofs.Caused.{reads_next, reads_none}
 use Rattle.share_beginnings.proofs.Opened.{goes_from, goes_next, goes_none, opened_count, opened_known, opened_opening, taken_unasked}
 use Rattle.share_beginnings.proofs.Results.{by_result, on_ok}
 use Rattle.share_beginnings.proofs.beginnings.Beginnings.open.Goals as goal
@@ -88,3 +91,21 @@ returns-clause-goes c =
     (by_result c.ask_next.result _ _ (GoesOn (t c) c.ask_next.new.self) (asked c) c.ask_next.ensures.err
     (λ a. goes_next (t c) c.ask_next.new.self c.args.holding Start a)
     (λ e. goes_none (t c) c.ask_next.new.self (ap (λ (x : BeginningsState). x.holdings.requests) e) (ap (λ (x : BeginningsState). x.holdings.blamed) e))))
+
+pub returns-clause-blamed : goal.returns-clause-blamed
+returns-clause-blamed c =
+    by_result c.ask_next.result _ _ (c.ask_next.new.self.holdings.blamed ≡ c.args.self.now.holdings.blamed) (asked c) c.ask_next.ensures.err
+    (λ a. ap (λ (x : HoldingsState). x.blamed) a.asks.2 ∙ taken c)
+    (λ e. ap (λ (x : BeginningsState). x.holdings.blamed) e ∙ taken c)
+  where
+    taken : (c : goal.After-ask_next) → c.take_up.new.self.blamed ≡ c.args.self.now.holdings.blamed
+    taken c = ap (λ (x : HoldingsState). x.blamed) c.take_up.ensures.others ∙ ap (λ (x : BeginningsState). x.holdings.blamed) c.self.view_is
+
+pub returns-clause-adds : goal.returns-clause-adds
+returns-clause-adds c =
+    let now = c.ask_next.new.self.holdings.requests.entries in
+    let taken : (t c).holdings.requests.entries ≡ c.args.self.now.holdings.requests.entries = ap (λ (x : HoldingsState). x.requests.entries) c.take_up.ensures.others ∙ ap (λ (x : BeginningsState). x.holdings.requests.entries) c.self.view_is in
+    subst (λ (es : List Request). AddsReads (IsInBeginning now) es now) taken
+    (by_result c.ask_next.result _ _ (AddsReads (IsInBeginning now) (t c).holdings.requests.entries now) (asked c) c.ask_next.ensures.err
+    (λ a. reads_next (t c) c.ask_next.new.self c.args.holding Start a (λ h is. tt))
+    (λ e. reads_none (IsInBeginning now) (t c).holdings.requests.entries now (ap (λ (x : BeginningsState). x.holdings.requests.entries) e)))

@@ -1,6 +1,6 @@
 use Rattle.std.proofs.Common.{◌∙◌, inl, inr, refl, sym, subst}
 use Rattle.std.proofs.lemmas.Bool.{false≢true}
-use Rattle.share_beginnings.proofs.beginnings.news_of.Goals as goal
+use Rattle.share_beginnings.proofs.answers.news_of.Goals as goal
 use Rattle.share_beginnings.specs.Moves.{IsNewsOf}
 use Rattle.share_beginnings.specs.declared.beginnings.News.TheVariants as news
 use Rattle.share_holdings.specs.declared.holdings.Heard.{Heard}

@@ -1,0 +1,153 @@
+-- Each blame keeps its cause, and each read its reason, as a download goes on.
+use Rattle.std.proofs.Common.{◌≡◌, ℕ, ◌<◌, inl, inr, List, length, Option, Some, None, sym, ap, subst, ◌∙◌, arith}
+use Rattle.std.specs.Prelude.{slice_get, slice_index_or}
+use Rattle.std.proofs.lemmas.Bool.{cases_lt}
+use Rattle.std.proofs.lemmas.Option.{slice_get-get_or}
+use Rattle.cap_text.specs.Cap.{VerifyCapValue}
+use Rattle.request_record.specs.declared.requests.Asked.TheVariants.{Reading}
+use Rattle.request_record.specs.declared.requests.Request.{Request}
+use Rattle.request_record.specs.Record.{RequestsState}
+use Rattle.share_layout.specs.Geometry.{Geometry}
+use Rattle.share_holdings.specs.declared.holding.Blame.{Blame}
+use Rattle.share_holdings.proofs.Records.{StaysTo}
+use Rattle.share_holdings.proofs.Telling.{append_cases}
+use Rattle.share_beginnings.specs.Causes.{AddsBlames, IsBeginningFault, IsOpeningFault, IsOtherHeader}
+use Rattle.share_beginnings.specs.Moves.{GoesOn}
+use Rattle.share_beginnings.specs.Reads.{AddsReads, IsInBeginning}
+use Rattle.share_beginnings.specs.State.{BeginningsState}
+use Rattle.share_beginnings.proofs.Caused.{adds_as, beginning_stays, fault_stays, opening_fault_stays, reads_none}
+use Rattle.share_beginnings.proofs.Entries.{same_of}
+use Rattle.download_plan.specs.Plan.{IsPlanned}
+use Rattle.download_file.specs.Asked.{IsPlannedRead}
+use Rattle.download_file.specs.State.{FileState}
+use Rattle.download_reading.specs.Causes.{HasCause, IsBlockFault, IsFileAlike}
+use Rattle.download_reading.specs.Steps.{IsReadFor}
+use Rattle.download_reading.proofs.Awaited.{goes_stays}
+use Rattle.download_reading.proofs.Causes.{alike_none, block_moved, part_moved}
+use Rattle.download_core.specs.Causes.{IsCause}
+use Rattle.download_core.specs.Reads.{MayRead}
+use Rattle.download_core.specs.State.{Found}
+use Rattle.download_core.specs.Steps.{IsFair}
+use Rattle.download_core.proofs.Records.{GoesFrom}
+
+-- ---- the record goes on
+
+cause_stays : (cap : VerifyCapValue) (es ns : List Request) (f : Option Found) (b : Blame) → StaysTo es ns → IsCause cap es f b → IsCause cap ns f b
+cause_stays cap es ns None b stays k = opening_fault_stays cap es ns b stays k
+cause_stays cap es ns (Some f) b stays (inl (inl k)) = inl (inl (fault_stays cap f.file.handout.geometry es ns b stays k))
+cause_stays cap es ns (Some f) b stays (inl (inr k)) = inl (inr (part_moved es ns f.file f.file b stays (alike_none f.file) k))
+cause_stays cap es ns (Some f) b stays (inr k) = inr (block_moved es ns f.file f.file b stays (alike_none f.file) k)
+
+may_stay : (es ns : List Request) (f : Option Found) (server share offset len : ℕ) → StaysTo es ns → MayRead es f server share offset len → MayRead ns f server share offset len
+may_stay es ns None server share offset len stays k = beginning_stays es ns server share offset len stays k
+may_stay es ns (Some f) server share offset len stays (inl k) = inl (beginning_stays es ns server share offset len stays k)
+may_stay es ns (Some f) server share offset len stays (inr k) = inr k
+
+pub fair_goes : (cap : VerifyCapValue) (s t : BeginningsState) (f : Option Found) → GoesFrom s.holdings.requests.entries t.holdings.requests.entries → t.holdings.blamed ≡ s.holdings.blamed → IsFair cap s f → IsFair cap t f
+fair_goes cap s t f goes blamed k = record {
+  causes = λ i b is. cause_stays cap s.holdings.requests.entries t.holdings.requests.entries f b goes.stays (k.causes i b (ap (λ (l : List Blame). slice_get l i) (sym blamed) ∙ is));
+  reads = λ place r share offset len there asked. (
+      let was = goes.alike place r there in
+      subst (λ server. MayRead t.holdings.requests.entries f server share offset len) was.of_server
+      (may_stay s.holdings.requests.entries t.holdings.requests.entries f was.request.server share offset len goes.stays (k.reads place was.request share offset len was.there (was.same ∙ asked))));
+}
+
+-- ---- more is asked and blamed
+
+pub fair_grows : (cap : VerifyCapValue) (s t : BeginningsState) (f : Option Found) → GoesOn s t → AddsBlames (IsCause cap t.holdings.requests.entries f) s.holdings.blamed t.holdings.blamed
+    → AddsReads (MayRead t.holdings.requests.entries f) s.holdings.requests.entries t.holdings.requests.entries → IsFair cap s f → IsFair cap t f
+fair_grows cap s t f goes blames reads k = record {
+  causes = λ i b is. elim (append_cases s.holdings.blamed goes.more i b (sym (ap (λ (l : List Blame). slice_get l i) goes.blamed) ∙ is)) [
+    | inl was ↦ cause_stays cap s.holdings.requests.entries t.holdings.requests.entries f b stays (k.causes i b was)
+    | inr new ↦ blames i b is new.0
+  ];
+  reads = λ place r share offset len there asked. elim (cases_lt place (length s.holdings.requests.entries)) [
+    | inl lt ↦ before place r share offset len there asked lt
+    | inr ge ↦ reads place r share offset len there ge asked
+  ];
+}
+  where
+    stays : StaysTo s.holdings.requests.entries t.holdings.requests.entries
+    stays i r there quiet = goes_stays s t goes i r there
+
+    before : (place : ℕ) (r : Request) (share offset len : ℕ) → slice_get t.holdings.requests.entries place ≡ Some r → r.asked ≡ Reading share offset len → place < length s.holdings.requests.entries
+        → MayRead t.holdings.requests.entries f r.server share offset len
+    before place r share offset len there asked lt =
+        let es = s.holdings.requests.entries in
+        let old = slice_index_or es place r in
+        let was : slice_get es place ≡ Some old = slice_get-get_or es place r lt in
+        let same : old ≡ r = same_of (slice_get t.holdings.requests.entries place) old r (goes_stays s t goes place old was) there in
+        may_stay es t.holdings.requests.entries f r.server share offset len stays (k.reads place r share offset len (was ∙ ap Some same) asked)
+
+-- shares are opened
+opening_cause : (cap : VerifyCapValue) (entries : List Request) (f : Option Found) (b : Blame) → IsOpeningFault cap entries b → IsCause cap entries f b
+opening_cause cap entries None b k = k
+opening_cause cap entries (Some f) b k = inl (inl (inl k))
+
+opening_read : (entries : List Request) (f : Option Found) (server share offset len : ℕ) → IsInBeginning entries server share offset len → MayRead entries f server share offset len
+opening_read entries None server share offset len k = k
+opening_read entries (Some f) server share offset len k = inl k
+
+pub fair_opened : (cap : VerifyCapValue) (s t : BeginningsState) (f : Option Found) → GoesOn s t → AddsBlames (IsOpeningFault cap s.holdings.requests.entries) s.holdings.blamed t.holdings.blamed
+    → AddsReads (IsInBeginning t.holdings.requests.entries) s.holdings.requests.entries t.holdings.requests.entries → IsFair cap s f → IsFair cap t f
+fair_opened cap s t f goes blames reads =
+    let now = t.holdings.requests.entries in
+    fair_grows cap s t f goes
+    (λ i b is le. opening_cause cap now f b (opening_fault_stays cap s.holdings.requests.entries now b (λ j r there quiet. goes_stays s t goes j r there) (blames i b is le)))
+    (λ place r share offset len there le asked. opening_read now f r.server share offset len (reads place r share offset len there le asked))
+
+-- ---- an extension block is accepted
+
+fair_found : (cap : VerifyCapValue) (s : BeginningsState) (f : Found) → IsFair cap s None → IsFair cap s (Some f)
+fair_found cap s f k = record {
+  causes = λ i b is. inl (inl (inl (k.causes i b is)));
+  reads = λ place r share offset len there asked. inl (k.reads place r share offset len there asked);
+}
+
+pub fair_accepted : (cap : VerifyCapValue) (s t : BeginningsState) (g : Geometry) (f : Found) → GoesOn s t → t.holdings.requests ≡ s.holdings.requests → f.file.handout.geometry ≡ g
+    → AddsBlames (IsOtherHeader g s.holdings.requests.entries) s.holdings.blamed t.holdings.blamed → IsFair cap s None → IsFair cap t (Some f)
+fair_accepted cap s t g f goes same geometry blames k =
+    let now = t.holdings.requests.entries in
+    fair_grows cap s t (Some f) goes
+    (adds_as (IsOtherHeader g s.holdings.requests.entries) (IsCause cap now (Some f)) s.holdings.blamed t.holdings.blamed
+    (λ b other. inl (inl (inr (subst (λ (x : Geometry). IsOtherHeader x now b) (sym geometry) (subst (λ (r : RequestsState). IsOtherHeader g r.entries b) (sym same) other))))) blames)
+    (reads_none (MayRead now (Some f)) s.holdings.requests.entries now (ap (λ (r : RequestsState). r.entries) same)) (fair_found cap s f k)
+
+-- ---- a file goes on
+
+planned_on : (f g : FileState) (offset len : ℕ) → IsFileAlike f g → IsPlannedRead f offset len → IsPlannedRead g offset len
+planned_on f g offset len same k = record {
+  from = k.from;
+  begins = (let a = k.begins in let b = same.first in omega (arith, a, b));
+  before = (let a = k.before in let b = same.end in omega (arith, a, b));
+  planned = subst (λ (x : Geometry). IsPlanned x k.from g.end offset len) (sym same.geometry) (subst (λ n. IsPlanned f.handout.geometry k.from n offset len) (sym same.end) k.planned);
+}
+
+cause_on : (cap : VerifyCapValue) (es : List Request) (f g : Found) (b : Blame) → IsFileAlike f.file g.file → IsFileAlike g.file f.file → IsCause cap es (Some f) b → IsCause cap es (Some g) b
+cause_on cap es f g b same back (inl (inl k)) = inl (inl (subst (λ (x : Geometry). IsBeginningFault cap x es b) (sym same.geometry) k))
+cause_on cap es f g b same back (inl (inr k)) = inl (inr (part_moved es es g.file f.file b (λ i r there quiet. there) back k))
+cause_on cap es f g b same back (inr k) = inr (block_moved es es g.file f.file b (λ i r there quiet. there) back k)
+
+pub fair_on : (cap : VerifyCapValue) (s : BeginningsState) (f g : Found) → IsFileAlike f.file g.file → IsFileAlike g.file f.file → IsFair cap s (Some f) → IsFair cap s (Some g)
+fair_on cap s f g same back k = record {
+  causes = λ i b is. cause_on cap s.holdings.requests.entries f g b same back (k.causes i b is);
+  reads = λ place r share offset len there asked. read place r share offset len (k.reads place r share offset len there asked);
+}
+  where
+    read : (place : ℕ) (r : Request) (share offset len : ℕ) → MayRead s.holdings.requests.entries (Some f) r.server share offset len → MayRead s.holdings.requests.entries (Some g) r.server share offset len
+    read place r share offset len (inl own) = inl own
+    read place r share offset len (inr planned) = inr (planned_on f.file g.file offset len same planned)
+
+-- parts of a file are asked for
+pub reads_for : (entries : List Request) (f : Found) (old new : List Request) → AddsReads (IsReadFor f.file) old new → AddsReads (MayRead entries (Some f)) old new
+reads_for entries f old new reads place r share offset len there le asked = inr (reads place r share offset len there le asked)
+
+-- what a message brought is refused
+pub heard_fair : (cap : VerifyCapValue) (s t : BeginningsState) (f : Found) → t.holdings.requests ≡ s.holdings.requests → AddsBlames (HasCause cap s.holdings.requests.entries f.file) s.holdings.blamed t.holdings.blamed
+    → AddsBlames (IsCause cap t.holdings.requests.entries (Some f)) s.holdings.blamed t.holdings.blamed
+heard_fair cap s t f same blames i b is le = inl (subst (λ (r : RequestsState). HasCause cap r.entries f.file b) (sym same) (blames i b is le))
+
+-- a block is wrong
+pub made_fair : (cap : VerifyCapValue) (s t : BeginningsState) (f : Found) → AddsBlames (IsBlockFault t.holdings.requests.entries f.file) s.holdings.blamed t.holdings.blamed
+    → AddsBlames (IsCause cap t.holdings.requests.entries (Some f)) s.holdings.blamed t.holdings.blamed
+made_fair cap s t f blames i b is le = inr (blames i b is le)
