@@ -15,6 +15,7 @@ use Rattle.download_source.specs.Cursors.{LeadOn}
 use Rattle.download_source.specs.Source.{IsSource, SourceState, gives_from, new_source}
 use Rattle.download_segments.specs.Handout.{next_segment}
 use Rattle.download_segments.proofs.TreeLemmas.{grow_none}
+use Rattle.segment_groups.proofs.ListLemmas.{one_there}
 use Rattle.download_file.specs.State.{FileState, IsLive, IsReader, ReaderState, shares, waiting_at, waiting_in, waiting_parts}
 use Rattle.download_file.specs.Answers.{HoldsAnswers}
 use Rattle.download_file.specs.Asked.{AsksNoMore}
@@ -22,7 +23,7 @@ use Rattle.download_file.specs.Changes.{IsSameFile, StaysAskedUp, StaysRead}
 use Rattle.download_file.specs.Right.{AreLive, GivesTree, IsFile, IsGroup, IsReaderOf}
 use Rattle.download_file.specs.Steps.{IsBegun}
 use Rattle.download_file.specs.declared.reader.Waiting.{Waiting}
-use Rattle.download_file.proofs.ListLemmas.{get_first, get_pushed, one_there}
+use Rattle.download_file.proofs.ListLemmas.{get_first, get_pushed}
 use Rattle.download_file.proofs.GrowLemmas.{GrowReaders, goes_same, given_stays, group_stays, read_stays}
 use Rattle.download_file.proofs.LiveLemmas.{first_live, rise_push}
 use Rattle.download_file.proofs.StateLemmas.{Follows, KeepsAsks, asked_up_stays, asks_itself, asks_no_more, grows_itself, new_asks_none, same_reader}

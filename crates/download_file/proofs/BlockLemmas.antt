@@ -9,10 +9,10 @@ use Rattle.std.proofs.lemmas.List.Concat.{flat_map-append}
 use Rattle.std.proofs.lemmas.List.Elements.{Contains-push_cases}
 use Rattle.request_record.specs.declared.requests.Request.{Request}
 use Rattle.download_source.specs.Blocks.{IsReady}
+use Rattle.segment_groups.proofs.ListLemmas.{one_there}
 use Rattle.download_file.specs.State.{ReaderState, numbers_of, share_in}
 use Rattle.download_file.specs.Answers.{answer_at, block_in, block_of, blocks_of}
 use Rattle.download_file.specs.Steps.{AreReady}
-use Rattle.download_file.proofs.ListLemmas.{one_there}
 
 pub ready_none : (readers : List ReaderState) (places : List ℕ) (number : ℕ) → AreReady readers (take 0 places) number
 ready_none readers places number place r among there = absurd (let k = among.1 in omega (arith, k))

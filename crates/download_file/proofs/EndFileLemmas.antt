@@ -20,13 +20,14 @@ use Rattle.download_source.proofs.SourceLemmas.{gives_source}
 use Rattle.download_segments.specs.Handout.{next_segment}
 use Rattle.download_segments.specs.State.{IsHandout}
 use Rattle.download_segments.proofs.TreeLemmas.{grow_none}
+use Rattle.segment_groups.proofs.ListLemmas.{one_there}
 use Rattle.download_file.specs.State.{FileState, IsLive, IsReader, ReaderState, giver, shares, waiting_at, waiting_in, waiting_parts, without}
 use Rattle.download_file.specs.Answers.{HoldsAnswers}
 use Rattle.download_file.specs.Asked.{AsksNoMore}
 use Rattle.download_file.specs.Changes.{IsSameFile, OthersWait, StaysAskedUp, StaysGiven, StaysRead}
 use Rattle.download_file.specs.Right.{AreConsecutive, AreLive, IsFile, IsGroup, IsReaderOf, made_end}
 use Rattle.download_file.specs.Steps.{AsksNoTree, CanGive, EndsReader, giving, stopped}
-use Rattle.download_file.proofs.ListLemmas.{All-from_contains, get_cases, get_other, get_set, map_set, one_there, set_again, set_cases, set_same, waiting_set}
+use Rattle.download_file.proofs.ListLemmas.{All-from_contains, get_cases, get_other, get_set, map_set, set_again, set_cases, set_same, waiting_set}
 use Rattle.download_file.proofs.GrowLemmas.{GoesOn, GrowReaders, goes_same, given_stays, group_stays, read_stays, reader_there}
 use Rattle.download_file.proofs.LiveLemmas.{first_least, first_live, first_stays, from_without, length-without, rise_without, something_first}
 use Rattle.download_file.proofs.StateLemmas.{Follows, SameAsks, asked_up_stays, asks_itself, asks_no_more, grows_itself, reader_stays, same_reader}

@@ -14,11 +14,12 @@ use Rattle.download_source.proofs.LawLemmas.{joined_long}
 use Rattle.download_segments.specs.Decoding.{AreShareNumbers, blocks_in}
 use Rattle.download_segments.specs.State.{HandoutState, ProvesSegment}
 use Rattle.download_segments.proofs.DecodingLemmas.{unique}
-use Rattle.download_file.specs.State.{FileState, GroupState, ReaderState, share_in}
+use Rattle.segment_groups.specs.State.{GroupState, segments_in}
+use Rattle.download_file.specs.State.{FileState, ReaderState, share_in}
 use Rattle.download_file.specs.Answers.{AnsweredWith, HoldsAnswers, IsMade, IsRead, answer_at, block_in, block_of, blocks_of}
 use Rattle.download_segments.specs.Handout.{next_segment}
 use Rattle.download_file.specs.Right.{AreConsecutive, IsFile, IsGroup, made_end}
-use Rattle.download_file.specs.Steps.{AreOfFile, HasBlock, IsMadeGroup, segments_in}
+use Rattle.download_file.specs.Steps.{AreOfFile, HasBlock, IsMadeGroup}
 use Rattle.download_file.proofs.ListLemmas.{All-from_contains, first_in, more_in}
 use Rattle.download_file.proofs.GrowLemmas.{answer_is, reader_there}
 use Rattle.download_file.proofs.LiveLemmas.{cons_cases, none_in}

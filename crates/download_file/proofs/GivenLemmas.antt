@@ -5,7 +5,8 @@ use Rattle.share_layout.specs.Geometry.{segment_count}
 use Rattle.download_segments.specs.Pieces.{IsSlice}
 use Rattle.download_segments.specs.State.{ProvesSegment}
 use Rattle.download_segments.proofs.KnownLemmas.{known_inputs, known_segment}
-use Rattle.download_file.specs.State.{FileState, GroupState}
+use Rattle.segment_groups.specs.State.{GroupState}
+use Rattle.download_file.specs.State.{FileState}
 use Rattle.download_file.specs.Hashed.{GivenAreHashed, node, segment}
 use Rattle.download_file.specs.Right.{IsFile, made_end}
 use Rattle.download_file.proofs.EvidenceLemmas.{groups_within, made_within}

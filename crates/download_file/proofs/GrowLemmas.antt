@@ -15,12 +15,14 @@ use Rattle.download_segments.specs.Pieces.{IsSlice}
 use Rattle.download_segments.specs.State.{HandoutState, TreesGrow}
 use Rattle.download_segments.specs.declared.piece.Piece.{Piece}
 use Rattle.download_segments.proofs.TreeLemmas.{proved_stays}
-use Rattle.download_file.specs.State.{FileState, GroupState, ReaderState, numbers_of, share_in}
+use Rattle.segment_groups.specs.State.{GroupState}
+use Rattle.segment_groups.proofs.ListLemmas.{one_there}
+use Rattle.download_file.specs.State.{FileState, ReaderState, numbers_of, share_in}
 use Rattle.download_file.specs.Answers.{AnsweredWith, HoldsAnswers, IsAnswered, IsGivenBy, IsMade, IsRead, KeepsAnswers, answer_at, block_in, block_of, blocks_of, bytes_in, bytes_of}
 use Rattle.download_file.specs.Changes.{IsSameFile, StaysGiven}
 use Rattle.download_file.specs.Laws.{GivenStays, ReadsStay}
 use Rattle.download_file.specs.Right.{IsGroup}
-use Rattle.download_file.proofs.ListLemmas.{first_in, more_in, one_there}
+use Rattle.download_file.proofs.ListLemmas.{first_in, more_in}
 
 -- ---- lists
 

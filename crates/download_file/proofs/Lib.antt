@@ -13,6 +13,8 @@ pub mod EndFileLemmas
 pub mod WantedLemmas
 pub mod EvidenceLemmas
 pub mod WaitLemmas
+pub mod PatienceLemmas
+pub mod ManyLemmas
 pub mod MakeLemmas
 pub mod SegmentLemmas
 pub mod RowLemmas

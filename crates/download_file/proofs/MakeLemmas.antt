@@ -22,11 +22,12 @@ use Rattle.download_segments.specs.NoCodeWord.{IsBlockBy, IsNoCodeWord}
 use Rattle.download_segments.specs.State.{RefutesSegment}
 use Rattle.download_segments.proofs.DecodingLemmas.{length-pieces}
 use Rattle.download_segments.proofs.LawLemmas.{blocks_lead, no_code_words}
+use Rattle.segment_groups.specs.Making.{nth_block}
 use Rattle.download_file.specs.State.{FileState, IsLive, ReaderState, numbers_of, share_in}
 use Rattle.download_file.specs.Answers.{IsRead, block_in, block_of, blocks_of}
 use Rattle.download_file.specs.Making.{RefutesReader}
 use Rattle.download_file.specs.Right.{IsFile}
-use Rattle.download_file.specs.Steps.{AreOfFile, AreProved, AreReady, HasBlock, IsWrong, nth_block}
+use Rattle.download_file.specs.Steps.{AreOfFile, AreProved, AreReady, HasBlock, IsWrong}
 use Rattle.download_file.proofs.ListLemmas.{All-from_contains, contains_at, first_in, from_map, get_unmapped, more_in}
 use Rattle.download_file.proofs.GrowLemmas.{reader_there}
 use Rattle.download_file.proofs.LiveLemmas.{rise_order}

@@ -11,14 +11,17 @@ use Rattle.download_segments.specs.Handout.{IsRowWanted, first_handed_out, hande
 use Rattle.download_segments.specs.State.{HandoutState, IsHandout}
 use Rattle.download_segments.proofs.HandoutLemmas.{valid_of}
 use Rattle.download_segments.proofs.RowLemmas.{IsRowState, row_length, row_state, row_there, still_proved}
-use Rattle.download_file.specs.State.{FileState, GroupState}
+use Rattle.segment_groups.specs.Making.{MakesRow, MakesSegment, nth}
+use Rattle.segment_groups.specs.State.{GroupState, IsLast, with_end}
+use Rattle.segment_groups.proofs.ListLemmas.{one_there}
+use Rattle.download_file.specs.State.{FileState}
 use Rattle.download_file.specs.Answers.{IsRead}
 use Rattle.download_file.specs.Changes.{IsSameFile, StaysAskedUp}
 use Rattle.download_file.specs.Making.{MakesNext, MakesSegments}
 use Rattle.download_file.specs.Right.{IsFile, IsGroup}
-use Rattle.download_file.specs.Rows.{HasRow, HaveRow, IsRow, MakesRow, nth}
-use Rattle.download_file.specs.Steps.{AreReady, IsLast, MakesSegment, with_end}
-use Rattle.download_file.proofs.ListLemmas.{contains_at, get_set, one_there, set_again, set_same}
+use Rattle.download_file.specs.Rows.{HasRow, HaveRow, IsRow}
+use Rattle.download_file.specs.Steps.{AreReady}
+use Rattle.download_file.proofs.ListLemmas.{contains_at, get_set, set_again, set_same}
 use Rattle.download_file.proofs.GrowLemmas.{grow_same, group_stays}
 use Rattle.download_file.proofs.MakeLemmas.{all_long, live_blocks}
 use Rattle.download_file.proofs.SegmentLemmas.{HasGroups, HasLast, HasMade, has_groups, has_made, last_end, raise_last}

@@ -16,13 +16,16 @@ use Rattle.download_segments.specs.State.{HandoutState, IsHandout}
 use Rattle.download_segments.specs.declared.piece.Piece.{Piece}
 use Rattle.download_segments.proofs.HandoutLemmas.{next_is, next_follows, next_slice, valid_of}
 use Rattle.download_segments.proofs.TreeLemmas.{grow_none}
-use Rattle.download_file.specs.State.{FileState, GroupState}
+use Rattle.segment_groups.specs.Making.{MakesSegment}
+use Rattle.segment_groups.specs.State.{GroupState, IsLast, new_group, with_end}
+use Rattle.segment_groups.proofs.ListLemmas.{one_there}
+use Rattle.download_file.specs.State.{FileState, numbers_of}
 use Rattle.download_file.specs.Answers.{IsGivenBy, IsMade, IsMadeSegment, IsRead, blocks_of}
 use Rattle.download_file.specs.Changes.{IsSameFile, StaysAskedUp, StaysGiven}
 use Rattle.download_file.specs.Making.{MakesNext}
 use Rattle.download_file.specs.Right.{AreConsecutive, IsFile, IsGroup, made_end}
-use Rattle.download_file.specs.Steps.{AreReady, BeginsGroup, IsLast, MakesSegment, empty_group, with_end}
-use Rattle.download_file.proofs.ListLemmas.{at_contained, contains_at, get_cases, get_last, get_set, one_there, set_cases}
+use Rattle.download_file.specs.Steps.{AreReady, BeginsGroup}
+use Rattle.download_file.proofs.ListLemmas.{at_contained, contains_at, get_cases, get_last, get_set, set_cases}
 use Rattle.download_file.proofs.GrowLemmas.{grow_same, group_stays, made_stays}
 use Rattle.download_file.proofs.MakeLemmas.{live_numbers}
 use Rattle.download_file.proofs.StateLemmas.{Follows, asked_up_stays, grows_itself, same_reader}
@@ -81,7 +84,7 @@ has_last f number groups is next enough (inl same) =
     some_in [] k g e = absurd cc
     some_in (h ∷ hs) k g e = omega arith
 has_last f number groups is next enough (inr pushed) =
-    let g : GroupState = empty_group f.handout.geometry f.readers f.live number in
+    let g : GroupState = new_group f.handout.geometry f.live (numbers_of f.readers f.live) number in
     let was : AreConsecutive f.first f.groups number = subst (AreConsecutive f.first f.groups) (ap (λ (o : Option ℕ). unwrap_or o f.end) next) is.in_order in
     let long : length (f.groups ++ g ∷ []) ≡ length f.groups + 1 = length-append f.groups (g ∷ []) in
     subst (λ (gs : List GroupState). HasLast f number gs) (sym pushed) (record {

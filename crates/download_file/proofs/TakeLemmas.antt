@@ -19,6 +19,7 @@ use Rattle.download_source.specs.declared.cursors.Cursors.{Cursors}
 use Rattle.download_source.proofs.CursorLemmas.{piece_next}
 use Rattle.download_source.proofs.LawLemmas.{first_due}
 use Rattle.download_segments.specs.State.{HandoutState, with_trees}
+use Rattle.segment_groups.proofs.ListLemmas.{one_there}
 use Rattle.download_file.specs.State.{FileState, IsLive, ReaderState, first_place, first_waiting, giver, shares, waiting_at, waiting_in, waiting_parts}
 use Rattle.download_file.specs.Answers.{AnsweredWith, HoldsAnswers, IsAnswered, IsRead}
 use Rattle.download_file.specs.Asked.{AsksNoMore}
@@ -26,7 +27,7 @@ use Rattle.download_file.specs.Changes.{IsSameFile, OthersWait, StaysAskedUp}
 use Rattle.download_file.specs.Right.{AreLive, GivesTree, IsFile, IsGroup, IsReaderOf}
 use Rattle.download_file.specs.Steps.{IsTaker, KnowsPart, TakesPart, held_with, taken_with}
 use Rattle.download_file.specs.declared.reader.Waiting.{Waiting}
-use Rattle.download_file.proofs.ListLemmas.{get_cases, get_other, get_set, map_set, one_there, set_cases, set_same}
+use Rattle.download_file.proofs.ListLemmas.{get_cases, get_other, get_set, map_set, set_cases, set_same}
 use Rattle.download_file.proofs.GrowLemmas.{GoesOn, GrowReaders, goes_same, given_stays, group_stays, read_stays}
 use Rattle.download_file.proofs.LiveLemmas.{live_giver}
 use Rattle.download_file.proofs.StateLemmas.{Follows, GrowsAsks, KeepsAsks, SameAsks, StillAsks, asked_up_stays, asks_itself, asks_no_more, grows_itself, reader_stays, same_asks, same_reader}

@@ -18,6 +18,7 @@ use Rattle.download_source.specs.declared.wanted.Wanted.{Wanted}
 use Rattle.download_source.proofs.LawLemmas.{lead_append, parts_apart, plans_grow}
 use Rattle.download_segments.specs.Handout.{next_segment}
 use Rattle.download_segments.proofs.TreeLemmas.{grow_none}
+use Rattle.segment_groups.proofs.ListLemmas.{one_there}
 use Rattle.download_file.specs.State.{FileState, IsLive, IsReader, ReaderState, giver, placed, shares, waiting_at, waiting_in, waiting_parts}
 use Rattle.download_file.specs.Answers.{HoldsAnswers}
 use Rattle.download_file.specs.Asked.{AsksParts, HasAsked, IsAskedUp, IsOneOf, IsPlannedRead}
@@ -25,7 +26,7 @@ use Rattle.download_file.specs.Changes.{IsSameFile, OthersWait, StaysAskedUp, St
 use Rattle.download_file.specs.Right.{AreLive, IsFile, IsGroup, IsReaderOf}
 use Rattle.download_file.specs.Steps.{Asks, AsksNoTree}
 use Rattle.download_file.specs.declared.reader.Waiting.{Waiting}
-use Rattle.download_file.proofs.ListLemmas.{All-from_contains, contains_map, first_in, from_map, get_cases, get_other, get_set, map_set, more_in, one_there, set_cases}
+use Rattle.download_file.proofs.ListLemmas.{All-from_contains, contains_map, first_in, from_map, get_cases, get_other, get_set, map_set, more_in, set_cases}
 use Rattle.download_file.proofs.GrowLemmas.{GoesOn, GrowReaders, goes_same, given_stays, group_stays, read_stays}
 use Rattle.download_file.proofs.LiveLemmas.{cons_cases, none_in}
 use Rattle.download_file.proofs.StateLemmas.{Follows, GrowsAsks, asked_up_stays, ciphertext_back, grows_itself, reader_stays, same_reader, wanted_back}

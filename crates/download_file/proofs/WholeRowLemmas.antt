@@ -15,13 +15,15 @@ use Rattle.download_segments.specs.State.{HandoutState, ProvesSegment}
 use Rattle.download_segments.proofs.DecodingLemmas.{unique}
 use Rattle.download_segments.proofs.HandoutLemmas.{valid_of}
 use Rattle.download_segments.proofs.RowLemmas.{row_there}
-use Rattle.download_file.specs.State.{FileState, GroupState, IsLive, IsReader, ReaderState, numbers_of}
+use Rattle.segment_groups.specs.Making.{DecodesRow, MakesRow, RefutesRow, nth, nth_block}
+use Rattle.segment_groups.specs.State.{GroupState, IsLast}
+use Rattle.segment_groups.proofs.ListLemmas.{one_there}
+use Rattle.download_file.specs.State.{FileState, IsLive, IsReader, ReaderState, numbers_of}
 use Rattle.download_file.specs.Answers.{block_of, blocks_of}
 use Rattle.download_file.specs.Making.{CanMakeRow, IsWholeRow}
 use Rattle.download_file.specs.Right.{IsGroup}
-use Rattle.download_file.specs.Rows.{AreRowsProved, DecodesRow, HasRow, IsRow, MakesRow, RefutesRow, nth}
-use Rattle.download_file.specs.Steps.{IsLast, nth_block}
-use Rattle.download_file.proofs.ListLemmas.{at_contained, contains_at, one_there}
+use Rattle.download_file.specs.Rows.{AreRowsProved, HasRow, IsRow}
+use Rattle.download_file.proofs.ListLemmas.{at_contained, contains_at}
 use Rattle.download_file.proofs.MakeLemmas.{live_numbers, nth_own}
 use Rattle.download_file.proofs.RowFileLemmas.{HasRowBlocks, its_size, row_enough, row_ready}
 use Rattle.download_file.proofs.SegmentLemmas.{HasLast}

@@ -16,7 +16,8 @@ use Rattle.download_segments.specs.Decoding.{blocks_in}
 use Rattle.download_segments.specs.Pieces.{IsSlice}
 use Rattle.download_segments.specs.State.{HandoutState, ProvesSegment}
 use Rattle.download_segments.specs.declared.piece.Piece.{Piece}
-use Rattle.download_file.specs.State.{FileState, GroupState, IsReader, ReaderState}
+use Rattle.segment_groups.specs.State.{GroupState}
+use Rattle.download_file.specs.State.{FileState, IsReader, ReaderState}
 
 -- the answer to the request at a place is these bytes
 pub record AnsweredWith (entries : List Request) (place : ℕ) (bytes : List ℕ) : Type 0 where

@@ -1,7 +1,8 @@
 -- What becomes of the next segment of a file.
-use Rattle.std.specs.Prelude.{◌≡◌, ◌⊎◌, ℕ, zero, suc, ◌+◌, ◌<◌, List, [], length, Some}
-use Rattle.std.specs.Prelude.{slice_index_or}
+use Rattle.std.specs.Prelude.{◌≡◌, ◌⊎◌, ℕ, zero, suc, ◌+◌, ◌*◌, ◌<◌, ◌≤◌, List, [], Contains}
+use Rattle.std.specs.Prelude.{Some, length, slice_get, slice_index_or}
 use Rattle.request_record.specs.declared.requests.Request.{Request}
+use Rattle.share_layout.specs.Geometry.{Geometry}
 use Rattle.share_layout.specs.Pieces.{block_length}
 use Rattle.merkle.specs.Partial.{PartialState}
 use Rattle.download_trees.specs.Trees.{RefutesBlock}
@@ -12,7 +13,7 @@ use Rattle.download_segments.specs.Decoding.{blocks_in}
 use Rattle.download_segments.specs.Handout.{IsRowWanted, ProvesRow, handed_out, next_segment}
 use Rattle.download_segments.specs.State.{ProvesSegment}
 use Rattle.download_file.specs.State.{FileState, IsComplete, IsLive, IsReader, ReaderState}
-use Rattle.download_file.specs.State.{first_waiting, numbers_of}
+use Rattle.download_file.specs.State.{first_place, first_waiting, numbers_of}
 use Rattle.download_file.specs.Answers.{block_of, blocks_of}
 use Rattle.download_file.specs.Asked.{IsAskedUp}
 
@@ -28,6 +29,33 @@ pub record SomeWaits (f : FileState) : Type 0 where
 abbrev pub CanNotGoOn : FileState → Type 0
 CanNotGoOn f = IsComplete f ⊎ (length f.live < f.handout.geometry.needed)
     ⊎ (((reader : ℕ) → IsLive f reader → IsAskedUp f reader) → SomeWaits f)
+
+-- So many bytes of segments are asked ahead. Where segments are so short that these are two rows of
+-- eight, a row can be awaited while others are asked.
+abbrev pub window : ℕ
+window = 4194304
+
+abbrev pub AreRowsAsked : Geometry → Type 0
+AreRowsAsked g = 16 * g.segment_size ≤ window
+
+-- a reader that is read has not its block of a segment, and something waits of it
+pub record AwaitsBlock (readers : List ReaderState) (live : List ℕ) (number : ℕ) : Type 0 where
+  pub reader : ℕ
+  pub among : Contains live reader
+  pub r : ReaderState
+  pub there : slice_get readers reader ≡ Some r
+  pub lacks : ¬ IsReady r.source number
+  pub place : ℕ
+  pub first : first_place r.waiting ≡ Some place
+
+-- Eight segments from the next on are wanted, each to its end, and are on their way: a block of the
+-- eighth is waited for.
+pub record AwaitsRow (f : FileState) : Type 0 where
+  pub asked : AreRowsAsked f.handout.geometry
+  pub number : ℕ
+  pub next : next_segment f.handout ≡ Some number
+  pub wanted : IsRowWanted f.handout number
+  pub awaits : AwaitsBlock f.readers f.live (number + 7)
 
 -- the block of the next segment, of the answers that a reader holds, is not the one whose hash the
 -- reader's block tree tells
@@ -56,6 +84,10 @@ unfoldable pub MakesSegments : ℕ → FileState → FileState → Type 0
 MakesSegments zero old new = new.handout ≡ old.handout
 MakesSegments (suc n) old new =
     (between : FileState) × MakesSegments n old between × MakesNext between new
+
+-- pieces of the next segment are made, or of the next eight
+abbrev pub MakesPieces : FileState → FileState → Type 0
+MakesPieces old new = MakesNext old new ⊎ MakesSegments 8 old new
 
 -- The block of a segment that a reader holds is the one whose hash its block tree tells.
 pub record HasRightBlock (entries : List Request) (r : ReaderState) (number : ℕ) : Type 0 where

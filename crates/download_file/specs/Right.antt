@@ -13,7 +13,8 @@ use Rattle.download_source.specs.Source.{IsSource}
 use Rattle.download_segments.specs.Decoding.{IsDecoding}
 use Rattle.download_segments.specs.Handout.{next_segment}
 use Rattle.download_segments.specs.State.{HandoutState, IsHandout}
-use Rattle.download_file.specs.State.{FileState, GroupState, IsLive, IsReader, ReaderState}
+use Rattle.segment_groups.specs.State.{GroupState}
+use Rattle.download_file.specs.State.{FileState, IsLive, IsReader, ReaderState}
 use Rattle.download_file.specs.State.{giver, numbers_of, waiting_parts}
 
 -- It reads one share of this file, by the plan of the download, from a segment on that is not

@@ -6,8 +6,8 @@ use Rattle.share_layout.specs.Geometry.{Geometry}
 use Rattle.download_plan.specs.declared.part.Part.{Part}
 use Rattle.download_source.specs.Source.{SourceState}
 use Rattle.download_source.specs.declared.wanted.Wanted.{Wanted}
-use Rattle.download_segments.specs.Decoding.{DecodingState}
 use Rattle.download_segments.specs.State.{HandoutState, starting_handout}
+use Rattle.segment_groups.specs.State.{GroupState}
 use Rattle.download_file.specs.declared.reader.Waiting.{Waiting}
 
 -- A share that is read. What waits are the parts that were asked of it and not taken yet, in order,
@@ -16,13 +16,6 @@ pub record ReaderState : Type 0 where
   pub share : ℕ
   pub source : SourceState
   pub waiting : List Waiting
-
--- the segments `first` to before `end` were made of the blocks of these readers, in this order
-pub record GroupState : Type 0 where
-  pub first : ℕ
-  pub end : ℕ
-  pub readers : List ℕ
-  pub decoding : DecodingState
 
 -- The segments `first` to before `end` are wanted. `taken`: how many pieces of each level of the
 -- ciphertext tree were taken. `readers`: all readers, in the order in which they were begun.

@@ -1,14 +1,12 @@
 -- Words of private clauses: readers and groups of a list.
-use Rattle.std.specs.Prelude.{◌≡◌, ◌≢◌, ◌⊎◌, ℕ, ◌+◌, ◌-◌, ◌*◌, ◌<◌, ◌≤◌, List, [], ◌∷◌, ◌++◌}
-use Rattle.std.specs.Prelude.{length, take, drop, map, Some, None, slice_get, slice_set}
+use Rattle.std.specs.Prelude.{◌≡◌, ◌≢◌, ◌⊎◌, ℕ, ◌+◌, ◌<◌, ◌≤◌, List, [], ◌∷◌, ◌++◌}
+use Rattle.std.specs.Prelude.{length, drop, map, Some, None, slice_get, slice_set}
 use Rattle.std.specs.Prelude.{All, Contains, Bool, IfSome, IsSome, is_some, true}
 use Rattle.merkle.specs.Partial.{PartialState, known_at}
-use Rattle.std.specs.List.{range_with_len}
 use Rattle.ueb.specs.Shape.{Contents}
 use Rattle.request_record.specs.declared.requests.Request.{Request}
 use Rattle.share_layout.specs.Geometry.{Geometry, segment_count}
 use Rattle.share_layout.specs.Pieces.{block_length}
-use Rattle.proved_parts.specs.Decoding.{DecodesBlocks}
 use Rattle.proved_parts.specs.Parts.{IsSegmentBy}
 use Rattle.proved_parts.specs.declared.evidence.EvidencePart.{EvidencePart}
 use Rattle.download_plan.specs.Plan.{IsNodePiece}
@@ -24,11 +22,11 @@ use Rattle.download_source.specs.Laws.{KnowsPiece}
 use Rattle.download_source.specs.Source.{IsSource, SourceState, gives_from}
 use Rattle.download_source.specs.Taking.{IsDue, IsProved}
 use Rattle.download_source.specs.declared.wanted.Wanted.{Wanted}
-use Rattle.download_segments.specs.Decoding.{blocks_in}
-use Rattle.download_segments.specs.Handout.{handed_out}
-use Rattle.download_segments.specs.State.{HandoutState, IsHandout, ProvesSegment}
-use Rattle.download_segments.specs.State.{RefutesSegment, TreesGrow, with_trees}
-use Rattle.download_file.specs.State.{GroupState, ReaderState, numbers_of, without}
+use Rattle.download_segments.specs.State.{HandoutState, IsHandout}
+use Rattle.download_segments.specs.State.{TreesGrow, with_trees}
+use Rattle.segment_groups.specs.Making.{nth_block}
+use Rattle.segment_groups.specs.State.{GroupState, IsLast, new_group}
+use Rattle.download_file.specs.State.{ReaderState, numbers_of, without}
 use Rattle.download_file.specs.Answers.{HoldsAnswers, IsMade}
 use Rattle.download_file.specs.Right.{IsGroup}
 use Rattle.download_file.specs.declared.reader.Waiting.{Waiting}
@@ -52,10 +50,6 @@ pub record HasBlock (readers : List ReaderState) (number len place : ℕ) : Type
   pub there : slice_get readers place ≡ Some r
   pub held : IsHeld r.source number
   pub long : len ≡ block_length r.source.geometry number
-
--- the block of this number, of blocks of one length that stand one after another
-abbrev pub nth_block : List ℕ → ℕ → ℕ → List ℕ
-nth_block joined len k = take len (drop (k * len) joined)
 
 -- of so many readers from the first on each has its block among these
 abbrev pub AreProved : List ReaderState → List ℕ → ℕ → List ℕ → ℕ → ℕ → Type 0
@@ -82,29 +76,12 @@ pub record AreOfFile (entries : List Request) (g : Geometry) (readers : List Rea
   pub held : (place : ℕ) (r : ReaderState) → slice_get readers place ≡ Some r
       → HoldsAnswers entries r.source
 
--- the last of these groups
-abbrev pub IsLast : List GroupState → GroupState → Type 0
-IsLast groups group = slice_get groups (length groups - 1) ≡ Some group
-
--- a group of the readers at these places that no segment was made of yet
-abbrev pub empty_group : Geometry → List ReaderState → List ℕ → ℕ → GroupState
-empty_group g readers places number = record {
-  first = number;
-  end = number;
-  readers = places;
-  decoding = record { geometry = g; numbers = numbers_of readers places };
-}
-
 -- the last group is of the readers at these places: it was, or such a group is added
 abbrev pub BeginsGroup : List GroupState → Geometry → List ReaderState → List ℕ → ℕ
     → List GroupState → Type 0
 BeginsGroup old g readers places number new =
     ((new ≡ old) × (group : GroupState) × IsLast old group × (group.readers ≡ places))
-    ⊎ (new ≡ old ++ empty_group g readers places number ∷ [])
-
--- the last group has one segment more
-abbrev pub with_end : GroupState → ℕ → GroupState
-with_end group end = record group { end = end }
+    ⊎ (new ≡ old ++ new_group g places (numbers_of readers places) number ∷ [])
 
 -- the reader where nothing waits of it, and where it gives the ciphertext tree
 abbrev pub stopped : ReaderState → ReaderState
@@ -112,32 +89,6 @@ stopped r = record r { waiting = [] }
 
 abbrev pub giving : ReaderState → List ℕ → ReaderState
 giving r taken = record r { source = gives_from r.source taken }
-
--- The last group has one segment more, which is handed out: what its blocks decode to, and proved.
-pub record MakesSegment (h : HandoutState) (groups : List GroupState) (number : ℕ)
-    (joined : List ℕ) (h' : HandoutState) (groups' : List GroupState) : Type 0 where
-  pub group : GroupState
-  pub last : IsLast groups group
-  pub segment : List ℕ
-  pub decodes : DecodesBlocks group.decoding.geometry group.decoding.numbers
-      (blocks_in group.decoding.geometry number joined) number segment
-  pub proved : ProvesSegment h number segment
-  pub handed : h' ≡ handed_out h segment
-  pub groups_are : groups' ≡ slice_set groups (length groups - 1) (with_end group (number + 1))
-
--- the blocks decode to a segment that is refuted
-pub record RefutesBlocks (h : HandoutState) (groups : List GroupState) (number : ℕ)
-    (joined : List ℕ) : Type 0 where
-  pub group : GroupState
-  pub last : IsLast groups group
-  pub segment : List ℕ
-  pub decodes : DecodesBlocks group.decoding.geometry group.decoding.numbers
-      (blocks_in group.decoding.geometry number joined) number segment
-  pub refuted : RefutesSegment h number segment
-
--- the numbers of the segments of these groups
-abbrev pub segments_in : GroupState → List ℕ
-segments_in group = range_with_len group.first (group.end - group.first)
 
 -- the numbers of the parts
 abbrev pub part_numbers : List EvidencePart → List ℕ

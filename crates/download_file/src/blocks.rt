@@ -1,11 +1,12 @@
 //! The blocks of a segment, of the answers in the record.
 
-ghost use Rattle.std.specs.Prelude.{◌≡◌, ◌<◌, ◌++◌, ◌*◌, ℕ, All, Contains, IfOk, IfSome, IsNone};
+ghost use Rattle.std.specs.Prelude.{◌≡◌, ◌<◌, ◌++◌, ◌*◌, All, IfOk, IfSome, IsNone};
 ghost use Rattle.std.specs.Prelude.{IsTrue, OnOk, false, length};
 ghost use Rattle.share_layout.specs.Geometry.{segment_count};
 ghost use Rattle.share_layout.specs.Pieces.{block_length};
 ghost use Rattle.download_source.specs.Blocks.{IsHeld};
 ghost use Rattle.download_file.specs.Answers.{answer_at, block_of, blocks_of};
+ghost use Rattle.download_file.specs.Making.{AwaitsBlock};
 ghost use Rattle.download_file.specs.Steps.{AreProved, AreReady, HasAll, HasBlock, IsNotReady};
 ghost use Rattle.download_file.specs.Steps.{IsWrong, LacksSome};
 
@@ -136,4 +137,19 @@ pub(crate) fn has_all(handout: &Handout, readers: &[Reader], live: &[usize], num
     live.len() == usize::from(handout.geometry().needed())
         && handout.knows(number)
         && are_ready(readers, live, number)
+}
+
+/// Whether one of the readers at these places has not its block of a segment, and something waits
+/// of it.
+pub(crate) fn awaits_block(readers: &[Reader], live: &[usize], number: u32) -> bool
+    requires { All (λ place. place < length readers.now) live.now }
+    ensures { IsTrue result → AwaitsBlock readers.now live.now number }
+{
+    for place in live {
+        let reader = &readers[*place];
+        if reader.first_place().is_some() && !reader.source().is_ready(number) {
+            return true;
+        }
+    }
+    false
 }

@@ -1,20 +1,20 @@
 //! What proves the segments that were made, from the answers in the record.
 
-ghost use Rattle.std.specs.Prelude.{◌≡◌, ◌≤◌, ◌<◌, ◌++◌, ◌-◌, All, IfOk, OnOk, length, map};
-ghost use Rattle.std.specs.List.{flat_map, range_with_len};
+ghost use Rattle.std.specs.Prelude.{◌≡◌, ◌<◌, ◌++◌, ◌-◌, All, IfOk, OnOk};
+ghost use Rattle.std.specs.List.{flat_map};
 ghost use Rattle.share_layout.specs.Geometry.{segment_count};
 ghost use Rattle.proved_parts.specs.Parts.{IsSegmentBy};
+ghost use Rattle.segment_groups.specs.State.{segments_in};
 ghost use Rattle.download_file.specs.Answers.{IsMade};
 ghost use Rattle.download_file.specs.Right.{IsGroup};
 ghost use Rattle.download_file.specs.Steps.{AreOfFile, AreSegmentsBy, IsMadeGroup, part_numbers};
-ghost use Rattle.download_file.specs.Steps.{segments_in};
 
 use crate::blocks::join_blocks;
-use crate::group::Group;
 use crate::reader::Reader;
 use download_segments::Handout;
 use proved_parts::EvidencePart;
 use request_record::requests::Requests;
+use segment_groups::Group;
 use std::alloc::{AllocError, Global};
 
 /// What proves the segments of these groups, one after another.

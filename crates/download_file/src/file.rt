@@ -1,48 +1,45 @@
 //! The file of a download whose extension block is accepted.
 
-ghost use Rattle.std.specs.Prelude.{◌≡◌, ◌≢◌, ℕ, ◌+◌, ◌-◌, ◌/◌, ◌<◌, ◌≤◌, ◌++◌, ◌∷◌, ◌↔◌, [], List};
-ghost use Rattle.std.specs.Prelude.{All, Contains, Err, IfOk, IfSome, IsSome, IsTrue, Ok, OnErr};
+ghost use Rattle.std.specs.Prelude.{◌≡◌, ◌≢◌, ℕ, ◌+◌, ◌-◌, ◌<◌, ◌≤◌, ◌++◌, ◌∷◌, ◌↔◌, [], List};
+ghost use Rattle.std.specs.Prelude.{All, Err, IfOk, IsSome, IsTrue, Ok, OnErr};
 ghost use Rattle.std.specs.Prelude.{OnOk, Some, drop, false, length, map, true};
 ghost use Rattle.std.specs.List.{range_with_len};
 ghost use Rattle.request_record.specs.declared.requests.Request.{Request};
-ghost use Rattle.share_layout.specs.Geometry.{segment_count};
 ghost use Rattle.share_verify.specs.CapBlock.{geometry_by};
 ghost use Rattle.proved_parts.specs.Parts.{IsSegmentBy};
-ghost use Rattle.download_segments.specs.Handout.{TakesPiece, next_segment};
+ghost use Rattle.download_segments.specs.Handout.{TakesPiece};
 ghost use Rattle.download_segments.specs.NoCodeWord.{IsNoCodeWord};
 ghost use Rattle.download_file.specs.Answers.{AnsweredWith, IsRead};
 ghost use Rattle.download_file.specs.Asked.{AsksNoMore, AsksParts, IsAskedUp};
 ghost use Rattle.download_file.specs.Changes.{HandsNothing, IsSameFile, OthersWait, StaysAskedUp};
 ghost use Rattle.download_file.specs.Changes.{StaysRead};
-ghost use Rattle.download_file.specs.Making.{CanMakeRow, CanNotGoOn, MakesNext};
-ghost use Rattle.download_file.specs.Making.{MakesSegments, RefutesReader};
+ghost use Rattle.download_file.specs.Making.{AwaitsRow, CanMakeRow, CanNotGoOn, MakesNext};
+ghost use Rattle.download_file.specs.Making.{MakesPieces, MakesSegments, RefutesReader};
 ghost use Rattle.download_file.specs.Right.{IsFile, made_end};
 ghost use Rattle.download_file.specs.State.{IsComplete, IsLive, IsReader, ReaderState};
 ghost use Rattle.download_file.specs.State.{first_waiting, giver, new_file, placed, shares};
 ghost use Rattle.download_file.specs.State.{waiting_at, without};
-ghost use Rattle.download_file.specs.Steps.{HasAll, LacksSome};
 ghost use Rattle.download_file.specs.Taking.{IsRefused};
 
-use crate::blocks::{find_wrong, has_all, join_blocks};
+use crate::blocks::{awaits_block, find_wrong, has_all, join_blocks};
 use crate::evidence::evidence_of;
-use crate::group::{Group, begin_group, make_segment, make_segments};
+use crate::group::begin_group;
 use crate::reader::{Reader, begin_reader, end_reader};
 use crate::row::{are_right, has_row, join_row};
 use crate::taking::take_part;
+use crate::window::{asks_rows, last_asked, plan_of};
 use download_plan::Plan;
 use download_segments::{Handout, Piece};
 use download_source::Wanted;
 use download_trees::TreeFault;
 use proved_parts::EvidencePart;
 use request_record::requests::Requests;
+use segment_groups::{Group, make_segment, make_segments};
 use share_layout::Geometry;
 use share_verify::Check;
 use std::alloc::{AllocError, Global};
 use std::marker::Model;
 use ueb::Ueb;
-
-/// How many bytes of segments are asked ahead.
-const WINDOW: u32 = 4_194_304;
 
 /// What became of the next segment.
 #[derive(Clone, Copy, PartialEq, Eq)]
@@ -298,9 +295,44 @@ impl File {
         Ok(())
     }
 
-    /// Makes a piece of the next segment, where all its blocks were taken and are right. The record
-    /// is the one that the answers that were taken are in.
-    pub fn make_next(&mut self, requests: &Requests) -> Result<Made, AllocError>
+    /// Makes pieces of the next segments, where all their blocks were taken and are right: of eight
+    /// side by side where eight can be made, and else of one. Where it is patient it makes none
+    /// while eight are on their way. The record is the one that the answers that were taken are in.
+    pub fn make(&mut self, requests: &Requests, patient: bool) -> Result<Made, AllocError>
+        requires reads { IsRead requests.now.entries self.old }
+        ensures ready { result ≡ Ok Made.Ready → MakesPieces self.old self.new }
+        // Eight are made where eight can be made.
+        ensures row { CanMakeRow requests.now.entries self.old
+            → IfOk result (λ made. (made ≡ Made.Ready) × MakesSegments 8 self.old self.new) }
+        ensures wrong { (reader : ℕ) → result ≡ Ok (Made.Wrong reader)
+            → RefutesReader requests.now.entries self.old reader }
+        ensures inconsistent { result ≡ Ok Made.Inconsistent
+            → IsNoCodeWord self.old.handout.ueb }
+        ensures waits { result ≡ Ok Made.Waits → CanNotGoOn self.old }
+        // Only where it is ready is anything handed out.
+        ensures same_handout { result ≢ Ok Made.Ready → self.new.handout ≡ self.old.handout }
+        ensures asked_up { result ≢ Ok Made.Ready → (reader : ℕ)
+            → StaysAskedUp self.old self.new reader }
+        ensures reads { IsRead requests.now.entries self.new }
+        // Nothing else changes.
+        ensures live { self.new.live ≡ self.old.live }
+        ensures readers { self.new.readers ≡ self.old.readers }
+        ensures asked { AsksNoMore self.old self.new }
+        ensures same { IsSameFile self.old self.new }
+        ensures right { IsFile self.new }
+    {
+        if self.make_row(requests)? {
+            return Ok(Made::Ready);
+        }
+        if patient && self.awaits_row() {
+            return Ok(Made::Waits);
+        }
+        self.make_next(requests)
+    }
+
+    // Makes a piece of the next segment, where all its blocks were taken and are right. The record
+    // is the one that the answers that were taken are in.
+    fn make_next(&mut self, requests: &Requests) -> Result<Made, AllocError>
         requires reads { IsRead requests.now.entries self.old }
         ensures ready { result ≡ Ok Made.Ready → MakesNext self.old self.new }
         ensures wrong { (reader : ℕ) → result ≡ Ok (Made.Wrong reader)
@@ -359,11 +391,11 @@ impl File {
         Ok(Made::Ready)
     }
 
-    /// Makes pieces of the next eight segments, where eight are wanted to their ends, their hashes
-    /// are known, and all their blocks were taken and are right. `false` where they are not made;
-    /// then, and where memory is refused, nothing is handed out. The record is the one that the
-    /// answers that were taken are in.
-    pub fn make_row(&mut self, requests: &Requests) -> Result<bool, AllocError>
+    // Makes pieces of the next eight segments, where eight are wanted to their ends, their hashes
+    // are known, and all their blocks were taken and are right. `false` where they are not made;
+    // then, and where memory is refused, nothing is handed out. The record is the one that the
+    // answers that were taken are in.
+    fn make_row(&mut self, requests: &Requests) -> Result<bool, AllocError>
         requires reads { IsRead requests.now.entries self.old }
         ensures made { result ≡ Ok true → MakesSegments 8 self.old self.new }
         ensures exact { IfOk result (λ made.
@@ -404,6 +436,19 @@ impl File {
         make_segments(alloc, &mut self.handout, &mut self.groups, number, &rows)
     }
 
+    // Whether eight segments are on their way, and others are asked meanwhile.
+    fn awaits_row(&self) -> bool
+        ensures awaits { IsTrue result → AwaitsRow self.now }
+        ensures right { IsFile self.now }
+    {
+        let Some(number) = self.handout.next() else {
+            return false;
+        };
+        asks_rows(&self.plan.geometry)
+            && self.handout.wants_row(number)
+            && awaits_block(&self.readers, &self.live, number + 7)
+    }
+
     /// Takes the first piece, where one is ready.
     pub fn take_piece(&mut self) -> Option<Piece>
         ensures taken { TakesPiece self.old.handout result self.new.handout }
@@ -434,28 +479,4 @@ impl File {
     {
         evidence_of(alloc, requests, &self.handout, &self.readers, &self.groups)
     }
-}
-
-// The plan for the segments that a range touches.
-fn plan_of(geometry: &Geometry, from: u64, to: u64) -> Plan
-    requires some { from < to }
-    requires inside { to ≤ geometry.now.size }
-    ensures geometry { result.geometry ≡ geometry.now }
-    ensures first { result.first ≡ from / geometry.now.segment_size }
-    ensures end { result.end ≡ (to - 1) / geometry.now.segment_size + 1 }
-{
-    let size = u64::from(geometry.segment_size());
-    let first = from / size;
-    let end = (to - 1) / size + 1;
-    Plan::of(geometry, first as u32, end as u32)
-}
-
-// The last segment that is asked for now.
-fn last_asked(plan: &Plan, next: u32) -> u32
-    requires { next < plan.now.end }
-    ensures from { next ≤ result }
-    ensures before { result < plan.now.end }
-{
-    let ahead = (WINDOW / plan.geometry.segment_size()).max(2);
-    next.saturating_add(ahead).min(plan.end) - 1
 }

@@ -14,6 +14,7 @@ mod laws;
 mod reader;
 mod row;
 mod taking;
+mod window;
 
 pub use file::{File, Made};
 pub use laws::{given_are_hashed, given_stays, reads_stay};

@@ -1,21 +1,18 @@
 //! Eight segments in a row, whose blocks are hashed side by side.
 
-ghost use Rattle.std.specs.Prelude.{◌≡◌, ◌↔◌, ◌+◌, ◌*◌, ◌^◌, ◌<◌, ◌≤◌, ℕ, [], All, IfOk, IsTrue};
-ghost use Rattle.std.specs.Prelude.{drop, false, length, map, slice_index_or, take};
-ghost use Rattle.tagged_hash.specs.TaggedHash.{tagged_hash};
-ghost use Rattle.tagged_hash.specs.declared.tag.Tag.TheVariants.{Block};
+ghost use Rattle.std.specs.Prelude.{◌≡◌, ◌↔◌, ◌+◌, ◌*◌, ◌^◌, ◌<◌, ◌≤◌, ℕ, All, IfOk, IsTrue};
+ghost use Rattle.std.specs.Prelude.{false, length, map};
 ghost use Rattle.share_layout.specs.Geometry.{segment_count};
 ghost use Rattle.download_file.specs.Rows.{AreRowsProved, HasRow, HaveRow, IsRow, ProvesBlocks};
-ghost use Rattle.download_file.specs.Rows.{nth};
-ghost use Rattle.download_file.specs.Steps.{AreReady, nth_block};
+ghost use Rattle.download_file.specs.Steps.{AreReady};
 
 use crate::blocks::{has_all, join_blocks};
 use crate::reader::Reader;
 use download_segments::Handout;
 use download_source::Source;
 use request_record::requests::Requests;
+use segment_groups::block_hashes;
 use std::alloc::{AllocError, Global};
-use tagged_hash::{Tag, tagged_eight};
 
 /// Whether eight segments from this one on are wanted to their ends, as many shares as are needed
 /// are read, all their blocks of these segments were taken, and the segments' hashes are known.
@@ -104,36 +101,4 @@ fn are_proved(source: &Source, number: u32, rows: &[Vec<u8>], size: u32, k: usiz
         place += 1;
     }
     true
-}
-
-// The hashes of the blocks at this place of each of eight segments, which have this length.
-fn block_hashes(rows: &[Vec<u8>], size: u32, k: usize) -> [[u8; 32]; 8]
-    requires eight { length rows.now ≡ 8 }
-    requires long { All (λ r. k * size + size ≤ length r.items) rows.now }
-    requires low { size < 2 ^ 32 }
-    ensures { (i : ℕ) → i < 8 → slice_index_or result i [] ≡ tagged_hash Block
-        (nth_block (nth (map (λ r. r.items) rows.now) i) size k) }
-{
-    let size = size as usize;
-    let messages = [
-        nth_block(&rows[0], size, k),
-        nth_block(&rows[1], size, k),
-        nth_block(&rows[2], size, k),
-        nth_block(&rows[3], size, k),
-        nth_block(&rows[4], size, k),
-        nth_block(&rows[5], size, k),
-        nth_block(&rows[6], size, k),
-        nth_block(&rows[7], size, k),
-    ];
-    tagged_eight(Tag::Block, &messages, size)
-}
-
-// The block of this number, of blocks of one length that stand one after another.
-fn nth_block(row: &[u8], size: usize, k: usize) -> &[u8]
-    requires { k * size + size ≤ length row.now }
-    ensures value { result.now ≡ nth_block row.now size k }
-    ensures long { length result.now ≡ size }
-{
-    let from = k * size;
-    &row[from..from + size]
 }

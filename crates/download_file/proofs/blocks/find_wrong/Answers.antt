@@ -5,9 +5,9 @@ use Rattle.std.proofs.lemmas.List.Elements.{Contains-get_or}
 use Rattle.std.proofs.lemmas.Option.{slice_get-get_or}
 use Rattle.download_source.specs.Source.{SourceState}
 use Rattle.download_source.specs.Taking.{IsProved}
+use Rattle.segment_groups.specs.Making.{nth_block}
+use Rattle.segment_groups.proofs.ListLemmas.{got, one_there}
 use Rattle.download_file.specs.State.{ReaderState}
-use Rattle.download_file.specs.Steps.{nth_block}
-use Rattle.download_file.proofs.ListLemmas.{got, one_there}
 use Rattle.download_file.proofs.blocks.find_wrong.Goals as goal
 
 pub proves-requires : goal.proves-requires

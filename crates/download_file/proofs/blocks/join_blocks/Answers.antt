@@ -3,10 +3,10 @@ use Rattle.std.proofs.lemmas.Option.{slice_get_within}
 use Rattle.share_layout.specs.Pieces.{block_length}
 use Rattle.download_source.specs.Blocks.{IsHeld}
 use Rattle.download_source.specs.Source.{SourceState}
+use Rattle.segment_groups.proofs.ListLemmas.{got, one_there}
 use Rattle.download_file.specs.State.{ReaderState}
 use Rattle.download_file.specs.Answers.{block_of}
 use Rattle.download_file.specs.Steps.{HasBlock}
-use Rattle.download_file.proofs.ListLemmas.{got, one_there}
 use Rattle.download_file.proofs.BlockLemmas.{blocks_more}
 use Rattle.download_file.proofs.blocks.join_blocks.Goals as goal
 

@@ -1,6 +1,7 @@
 use Rattle.std.proofs.Common.{◌≡◌, take}
 use Rattle.std.specs.List.{flat_map}
-use Rattle.download_file.specs.Steps.{AreSegmentsBy, part_numbers, segments_in}
+use Rattle.segment_groups.specs.State.{segments_in}
+use Rattle.download_file.specs.Steps.{AreSegmentsBy, part_numbers}
 use Rattle.download_file.proofs.evidence.evidence_of.Given as goal
 
 abbrev pub invariant-loop-group : goal.invariant-loop-group

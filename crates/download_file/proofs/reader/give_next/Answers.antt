@@ -1,7 +1,7 @@
 use Rattle.std.proofs.Common.{◌≡◌, ◌∙◌, ◌<◌, ℕ, IfSome, Option, Some, ap, subst, sym, length, slice_get, slice_set}
+use Rattle.segment_groups.proofs.ListLemmas.{got, one_there}
 use Rattle.download_file.specs.State.{ReaderState}
 use Rattle.download_file.specs.Steps.{giving}
-use Rattle.download_file.proofs.ListLemmas.{got, one_there}
 use Rattle.download_file.proofs.reader.give_next.Goals as goal
 
 there : (c : goal.After-index_mut) → slice_get c.args.readers.now.items c.in-Some.place ≡ Some c.index_mut.result.now

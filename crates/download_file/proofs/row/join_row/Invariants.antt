@@ -1,6 +1,6 @@
 use Rattle.std.proofs.Common.{◌≡◌, ◌+◌, ◌<◌, ℕ, length, map}
+use Rattle.segment_groups.specs.Making.{nth}
 use Rattle.download_file.specs.Answers.{blocks_of}
-use Rattle.download_file.specs.Rows.{nth}
 use Rattle.download_file.proofs.row.join_row.Given as goal
 
 abbrev pub invariant-loop-i : goal.invariant-loop-i

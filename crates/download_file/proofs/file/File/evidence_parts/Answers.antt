@@ -1,9 +1,10 @@
 use Rattle.std.proofs.Common.{◌≡◌, ◌∙◌, ◌-◌, All, List, IfOk, Result, Ok, Err, ap, subst, sym}
 use Rattle.std.specs.List.{flat_map, range_with_len}
-use Rattle.download_file.specs.State.{FileState, GroupState, ReaderState}
+use Rattle.segment_groups.specs.State.{GroupState, segments_in}
+use Rattle.download_file.specs.State.{FileState, ReaderState}
 use Rattle.download_file.specs.Answers.{IsRead}
 use Rattle.download_file.specs.Right.{made_end}
-use Rattle.download_file.specs.Steps.{AreOfFile, IsMadeGroup, segments_in}
+use Rattle.download_file.specs.Steps.{AreOfFile, IsMadeGroup}
 use Rattle.download_file.proofs.EvidenceLemmas.{all_made, all_segments, readers_of}
 use Rattle.download_file.proofs.file.File.evidence_parts.Goals as goal
 

@@ -9,12 +9,14 @@ use Rattle.download_segments.specs.Handout.{next_segment}
 use Rattle.download_segments.specs.NoCodeWord.{IsNoCodeWord}
 use Rattle.download_segments.specs.State.{HandoutState}
 use Rattle.download_segments.proofs.HandoutLemmas.{next_within}
-use Rattle.download_file.specs.State.{FileState, GroupState, ReaderState, numbers_of}
+use Rattle.segment_groups.specs.Making.{RefutesBlocks}
+use Rattle.segment_groups.specs.State.{GroupState}
+use Rattle.download_file.specs.State.{FileState, ReaderState, numbers_of}
 use Rattle.download_file.specs.Answers.{IsRead, blocks_of}
 use Rattle.download_file.specs.Changes.{IsSameFile}
 use Rattle.download_file.specs.Making.{CanNotGoOn, RefutesReader}
 use Rattle.download_file.specs.Right.{IsFile, IsGroup}
-use Rattle.download_file.specs.Steps.{AreProved, AreReady, BeginsGroup, HasAll, HasBlock, IsWrong, LacksSome, RefutesBlocks}
+use Rattle.download_file.specs.Steps.{AreProved, AreReady, BeginsGroup, HasAll, HasBlock, IsWrong, LacksSome}
 use Rattle.download_file.proofs.GrowLemmas.{same_itself}
 use Rattle.download_file.proofs.ListLemmas.{contains_at}
 use Rattle.download_file.proofs.WaitLemmas.{cannot, complete}

@@ -7,18 +7,20 @@ use Rattle.share_layout.specs.Geometry.{Geometry}
 use Rattle.share_layout.specs.Pieces.{block_length}
 use Rattle.download_segments.specs.Decoding.{AreShareNumbers}
 use Rattle.download_segments.specs.Handout.{next_segment}
-use Rattle.download_file.specs.State.{FileState, GroupState, ReaderState, numbers_of}
+use Rattle.segment_groups.specs.Making.{nth}
+use Rattle.segment_groups.specs.State.{GroupState}
+use Rattle.segment_groups.proofs.RowLemmas.{from_nth}
+use Rattle.download_file.specs.State.{FileState, ReaderState, numbers_of}
 use Rattle.download_file.specs.declared.file.File.TheInside.{Inside}
 use Rattle.download_file.specs.Answers.{IsRead, blocks_of}
 use Rattle.download_file.specs.Changes.{IsSameFile}
 use Rattle.download_file.specs.Making.{CanMakeRow}
 use Rattle.download_file.specs.Right.{IsFile, IsGroup}
-use Rattle.download_file.specs.Rows.{AreRowsProved, HasRow, HaveRow, IsRow, nth}
+use Rattle.download_file.specs.Rows.{AreRowsProved, HasRow, HaveRow, IsRow}
 use Rattle.download_file.specs.Steps.{AreReady, BeginsGroup}
 use Rattle.download_file.proofs.GrowLemmas.{same_itself}
 use Rattle.download_file.proofs.ListLemmas.{contains_at}
 use Rattle.download_file.proofs.MakeLemmas.{live_numbers}
-use Rattle.download_file.proofs.RowLemmas.{from_nth}
 use Rattle.download_file.proofs.RowFileLemmas.{HasEndedRow, HasRowBlocks, has_ended_row, row_blocks, row_enough, row_long, row_needed, row_ready}
 use Rattle.download_file.proofs.SegmentLemmas.{HasLast, has_last}
 use Rattle.download_file.proofs.WholeRowLemmas.{exact_row, has_it, to_proved, whole_row}

@@ -3,6 +3,7 @@ use Rattle.std.proofs.lemmas.List.Elements.{All-contains}
 use Rattle.request_record.specs.declared.requests.Request.{Request}
 use Rattle.download_trees.specs.declared.error.TreeFault.TheVariants as faults
 use Rattle.download_segments.specs.State.{HandoutState}
+use Rattle.segment_groups.proofs.ListLemmas.{got, one_there}
 use Rattle.download_file.specs.State.{FileState, IsLive, ReaderState, first_waiting}
 use Rattle.download_file.specs.Answers.{AnsweredWith, IsRead}
 use Rattle.download_file.specs.Asked.{AsksNoMore}
@@ -10,7 +11,6 @@ use Rattle.download_file.specs.Changes.{IsSameFile, StaysAskedUp}
 use Rattle.download_file.specs.Right.{IsFile}
 use Rattle.download_file.specs.Taking.{IsRefused}
 use Rattle.download_file.proofs.GrowLemmas.{same_itself}
-use Rattle.download_file.proofs.ListLemmas.{got, one_there}
 use Rattle.download_file.proofs.TakeLemmas.{HasTaken, front_is, has_taken, is_taker, same_still}
 use Rattle.download_file.proofs.file.File.take.Goals as goal
 

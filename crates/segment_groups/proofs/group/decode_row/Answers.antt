@@ -2,9 +2,9 @@ use Rattle.std.proofs.Common.{◌≡◌, ◌+◌, ◌*◌, ◌<◌, ◌++◌, �
 use Rattle.share_layout.specs.Pieces.{block_length}
 use Rattle.proved_parts.specs.Decoding.{DecodesBlocks}
 use Rattle.download_segments.specs.Decoding.{DecodingState, blocks_in}
-use Rattle.download_file.specs.Rows.{nth}
-use Rattle.download_file.proofs.RowLemmas.{nth_item, nth_pushed}
-use Rattle.download_file.proofs.group.decode_row.Goals as goal
+use Rattle.segment_groups.proofs.group.decode_row.Goals as goal
+use Rattle.segment_groups.specs.Making.{nth}
+use Rattle.segment_groups.proofs.RowLemmas.{nth_item, nth_pushed}
 
 pub loop-row-preserved : goal.loop-row-preserved
 loop-row-preserved c =

@@ -2,11 +2,9 @@ use Rattle.std.proofs.Common.{◌≡◌, ◌∙◌, ◌+◌, ◌-◌, ◌*◌, �
 use Rattle.share_layout.specs.Geometry.{Geometry, IsGeometry, segment_count}
 use Rattle.share_layout.specs.Pieces.{block_length, segment_length}
 use Rattle.download_segments.proofs.HandoutLemmas.{next_within}
-use Rattle.download_file.specs.State.{GroupState}
-use Rattle.download_file.specs.Steps.{IsLast, with_end}
-use Rattle.download_file.proofs.ListLemmas.{got, one_there}
-use Rattle.download_file.proofs.RangeLemmas.{few_segments}
-use Rattle.download_file.proofs.group.make_segment.Goals as goal
+use Rattle.segment_groups.proofs.group.make_segment.Goals as goal
+use Rattle.segment_groups.specs.State.{GroupState, IsLast, with_end}
+use Rattle.segment_groups.proofs.ListLemmas.{got, one_there}
 
 last_is : (c : goal.After-index) → IsLast c.args.groups.now.items c.index.result.now
 last_is c =
@@ -50,7 +48,7 @@ returns-then-not-branch-clause-refuted c =
 pub overflow_add-number : goal.overflow_add-number
 overflow_add-number c =
     let there = next_within c.args.handout.now c.args.number c.requires.right c.requires.next in
-    let few = few_segments c.args.handout.now.geometry (subst IsGeometry c.requires.right.roots.geometry c.requires.right.trees.valid) in
+    let few = (subst IsGeometry c.requires.right.roots.geometry c.requires.right.trees.valid).few in
     omega (arith, there, few)
 
 pub returns-clause-made : goal.returns-clause-made

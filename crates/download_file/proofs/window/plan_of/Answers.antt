@@ -1,6 +1,6 @@
 use Rattle.std.proofs.Common.{◌≡◌, ◌-◌, ◌/◌, ℕ, arith, ap, ◌∙◌}
 use Rattle.download_file.proofs.RangeLemmas.{earlier, end_within, few_segments}
-use Rattle.download_file.proofs.file.plan_of.Goals as goal
+use Rattle.download_file.proofs.window.plan_of.Goals as goal
 
 pub of-requires-clause-within : goal.of-requires-clause-within
 of-requires-clause-within c =

@@ -1,0 +1,24 @@
+use Rattle.std.proofs.Common.{◌≡◌, ◌∙◌, ℕ, Option, Some, None, true, is_some, refl, subst, sym, get_or}
+use Rattle.std.proofs.lemmas.Bool.{false≢true, true≢false}
+use Rattle.std.proofs.lemmas.List.Elements.{Contains-get_or}
+use Rattle.download_source.specs.Blocks.{IsReady}
+use Rattle.download_source.specs.Source.{SourceState}
+use Rattle.segment_groups.proofs.ListLemmas.{got}
+use Rattle.download_file.proofs.blocks.awaits_block.Goals as goal
+
+some_of : (o : Option ℕ) → is_some o ≡ true → (n : ℕ) × (o ≡ Some n)
+some_of (Some n) e = (n, refl)
+some_of None e = absurd (false≢true e)
+
+pub returns-then-not-is_ready : goal.returns-then-not-is_ready
+returns-then-not-is_ready c = λ _.
+    let first = some_of c.first_place.result (sym c.is_some.ensures ∙ c.if-is_some.true) in
+    record {
+      reader = get_or c.args.live.now c.loop-place.place-index 0;
+      among = Contains-get_or c.args.live.now c.loop-place.place-index 0 c.loop-place-test.true;
+      r = c.index-readers-place.result;
+      there = got c.args.readers.now _ c.index-readers-place.result (c.requires c.loop-place.place-index 0 c.loop-place-test.true) c.index-readers-place.is;
+      lacks = λ ready. true≢false (sym (c.is_ready.ensures.ready.1 (subst (λ (s : SourceState). IsReady s c.args.number) (sym c.source.ensures) ready)) ∙ c.if-not-is_ready.true);
+      place = first.0;
+      first = sym c.first_place.ensures ∙ first.1;
+    }
