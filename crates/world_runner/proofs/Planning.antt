@@ -6,13 +6,17 @@ use Rattle.rand_pcg.specs.Lcg.{Lcg}
 use Rattle.rand_pcg.specs.Pcg.{pcg32}
 use Rattle.world_operations.specs.declared.operation.Operation.{Operation}
 use Rattle.world.specs.declared.event.Event.{Event}
-use Rattle.world.specs.declared.event.Event.TheVariants.{Deliver}
+use Rattle.world.specs.declared.event.Event.TheVariants.{Deliver, Start}
 use Rattle.world_script.specs.declared.command.Command.{Command}
 use Rattle.world_script.specs.declared.command.Command.TheVariants as commands
 use Rattle.world_runner.specs.declared.plan.Plan.{Plan}
 use Rattle.world_runner.specs.declared.plan.Plan.TheVariants.{Fixed, Oldest, Drawn}
-use Rattle.world_runner.specs.Events.{AreEventsOf, IsOldest, MakesNext, after_words, most_drained}
-use Rattle.world_runner.specs.Plans.{AreMarked, GivesNext, IsFirstLeft, IsPlanOf, most_of}
+use Rattle.cap_text.specs.Cap.{ReadCapValue, verify_cap_of}
+use Rattle.file_encoding.specs.Params.{UploadParameters}
+use Rattle.world_operations.specs.declared.job.Job.{Job}
+use Rattle.world_operations.specs.declared.job.Job.TheVariants.{Upload, Download, Check}
+use Rattle.world_runner.specs.Events.{AreEventsOf, IsCapOf, IsEventOf, IsOldest, MakesNext, after_words, most_drained}
+use Rattle.world_runner.specs.Plans.{AreMarked, GivesNext, IsFirstLeft, IsPlanOf, IsUploadCap, MakesNone, most_of}
 
 -- so many events are there in all, of which so many were made
 abbrev pub IsMost : Plan → ℕ → ℕ → Type 0
@@ -35,6 +39,22 @@ makes_fixed (commands.Fail a) honest ops before made events sent next are at = (
 makes_fixed (commands.Refuse a) honest ops before made events sent next are at = (events, are, at)
 makes_fixed (commands.Turn a) honest ops before made events sent next are at = (events, are, at)
 makes_fixed (commands.Forge a b d) honest ops before made events sent next are at = (events, are, at)
+
+-- a command that has no events makes none
+pub makes_none : (command : Command) (honest : ℕ) (ops : List Operation) → (command ≡ commands.Drain → ⊥) → ((seed count : ℕ) → command ≡ commands.Random seed count → ⊥) → ((events : List Event) → AreEventsOf command honest ops events → ⊥) → MakesNone command honest ops
+makes_none commands.Drain honest ops drain random none before sent next makes = drain refl
+makes_none (commands.Random seed count) honest ops drain random none before sent next makes = random seed count refl
+makes_none (commands.Upload a b p) honest ops drain random none before sent next makes = none makes.0 makes.1
+makes_none (commands.Download a b) honest ops drain random none before sent next makes = none makes.0 makes.1
+makes_none (commands.DownloadRange a b d e) honest ops drain random none before sent next makes = none makes.0 makes.1
+makes_none (commands.Check a b) honest ops drain random none before sent next makes = none makes.0 makes.1
+makes_none (commands.Deliver a) honest ops drain random none before sent next makes = none makes.0 makes.1
+makes_none (commands.Pass a) honest ops drain random none before sent next makes = none makes.0 makes.1
+makes_none (commands.Restart a) honest ops drain random none before sent next makes = none makes.0 makes.1
+makes_none (commands.Fail a) honest ops drain random none before sent next makes = none makes.0 makes.1
+makes_none (commands.Refuse a) honest ops drain random none before sent next makes = none makes.0 makes.1
+makes_none (commands.Turn a) honest ops drain random none before sent next makes = none makes.0 makes.1
+makes_none (commands.Forge a b d) honest ops drain random none before sent next makes = none makes.0 makes.1
 
 behind : {X : Type 0} (xs : List X) (x : X) (ys : List X) → slice_get (xs ++ x ∷ ys) (length xs) ≡ Some x
 behind [] x ys = refl
@@ -127,3 +147,62 @@ pub first_most : (plan : Plan) → IsMost plan 0 (most_of plan)
 first_most (Fixed left) = omega arith
 first_most Oldest = refl
 first_most (Drawn words count) = refl
+
+-- an operation that is no upload with a cap has none by its number
+pub no_cap : (operations : List Operation) (number : ℕ) (operation : Operation) (cap : ReadCapValue) → slice_get operations number ≡ Some operation → IsUploadCap operation.job None → IsCapOf operations number cap → ⊥
+no_cap operations number operation cap at none is =
+    let both : Some is.operation ≡ Some operation = sym is.at ∙ at in
+    let same : is.operation ≡ operation = cc in
+    let job : operation.job ≡ Upload is.file is.secret is.p = ap (λ (o : Operation). o.job) (sym same) ∙ is.job in
+    (subst (λ (j : Job). IsUploadCap j None) job none) is.upload
+
+pub nobody : (operations : List Operation) (number : ℕ) (cap : ReadCapValue) → slice_get operations number ≡ None → IsCapOf operations number cap → ⊥
+nobody operations number cap at is = let both : Some is.operation ≡ None = sym is.at ∙ at in absurd cc
+
+-- commands that start no operation have no event that starts one
+pub no_start : (command : Command) (ops : List Operation) (node : ℕ) (job : Job) → ((a : ℕ) (b : List ℕ) (p : UploadParameters) → command ≡ commands.Upload a b p → ⊥) → ((a b : ℕ) → command ≡ commands.Download a b → ⊥) → ((a b d e : ℕ) → command ≡ commands.DownloadRange a b d e → ⊥) → ((a b : ℕ) → command ≡ commands.Check a b → ⊥) → IsEventOf command ops (Start node job) → ⊥
+no_start (commands.Upload a b p) ops node job upload download range check is = upload a b p refl
+no_start (commands.Download a b) ops node job upload download range check is = download a b refl
+no_start (commands.DownloadRange a b d e) ops node job upload download range check is = range a b d e refl
+no_start (commands.Check a b) ops node job upload download range check is = check a b refl
+no_start (commands.Deliver a) ops node job upload download range check is = absurd cc
+no_start commands.Drain ops node job upload download range check is = absurd is
+no_start (commands.Random a b) ops node job upload download range check is = absurd is
+no_start (commands.Pass a) ops node job upload download range check is = absurd is
+no_start (commands.Restart a) ops node job upload download range check is = absurd (let e = is.1 in cc)
+no_start (commands.Fail a) ops node job upload download range check is = absurd (let e = is.1 in cc)
+no_start (commands.Refuse a) ops node job upload download range check is = absurd cc
+no_start (commands.Turn a) ops node job upload download range check is = absurd (let e = is.1 in cc)
+no_start (commands.Forge a b d) ops node job upload download range check is = absurd (let e = is.2 in cc)
+
+-- a command of none of these kinds has an event only if it has one that starts an operation
+pub no_event : (command : Command) (ops : List Operation) (event : Event) → ((a : ℕ) → command ≡ commands.Deliver a → ⊥) → ((a : ℕ) → command ≡ commands.Refuse a → ⊥) → ((a : ℕ) → command ≡ commands.Restart a → ⊥) → ((a : ℕ) → command ≡ commands.Fail a → ⊥) → ((a : ℕ) → command ≡ commands.Turn a → ⊥) → ((a b : ℕ) (d : List ℕ) → command ≡ commands.Forge a b d → ⊥) → ((node : ℕ) (job : Job) → IsEventOf command ops (Start node job) → ⊥) → IsEventOf command ops event → ⊥
+no_event (commands.Upload a b p) ops event deliver refuse restart fail turn forge none is = none a (Upload b [] p) (is.0, refl)
+no_event (commands.Download a b) ops event deliver refuse restart fail turn forge none is = none a (Download is.0 0 is.0.size) (is.0, is.1, is.2, refl)
+no_event (commands.DownloadRange a b d e) ops event deliver refuse restart fail turn forge none is = none a (Download is.0 d e) (is.0, is.1, is.2, refl)
+no_event (commands.Check a b) ops event deliver refuse restart fail turn forge none is = none a (Check (verify_cap_of is.0)) (is.0, is.1, is.2, refl)
+no_event (commands.Deliver a) ops event deliver refuse restart fail turn forge none is = deliver a refl
+no_event commands.Drain ops event deliver refuse restart fail turn forge none is = absurd is
+no_event (commands.Random a b) ops event deliver refuse restart fail turn forge none is = absurd is
+no_event (commands.Pass a) ops event deliver refuse restart fail turn forge none is = absurd is
+no_event (commands.Restart a) ops event deliver refuse restart fail turn forge none is = restart a refl
+no_event (commands.Fail a) ops event deliver refuse restart fail turn forge none is = fail a refl
+no_event (commands.Refuse a) ops event deliver refuse restart fail turn forge none is = refuse a refl
+no_event (commands.Turn a) ops event deliver refuse restart fail turn forge none is = turn a refl
+no_event (commands.Forge a b d) ops event deliver refuse restart fail turn forge none is = forge a b d refl
+
+-- a command that lets no time pass and has no event has no events
+pub no_events : (command : Command) (honest : ℕ) (ops : List Operation) (events : List Event) → ((a : ℕ) → command ≡ commands.Pass a → ⊥) → ((event : Event) → IsEventOf command ops event → ⊥) → AreEventsOf command honest ops events → ⊥
+no_events (commands.Pass a) honest ops events pass none are = pass a refl
+no_events (commands.Upload a b p) honest ops events pass none are = none are.0 are.1
+no_events (commands.Download a b) honest ops events pass none are = none are.0 are.1
+no_events (commands.DownloadRange a b d e) honest ops events pass none are = none are.0 are.1
+no_events (commands.Check a b) honest ops events pass none are = none are.0 are.1
+no_events (commands.Deliver a) honest ops events pass none are = none are.0 are.1
+no_events (commands.Random a b) honest ops events pass none are = none are.0 are.1
+no_events (commands.Restart a) honest ops events pass none are = none are.0 are.1
+no_events (commands.Fail a) honest ops events pass none are = none are.0 are.1
+no_events (commands.Refuse a) honest ops events pass none are = none are.0 are.1
+no_events (commands.Turn a) honest ops events pass none are = none are.0 are.1
+no_events (commands.Forge a b d) honest ops events pass none are = none are.0 are.1
+no_events commands.Drain honest ops events pass none are = none are.0 are.1

@@ -1,6 +1,8 @@
 -- A script, played command by command.
-use Rattle.std.proofs.Common.{◌≡◌, ◌↔◌, ℕ, ◌+◌, ◌*◌, ◌^◌, ◌<◌, ◌≤◌, List, [], ◌∷◌, ◌++◌, Bool, true, length, get_or, take, Some, None, Ok, refl, sym, ap, subst, ◌∙◌, arith, append_assoc}
-use Rattle.std.proofs.lemmas.List.{append-nil, length-append, take_more}
+use Rattle.std.proofs.Common.{◌≡◌, ◌↔◌, ℕ, ◌+◌, ◌*◌, ◌^◌, ◌<◌, ◌≤◌, List, [], ◌∷◌, ◌++◌, Bool, true, length, get_or, take, drop, suc, Some, None, Ok, Err, refl, sym, ap, subst, ◌∙◌, arith, append_assoc}
+use Rattle.std.proofs.Math.Seq.{drop-cons}
+use Rattle.std.proofs.lemmas.List.{append-nil, length-append, take-append-drop, take_more}
+use Rattle.world.specs.declared.event.WorldError.TheVariants.{BadEvent}
 use Rattle.world.specs.declared.event.Event.{Event}
 use Rattle.world.specs.State.{WorldState, WorldValue}
 use Rattle.world.specs.Taking.{StepGives}
@@ -8,8 +10,8 @@ use Rattle.world_script.specs.declared.command.Command.{Command}
 use Rattle.world_script.specs.declared.command.Script.{Script}
 use Rattle.world_runner.specs.declared.plan.Plan.{Plan}
 use Rattle.world_runner.specs.Events.{MakesNext}
-use Rattle.world_runner.specs.Plans.{AreMarked, GivesNext, IsPlanOf, most_of}
-use Rattle.world_runner.specs.Playing.{HasMade, HasPlayed, IsEndingFrom}
+use Rattle.world_runner.specs.Plans.{AreMarked, GivesNext, IsPlanOf, MakesNone, most_of}
+use Rattle.world_runner.specs.Playing.{HasMade, HasPlayed, IsEndingFrom, IsRefusedFrom, IsStuck}
 use Rattle.std.specs.String.{string_bytes}
 use Rattle.std.proofs.lemmas.List.{take_all}
 use Rattle.world.specs.Headline.{IsTrusted}
@@ -120,3 +122,41 @@ playing_ends script begin index events world flags operations ending is past tru
   agrees = subst (λ (ops : List Operation). (ending.agrees ≡ true) ↔ Agree ops) same agrees;
   lines = lines ∙ ap (λ (ops : List Operation). ending_text ops ending.agrees events) same ∙ ap (λ (n : ℕ). ending_text world.operations ending.agrees n) is.count;
 }
+
+-- the commands before one, it, and those behind it
+round : (commands : List Command) (index : ℕ) (command : Command) → index < length commands → command ≡ get_or commands index command → commands ≡ take index commands ++ command ∷ drop (suc index) commands
+round commands index command low at = sym (take-append-drop index commands) ∙ (ap (λ (l : List Command). take index commands ++ l) (drop-cons commands index command low) ∙ ap (λ (c : Command). take index commands ++ c ∷ drop (suc index) commands) (sym at))
+
+-- a command that makes neither an event nor an end
+pub refused_none : (script : Script) (begin : WorldState) (index events : ℕ) (world : WorldState) (flags : List Bool) (command : Command) → IsPlaying script begin index events world flags → index < length script.commands.items → command ≡ get_or script.commands.items index command → MakesNone command script.honest world.operations → IsRefusedFrom begin script
+refused_none script begin index events world flags command is low at none = record {
+  first = take index script.commands.items;
+  command = command;
+  later = drop (suc index) script.commands.items;
+  commands = round script.commands.items index command low at;
+  before = is.taken;
+  made = [];
+  old = world;
+  world = world;
+  played = is.played;
+  making = HasMade.begins;
+  stuck = IsStuck.has_none (λ next. none is.taken (length world.sent) next);
+}
+
+-- a command that makes an event which the world refuses
+pub refused_event : (script : Script) (begin : WorldState) (index : ℕ) (plan new : Plan) (most counter events : ℕ) (world next : WorldValue) (flags : List Bool) (event : Event) → IsMaking script begin index plan most counter events world.state flags → counter < most → GivesNext plan flags (length world.state.sent) (Some event) new → StepGives world event (Err BadEvent) next → IsRefusedFrom begin script
+refused_event script begin index plan new most counter events world next flags event is low gives step =
+    let on : GoesOn is.command script.honest is.old.operations is.taken is.made (length world.state.sent) most event new = gives_some plan new is.command script.honest is.old.operations is.taken is.made flags (length world.state.sent) most event is.plan_is is.most_is (omega (arith, is.counter_is, low)) is.marks gives in
+    record {
+      first = take index script.commands.items;
+      command = is.command;
+      later = drop (suc index) script.commands.items;
+      commands = round script.commands.items index is.command is.low is.at;
+      before = is.taken;
+      made = is.made;
+      old = is.old;
+      world = world.state;
+      played = is.played;
+      making = is.making;
+      stuck = IsStuck.is_refused event on.makes step.1;
+    }

@@ -1,5 +1,5 @@
 -- The events that the commands of a script make, one after the other.
-use Rattle.std.specs.Prelude.{◌≡◌, ◌⊎◌, ℕ, zero, suc, ◌<◌, ◌%◌, List, [], ◌∷◌, ◌++◌, length}
+use Rattle.std.specs.Prelude.{◌≡◌, ◌⊎◌, ℕ, zero, suc, ◌<◌, ◌%◌, ◌^◌, List, [], ◌∷◌, ◌++◌, length}
 use Rattle.std.specs.Prelude.{map, Option, Some, None, slice_get, Contains}
 use Rattle.std.specs.List.{range_with_len}
 use Rattle.rand_core.specs.Pcg32Seed.{pcg32_seed}
@@ -28,22 +28,30 @@ pub record IsCapOf (operations : List Operation) (number : ℕ) (cap : ReadCapVa
   pub upload : IsUpload file secret p
   pub cap_is : cap ≡ (prepared_of file secret p).cap
 
+-- the number of a node has 16 bits
+abbrev pub IsNodeNumber : ℕ → Type 0
+IsNodeNumber node = node < 2 ^ 16
+
 -- An upload has an empty secret; a download that names no range has the whole file.
 abbrev pub IsEventOf : Command → List Operation → Event → Type 0
-IsEventOf (commands.Upload node file p) operations event =
-    event ≡ Start node (jobs.Upload file [] p)
+IsEventOf (commands.Upload node file p) operations event = IsNodeNumber node
+    × (event ≡ Start node (jobs.Upload file [] p))
 IsEventOf (commands.Download node upload) operations event = (cap : ReadCapValue)
-    × IsCapOf operations upload cap × (event ≡ Start node (jobs.Download cap 0 cap.size))
+    × IsNodeNumber node × IsCapOf operations upload cap
+    × (event ≡ Start node (jobs.Download cap 0 cap.size))
 IsEventOf (commands.DownloadRange node upload from to) operations event = (cap : ReadCapValue)
-    × IsCapOf operations upload cap × (event ≡ Start node (jobs.Download cap from to))
+    × IsNodeNumber node × IsCapOf operations upload cap
+    × (event ≡ Start node (jobs.Download cap from to))
 IsEventOf (commands.Check node upload) operations event = (cap : ReadCapValue)
-    × IsCapOf operations upload cap × (event ≡ Start node (jobs.Check (verify_cap_of cap)))
+    × IsNodeNumber node × IsCapOf operations upload cap
+    × (event ≡ Start node (jobs.Check (verify_cap_of cap)))
 IsEventOf (commands.Deliver place) operations event = event ≡ Deliver place
-IsEventOf (commands.Restart node) operations event = event ≡ Restart node
-IsEventOf (commands.Fail node) operations event = event ≡ FailStore node
+IsEventOf (commands.Restart node) operations event = IsNodeNumber node × (event ≡ Restart node)
+IsEventOf (commands.Fail node) operations event = IsNodeNumber node × (event ≡ FailStore node)
 IsEventOf (commands.Refuse number) operations event = event ≡ Refuse number
-IsEventOf (commands.Turn node) operations event = event ≡ Turn node
-IsEventOf (commands.Forge from to body) operations event = event ≡ Forge from to body
+IsEventOf (commands.Turn node) operations event = IsNodeNumber node × (event ≡ Turn node)
+IsEventOf (commands.Forge from to body) operations event =
+    IsNodeNumber from × IsNodeNumber to × (event ≡ Forge from to body)
 IsEventOf command operations event = ⊥
 
 -- All events of a command that chooses no messages, in a world of so many honest nodes. Where time

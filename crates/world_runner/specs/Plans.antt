@@ -15,7 +15,7 @@ use Rattle.world_script.specs.declared.command.Command.{Command}
 use Rattle.world_script.specs.declared.command.Command.TheVariants as commands
 use Rattle.world_runner.specs.declared.plan.Plan.{Plan}
 use Rattle.world_runner.specs.declared.plan.Plan.TheVariants.{Fixed, Oldest, Drawn}
-use Rattle.world_runner.specs.Events.{AreEventsOf, after_words, most_drained}
+use Rattle.world_runner.specs.Events.{AreEventsOf, MakesNext, after_words, most_drained}
 
 -- a message is marked as delivered
 abbrev pub IsMarked : List Bool → ℕ → Type 0
@@ -42,6 +42,11 @@ IsPlanOf (Fixed left) command honest operations made = (events : List Event)
 IsPlanOf Oldest command honest operations made = command ≡ commands.Drain
 IsPlanOf (Drawn words count) command honest operations made = (seed : ℕ)
     × (command ≡ commands.Random seed count) × (words ≡ after_words seed (length made))
+
+-- a command that makes neither an event at first nor an end
+abbrev pub MakesNone : Command → ℕ → List Operation → Type 0
+MakesNone command honest operations = (before : List Event) → (sent : ℕ) → (next : Option Event)
+    → ¬ MakesNext command honest operations before [] sent next
 
 -- how many events a plan makes at most
 abbrev pub most_of : Plan → ℕ

@@ -1,6 +1,7 @@
 -- A script, played: which events are taken, and to which world they lead.
-use Rattle.std.specs.Prelude.{◌≡◌, ◌↔◌, ℕ, List, [], ◌∷◌, ◌++◌, length, Some, None, true}
+use Rattle.std.specs.Prelude.{◌≡◌, ◌↔◌, ℕ, List, [], ◌∷◌, ◌++◌, length, Option, Some, None, true}
 use Rattle.std.specs.String.{string_bytes}
+use Rattle.world_operations.specs.declared.operation.Operation.{Operation}
 use Rattle.world.specs.declared.event.Event.{Event}
 use Rattle.world.specs.Admitted.{IsAdmitted}
 use Rattle.world.specs.Headline.{IsTrusted}
@@ -51,3 +52,32 @@ pub record IsEndingFrom (begin : WorldState) (script : Script) (ending : Ending)
 
 abbrev pub IsEnding : Script → Ending → Type 0
 IsEnding script = IsEndingFrom (first_world script) script
+
+-- A command cannot go on, after these events of earlier commands and these of its own: it makes
+-- neither an event nor an end, or it makes an event that the world refuses.
+pub data IsStuck (command : Command) (honest : ℕ) (operations : List Operation)
+    (before made : List Event) (world : WorldState) : Type 0 where
+  has_none : ((next : Option Event)
+      → ¬ MakesNext command honest operations before made (length world.sent) next)
+      → IsStuck command honest operations before made world
+  is_refused : (event : Event)
+      → MakesNext command honest operations before made (length world.sent) (Some event)
+      → ¬ IsAdmitted world event → IsStuck command honest operations before made world
+
+-- why a script that begins in a world is refused: its first commands were played, and the next one
+-- cannot go on
+pub record IsRefusedFrom (begin : WorldState) (script : Script) : Type 0 where
+  pub first : List Command
+  pub command : Command
+  pub later : List Command
+  pub commands : script.commands.items ≡ first ++ command ∷ later
+  pub before : List Event
+  pub made : List Event
+  pub old : WorldState
+  pub world : WorldState
+  pub played : HasPlayed script.honest begin first before old
+  pub making : HasMade command script.honest old before made world
+  pub stuck : IsStuck command script.honest old.operations before made world
+
+abbrev pub IsRefused : Script → Type 0
+IsRefused script = IsRefusedFrom (first_world script) script

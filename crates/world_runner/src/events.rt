@@ -1,13 +1,17 @@
 //! The events of commands that choose no messages.
 
-ghost use Rattle.std.specs.Prelude.{◌≡◌, ◌∷◌, ◌++◌, [], IfNone, IfOk, IfSome, map, reverse};
+ghost use Rattle.std.specs.Prelude.{◌≡◌, ◌≢◌, ◌∷◌, ◌++◌, [], Err, IfNone, IfOk, IfSome, List, map};
+ghost use Rattle.std.specs.Prelude.{ℕ, reverse};
 ghost use Rattle.std.specs.List.{range_with_len};
 ghost use Rattle.cap_text.specs.Cap.{ReadCapValue};
 ghost use Rattle.file_upload.specs.Prepared.{prepared_of};
 ghost use Rattle.world_operations.specs.Jobs.{IsUpload};
+ghost use Rattle.world_operations.specs.declared.job.Job.{Job};
 ghost use Rattle.world_operations.specs.declared.job.Job.TheVariants.{Upload};
-ghost use Rattle.world.specs.declared.event.Event.TheVariants.{Pass, Tick};
-ghost use Rattle.world_runner.specs.Events.{AreEventsOf, IsCapOf, IsEventOf};
+ghost use Rattle.world.specs.declared.event.Event.{Event};
+ghost use Rattle.world.specs.declared.event.Event.TheVariants.{Pass, Start, Tick};
+ghost use Rattle.world.specs.declared.event.WorldError.TheVariants.{BadEvent, Stopped};
+ghost use Rattle.world_runner.specs.Events.{AreEventsOf, IsCapOf, IsEventOf, IsNodeNumber};
 ghost use Rattle.world_runner.specs.Plans.{IsUploadCap};
 
 use cap_text::ReadCap;
@@ -32,8 +36,11 @@ pub(crate) fn events_of(
     honest: u16,
     operations: &[Operation],
 ) -> Result<Vec<Event>, WorldError>
-    ensures { IfOk result (λ events.
+    ensures value { IfOk result (λ events.
         AreEventsOf command.now honest operations.now (reverse events.items)) }
+    ensures refused { result ≡ Err BadEvent
+        → (events : List Event) → ¬ AreEventsOf command.now honest operations.now events }
+    ensures going { result ≢ Err Stopped }
 {
     match command {
         Command::Pass(seconds) => Ok(passing(alloc, *seconds, honest)?),
@@ -65,7 +72,10 @@ fn only(alloc: Global, event: Event) -> Result<Vec<Event>, AllocError>
 
 // The event of a command that has one.
 fn event_of(alloc: Global, command: &Command, operations: &[Operation]) -> Result<Event, WorldError>
-    ensures { IfOk result (IsEventOf command.now operations.now) }
+    ensures value { IfOk result (IsEventOf command.now operations.now) }
+    ensures refused { result ≡ Err BadEvent
+        → (event : Event) → ¬ IsEventOf command.now operations.now event }
+    ensures going { result ≢ Err Stopped }
 {
     match command {
         Command::Deliver(place) => Ok(Event::Deliver(*place as usize)),
@@ -83,7 +93,10 @@ fn event_of(alloc: Global, command: &Command, operations: &[Operation]) -> Resul
 
 // The start of the operation of a command that starts one.
 fn start_of(alloc: Global, command: &Command, operations: &[Operation]) -> Result<Event, WorldError>
-    ensures { IfOk result (IsEventOf command.now operations.now) }
+    ensures value { IfOk result (IsEventOf command.now operations.now) }
+    ensures refused { result ≡ Err BadEvent
+        → (node : ℕ) → (job : Job) → ¬ IsEventOf command.now operations.now (Start node job) }
+    ensures going { result ≢ Err Stopped }
 {
     match command {
         Command::Upload(node, file, params) => {
@@ -110,7 +123,9 @@ fn start_of(alloc: Global, command: &Command, operations: &[Operation]) -> Resul
 
 // The node of a number.
 fn node_of(number: u64) -> Result<NodeId, WorldError>
-    ensures { IfOk result (λ node. node ≡ number) }
+    ensures value { IfOk result (λ node. node ≡ number) }
+    ensures refused { result ≡ Err BadEvent → ¬ IsNodeNumber number }
+    ensures going { result ≢ Err Stopped }
 {
     if number > u64::from(NodeId::MAX) {
         return Err(WorldError::BadEvent);
@@ -120,7 +135,10 @@ fn node_of(number: u64) -> Result<NodeId, WorldError>
 
 // The read cap of the upload that has a number.
 fn cap_of(alloc: Global, operations: &[Operation], upload: u64) -> Result<ReadCap, WorldError>
-    ensures { IfOk result (IsCapOf operations.now upload) }
+    ensures value { IfOk result (IsCapOf operations.now upload) }
+    ensures refused { result ≡ Err BadEvent
+        → (cap : ReadCapValue) → ¬ IsCapOf operations.now upload cap }
+    ensures going { result ≢ Err Stopped }
 {
     match operations.get(upload as usize) {
         Some(operation) => match upload_cap(alloc, &operation.job)? {

@@ -1,7 +1,8 @@
 //! What a command makes: one event after the other.
 
-ghost use Rattle.std.specs.Prelude.{◌≡◌, [], IfOk};
-ghost use Rattle.world_runner.specs.Plans.{GivesNext, IsDrawn, IsPlanOf, most_of};
+ghost use Rattle.std.specs.Prelude.{◌≡◌, ◌≢◌, [], Err, IfOk};
+ghost use Rattle.world.specs.declared.event.WorldError.TheVariants.{BadEvent, Stopped};
+ghost use Rattle.world_runner.specs.Plans.{GivesNext, IsDrawn, IsPlanOf, MakesNone, most_of};
 
 use crate::delivered::Delivered;
 use crate::events::events_of;
@@ -35,7 +36,10 @@ impl Plan {
         honest: u16,
         operations: &[Operation],
     ) -> Result<Plan, WorldError>
-        ensures { IfOk result (λ plan. IsPlanOf plan command.now honest operations.now []) }
+        ensures value { IfOk result (λ plan. IsPlanOf plan command.now honest operations.now []) }
+        ensures refused { result ≡ Err BadEvent
+            → MakesNone command.now honest operations.now }
+        ensures going { result ≢ Err Stopped }
     {
         match command {
             Command::Drain => Ok(Plan::Oldest),

@@ -1,8 +1,9 @@
 //! A script, run.
 
-ghost use Rattle.std.specs.Prelude.{◌≡◌, IfOk};
+ghost use Rattle.std.specs.Prelude.{◌≡◌, ◌≢◌, Err, IfOk, false};
+ghost use Rattle.world.specs.declared.event.WorldError.TheVariants.{BadEvent, Stopped};
 ghost use Rattle.world_script.specs.Script.{AreNodes};
-ghost use Rattle.world_runner.specs.Playing.{IsEnding, IsEndingFrom};
+ghost use Rattle.world_runner.specs.Playing.{IsEnding, IsEndingFrom, IsRefused, IsRefusedFrom};
 
 use crate::delivered::Delivered;
 use crate::ending::{Ending, ending_of};
@@ -16,10 +17,13 @@ use world_script::Script;
 
 /// Runs a script: what its operations came to.
 ///
-/// Refuses with `BadEvent` where the world refuses an event, and with `OutOfMemory`.
+/// Refuses with `BadEvent` where a command has no event, or one that the world refuses, and with
+/// `OutOfMemory`.
 pub fn run_script(alloc: Global, script: &Script) -> Result<Ending, WorldError>
     requires { AreNodes script.now }
-    ensures { IfOk result (IsEnding script.now) }
+    ensures ended { IfOk result (IsEnding script.now) }
+    ensures refused { result ≡ Err BadEvent → IsRefused script.now }
+    ensures going { result ≢ Err Stopped }
 {
     let mut liars: Vec<Box<dyn Liar>> = Vec::new(alloc);
     for kind in script.liars.iter() {
@@ -30,7 +34,10 @@ pub fn run_script(alloc: Global, script: &Script) -> Result<Ending, WorldError>
 
 // Plays the commands of a script in a world.
 fn play(alloc: Global, mut world: World, script: &Script) -> Result<Ending, WorldError>
-    ensures { IfOk result (IsEndingFrom world.state script.now) }
+    requires { world.stopped ≡ false }
+    ensures ended { IfOk result (IsEndingFrom world.state script.now) }
+    ensures refused { result ≡ Err BadEvent → IsRefusedFrom world.state script.now }
+    ensures going { result ≢ Err Stopped }
 {
     let mut delivered = Delivered::new(alloc);
     let mut events: u128 = 0;

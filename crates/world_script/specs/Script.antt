@@ -1,7 +1,8 @@
 -- World scripts: which commands the lines of a text spell.
-use Rattle.std.specs.Prelude.{◌≡◌, ◌==◌, ◌≤◌, ◌+◌, ℕ, List, [], ◌∷◌, length, map, codes, decimal}
-use Rattle.std.specs.Prelude.{Bool, true, false, Ok}
+use Rattle.std.specs.Prelude.{◌≡◌, ◌⊎◌, ◌==◌, ◌≤◌, ◌<◌, ◌+◌, ◌^◌, ℕ, List, [], ◌∷◌, length, map}
+use Rattle.std.specs.Prelude.{codes, decimal, Bool, true, false, Ok, ⊤}
 use Rattle.std.specs.List.{slice_split}
+use Rattle.file_encoding.specs.Params.{AreChosen, UploadParameters}
 use Rattle.ueb.specs.Limits.{min_file_size}
 use Rattle.hex.specs.Hex.{decode_of}
 use Rattle.world_script.specs.declared.command.Kind.{Kind}
@@ -50,28 +51,36 @@ AreNodes script = (1 ≤ script.honest) × (script.honest + length script.liars.
 abbrev pub IsHexOf : List ℕ → List ℕ → Type 0
 IsHexOf bytes word = (decode_of word ≡ Ok bytes) × (1 ≤ length bytes)
 
+-- numbers of 64 bits
+abbrev pub AreWide : List ℕ → Type 0
+AreWide [] = ⊤
+AreWide (n ∷ rest) = (n < 2 ^ 64) × AreWide rest
+
+-- These words are a name, and then numbers of 64 bits in decimal.
+abbrev pub SpellsNumbers : List ℕ → List ℕ → List (List ℕ) → Type 0
+SpellsNumbers name numbers words = AreWide numbers × (words ≡ name ∷ map decimal numbers)
+
 -- These words spell the command. An upload's numbers are those that are needed, that are wanted
 -- happy and that are made in all, and then the greatest segment.
 abbrev pub Spells : Command → List (List ℕ) → Type 0
 Spells (Upload node file p) words = (hex : List ℕ) × IsHexOf file hex
-    × (min_file_size ≤ length file)
+    × (min_file_size ≤ length file) × AreWide (node ∷ [])
+    × AreChosen p.needed p.happy p.total p.max_segment
     × (words ≡ codes "upload" ∷ decimal node ∷ hex ∷ decimal p.needed ∷ decimal p.happy
     ∷ decimal p.total ∷ decimal p.max_segment ∷ [])
-Spells (Download node upload) words =
-    words ≡ codes "download" ∷ decimal node ∷ decimal upload ∷ []
+Spells (Download node upload) words = SpellsNumbers (codes "download") (node ∷ upload ∷ []) words
 Spells (DownloadRange node upload from to) words =
-    words ≡ codes "download" ∷ decimal node ∷ decimal upload ∷ decimal from ∷ decimal to ∷ []
-Spells (Check node upload) words = words ≡ codes "check" ∷ decimal node ∷ decimal upload ∷ []
-Spells (Deliver place) words = words ≡ codes "deliver" ∷ decimal place ∷ []
-Spells Drain words = words ≡ codes "drain" ∷ []
-Spells (Random start count) words =
-    words ≡ codes "random" ∷ decimal start ∷ decimal count ∷ []
-Spells (Pass seconds) words = words ≡ codes "pass" ∷ decimal seconds ∷ []
-Spells (Restart node) words = words ≡ codes "restart" ∷ decimal node ∷ []
-Spells (Fail node) words = words ≡ codes "fail" ∷ decimal node ∷ []
-Spells (Refuse operation) words = words ≡ codes "refuse" ∷ decimal operation ∷ []
-Spells (Turn node) words = words ≡ codes "turn" ∷ decimal node ∷ []
-Spells (Forge from to body) words = (hex : List ℕ) × IsHexOf body hex
+    SpellsNumbers (codes "download") (node ∷ upload ∷ from ∷ to ∷ []) words
+Spells (Check node upload) words = SpellsNumbers (codes "check") (node ∷ upload ∷ []) words
+Spells (Deliver place) words = SpellsNumbers (codes "deliver") (place ∷ []) words
+Spells Drain words = SpellsNumbers (codes "drain") [] words
+Spells (Random start count) words = SpellsNumbers (codes "random") (start ∷ count ∷ []) words
+Spells (Pass seconds) words = SpellsNumbers (codes "pass") (seconds ∷ []) words
+Spells (Restart node) words = SpellsNumbers (codes "restart") (node ∷ []) words
+Spells (Fail node) words = SpellsNumbers (codes "fail") (node ∷ []) words
+Spells (Refuse operation) words = SpellsNumbers (codes "refuse") (operation ∷ []) words
+Spells (Turn node) words = SpellsNumbers (codes "turn") (node ∷ []) words
+Spells (Forge from to body) words = (hex : List ℕ) × IsHexOf body hex × AreWide (from ∷ to ∷ [])
     × (words ≡ codes "forge" ∷ decimal from ∷ decimal to ∷ hex ∷ [])
 
 -- The first holds of a line that is skipped, and the second of any other.
@@ -86,15 +95,22 @@ Reads (line ∷ rest) commands = Either (is_skipped line) (Reads rest commands)
     ((first : Command) × (later : List Command) × (commands ≡ first ∷ later)
     × Spells first (words_of line) × Reads rest later)
 
--- The first line that is not skipped names the script's nodes, and the later ones spell its
--- commands.
-abbrev pub SpellsScript : List (List ℕ) → Script → Type 0
-SpellsScript [] script = ⊥
-SpellsScript (line ∷ rest) script = Either (is_skipped line) (SpellsScript rest script)
-    (SpellsNodes script.honest script.liars.items (words_of line)
-    × Reads rest script.commands.items)
+-- The first line that is not skipped names so many honest nodes and these liars, and the later ones
+-- spell these commands.
+abbrev pub SpellsParts : List (List ℕ) → ℕ → List Kind → List Command → Type 0
+SpellsParts [] honest liars commands = ⊥
+SpellsParts (line ∷ rest) honest liars commands = Either (is_skipped line)
+    (SpellsParts rest honest liars commands)
+    (SpellsNodes honest liars (words_of line) × Reads rest commands)
 
--- The first words of commands, for private clauses.
+-- The lines spell the script.
+abbrev pub SpellsScript : List (List ℕ) → Script → Type 0
+SpellsScript lines script =
+    SpellsParts lines script.honest script.liars.items script.commands.items
+
+-- ---- words of private clauses
+
+-- the first words of commands
 abbrev pub name_of : Verb → List ℕ
 name_of verbs.Upload = codes "upload"
 name_of verbs.Download = codes "download"
@@ -113,3 +129,51 @@ name_of verbs.Forge = codes "forge"
 abbrev pub error_at : LineError → ℕ → ScriptError
 error_at faults.OutOfMemory line = OutOfMemory
 error_at faults.NoCommand line = BadScript (line + 1)
+
+-- These words are numbers of 64 bits in decimal.
+abbrev pub AreNumbers : List ℕ → List (List ℕ) → Type 0
+AreNumbers numbers words = AreWide numbers × (words ≡ map decimal numbers)
+
+-- one number of 64 bits, and two
+abbrev pub IsOne : List (List ℕ) → Type 0
+IsOne words = (n : ℕ) × AreNumbers (n ∷ []) words
+
+abbrev pub AreTwo : List (List ℕ) → Type 0
+AreTwo words = (n : ℕ) × (m : ℕ) × AreNumbers (n ∷ m ∷ []) words
+
+-- A word is a number of 64 bits, and bytes in hex.
+abbrev pub IsNumber : List ℕ → Type 0
+IsNumber word = (n : ℕ) × (n < 2 ^ 64) × (word ≡ decimal n)
+
+abbrev pub IsHex : List ℕ → Type 0
+IsHex word = (bytes : List ℕ) × IsHexOf bytes word
+
+-- These words are an upload's parameters.
+abbrev pub AreParams : UploadParameters → List (List ℕ) → Type 0
+AreParams p words = AreChosen p.needed p.happy p.total p.max_segment
+    × (words ≡ decimal p.needed ∷ decimal p.happy ∷ decimal p.total ∷ decimal p.max_segment ∷ [])
+
+-- The words after the name of an upload, of a download and of a forgery.
+abbrev pub IsUpload : List (List ℕ) → Type 0
+IsUpload fields = (node : ℕ) × (file : List ℕ) × (p : UploadParameters) × (hex : List ℕ)
+    × (rest : List (List ℕ)) × (node < 2 ^ 64) × IsHexOf file hex × (min_file_size ≤ length file)
+    × AreParams p rest × (fields ≡ decimal node ∷ hex ∷ rest)
+
+abbrev pub IsDownload : List (List ℕ) → Type 0
+IsDownload fields = AreTwo fields ⊎ ((node : ℕ) × (upload : ℕ) × (from : ℕ) × (to : ℕ)
+    × AreNumbers (node ∷ upload ∷ from ∷ to ∷ []) fields)
+
+abbrev pub IsForgery : List (List ℕ) → Type 0
+IsForgery fields = (from : ℕ) × (to : ℕ) × (body : List ℕ) × (hex : List ℕ)
+    × (from < 2 ^ 64) × (to < 2 ^ 64) × IsHexOf body hex
+    × (fields ≡ decimal from ∷ decimal to ∷ hex ∷ [])
+
+-- A command of this verb has these words after its name.
+abbrev pub HasFields : Verb → List (List ℕ) → Type 0
+HasFields verbs.Upload fields = IsUpload fields
+HasFields verbs.Download fields = IsDownload fields
+HasFields verbs.Drain fields = fields ≡ []
+HasFields verbs.Check fields = AreTwo fields
+HasFields verbs.Random fields = AreTwo fields
+HasFields verbs.Forge fields = IsForgery fields
+HasFields verb fields = IsOne fields

@@ -1,7 +1,10 @@
 //! The fields of commands.
 
-ghost use Rattle.std.specs.Prelude.{◌≡◌, ◌∷◌, ◌≤◌, [], IfOk, Ok, decimal, length, map};
-ghost use Rattle.hex.specs.Hex.{decode_of};
+ghost use Rattle.std.specs.Prelude.{◌≡◌, ◌∷◌, [], Err, IfOk, IsOk, decimal, map};
+ghost use Rattle.file_encoding.specs.Params.{AreChosen, UploadParameters};
+ghost use Rattle.world_script.specs.Script.{AreNumbers, AreParams, AreTwo, IsHex, IsHexOf};
+ghost use Rattle.world_script.specs.Script.{IsNumber, IsOne};
+ghost use Rattle.world_script.specs.declared.error.LineError.TheVariants.{NoCommand};
 
 use crate::error::LineError;
 use file_encoding::Params;
@@ -12,7 +15,8 @@ use tagged_hash::read_decimal;
 
 // The number that a word is.
 pub(crate) fn number(word: &[u8]) -> Result<u64, LineError>
-    ensures { IfOk result (λ n. word.now ≡ decimal n) }
+    ensures value { IfOk result (λ n. word.now ≡ decimal n) }
+    ensures none { result ≡ Err NoCommand → ¬ (IsNumber word.now) }
 {
     match read_decimal(word) {
         Some(number) => Ok(number),
@@ -22,7 +26,8 @@ pub(crate) fn number(word: &[u8]) -> Result<u64, LineError>
 
 // The number that is the only word.
 pub(crate) fn one_number(words: &[&[u8]]) -> Result<u64, LineError>
-    ensures { IfOk result (λ n. map (λ w. w.now) words.now ≡ decimal n ∷ []) }
+    ensures value { IfOk result (λ n. AreNumbers (n ∷ []) (map (λ w. w.now) words.now)) }
+    ensures none { result ≡ Err NoCommand → ¬ (IsOne (map (λ w. w.now) words.now)) }
 {
     match words {
         [only] => number(only),
@@ -32,8 +37,9 @@ pub(crate) fn one_number(words: &[&[u8]]) -> Result<u64, LineError>
 
 // The two numbers that are the only words.
 pub(crate) fn two_numbers(words: &[&[u8]]) -> Result<(u64, u64), LineError>
-    ensures { IfOk result
-        (λ n. map (λ w. w.now) words.now ≡ decimal n.0 ∷ decimal n.1 ∷ []) }
+    ensures value { IfOk result
+        (λ n. AreNumbers (n.0 ∷ n.1 ∷ []) (map (λ w. w.now) words.now)) }
+    ensures none { result ≡ Err NoCommand → ¬ (AreTwo (map (λ w. w.now) words.now)) }
 {
     match words {
         [first, second] => Ok((number(first)?, number(second)?)),
@@ -43,8 +49,8 @@ pub(crate) fn two_numbers(words: &[&[u8]]) -> Result<(u64, u64), LineError>
 
 // The bytes, one at least, that a word spells in hex.
 pub(crate) fn bytes(alloc: Global, word: &[u8]) -> Result<Bytes, LineError>
-    ensures value { IfOk result (λ bytes. decode_of word.now ≡ Ok bytes) }
-    ensures some { IfOk result (λ bytes. 1 ≤ length bytes) }
+    ensures value { IfOk result (λ bytes. IsHexOf bytes word.now) }
+    ensures none { result ≡ Err NoCommand → ¬ (IsHex word.now) }
 {
     match hex::decode(alloc, word) {
         Ok(bytes) if bytes.is_empty() => Err(LineError::NoCommand),
@@ -56,15 +62,31 @@ pub(crate) fn bytes(alloc: Global, word: &[u8]) -> Result<Bytes, LineError>
 
 // The parameters of an upload that four words are.
 pub(crate) fn params(words: &[&[u8]]) -> Result<Params, LineError>
-    ensures { IfOk result (λ p. map (λ w. w.now) words.now ≡ decimal p.needed ∷ decimal p.happy
-        ∷ decimal p.total ∷ decimal p.max_segment ∷ []) }
+    ensures value { IfOk result (λ p. AreParams p (map (λ w. w.now) words.now)) }
+    ensures none { result ≡ Err NoCommand
+        → (p : UploadParameters) → ¬ (AreParams p (map (λ w. w.now) words.now)) }
 {
-    let (shares, sizes) = (words.get(..2), words.get(2..));
-    let (Some(shares), Some(sizes)) = (shares, sizes) else {
-        return Err(LineError::NoCommand);
-    };
-    let (needed, happy) = two_numbers(shares)?;
-    let (total, segment) = two_numbers(sizes)?;
+    match words {
+        [_, _, _, _] => {
+            let (needed, happy) = two_numbers(&words[..2])?;
+            let (total, segment) = two_numbers(&words[2..])?;
+            chosen(needed, happy, total, segment)
+        }
+        _ => Err(LineError::NoCommand),
+    }
+}
+
+// These parameters, where each is in its range.
+fn chosen(needed: u64, happy: u64, total: u64, segment: u64) -> Result<Params, LineError>
+    ensures value { IfOk result (λ p. p ≡ record {
+      needed = needed;
+      happy = happy;
+      total = total;
+      max_segment = segment;
+    }) }
+    ensures in_ranges { IsOk result → AreChosen needed happy total segment }
+    ensures none { result ≡ Err NoCommand → ¬ AreChosen needed happy total segment }
+{
     match Params::new(needed, happy, total, segment) {
         Ok(params) => Ok(params),
         Err(_) => Err(LineError::NoCommand),

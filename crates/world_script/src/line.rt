@@ -1,7 +1,10 @@
 //! One line of a script.
 
-ghost use Rattle.std.specs.Prelude.{◌≡◌, ◌∷◌, IfOk, codes, map};
-ghost use Rattle.world_script.specs.Script.{Spells, name_of, words_of};
+ghost use Rattle.std.specs.Prelude.{◌≡◌, ◌∷◌, Err, IfOk, codes, map};
+ghost use Rattle.world_script.specs.Refused.{SpellNoCommand};
+ghost use Rattle.world_script.specs.Script.{HasFields, IsDownload, IsForgery, IsUpload, Spells};
+ghost use Rattle.world_script.specs.Script.{name_of, words_of};
+ghost use Rattle.world_script.specs.declared.error.LineError.TheVariants.{NoCommand};
 
 use crate::command::Command;
 use crate::error::LineError;
@@ -19,7 +22,8 @@ pub(crate) fn words_of(alloc: Global, line: &[u8]) -> Result<Vec<&[u8]>, AllocEr
 
 // The command that a line spells.
 pub(crate) fn read_line(alloc: Global, line: &[u8]) -> Result<Command, LineError>
-    ensures { IfOk result (λ command. Spells command (words_of line.now)) }
+    ensures value { IfOk result (λ command. Spells command (words_of line.now)) }
+    ensures none { result ≡ Err NoCommand → SpellNoCommand (words_of line.now) }
 {
     let words = words_of(alloc, line)?;
     read_words(alloc, words.as_slice())
@@ -27,7 +31,8 @@ pub(crate) fn read_line(alloc: Global, line: &[u8]) -> Result<Command, LineError
 
 // The command that these words spell.
 fn read_words(alloc: Global, words: &[&[u8]]) -> Result<Command, LineError>
-    ensures { IfOk result (λ command. Spells command (map (λ w. w.now) words.now)) }
+    ensures value { IfOk result (λ command. Spells command (map (λ w. w.now) words.now)) }
+    ensures none { result ≡ Err NoCommand → SpellNoCommand (map (λ w. w.now) words.now) }
 {
     let [name, fields @ ..] = words else {
         return Err(LineError::NoCommand);
@@ -40,8 +45,9 @@ fn read_words(alloc: Global, words: &[&[u8]]) -> Result<Command, LineError>
 
 // The command that a verb and the words after it spell.
 fn read_fields(alloc: Global, verb: Verb, fields: &[&[u8]]) -> Result<Command, LineError>
-    ensures { IfOk result
+    ensures value { IfOk result
         (λ command. Spells command (name_of verb ∷ map (λ w. w.now) fields.now)) }
+    ensures none { result ≡ Err NoCommand → ¬ (HasFields verb (map (λ w. w.now) fields.now)) }
 {
     match verb {
         Verb::Upload => read_upload(alloc, fields),
@@ -62,8 +68,9 @@ fn read_fields(alloc: Global, verb: Verb, fields: &[&[u8]]) -> Result<Command, L
 
 // The upload that these words after its name spell.
 fn read_upload(alloc: Global, fields: &[&[u8]]) -> Result<Command, LineError>
-    ensures { IfOk result
+    ensures value { IfOk result
         (λ command. Spells command (codes "upload" ∷ map (λ w. w.now) fields.now)) }
+    ensures none { result ≡ Err NoCommand → ¬ (IsUpload (map (λ w. w.now) fields.now)) }
 {
     let [node, file, rest @ ..] = fields else {
         return Err(LineError::NoCommand);
@@ -79,8 +86,9 @@ fn read_upload(alloc: Global, fields: &[&[u8]]) -> Result<Command, LineError>
 
 // The download that these words after its name spell.
 fn read_download(fields: &[&[u8]]) -> Result<Command, LineError>
-    ensures { IfOk result
+    ensures value { IfOk result
         (λ command. Spells command (codes "download" ∷ map (λ w. w.now) fields.now)) }
+    ensures none { result ≡ Err NoCommand → ¬ (IsDownload (map (λ w. w.now) fields.now)) }
 {
     match fields {
         [_, _] => {
@@ -98,8 +106,9 @@ fn read_download(fields: &[&[u8]]) -> Result<Command, LineError>
 
 // The forgery that these words after its name spell.
 fn read_forgery(alloc: Global, fields: &[&[u8]]) -> Result<Command, LineError>
-    ensures { IfOk result
+    ensures value { IfOk result
         (λ command. Spells command (codes "forge" ∷ map (λ w. w.now) fields.now)) }
+    ensures none { result ≡ Err NoCommand → ¬ (IsForgery (map (λ w. w.now) fields.now)) }
 {
     match fields {
         [from, to, body] => {

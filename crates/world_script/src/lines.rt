@@ -1,9 +1,13 @@
 //! The lines of a script.
 
-ghost use Rattle.std.specs.Prelude.{◌≡◌, ◌≤◌, ◌<◌, [], IfOk, drop, false, length, map};
+ghost use Rattle.std.specs.Prelude.{◌≡◌, ◌≢◌, ◌≤◌, ◌<◌, ℕ, [], Err, IfOk, drop, false, length};
+ghost use Rattle.std.specs.Prelude.{map, take};
 ghost use Rattle.std.specs.List.{slice_index_or};
+ghost use Rattle.world_script.specs.Refused.{AreSkipped, FailsToRead, IsNoScript};
 ghost use Rattle.world_script.specs.Script.{AreNodes, Reads, SpellsScript, is_skipped};
 ghost use Rattle.world_script.specs.Script.{lines_of};
+ghost use Rattle.world_script.specs.declared.command.Script.{Script};
+ghost use Rattle.world_script.specs.declared.error.ScriptError.TheVariants.{BadScript};
 
 use crate::command::{Command, Script};
 use crate::error::ScriptError;
@@ -18,6 +22,10 @@ use std::alloc::{AllocError, Global};
 pub fn parse(alloc: Global, text: &[u8]) -> Result<Script, ScriptError>
     ensures script { IfOk result (SpellsScript (lines_of text.now)) }
     ensures nodes { IfOk result AreNodes }
+    ensures refused { (line : ℕ) → result ≡ Err (BadScript line)
+        → IsNoScript (lines_of text.now) line }
+    ensures no_script { (line : ℕ) → result ≡ Err (BadScript line)
+        → (script : Script) → ¬ (SpellsScript (lines_of text.now) script) }
 {
     let lines = lines_of(alloc, text)?;
     read_lines(alloc, lines.as_slice())
@@ -44,6 +52,8 @@ fn is_skipped(line: &[u8]) -> bool
 fn read_lines(alloc: Global, lines: &[&[u8]]) -> Result<Script, ScriptError>
     ensures script { IfOk result (SpellsScript (map (λ l. l.now) lines.now)) }
     ensures nodes { IfOk result AreNodes }
+    ensures refused { (line : ℕ) → result ≡ Err (BadScript line)
+        → IsNoScript (map (λ l. l.now) lines.now) line }
 {
     for first in 0..lines.len() {
         if !is_skipped(lines[first]) {
@@ -56,9 +66,12 @@ fn read_lines(alloc: Global, lines: &[&[u8]]) -> Result<Script, ScriptError>
 // The script whose first command stands at a line.
 fn read_from(alloc: Global, lines: &[&[u8]], first: usize) -> Result<Script, ScriptError>
     requires at { first < length lines.now }
+    requires before { AreSkipped (take first (map (λ l. l.now) lines.now)) }
     requires counts { is_skipped (slice_index_or (map (λ l. l.now) lines.now) first []) ≡ false }
-    ensures script { IfOk result (SpellsScript (drop first (map (λ l. l.now) lines.now))) }
+    ensures script { IfOk result (SpellsScript (map (λ l. l.now) lines.now)) }
     ensures nodes { IfOk result AreNodes }
+    ensures refused { (line : ℕ) → result ≡ Err (BadScript line)
+        → IsNoScript (map (λ l. l.now) lines.now) line }
 {
     match read_nodes(alloc, lines[first]) {
         Ok(Nodes { honest, liars }) => Ok(Script {
@@ -73,8 +86,10 @@ fn read_from(alloc: Global, lines: &[&[u8]], first: usize) -> Result<Script, Scr
 // The commands that the lines spell from one on.
 fn read_commands(alloc: Global, lines: &[&[u8]], from: usize) -> Result<Vec<Command>, ScriptError>
     requires { from ≤ length lines.now }
-    ensures { IfOk result
+    ensures value { IfOk result
         (λ commands. Reads (drop from (map (λ l. l.now) lines.now)) commands.items) }
+    ensures refused { (line : ℕ) → result ≡ Err (BadScript line)
+        → FailsToRead from (map (λ l. l.now) lines.now) line }
 {
     let mut commands = Vec::new(alloc);
     for index in from..lines.len() {

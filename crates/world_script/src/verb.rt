@@ -1,7 +1,8 @@
 //! The first words of commands.
 
-ghost use Rattle.std.specs.Prelude.{◌≡◌, IfSome};
+ghost use Rattle.std.specs.Prelude.{◌≡◌, ◌≢◌, IfNone, IfSome};
 ghost use Rattle.world_script.specs.Script.{name_of};
+ghost use Rattle.world_script.specs.declared.verb.Verb.{Verb};
 
 // What a command does.
 #[derive(Clone, Copy, PartialEq, Eq)]
@@ -22,7 +23,8 @@ pub(crate) enum Verb {
 
 // The verb of this name.
 pub(crate) fn verb_named(word: &[u8]) -> Option<Verb>
-    ensures { IfSome result (λ verb. word.now ≡ name_of verb) }
+    ensures value { IfSome result (λ verb. word.now ≡ name_of verb) }
+    ensures none { IfNone result ((verb : Verb) → word.now ≢ name_of verb) }
 {
     match word {
         b"upload" => Some(Verb::Upload),
