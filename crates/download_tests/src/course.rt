@@ -7,15 +7,8 @@ use file_encoding::{Encoded, Params, encode_all};
 use proved_parts::Evidence;
 use share_verify::Check;
 use std::alloc::{AllocError, Global};
-use wire::message::{Body, HeldList, HeldShare, Message, NodeId, ReadData};
-
-// A share at a server.
-#[derive(Drop)]
-pub(crate) struct Held {
-    pub(crate) server: NodeId,
-    pub(crate) share: u8,
-    pub(crate) bytes: Vec<u8>,
-}
+use test_shares::held::{Held, answer};
+use wire::message::{Body, Message, NodeId};
 
 // Bytes of a share that a server was asked for.
 #[derive(Clone, Copy)]
@@ -95,54 +88,6 @@ pub(crate) fn damage(held: &mut [Held], which: usize, section: usize, behind: us
     let byte = bytes.get_mut(place)?;
     *byte ^= 1;
     Some(())
-}
-
-// What a server that holds these shares answers.
-pub(crate) fn answer(
-    alloc: Global,
-    held: &[Held],
-    node: NodeId,
-    request: &Message,
-) -> Option<Message> {
-    let body = match &request.body {
-        Body::Ask(_) => have(alloc, held, node)?,
-        Body::Read(id, offset, length) => {
-            let from = *offset as usize;
-            let bytes = bytes_of(held, node, id.share)?;
-            let end = from.saturating_add(length.get() as usize).min(bytes.len());
-            let read = bytes.get(from.min(end)..end)?;
-            Body::Data(ReadData::from_vec(Vec::from_slice(alloc, read).ok()?)?)
-        }
-        _ => return None,
-    };
-    Some(Message {
-        session: request.session,
-        number: request.number,
-        body,
-    })
-}
-
-fn have(alloc: Global, held: &[Held], node: NodeId) -> Option<Body> {
-    let mut list = Vec::new(alloc);
-    for one in held {
-        if one.server == node {
-            list.push(HeldShare {
-                share: one.share,
-                digest: [0; 32],
-            })
-            .ok()?;
-        }
-    }
-    Some(Body::Have(false, HeldList::from_vec(list)?))
-}
-
-fn bytes_of(held: &[Held], node: NodeId, share: u8) -> Option<&[u8]> {
-    for one in held {
-        if one.server == node && one.share == share {
-            return Some(one.bytes.as_slice());
-        }
-    }
-    None
 }
 
 // What a request reads.

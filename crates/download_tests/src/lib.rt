@@ -8,3 +8,5 @@ mod course;
 mod download_core_tests;
 #[cfg(test)]
 mod lying_servers_tests;
+#[cfg(test)]
+mod rows_tests;

@@ -2,8 +2,7 @@
 //! its own server, and the others give the file.
 
 use crate::course::{
-    Course, Held, answer, asks_twice, cap_of, course_of, damage, encoded, number_at, one_each,
-    text_of,
+    Course, asks_twice, cap_of, course_of, damage, encoded, number_at, one_each, text_of,
 };
 use cap_text::ReadCap;
 use download_core::Download;
@@ -11,9 +10,9 @@ use download_core::status::DownloadStatus;
 use file_encoding::{Encoded, Params, encode_all};
 use proved_parts::find_clash;
 use share_verify::Check;
-use std::alloc::{AllocError, Global};
-use tagged_hash::{Tag, tagged};
-use ueb::{Expect, Ueb};
+use std::alloc::Global;
+use test_shares::held::{Held, answer};
+use test_shares::no_code_word::{NoCodeWord, SEGMENT_SIZE, SIZE};
 use wire::message::NodeId;
 
 // The places in a header where it tells where sections begin.
@@ -282,68 +281,42 @@ fn nothing_but_the_range_is_read(rt: HostRuntime) {
     assert!(rt; reads_of_one_byte(rt.alloc()) == Some(true));
 }
 
-// A share of a file of 56 bytes at one of two, whose extension block is of two blocks that differ,
-// where each would have to be the segment.
-fn share_of_two(alloc: Global, number: usize, block: &[u8]) -> Result<Vec<u8>, AllocError> {
-    let hashes = block_hashes();
-    let mut share = Vec::new(alloc);
-    for place in [1u32, 56, 56, 36, 92, 124, 156, 188, 256] {
-        share.extend_from_slice(&place.to_be_bytes())?;
+// How many bytes a download hands out, in order.
+fn handed_out(download: &mut Download) -> usize {
+    let mut count: usize = 0;
+    for _ in 0..10 {
+        if let Some(piece) = download.take_bytes() {
+            count = count.saturating_add(piece.bytes.as_slice().len());
+        }
     }
-    share.extend_from_slice(&[7 + (number % 2) as u8; 56])?;
-    share.extend_from_slice(&[0; 32])?;
-    share.extend_from_slice(&tagged(Tag::CiphertextSegment, &[7; 56]))?;
-    share.extend_from_slice(&hashes[number % 2])?;
-    for (node, hash) in [1u16, 2].iter().zip(hashes.iter()) {
-        share.extend_from_slice(&node.to_be_bytes())?;
-        share.extend_from_slice(hash)?;
-    }
-    share.extend_from_slice(&((block.len() % 5000) as u32).to_be_bytes())?;
-    share.extend_from_slice(block)?;
-    Ok(share)
+    count
 }
 
-fn block_hashes() -> [[u8; 32]; 2] {
-    [tagged(Tag::Block, &[7; 56]), tagged(Tag::Block, &[8; 56])]
-}
-
-// How a download ends of which the one server has share `number` of that file.
-fn end_of_no_code_word(alloc: Global, number: u8) -> Option<DownloadStatus> {
-    let hashes = block_hashes();
-    let root = tagged_hash::pair(&hashes[0], &hashes[1]);
-    let segment = tagged(Tag::CiphertextSegment, &[7; 56]);
-    let expect = Expect {
-        needed: 1,
-        total: 2,
-        size: 56,
-    };
-    let block = Ueb::new(&expect, 56, [1; 32], segment, root)
-        .write(alloc)
-        .ok()?;
-    let cap = ReadCap::new([9; 16], tagged(Tag::ExtensionBlock, &block), 1, 2, 56).ok()?;
-    let mut held = Vec::new(alloc);
-    held.push(Held {
-        server: 0,
-        share: number,
-        bytes: share_of_two(alloc, usize::from(number), &block).ok()?,
-    })
-    .ok()?;
-    let nodes: [NodeId; 1] = [0];
-    let mut download = Download::start(alloc, cap, 0, 56, &nodes, 7, 0).ok()?;
+// How a download ends of the file that is no code word, from two servers with these shares, and how
+// many bytes it handed out.
+fn end_of_no_code_word(alloc: Global, told: u8, shares: (u8, u8)) -> Option<(DownloadStatus, usize)> {
+    let file = NoCodeWord::new(alloc, told)?;
+    let held = file.held(alloc, &[(0, shares.0), (1, shares.1)])?;
+    let nodes: [NodeId; 2] = [0, 1];
+    let mut download = Download::start(alloc, file.cap, 0, SIZE as u64, &nodes, 7, 0).ok()?;
     for _ in 0..100 {
         if let Some((node, request)) = download.take_outgoing() {
             let message = answer(alloc, &held, node, &request)?;
             download.on_message(node, message, 0).ok()?;
         }
     }
-    if download.status() != DownloadStatus::Done && download.take_bytes().is_some() {
-        return None;
-    }
-    Some(download.status())
+    let bytes = handed_out(&mut download);
+    Some((download.status(), bytes))
 }
 
 #[test]
 fn no_code_word_is_inconsistent(rt: HostRuntime) {
-    assert!(rt; end_of_no_code_word(rt.alloc(), 0) == Some(DownloadStatus::Done));
-    assert!(rt; end_of_no_code_word(rt.alloc(), 1) == Some(DownloadStatus::Inconsistent));
+    let whole = Some((DownloadStatus::Done, SIZE));
+    let begun = Some((DownloadStatus::Inconsistent, SEGMENT_SIZE));
+    for (told, right) in [(7, (0, 1)), (8, (2, 3))] {
+        assert!(rt; end_of_no_code_word(rt.alloc(), told, right) == whole);
+    }
+    for (told, wrong) in [(7, (2, 3)), (7, (0, 2)), (8, (0, 1)), (9, (0, 1)), (9, (2, 3))] {
+        assert!(rt; end_of_no_code_word(rt.alloc(), told, wrong) == begun);
+    }
 }

@@ -2,4 +2,10 @@
 #![tactic(auto)]
 
 #[cfg(test)]
+mod agreement_tests;
+#[cfg(test)]
+mod honest;
+#[cfg(test)]
+mod keepers;
+#[cfg(test)]
 mod world_runs_tests;

@@ -1,19 +1,15 @@
 //! Whole runs of worlds: scripts whose ends were written down beforehand.
 
-use cap_text::{Cap, ReadCap};
-use download_core::status::DownloadStatus;
-use file_encoding::{Encoded, Params, encode_all};
+use crate::honest::{drain, handed_out, happiness, read_cap, upload};
 use proved_parts::Bytes;
 use std::alloc::Global;
-use upload_core::status::UploadStatus;
 use wire::message::NodeId;
 use world::World;
 use world::event::{Event, WorldError};
 use world::liar::{Liar, LiarFault};
 use world_operations::job::Job;
 use world_operations::message::Sent;
-use world_operations::operation::{Life, Operation};
-use world_operations::task::Task;
+use world_operations::operation::Life;
 
 // A liar that never sends.
 #[derive(Drop)]
@@ -22,50 +18,6 @@ struct Silent;
 impl Liar for Silent {
     fn turn(&mut self, _heard: &[Sent]) -> Result<Option<(NodeId, Bytes)>, LiarFault> {
         Ok(None)
-    }
-}
-
-// The upload of 56 zero bytes, with an empty secret.
-fn upload(alloc: Global, needed: u64, happy: u64, total: u64) -> Option<Job> {
-    let file = Bytes::from_vec(vec![in alloc; 0u8; 56].ok()?);
-    let secret = Bytes::from_vec(Vec::new(alloc));
-    let params = Params::new(needed, happy, total, 131_072).ok()?;
-    Some(Job::Upload(file, secret, params))
-}
-
-// Delivers each message from this one on, oldest first, until none is left.
-fn drain(world: &mut World, from: usize) -> Option<usize> {
-    for place in from..1_000_000 {
-        if place >= world.sent().len() {
-            return Some(place);
-        }
-        world.step(&Event::Deliver(place)).ok()?;
-    }
-    None
-}
-
-// How many pairs a happy upload names.
-fn happiness(operation: &Operation) -> Option<usize> {
-    match &operation.task {
-        Task::Uploading(upload) => match upload.status() {
-            UploadStatus::Happy(pairs) => Some(pairs.as_slice().len()),
-            _ => None,
-        },
-        _ => None,
-    }
-}
-
-// How many bytes a download that is done handed out.
-fn handed_out(operation: &Operation) -> Option<usize> {
-    match &operation.task {
-        Task::Downloading(download) if download.status() == DownloadStatus::Done => {
-            let mut count: usize = 0;
-            for piece in operation.given.as_slice() {
-                count = count.checked_add(piece.bytes.as_slice().len())?;
-            }
-            Some(count)
-        }
-        _ => None,
     }
 }
 
@@ -128,17 +80,6 @@ fn delivers_nothing(alloc: Global) -> Option<bool> {
 #[test]
 fn there_is_no_message(rt: HostRuntime) {
     assert!(rt; delivers_nothing(rt.alloc()) == Some(true));
-}
-
-// The read cap of that file.
-fn read_cap(alloc: Global) -> Option<ReadCap> {
-    let params = Params::new(1, 3, 3, 131_072).ok()?;
-    let file = vec![in alloc; 0u8; 56].ok()?;
-    let Encoded { cap, shares: _ } = encode_all(alloc, &file, &[], &params).ok()?;
-    match cap {
-        Cap::Chk(cap) => Some(cap),
-        Cap::Verify(_) | Cap::Lit(_) => None,
-    }
 }
 
 // Two uploads of the file at once, and then two downloads at once, of all of it and of a part: what
