@@ -1,9 +1,10 @@
 #!/bin/bash
 # Times the built program by processor time (user and system of its process), in turn with two bases:
 # SHA-256 of the kit over as many bytes as have to be hashed, built as the program is, and `sha256sum`
-# of the file. The best of six runs of each counts. Its words: the file's size in MiB (16 if none), the
-# program (that of this repository if none, which is built first), and the processor that the program
-# was built for (this machine's if none).
+# of the file. The best of six runs of each counts. After the file come files of 1 MiB in 256 shares
+# at 256 servers, of which one and 256 are needed. Its words: the file's size in MiB (16 if none),
+# the program (that of this repository if none, which is built first), and the processor that the
+# program was built for (this machine's if none).
 set -e
 here=$(cd "$(dirname "$0")" && pwd)
 . "$here/../prepare.sh"
@@ -30,6 +31,8 @@ spent() {
 
 least() { [ -n "$1" ] && [ "$1" -le "$2" ] && echo "$1" || echo "$2"; }
 
+same() { cmp -s out "$1" || { echo "the file that came back is another"; exit 1; }; }
+
 # The shares of the lowest numbers go, so that each block is decoded.
 without_lowest() {
     for number in 0 1 2; do
@@ -45,10 +48,28 @@ for _ in 1 2 3 4 5 6; do
     cap=$(head -n 1 out)
     base_get=$(least "$base_get" "$(spent "$base" $((size * 201 / 100)))")
     gets=$(least "$gets" "$(spent "$program" get "$cap" --grid grid)")
-    cmp -s out file || { echo "the file that came back is another"; exit 1; }
+    same file
+    base_check=$(least "$base_check" "$(spent "$base" $((size * 334 / 100)))")
+    checks=$(least "$checks" "$(spent "$program" check "$cap" --grid grid)")
     without_lowest
     decodes=$(least "$decodes" "$(spent "$program" get "$cap" --grid grid)")
-    cmp -s out file || { echo "the file that came back is another"; exit 1; }
+    same file
+done
+
+head -c 1048576 /dev/urandom > small
+for needed in 1 256; do
+    rm -rf grid
+    "$program" put small --grid grid --k $needed --n 256 --happy 1 --servers 256 > out
+    cap=$(head -n 1 out)
+    small_get= base_small= sum_small=
+    for _ in 1 2 3 4 5 6 7 8 9 10; do
+        base_small=$(least "$base_small" "$(spent "$base" $((1048576 * 201 / 100)))")
+        sum_small=$(least "$sum_small" "$(spent sha256sum small)")
+        small_get=$(least "$small_get" "$(spent "$program" get "$cap" --grid grid)")
+        same small
+    done
+    smalls="$smalls$needed $small_get $base_small $sum_small
+"
 done
 
 ratio() { awk -v a="$2" -v b="$3" -v c="$4" -v name="$1" \
@@ -57,3 +78,7 @@ echo "a file of $mib MiB at 3 of 10, $processor; sha256sum $sum ms"
 ratio put "$puts" "$base_put" "$sum"
 ratio get "$gets" "$base_get" "$sum"
 ratio "get of other shares" "$decodes" "$base_get" "$sum"
+ratio "check of ten shares" "$checks" "$base_check" "$sum"
+echo "$smalls" | while read -r needed small_get base_small sum_small; do
+    [ -z "$needed" ] || ratio "get of 1 MiB, $needed of 256" "$small_get" "$base_small" "$sum_small"
+done

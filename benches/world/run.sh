@@ -1,18 +1,20 @@
 #!/bin/bash
 # Times the built program at a script of 256 nodes, of which 50 upload a file of 56 bytes each, one
-# share to a node, and 50 download it: some 100,000 messages. Prints its lines' ends, the processor
-# time and the greatest memory. Its word: the program (that of this repository if none, which is built
-# first).
+# share to a node, and 50 download it: some 130,000 messages. Prints how many operations ended in
+# each way, how many events there were, the processor time and the greatest memory. Its word: the
+# program (that of this repository if none, which is built first). It needs GNU time.
 set -e
 here=$(cd "$(dirname "$0")" && pwd)
 root=$(cd "$here/../.." && pwd)
+timed=$(type -P time) || { echo "GNU time is not here" >&2; exit 2; }
 program=${1:-}
 if [ -z "$program" ]; then
     "$root/grid" cap URI:LIT:na > /dev/null
     program=$root/crates/grid_main/out/grid_main
 fi
 script=$(mktemp)
-trap 'rm -f "$script"' EXIT
+told=$(mktemp)
+trap 'rm -f "$script" "$told"' EXIT
 {
     echo nodes 256
     for node in $(seq 0 49); do
@@ -24,5 +26,6 @@ trap 'rm -f "$script"' EXIT
     done
     echo drain
 } > "$script"
-TIMEFORMAT='%3U s user, %3S s system'
-time "$program" world "$script" | sort -k 2 | uniq -c -f 1 | tail -n 4
+export GLIBC_TUNABLES="glibc.malloc.hugetlb=1${GLIBC_TUNABLES:+:$GLIBC_TUNABLES}"
+"$timed" -f '%U s user, %S s system, %M KiB at most' "$program" world "$script" > "$told"
+sed 's/^[0-9]* //' "$told" | sort | uniq -c
