@@ -2,12 +2,10 @@
 
 use crate::{Failure, print};
 use grid_rules::{Fault, world_status};
+use grid_scripts::run_text;
 use grid_servers::{at_path, read_at_most};
-use std::alloc::Global;
 use std::io::Write;
 use std::rt::Files;
-use world_runner::{Ending, run_script};
-use world_script::parse;
 
 /// The greatest script, in bytes.
 const MAX_SCRIPT_SIZE: u64 = 1 << 40;
@@ -19,7 +17,7 @@ where
     R: Files + AllocGlobal,
     O: Write,
 {
-    let ending = ending_of(rt.alloc(), &read(rt, path)?)?;
+    let ending = run_text(rt.alloc(), &read(rt, path)?)?;
     print(out, ending.lines.as_bytes())?;
     Ok(world_status(ending.agrees))
 }
@@ -31,9 +29,4 @@ fn read<R: Files + AllocGlobal>(rt: &R, path: &str) -> Result<Vec<u8>, Fault> {
         Some(text) => Ok(text),
         None => Err(Fault::TooLarge),
     }
-}
-
-// How the script of a text ends. The whole text is read before anything runs.
-fn ending_of(alloc: Global, text: &[u8]) -> Result<Ending, Fault> {
-    Ok(run_script(alloc, &parse(alloc, text)?)?)
 }

@@ -17,10 +17,6 @@ use Rattle.grid_rules.specs.declared.fault.Fault.TheVariants.{NotEnoughShares, I
 use Rattle.grid_rules.specs.declared.fault.Fault.TheVariants.{BadRange, NeedsReadCap, Socket}
 use Rattle.grid_rules.specs.declared.fault.Fault.TheVariants.{TurnLimit, BadEvent, Stopped}
 use Rattle.grid_rules.specs.declared.fault.Fault.TheVariants.{BadScript}
-use Rattle.world.specs.declared.event.WorldError.{WorldError}
-use Rattle.world.specs.declared.event.WorldError.TheVariants as worlds
-use Rattle.world_script.specs.declared.error.ScriptError.{ScriptError}
-use Rattle.world_script.specs.declared.error.ScriptError.TheVariants as scripts
 
 -- the number of a fault
 abbrev pub fault_number : Fault → ℕ
@@ -86,17 +82,6 @@ fault_of_download downloads.BadRange = BadRange
 abbrev pub fault_of_loop : LoopError → Fault
 fault_of_loop loops.OutOfMemory = OutOfMemory
 fault_of_loop loops.TurnLimit = TurnLimit
-
--- the fault that a script's refusal becomes
-abbrev pub fault_of_script : ScriptError → Fault
-fault_of_script scripts.OutOfMemory = OutOfMemory
-fault_of_script (scripts.BadScript line) = BadScript line
-
--- the fault that the refusal of a script's world becomes
-abbrev pub fault_of_world : WorldError → Fault
-fault_of_world worlds.OutOfMemory = OutOfMemory
-fault_of_world worlds.BadEvent = BadEvent
-fault_of_world worlds.Stopped = Stopped
 
 -- It is the fault of what has this path, or there was no memory to tell the path.
 abbrev pub TellsPath : List ℕ → Fault → Type 0

@@ -4,7 +4,7 @@ ghost use Rattle.std.specs.Prelude.{◌≡◌, ◌↔◌, IsTrue};
 ghost use Rattle.std.specs.IoError.{error_kind};
 ghost use Rattle.grid_rules.specs.Fault.{fault_number, fault_of_cap, fault_of_encoding};
 ghost use Rattle.grid_rules.specs.Fault.{TellsPath, fault_of_download, fault_of_loop};
-ghost use Rattle.grid_rules.specs.Fault.{fault_of_script, fault_of_world, fault_status};
+ghost use Rattle.grid_rules.specs.Fault.{fault_status};
 
 use cap_text::CapError;
 use download_core::status::DownloadError;
@@ -13,8 +13,6 @@ use local_grid::error::LoopError;
 use std::alloc::{AllocError, AllocFailed, Global};
 use std::io::{self, ErrorKind};
 use thiserror::Error;
-use world::event::WorldError;
-use world_script::ScriptError;
 
 /// A fault. Its text is its name and what belongs to it.
 #[derive(Debug, Drop, Error)]
@@ -185,29 +183,6 @@ impl From<LoopError> for Fault {
         match error {
             LoopError::OutOfMemory => Fault::OutOfMemory,
             LoopError::TurnLimit => Fault::TurnLimit,
-        }
-    }
-}
-
-impl From<ScriptError> for Fault {
-    ghost from_gives = { λ error fault. fault ≡ fault_of_script error };
-
-    fn from(error: ScriptError) -> Fault {
-        match error {
-            ScriptError::OutOfMemory => Fault::OutOfMemory,
-            ScriptError::BadScript(line) => Fault::BadScript(line),
-        }
-    }
-}
-
-impl From<WorldError> for Fault {
-    ghost from_gives = { λ error fault. fault ≡ fault_of_world error };
-
-    fn from(error: WorldError) -> Fault {
-        match error {
-            WorldError::OutOfMemory => Fault::OutOfMemory,
-            WorldError::BadEvent => Fault::BadEvent,
-            WorldError::Stopped => Fault::Stopped,
         }
     }
 }

@@ -1,0 +1,29 @@
+//! Which fault of `grid` the refusal of a script or of its world becomes.
+
+ghost use Rattle.std.specs.Prelude.{◌≡◌};
+ghost use Rattle.grid_scripts.specs.Faults.{fault_of_script, fault_of_world};
+
+use grid_rules::Fault;
+use world::event::WorldError;
+use world_script::ScriptError;
+
+/// The fault that a script's refusal becomes.
+pub(crate) fn fault_of_script(error: ScriptError) -> Fault
+    ensures { result ≡ fault_of_script error }
+{
+    match error {
+        ScriptError::OutOfMemory => Fault::OutOfMemory,
+        ScriptError::BadScript(line) => Fault::BadScript(line),
+    }
+}
+
+/// The fault that the refusal of a script's world becomes.
+pub(crate) fn fault_of_world(error: WorldError) -> Fault
+    ensures { result ≡ fault_of_world error }
+{
+    match error {
+        WorldError::OutOfMemory => Fault::OutOfMemory,
+        WorldError::BadEvent => Fault::BadEvent,
+        WorldError::Stopped => Fault::Stopped,
+    }
+}

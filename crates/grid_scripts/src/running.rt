@@ -1,0 +1,39 @@
+//! The text of a script, run.
+
+ghost use Rattle.std.specs.Prelude.{IfErr, IfOk};
+ghost use Rattle.world_runner.specs.Playing.{IsEnding};
+ghost use Rattle.world_script.specs.Script.{AreNodes, lines_of};
+ghost use Rattle.grid_scripts.specs.Faults.{IsFaultOf, IsWorldFault};
+ghost use Rattle.grid_scripts.specs.Texts.{IsEndOf};
+
+use crate::faults::{fault_of_script, fault_of_world};
+use grid_rules::Fault;
+use std::alloc::Global;
+use world_runner::{Ending, run_script};
+use world_script::{Script, parse};
+
+/// Runs the script that a text spells: what its operations came to.
+///
+/// Refuses with `BadScript` just where the lines are no script, with `BadEvent` where a command has
+/// no event or one that the world refuses, and with `OutOfMemory`.
+pub fn run_text(alloc: Global, text: &[u8]) -> Result<Ending, Fault>
+    ensures ended { IfOk result (IsEndOf (lines_of text.now)) }
+    ensures refused { IfErr result (IsFaultOf (lines_of text.now)) }
+{
+    match parse(alloc, text) {
+        Ok(script) => run(alloc, &script),
+        Err(error) => Err(fault_of_script(error)),
+    }
+}
+
+// Runs a script.
+fn run(alloc: Global, script: &Script) -> Result<Ending, Fault>
+    requires { AreNodes script.now }
+    ensures ended { IfOk result (IsEnding script.now) }
+    ensures refused { IfErr result (IsWorldFault script.now) }
+{
+    match run_script(alloc, script) {
+        Ok(ending) => Ok(ending),
+        Err(error) => Err(fault_of_world(error)),
+    }
+}
