@@ -1,6 +1,5 @@
 -- What is kept of each download, and what holds of it.
 use Rattle.std.proofs.Common.{◌≡◌, ◌≢◌, ℕ, ◌<◌, ◌≤◌, ◌⊎◌, All, List, Option, Some, None, refl, sym, ap, subst, ◌∙◌, arith}
-use Rattle.download_file.specs.State.{FileState}
 use Rattle.cap_text.specs.Cap.{ReadCapValue, verify_cap_of}
 use Rattle.request_record.specs.declared.requests.Request.{Request}
 use Rattle.request_record.specs.Record.{outstanding_count}

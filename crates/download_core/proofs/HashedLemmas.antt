@@ -4,7 +4,7 @@ use Rattle.wire.specs.declared.message.Message.{Message}
 use Rattle.request_record.specs.declared.requests.Request.{Request}
 use Rattle.download_segments.specs.declared.piece.Piece.{Piece}
 use Rattle.download_segments.proofs.GivenLemmas.{given_weaker}
-use Rattle.download_file.specs.Answers.{IsMade, IsRead}
+use Rattle.download_file.specs.Answers.{IsMade}
 use Rattle.download_file.specs.Answers as file
 use Rattle.download_file.specs.Hashed.{IsHashedWith}
 use Rattle.download_file.specs.Right.{IsFile}

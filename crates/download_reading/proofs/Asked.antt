@@ -30,7 +30,7 @@ use Rattle.download_file.specs.State.{FileState, IsLive, ReaderState, shares}
 use Rattle.download_reading.specs.Reading.{AreKept, AreLinked, IsOf, IsOfReader, IsReadNow, IsReaderOf}
 use Rattle.download_reading.specs.State.{ReadingState}
 use Rattle.download_reading.specs.Steps as steps
-use Rattle.download_reading.specs.Steps.{Continues, Grows}
+use Rattle.download_reading.specs.Steps.{Grows}
 
 -- ---- beside a plan
 

@@ -14,7 +14,6 @@ use Rattle.share_holdings.specs.Table.{IsFree, IsHolding, TakesUp}
 use Rattle.share_holdings.specs.declared.holding.Holding.{Holding}
 use Rattle.share_holdings.proofs.Lists.{get_other, get_set, set_cases}
 use Rattle.share_beginnings.specs.Known.{AreBegun}
-use Rattle.share_beginnings.specs.Moves.{GoesOn}
 use Rattle.share_beginnings.specs.Moves as moves
 use Rattle.share_beginnings.specs.Opening.{IsTaken}
 use Rattle.share_beginnings.specs.Reads.{IsBeside, IsReadAt}

@@ -1,4 +1,4 @@
-use Rattle.std.proofs.Common.{◌≡◌, Err, List, ℕ, rules, subst}
+use Rattle.std.proofs.Common.{◌≡◌, Err, rules, subst}
 use Rattle.world.specs.declared.event.Event.TheVariants.{Start}
 use Rattle.world.specs.declared.event.WorldError.TheVariants.{BadEvent}
 use Rattle.world_script.specs.declared.command.Command.{Command}
