@@ -294,7 +294,11 @@ fn handed_out(download: &mut Download) -> usize {
 
 // How a download ends of the file that is no code word, from two servers with these shares, and how
 // many bytes it handed out.
-fn end_of_no_code_word(alloc: Global, told: u8, shares: (u8, u8)) -> Option<(DownloadStatus, usize)> {
+fn end_of_no_code_word(
+    alloc: Global,
+    told: u8,
+    shares: (u8, u8),
+) -> Option<(DownloadStatus, usize)> {
     let file = NoCodeWord::new(alloc, told)?;
     let held = file.held(alloc, &[(0, shares.0), (1, shares.1)])?;
     let nodes: [NodeId; 2] = [0, 1];
@@ -309,14 +313,31 @@ fn end_of_no_code_word(alloc: Global, told: u8, shares: (u8, u8)) -> Option<(Dow
     Some((download.status(), bytes))
 }
 
+// The byte of which the second segment is made, by the ciphertext tree, the two shares that are
+// read, and whether they give that segment.
+const ENDS: [(u8, (u8, u8), bool); 7] = [
+    (7, (0, 1), true),
+    (8, (2, 3), true),
+    (7, (2, 3), false),
+    (7, (0, 2), false),
+    (8, (0, 1), false),
+    (9, (0, 1), false),
+    (9, (2, 3), false),
+];
+
+// Does all of the file come from right shares, and from others its first segment alone?
+fn ends_so(alloc: Global, told: u8, shares: (u8, u8), right: bool) -> Option<bool> {
+    let expected = if right {
+        (DownloadStatus::Done, SIZE)
+    } else {
+        (DownloadStatus::Inconsistent, SEGMENT_SIZE)
+    };
+    Some(end_of_no_code_word(alloc, told, shares)? == expected)
+}
+
 #[test]
 fn no_code_word_is_inconsistent(rt: HostRuntime) {
-    let whole = Some((DownloadStatus::Done, SIZE));
-    let begun = Some((DownloadStatus::Inconsistent, SEGMENT_SIZE));
-    for (told, right) in [(7, (0, 1)), (8, (2, 3))] {
-        assert!(rt; end_of_no_code_word(rt.alloc(), told, right) == whole);
-    }
-    for (told, wrong) in [(7, (2, 3)), (7, (0, 2)), (8, (0, 1)), (9, (0, 1)), (9, (2, 3))] {
-        assert!(rt; end_of_no_code_word(rt.alloc(), told, wrong) == begun);
+    for (told, shares, right) in &ENDS {
+        assert!(rt; ends_so(rt.alloc(), *told, *shares, *right) == Some(true));
     }
 }

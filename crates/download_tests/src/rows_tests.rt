@@ -1,11 +1,12 @@
 //! Downloads whose segments are made eight side by side.
 
-use crate::course::{Held, SERVERS, answer, cap_of, damage, one_each, text_of};
+use crate::course::{SERVERS, cap_of, damage, one_each, text_of};
 use cap_text::ReadCap;
 use download_core::Download;
 use download_core::status::DownloadStatus;
 use file_encoding::{Encoded, Params, encode_all};
 use std::alloc::{AllocError, Global};
+use test_shares::held::{Held, answer};
 
 // Each block is as long as one read.
 const SEGMENT: usize = 98_304;
@@ -37,12 +38,13 @@ fn taken(download: &mut Download, file: &[u8], place: usize) -> Option<(usize, u
             break;
         };
         let from = place.saturating_add(bytes);
-        let right = file.get(from..from.saturating_add(piece.bytes.len()))?;
-        if right != piece.bytes.as_slice() {
+        let piece_bytes = piece.bytes.as_slice();
+        let right = file.get(from..from.saturating_add(piece_bytes.len()))?;
+        if right != piece_bytes {
             return None;
         }
         pieces = pieces.saturating_add(1);
-        bytes = bytes.saturating_add(piece.bytes.len());
+        bytes = bytes.saturating_add(piece_bytes.len());
     }
     Some((pieces, bytes))
 }
@@ -74,7 +76,7 @@ fn download_of(alloc: Global, cap: ReadCap, file: &[u8], held: &[Held]) -> Optio
 
 // A download of a file of 27 segments at three of five servers, of which the first may hold a wrong
 // block of this segment.
-fn ended(alloc: Global, wrong: Option<usize>) -> Option<Ended> {
+fn course_with(alloc: Global, wrong: Option<usize>) -> Option<Ended> {
     let file = text_of(alloc, SIZE, 0).ok()?;
     let params = Params::new(3, 1, 5, SEGMENT as u64).ok()?;
     let encoded = encode_all(alloc, &file, &[], &params).ok()?;
@@ -90,24 +92,25 @@ fn is_whole(ended: &Ended, blamed: usize) -> bool {
     ended.status == DownloadStatus::Done && ended.bytes == SIZE && ended.blamed == blamed
 }
 
+// Are all segments handed out, eight at once as often as there are eight?
+fn rows_come(alloc: Global) -> Option<bool> {
+    let all = course_with(alloc, None)?;
+    let rows: [usize; 6] = [8, 8, 8, 1, 1, 1];
+    Some(is_whole(&all, 0) && all.pieces.as_slice() == &rows)
+}
+
+// Are all segments handed out, and one share blamed, where one block of the second row is wrong?
+fn comes_without_a_share(alloc: Global) -> Option<bool> {
+    let all = course_with(alloc, Some(10))?;
+    Some(is_whole(&all, 1) && all.pieces.first().copied() == Some(8))
+}
+
 #[test]
 fn eight_segments_are_made_at_once(rt: HostRuntime) {
-    let all = ended(rt.alloc(), None);
-    assert!(rt; all.is_some());
-    if let Some(all) = all {
-        assert!(rt; is_whole(&all, 0));
-        let pieces = all.pieces;
-        assert!(rt; pieces.as_slice() == [8, 8, 8, 1, 1, 1].as_slice(), "{pieces:?}");
-    }
+    assert!(rt; rows_come(rt.alloc()) == Some(true));
 }
 
 #[test]
 fn a_wrong_block_of_a_row_is_blamed(rt: HostRuntime) {
-    let all = ended(rt.alloc(), Some(10));
-    assert!(rt; all.is_some());
-    if let Some(all) = all {
-        assert!(rt; is_whole(&all, 1));
-        let pieces = all.pieces;
-        assert!(rt; pieces.first().copied() == Some(8), "{pieces:?}");
-    }
+    assert!(rt; comes_without_a_share(rt.alloc()) == Some(true));
 }

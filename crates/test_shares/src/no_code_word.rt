@@ -76,7 +76,10 @@ impl NoCodeWord {
         share.extend_from_slice(&[7; 28])?;
         share.extend_from_slice(&second_block(half))?;
         share.extend_from_slice(&[0; 96])?;
-        for node in ciphertext_tree(self.told).iter().chain(block_tree(half).iter()) {
+        for node in ciphertext_tree(self.told)
+            .iter()
+            .chain(block_tree(half).iter())
+        {
             share.extend_from_slice(node)?;
         }
         Ok(())

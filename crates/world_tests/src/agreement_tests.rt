@@ -2,7 +2,7 @@
 //! no code word: downloads from other servers decode other segments. Each ends Inconsistent, or
 //! hands out what all others do: no place has two bytes.
 
-use crate::honest::{happiness, handed_out, read_cap, upload};
+use crate::honest::{handed_out, happiness, read_cap, upload};
 use crate::keepers::Run;
 use download_core::status::{DownloadStatus, Piece};
 use proved_parts::{Evidence, find_clash};
@@ -15,6 +15,9 @@ use world_operations::task::Task;
 
 // Every two of the four servers: each pair answers a node of its own.
 const PAIRS: [(u8, u8); 6] = [(0, 1), (0, 2), (0, 3), (1, 2), (1, 3), (2, 3)];
+
+// Two sets of servers without a server in common.
+const HALVES: [(u8, u8); 2] = [(0, 1), (2, 3)];
 
 // The byte of which the second segment is made, by the ciphertext tree, and the two shares that
 // give that segment: for byte 9 there are none.
@@ -87,8 +90,12 @@ fn all_agree(operations: &[Operation]) -> bool {
 }
 
 // Do downloads of one cap by these pairs of servers end as they have to, and agree?
-fn ends_and_agrees(alloc: Global, told: (u8, Option<(u8, u8)>), pairs: &[(u8, u8)]) -> Option<bool> {
-    let (byte, right) = told;
+fn ends_and_agrees(
+    alloc: Global,
+    told: &(u8, Option<(u8, u8)>),
+    pairs: &[(u8, u8)],
+) -> Option<bool> {
+    let (byte, right) = *told;
     let file = NoCodeWord::new(alloc, byte)?;
     let mut run = Run::new(alloc, &file, pairs)?;
     run.settle()?;
@@ -98,22 +105,21 @@ fn ends_and_agrees(alloc: Global, told: (u8, Option<(u8, u8)>), pairs: &[(u8, u8
 
 #[test]
 fn a_download_of_no_code_word_is_inconsistent(rt: HostRuntime) {
-    for pair in PAIRS {
-        assert!(rt; ends_and_agrees(rt.alloc(), (9, None), &[pair]) == Some(true));
+    for pair in &PAIRS {
+        assert!(rt; ends_and_agrees(rt.alloc(), &(9, None), &[*pair]) == Some(true));
     }
 }
 
 #[test]
 fn downloads_from_two_sets_of_servers_agree(rt: HostRuntime) {
-    for told in TOLD {
-        let pairs = [(0, 1), (2, 3)];
-        assert!(rt; ends_and_agrees(rt.alloc(), told, &pairs) == Some(true));
+    for told in &TOLD {
+        assert!(rt; ends_and_agrees(rt.alloc(), told, &HALVES) == Some(true));
     }
 }
 
 #[test]
 fn downloads_from_any_two_servers_agree(rt: HostRuntime) {
-    for told in TOLD {
+    for told in &TOLD {
         assert!(rt; ends_and_agrees(rt.alloc(), told, &PAIRS) == Some(true));
     }
 }
