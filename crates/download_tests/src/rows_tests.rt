@@ -96,7 +96,7 @@ fn is_whole(ended: &Ended, blamed: usize) -> bool {
 fn rows_come(alloc: Global) -> Option<bool> {
     let all = course_with(alloc, None)?;
     let rows: [usize; 6] = [8, 8, 8, 1, 1, 1];
-    Some(is_whole(&all, 0) && all.pieces.as_slice() == &rows)
+    Some(is_whole(&all, 0) && all.pieces.as_slice() == rows.as_slice())
 }
 
 // Are all segments handed out, and one share blamed, where one block of the second row is wrong?
