@@ -6,7 +6,7 @@
 #
 # PROGRAM is the built program. Without it that of this repository is taken, and first built where
 # it is missing or older than a source. FIRST to LAST are the numbers of the schedules, 1 to 1000
-# without them. Run by hand; it takes some minutes at most.
+# without them. Run by hand; it takes half a minute at most.
 #
 # A schedule's number draws all of its script: how many nodes are honest and which liars there are,
 # two or three uploads with their files and parameters (in some schedules one file by two nodes),
