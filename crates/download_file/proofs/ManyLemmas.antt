@@ -3,7 +3,7 @@ use Rattle.std.proofs.Common.{◌≡◌, ◌∙◌, ℕ, zero, suc, ◌+◌, ◌
 use Rattle.std.proofs.lemmas.List.{append-nil, append_assoc}
 use Rattle.download_segments.specs.declared.piece.Piece.{Piece}
 use Rattle.merkle.specs.Partial.{known_siblings}
-use Rattle.download_segments.specs.Handout.{handed_out, next_piece}
+use Rattle.download_segments.specs.Handout.{next_piece}
 use Rattle.download_segments.specs.State.{HandoutState, IsHandout}
 use Rattle.download_segments.proofs.HandoutLemmas.{ends_of, next_is, next_within, right_handed}
 use Rattle.download_segments.proofs.KnownLemmas.{known_segment}

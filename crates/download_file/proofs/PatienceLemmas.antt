@@ -2,12 +2,10 @@
 use Rattle.std.proofs.Common.{◌≡◌, ◌∙◌, ℕ, inl, inr, List, Contains, length, ap, sym, subst, arith}
 use Rattle.std.specs.Prelude.{slice_get}
 use Rattle.request_record.specs.declared.requests.Request.{Request}
-use Rattle.share_layout.specs.Geometry.{Geometry}
 use Rattle.share_layout.specs.Pieces.{block_length}
 use Rattle.download_segments.specs.Handout.{handed_out, next_segment}
 use Rattle.download_segments.specs.State.{HandoutState, ProvesSegment}
 use Rattle.download_file.specs.State.{FileState, ReaderState, first_place, waiting_in}
-use Rattle.download_file.specs.Answers.{block_of}
 use Rattle.download_file.specs.Asked.{AsksNoMore}
 use Rattle.download_file.specs.Changes.{StaysAskedUp}
 use Rattle.download_file.specs.Making.{AwaitsRow, CanNotGoOn, MakesNext, RefutesReader, SomeWaits}

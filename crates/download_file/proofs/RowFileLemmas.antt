@@ -1,5 +1,5 @@
 -- A file with eight segments more.
-use Rattle.std.proofs.Common.{◌≡◌, ◌≢◌, ◌⊎◌, inl, inr, Bool, true, false, Result, Ok, Err, ℕ, zero, suc, ◌+◌, ◌-◌, ◌*◌, ◌<◌, ◌≤◌, All, Contains, List, length, Some, get_or, refl, sym, ap, subst, ◌∙◌, arith, length-set}
+use Rattle.std.proofs.Common.{◌≡◌, ◌≢◌, ◌⊎◌, inl, inr, Bool, true, false, Result, Ok, Err, ℕ, zero, suc, ◌+◌, ◌-◌, ◌*◌, ◌<◌, ◌≤◌, List, length, Some, refl, sym, ap, subst, ◌∙◌, arith, length-set}
 use Rattle.std.specs.Prelude.{slice_get, slice_set}
 use Rattle.std.specs.Int.{div_ceil}
 use Rattle.std.specs.declared.alloc.AllocError.{AllocError}
@@ -7,7 +7,7 @@ use Rattle.std.proofs.lemmas.List.Elements.{All-contains, All-set, All-weaker}
 use Rattle.request_record.specs.declared.requests.Request.{Request}
 use Rattle.share_layout.specs.Pieces.{block_length}
 use Rattle.share_layout.proofs.CutLemmas.{cut_lengths}
-use Rattle.download_segments.specs.Handout.{IsRowWanted, first_handed_out, handed_out, next_segment}
+use Rattle.download_segments.specs.Handout.{IsRowWanted, first_handed_out, next_segment}
 use Rattle.download_segments.specs.State.{HandoutState, IsHandout}
 use Rattle.download_segments.proofs.HandoutLemmas.{valid_of}
 use Rattle.download_segments.proofs.RowLemmas.{IsRowState, row_length, row_state, row_there, still_proved}
@@ -17,14 +17,14 @@ use Rattle.segment_groups.proofs.ListLemmas.{one_there}
 use Rattle.download_file.specs.State.{FileState}
 use Rattle.download_file.specs.Answers.{IsRead}
 use Rattle.download_file.specs.Changes.{IsSameFile, StaysAskedUp}
-use Rattle.download_file.specs.Making.{MakesNext, MakesSegments}
+use Rattle.download_file.specs.Making.{MakesSegments}
 use Rattle.download_file.specs.Right.{IsFile, IsGroup}
 use Rattle.download_file.specs.Rows.{HasRow, HaveRow, IsRow}
 use Rattle.download_file.specs.Steps.{AreReady}
 use Rattle.download_file.proofs.ListLemmas.{contains_at, get_set, set_again, set_same}
 use Rattle.download_file.proofs.GrowLemmas.{grow_same, group_stays}
 use Rattle.download_file.proofs.MakeLemmas.{all_long, live_blocks}
-use Rattle.download_file.proofs.SegmentLemmas.{HasGroups, HasLast, HasMade, has_groups, has_made, last_end, raise_last}
+use Rattle.download_file.proofs.SegmentLemmas.{HasLast, has_groups, has_made, last_end, raise_last}
 
 pub same_two : (f g h : FileState) → IsSameFile f g → IsSameFile g h → IsSameFile f h
 same_two f g h a b = record {

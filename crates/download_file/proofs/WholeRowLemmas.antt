@@ -1,5 +1,5 @@
 -- Exactly when eight segments are made.
-use Rattle.std.proofs.Common.{◌≡◌, ◌↔◌, Bool, true, false, Result, Ok, Err, ℕ, ◌+◌, ◌<◌, List, length, refl, sym, ap, subst, ◌∙◌, arith}
+use Rattle.std.proofs.Common.{◌≡◌, ◌↔◌, Bool, true, false, Result, Ok, Err, ℕ, ◌+◌, ◌<◌, List, length, refl, sym, ap, subst, ◌∙◌}
 use Rattle.std.specs.Prelude.{IfOk, IsSome, IsTrue, Some, slice_get}
 use Rattle.std.specs.declared.alloc.AllocError.{AllocError}
 use Rattle.std.proofs.lemmas.Bool.{true≢false}
@@ -9,7 +9,7 @@ use Rattle.request_record.specs.declared.requests.Request.{Request}
 use Rattle.share_layout.specs.Geometry.{Geometry}
 use Rattle.proved_parts.specs.Decoding.{DecodesBlocks}
 use Rattle.download_source.specs.Taking.{IsProved}
-use Rattle.download_segments.specs.Decoding.{AreShareNumbers, blocks_in}
+use Rattle.download_segments.specs.Decoding.{blocks_in}
 use Rattle.download_segments.specs.Handout.{next_segment}
 use Rattle.download_segments.specs.State.{HandoutState, ProvesSegment}
 use Rattle.download_segments.proofs.DecodingLemmas.{unique}
@@ -18,7 +18,7 @@ use Rattle.download_segments.proofs.RowLemmas.{row_there}
 use Rattle.segment_groups.specs.Making.{DecodesRow, MakesRow, RefutesRow, nth, nth_block}
 use Rattle.segment_groups.specs.State.{GroupState, IsLast}
 use Rattle.segment_groups.proofs.ListLemmas.{one_there}
-use Rattle.download_file.specs.State.{FileState, IsLive, IsReader, ReaderState, numbers_of}
+use Rattle.download_file.specs.State.{FileState, IsReader, ReaderState, numbers_of}
 use Rattle.download_file.specs.Answers.{block_of, blocks_of}
 use Rattle.download_file.specs.Making.{CanMakeRow, IsWholeRow}
 use Rattle.download_file.specs.Right.{IsGroup}

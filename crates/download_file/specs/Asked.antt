@@ -7,7 +7,7 @@ use Rattle.download_source.specs.Asking.{IsAsked, IsWanted, IsWantedCiphertext}
 use Rattle.download_source.specs.Source.{first_of}
 use Rattle.download_source.specs.declared.wanted.Wanted.{Wanted}
 use Rattle.download_segments.specs.Handout.{next_segment}
-use Rattle.download_file.specs.State.{FileState, IsReader, ReaderState, giver}
+use Rattle.download_file.specs.State.{FileState, IsLive, IsReader, ReaderState, giver}
 
 -- a reader was asked for so many bytes from this place on
 pub record HasAsked (f : FileState) (reader offset len : ℕ) : Type 0 where
@@ -58,3 +58,7 @@ pub record IsAskedUp (f : FileState) (reader : ℕ) : Type 0 where
   pub ciphertext : (r : ReaderState) (number : ℕ) (part : Part) → giver f ≡ Some reader
       → IsReader f reader r → next_segment f.handout ≡ Some number
       → IsWantedCiphertext r.source number part → IsAsked r.source part
+
+-- so it is of each reader that is read
+abbrev pub AreAskedUp : FileState → Type 0
+AreAskedUp f = (reader : ℕ) → IsLive f reader → IsAskedUp f reader

@@ -15,7 +15,7 @@ use Rattle.download_segments.specs.State.{ProvesSegment}
 use Rattle.download_file.specs.State.{FileState, IsComplete, IsLive, IsReader, ReaderState}
 use Rattle.download_file.specs.State.{first_place, first_waiting, numbers_of}
 use Rattle.download_file.specs.Answers.{block_of, blocks_of}
-use Rattle.download_file.specs.Asked.{IsAskedUp}
+use Rattle.download_file.specs.Asked.{AreAskedUp}
 
 -- something waits of a reader that is read
 pub record SomeWaits (f : FileState) : Type 0 where
@@ -28,7 +28,7 @@ pub record SomeWaits (f : FileState) : Type 0 where
 -- wanted of these for the next segment is asked, something waits of one of them.
 abbrev pub CanNotGoOn : FileState → Type 0
 CanNotGoOn f = IsComplete f ⊎ (length f.live < f.handout.geometry.needed)
-    ⊎ (((reader : ℕ) → IsLive f reader → IsAskedUp f reader) → SomeWaits f)
+    ⊎ (AreAskedUp f → SomeWaits f)
 
 -- So many bytes of segments are asked ahead. Where segments are so short that these are two rows of
 -- eight, a row can be awaited while others are asked.

@@ -118,12 +118,28 @@ fn are_ready(readers: &[Reader], places: &[usize], number: u32) -> bool
     ensures yes { IsTrue result → AreReady readers.now places.now number }
     ensures no { result ≡ false → IsNotReady readers.now places.now number }
 {
+    // Blocks are asked in turn, so that the last one tells most often that one is missing.
+    if !is_last_ready(readers, places, number) {
+        return false;
+    }
     for place in places {
         if !readers[*place].source().is_ready(number) {
             return false;
         }
     }
     true
+}
+
+// Whether the last of these readers, where there is one, has the block of a segment, and knows its
+// hash.
+fn is_last_ready(readers: &[Reader], places: &[usize], number: u32) -> bool
+    requires { All (λ place. place < length readers.now) places.now }
+    ensures { result ≡ false → IsNotReady readers.now places.now number }
+{
+    match places.last() {
+        Some(place) => readers[*place].source().is_ready(number),
+        None => true,
+    }
 }
 
 /// Whether as many shares as are needed are read, all their blocks of a segment were taken, and the

@@ -19,7 +19,7 @@ ghost use Rattle.download_segments.specs.Handout.{TakesPiece};
 ghost use Rattle.download_segments.specs.NoCodeWord.{IsNoCodeWord};
 ghost use Rattle.download_file.specs.Answers.{IsRead};
 ghost use Rattle.download_file.specs.Right.{made_end};
-ghost use Rattle.download_file.specs.Asked.{IsAskedUp};
+ghost use Rattle.download_file.specs.Asked.{AreAskedUp, IsAskedUp};
 ghost use Rattle.download_file.specs.Changes.{IsSameFile, StaysAskedUp};
 ghost use Rattle.download_file.specs.Making.{CanNotGoOn};
 ghost use Rattle.download_file.specs.State.{IsComplete, IsLive, first_waiting, new_file};
@@ -64,14 +64,20 @@ pub struct Reading {
     file: File,
     // The holding that each reader of the file reads.
     holdings: Vec<usize>,
+    // Whether each reader that is read was asked for all that is wanted for the next segment.
+    asked_up: bool,
 }
 
 impl Model for Reading {
+    ghost use Rattle.std.specs.Prelude.{◌≡◌, true};
+    ghost use Rattle.download_file.specs.Asked.{AreAskedUp};
     ghost use Rattle.download_reading.specs.State.{ReadingState};
 
     ghost Value = { ReadingState };
 
     ghost view = { λ r. record { file = r.file; holdings = r.holdings.items } };
+
+    ghost invariant = { λ r. r.asked_up ≡ true → AreAskedUp r.file };
 }
 
 impl Reading {
@@ -95,6 +101,7 @@ impl Reading {
         Ok(Reading {
             file: File::new(alloc, key, ueb, geometry, from, to)?,
             holdings: Vec::new(alloc),
+            asked_up: false,
         })
     }
 
@@ -263,29 +270,33 @@ impl Reading {
             ≡ beginnings.old.holdings.table.holdings) }
     {
         let share = beginnings.holdings().holdings()[holding].share;
+        self.asked_up = false;
         let reader = self.file.begin(share)?;
         self.holdings.push(holding)?;
         beginnings.begin_reader(holding, reader);
         Ok(())
     }
 
-    // Asks each reader that is read for what is wanted of it now.
+    // Asks each reader that is read for what is wanted of it now, where this was not done before.
     fn ask_all(&mut self, beginnings: &mut Beginnings) -> Result<(), AllocError>
         requires reading { AreReading beginnings.old self.old }
         ensures reading { OnOk result (AreReading beginnings.new self.new) }
         ensures continues { Continues beginnings.old self.old beginnings.new self.new }
         ensures blamed { beginnings.new.holdings.blamed ≡ beginnings.old.holdings.blamed }
-        ensures asked_up { OnOk result ((reader : ℕ) → IsLive self.new.file reader
-            → IsAskedUp self.new.file reader) }
+        ensures asked_up { OnOk result (AreAskedUp self.new.file) }
         ensures live { OnOk result (self.new.file.live ≡ self.old.file.live) }
         ensures handout { self.new.file.handout ≡ self.old.file.handout }
         ensures table { OnOk result (beginnings.new.holdings.table
             ≡ beginnings.old.holdings.table) }
     {
+        if self.asked_up {
+            return Ok(());
+        }
         for i in 0..self.file.live().len() {
             let reader = self.file.live()[i];
             self.ask(beginnings, reader)?;
         }
+        self.asked_up = true;
         Ok(())
     }
 
@@ -305,6 +316,7 @@ impl Reading {
             ≡ beginnings.old.holdings.table) }
     {
         let place = beginnings.holdings().requests().entries().len();
+        self.asked_up = false;
         let wanted = self.file.wanted(reader, place)?;
         ask_parts(beginnings, self.holdings[reader], &wanted)
     }
@@ -329,8 +341,10 @@ impl Reading {
             → work beginnings.new self.new < work beginnings.old self.old }
     {
         let made = self.file.make(beginnings.holdings().requests(), patient)?;
-        if let Made::Wrong(reader) = made {
-            self.blame(beginnings, reader, Check::Data)?;
+        match made {
+            Made::Ready => self.asked_up = false,
+            Made::Wrong(reader) => self.blame(beginnings, reader, Check::Data)?,
+            _ => {}
         }
         Ok(made)
     }
@@ -467,6 +481,7 @@ impl Reading {
         ensures handout { self.new.file.handout ≡ self.old.file.handout }
     {
         while let Some(reader) = self.first_gone(beginnings) {
+            self.asked_up = false;
             self.file.end(reader);
         }
     }

@@ -1,7 +1,6 @@
-use Rattle.std.proofs.Common.{◌≡◌, ◌+◌, ◌<◌, ℕ, inl, inr, subst, refl, arith}
+use Rattle.std.proofs.Common.{◌≡◌, ◌+◌, ◌<◌, ℕ, inl, inr, subst, arith}
 use Rattle.std.proofs.lemmas.Bool.{cases_lt}
 use Rattle.download_segments.proofs.RowLemmas.{row_there}
-use Rattle.download_file.specs.Rows.{HasRow}
 use Rattle.download_file.specs.Steps.{HasAll}
 use Rattle.download_file.proofs.RowLemmas.{lacks_not}
 use Rattle.download_file.proofs.row.has_row.Goals as goal

@@ -2,7 +2,7 @@ use Rattle.std.proofs.Common.{◌≡◌, ◌∙◌, ℕ, ◌+◌, ◌<◌, ◌�
 use Rattle.std.proofs.lemmas.List.{take_all, take_more}
 use Rattle.std.proofs.lemmas.List.Elements.{Contains-get_or, Contains-push_cases}
 use Rattle.placement.proofs.Members.{Contains-nil}
-use Rattle.download_file.specs.Asked.{IsAskedUp}
+use Rattle.download_file.specs.Asked.{AreAskedUp, IsAskedUp}
 use Rattle.download_file.specs.State.{IsLive}
 use Rattle.download_reading.specs.State.{ReadingState}
 use Rattle.download_reading.proofs.Ended.{continues_none, continues_trans}
@@ -41,8 +41,20 @@ loop-i-preserved c = record {
   table = c.in_ok-ask.ensures.table ∙ c.loop-i.invariant.table;
 }
 
+pub returns-then-self-clause-continues : goal.returns-then-self-clause-continues
+returns-then-self-clause-continues c = continues_none c.args.beginnings.now c.args.self.now
+
 pub returns-clause-asked_up : goal.returns-clause-asked_up
-returns-clause-asked_up c q live =
+returns-clause-asked_up c =
+    subst (λ (x : ReadingState). AreAskedUp x.file) (sym c.self-2.view_is) (λ q live. (
     let end : c.live-i-end.result.now ≡ c.args.self.now.file.live = c.live-i-end.ensures.value ∙ ap (λ (x : ReadingState). x.file.live) c.self.view_is in
     let le : length c.loop-i.self.file.live ≤ c.loop-i.i = (let t = c.loop-i-test.false in let e = ap length end in let same = ap length c.loop-i.invariant.live in omega (arith, t, e, same)) in
-    c.loop-i.invariant.asked_up q (subst (λ (l : List ℕ). Contains l q) (sym (take_all c.loop-i.i c.loop-i.self.file.live le)) live)
+    c.loop-i.invariant.asked_up q (subst (λ (l : List ℕ). Contains l q) (sym (take_all c.loop-i.i c.loop-i.self.file.live le)) live)))
+
+-- after the loop each reader is asked
+pub invariant_of-self : goal.invariant_of-self
+invariant_of-self c _ =
+    subst (λ (x : ReadingState). AreAskedUp x.file) (sym c.self-2.view_is) (λ q live. (
+    let end : c.live-i-end.result.now ≡ c.args.self.now.file.live = c.live-i-end.ensures.value ∙ ap (λ (x : ReadingState). x.file.live) c.self.view_is in
+    let le : length c.loop-i.self.file.live ≤ c.loop-i.i = (let t = c.loop-i-test.false in let e = ap length end in let same = ap length c.loop-i.invariant.live in omega (arith, t, e, same)) in
+    c.loop-i.invariant.asked_up q (subst (λ (l : List ℕ). Contains l q) (sym (take_all c.loop-i.i c.loop-i.self.file.live le)) live)))

@@ -1,7 +1,7 @@
 use Rattle.share_beginnings.proofs.Caused.{adds_none}
 use Rattle.download_reading.specs.Causes.{IsBlockFault}
 use Rattle.download_reading.proofs.Causes.{made_causes}
-use Rattle.std.proofs.Common.{◌≡◌, ◌∙◌, ℕ, ◌<◌, List, Contains, Ok, Some, refl, sym, subst, ap}
+use Rattle.std.proofs.Common.{◌≡◌, ◌∙◌, ℕ, ◌<◌, List, Contains, Ok, Err, Some, refl, sym, subst, ap}
 use Rattle.std.specs.Prelude.{Result}
 use Rattle.std.specs.declared.alloc.AllocError.{AllocError}
 use Rattle.share_holdings.specs.State.{HoldingsState}
@@ -9,6 +9,8 @@ use Rattle.request_record.specs.Record.{RequestsState}
 use Rattle.share_beginnings.specs.State.{BeginningsState}
 use Rattle.download_segments.specs.NoCodeWord.{IsNoCodeWord}
 use Rattle.download_file.specs.Answers.{IsRead}
+use Rattle.download_file.specs.Asked.{AreAskedUp}
+use Rattle.download_file.specs.Changes.{StaysAskedUp}
 use Rattle.download_file.specs.Making.{CanNotGoOn, RefutesReader}
 use Rattle.download_file.specs.State.{FileState}
 use Rattle.download_file.specs.declared.file.Made.{Made}
@@ -66,8 +68,8 @@ blame-requires-clause-live c =
     let wrong = k.wrong c.in-Wrong.reader (c.in_ok-made.was ∙ ap Ok c.in-Wrong.is) in
     subst (λ (l : List ℕ). Contains l c.in-Wrong.reader) (sym k.live) wrong.live
 
-pub returns-in_ok-blame-clause-continues : goal.returns-in_ok-blame-clause-continues
-returns-in_ok-blame-clause-continues c =
+pub returns-in_ok-blame-in-Wrong-clause-continues : goal.returns-in_ok-blame-in-Wrong-clause-continues
+returns-in_ok-blame-in-Wrong-clause-continues c =
     let bs = c.args.beginnings.now in
     let r : ReadingState = record { file = c.self.inside.file; holdings = c.self.inside.holdings.items } in
     let before : AreReading bs r = subst (AreReading bs) (sym c.self.view_is) c.requires.reading in
@@ -77,10 +79,10 @@ returns-in_ok-blame-clause-continues c =
     let q : ReadingState = (record { file = f; holdings = c.self.inside.holdings.items }) in
     let first : Continues bs c.args.self.now bs q = subst (λ (x : ReadingState). Continues bs x bs q) c.self.view_is
     (made_continues bs r f before.linked k.live k.readers k.asked read k.right k.same (pieces_made r.file f c.make.result before.linked.kept.right.handout k.ready k.same_handout)) in
-    continues_trans bs bs c.blame.new.beginnings c.args.self.now q c.blame.new.self first c.in_ok-blame.ensures.continues
+    continues_trans bs bs c.blame.new.beginnings c.args.self.now q c.blame.new.self first c.in_ok-blame-in-Wrong.ensures.continues
 
-pub returns-in_err-blame-clause-continues : goal.returns-in_err-blame-clause-continues
-returns-in_err-blame-clause-continues c =
+pub returns-in_err-blame-in-Wrong-clause-continues : goal.returns-in_err-blame-in-Wrong-clause-continues
+returns-in_err-blame-in-Wrong-clause-continues c =
     let bs = c.args.beginnings.now in
     let r : ReadingState = record { file = c.self.inside.file; holdings = c.self.inside.holdings.items } in
     let before : AreReading bs r = subst (AreReading bs) (sym c.self.view_is) c.requires.reading in
@@ -90,7 +92,7 @@ returns-in_err-blame-clause-continues c =
     let q : ReadingState = (record { file = f; holdings = c.self.inside.holdings.items }) in
     let first : Continues bs c.args.self.now bs q = subst (λ (x : ReadingState). Continues bs x bs q) c.self.view_is
     (made_continues bs r f before.linked k.live k.readers k.asked read k.right k.same (pieces_made r.file f c.make.result before.linked.kept.right.handout k.ready k.same_handout)) in
-    continues_trans bs bs c.blame.new.beginnings c.args.self.now q c.blame.new.self first c.in_err-blame.ensures.continues
+    continues_trans bs bs c.blame.new.beginnings c.args.self.now q c.blame.new.self first c.in_err-blame-in-Wrong.ensures.continues
 
 pub returns-in_default : goal.returns-in_default
 returns-in_default c =
@@ -118,45 +120,97 @@ returns-in_default c =
       wrong = λ reader e. absurd (c.in_default.not-Wrong reader (ok_is c.in_ok-made.made (made_as.Wrong reader) e));
     }
 
-pub returns-in_ok-blame-clause-inconsistent : goal.returns-in_ok-blame-clause-inconsistent
-returns-in_ok-blame-clause-inconsistent c e = absurd (not_wrong (made_as.Wrong c.in-Wrong.reader) c.in-Wrong.reader made_as.Inconsistent refl e (λ f. cc))
+pub returns-in-Ready : goal.returns-in-Ready
+returns-in-Ready c =
+    let bs = c.args.beginnings.now in
+    let r : ReadingState = record { file = c.self.inside.file; holdings = c.self.inside.holdings.items } in
+    let before : AreReading bs r = subst (AreReading bs) (sym c.self.view_is) c.requires.reading in
+    let k = c.make.ensures in
+    let f = c.make.new.self in
+    let q : ReadingState = (record { file = f; holdings = c.self.inside.holdings.items }) in
+    let read = read_in bs c.holdings.result.now c.requests.result.now f c.requests.ensures.value c.holdings.ensures k.reads in
+    let was : c.make.result ≡ Ok made_as.Ready = c.in_ok-made.was ∙ ap Ok c.in-Ready.is in
+    record {
+      reading = all_made bs r f before k.live k.readers k.asked read k.right k.same;
+      continues = subst (λ (x : ReadingState). Continues bs x bs q) c.self.view_is
+          (made_continues bs r f before.linked k.live k.readers k.asked read k.right k.same (pieces_made r.file f c.make.result before.linked.kept.right.handout k.ready k.same_handout));
+      causes = adds_none (IsBlockFault bs.holdings.requests.entries c.args.self.now.file) bs.holdings.blamed bs.holdings.blamed refl;
+      inconsistent = λ e. subst (λ (x : ReadingState). IsNoCodeWord x.file.handout.ueb) c.self.view_is (k.inconsistent (was ∙ e));
+      waits = λ e. subst (λ (x : ReadingState). CanNotGoOn x.file) c.self.view_is (k.waits (was ∙ e));
+      still = λ e. record {
+        same = refl;
+        live = k.live ∙ ap (λ (x : ReadingState). x.file.live) c.self.view_is;
+        readers = k.readers ∙ ap (λ (x : ReadingState). x.file.readers) c.self.view_is;
+      };
+      handout = λ made e other. k.same_handout (λ e2. other (ok_is made made_as.Ready (sym e ∙ sym was ∙ e2))) ∙ ap (λ (x : ReadingState). x.file.handout) c.self.view_is;
+      ready = λ e. subst (λ (x : ReadingState). work bs q < work bs x) c.self.view_is (less_made bs r f before.linked.kept.right.handout (k.ready was));
+      wrong = λ reader e. absurd (not_wrong (made_as.Wrong reader) reader made_as.Ready refl (sym e) (λ g. cc));
+    }
 
-pub returns-in_ok-blame-clause-waits : goal.returns-in_ok-blame-clause-waits
-returns-in_ok-blame-clause-waits c e = absurd (not_wrong (made_as.Wrong c.in-Wrong.reader) c.in-Wrong.reader made_as.Waits refl e (λ f. cc))
+pub returns-in_ok-blame-in-Wrong-clause-inconsistent : goal.returns-in_ok-blame-in-Wrong-clause-inconsistent
+returns-in_ok-blame-in-Wrong-clause-inconsistent c e = absurd (not_wrong (made_as.Wrong c.in-Wrong.reader) c.in-Wrong.reader made_as.Inconsistent refl e (λ f. cc))
 
-pub returns-in_ok-blame-clause-still : goal.returns-in_ok-blame-clause-still
-returns-in_ok-blame-clause-still c e = absurd (not_wrong (made_as.Wrong c.in-Wrong.reader) c.in-Wrong.reader made_as.Waits refl e (λ f. cc))
+pub returns-in_ok-blame-in-Wrong-clause-waits : goal.returns-in_ok-blame-in-Wrong-clause-waits
+returns-in_ok-blame-in-Wrong-clause-waits c e = absurd (not_wrong (made_as.Wrong c.in-Wrong.reader) c.in-Wrong.reader made_as.Waits refl e (λ f. cc))
 
-pub returns-in_ok-blame-clause-ready : goal.returns-in_ok-blame-clause-ready
-returns-in_ok-blame-clause-ready c e = absurd (not_wrong (made_as.Wrong c.in-Wrong.reader) c.in-Wrong.reader made_as.Ready refl e (λ f. cc))
+pub returns-in_ok-blame-in-Wrong-clause-still : goal.returns-in_ok-blame-in-Wrong-clause-still
+returns-in_ok-blame-in-Wrong-clause-still c e = absurd (not_wrong (made_as.Wrong c.in-Wrong.reader) c.in-Wrong.reader made_as.Waits refl e (λ f. cc))
 
-pub returns-in_ok-blame-clause-handout : goal.returns-in_ok-blame-clause-handout
-returns-in_ok-blame-clause-handout c made e other =
-    c.in_ok-blame.ensures.handout ∙ c.make.ensures.same_handout (λ e2. other (ok_is made made_as.Ready (sym e ∙ ap Ok (sym c.in-Wrong.is) ∙ sym c.in_ok-made.was ∙ e2)))
+pub returns-in_ok-blame-in-Wrong-clause-ready : goal.returns-in_ok-blame-in-Wrong-clause-ready
+returns-in_ok-blame-in-Wrong-clause-ready c e = absurd (not_wrong (made_as.Wrong c.in-Wrong.reader) c.in-Wrong.reader made_as.Ready refl e (λ f. cc))
+
+pub returns-in_ok-blame-in-Wrong-clause-handout : goal.returns-in_ok-blame-in-Wrong-clause-handout
+returns-in_ok-blame-in-Wrong-clause-handout c made e other =
+    c.in_ok-blame-in-Wrong.ensures.handout ∙ c.make.ensures.same_handout (λ e2. other (ok_is made made_as.Ready (sym e ∙ ap Ok (sym c.in-Wrong.is) ∙ sym c.in_ok-made.was ∙ e2)))
     ∙ ap (λ (x : ReadingState). x.file.handout) c.self.view_is
 
-pub returns-in_ok-blame-clause-wrong : goal.returns-in_ok-blame-clause-wrong
-returns-in_ok-blame-clause-wrong c reader e =
+pub returns-in_ok-blame-in-Wrong-clause-wrong : goal.returns-in_ok-blame-in-Wrong-clause-wrong
+returns-in_ok-blame-in-Wrong-clause-wrong c reader e =
     let same = c.make.ensures.same_handout (λ e2. not_wrong c.in_ok-made.made c.in-Wrong.reader made_as.Ready c.in-Wrong.is (sym c.in_ok-made.was ∙ e2) (λ f. cc)) in
-    less_blamed c.args.beginnings.now c.blame.new.beginnings c.args.self.now c.blame.new.self (c.in_ok-blame.ensures.handout ∙ same ∙ ap (λ (x : ReadingState). x.file.handout) c.self.view_is) c.in_ok-blame.ensures.fewer
+    less_blamed c.args.beginnings.now c.blame.new.beginnings c.args.self.now c.blame.new.self (c.in_ok-blame-in-Wrong.ensures.handout ∙ same ∙ ap (λ (x : ReadingState). x.file.handout) c.self.view_is) c.in_ok-blame-in-Wrong.ensures.fewer
 
 pub returns-in_err-made-clause-causes : goal.returns-in_err-made-clause-causes
 returns-in_err-made-clause-causes c =
     let bs = c.args.beginnings.now in
     adds_none (IsBlockFault bs.holdings.requests.entries c.args.self.now.file) bs.holdings.blamed bs.holdings.blamed refl
 
-pub returns-in_err-blame-clause-causes : goal.returns-in_err-blame-clause-causes
-returns-in_err-blame-clause-causes c =
+pub returns-in_err-blame-in-Wrong-clause-causes : goal.returns-in_err-blame-in-Wrong-clause-causes
+returns-in_err-blame-in-Wrong-clause-causes c =
     let bs = c.args.beginnings.now in
     let wrong = c.make.ensures.wrong c.in-Wrong.reader (c.in_ok-made.was ∙ ap Ok c.in-Wrong.is) in
     made_causes bs c.blame.new.beginnings (record { file = c.self.inside.file; holdings = c.self.inside.holdings.items }) c.args.self.now c.make.new.self c.in-Wrong.reader c.self.view_is c.requires.reading
     (subst (λ (q : RequestsState). RefutesReader q.entries c.self.inside.file c.in-Wrong.reader) (c.requests.ensures.value ∙ ap (λ (x : HoldingsState). x.requests) c.holdings.ensures) wrong)
     c.blame.ensures.requests c.blame.ensures.adds
 
-pub returns-in_ok-blame-clause-causes : goal.returns-in_ok-blame-clause-causes
-returns-in_ok-blame-clause-causes c =
+pub returns-in_ok-blame-in-Wrong-clause-causes : goal.returns-in_ok-blame-in-Wrong-clause-causes
+returns-in_ok-blame-in-Wrong-clause-causes c =
     let bs = c.args.beginnings.now in
     let wrong = c.make.ensures.wrong c.in-Wrong.reader (c.in_ok-made.was ∙ ap Ok c.in-Wrong.is) in
     made_causes bs c.blame.new.beginnings (record { file = c.self.inside.file; holdings = c.self.inside.holdings.items }) c.args.self.now c.make.new.self c.in-Wrong.reader c.self.view_is c.requires.reading
     (subst (λ (q : RequestsState). RefutesReader q.entries c.self.inside.file c.in-Wrong.reader) (c.requests.ensures.value ∙ ap (λ (x : HoldingsState). x.requests) c.holdings.ensures) wrong)
     c.blame.ensures.requests c.blame.ensures.adds
+
+not_ok : (error : AllocError) (made : Made) → ◌≡◌ {A = Result Made AllocError} (Err error) (Ok made) → ⊥
+not_ok error made e = cc
+
+-- what was asked of each stays asked
+stays : (old new : FileState) → new.live ≡ old.live → ((q : ℕ) → StaysAskedUp old new q) → AreAskedUp old → AreAskedUp new
+stays old new same kept before q live = kept q (before q (subst (λ (l : List ℕ). Contains l q) same live))
+
+pub invariant_of-self : goal.invariant_of-self
+invariant_of-self c e =
+    stays c.self.inside.file c.make.new.self c.make.ensures.live
+    (c.make.ensures.asked_up (λ e2. not_ok c.in_err-made.error made_as.Ready (sym c.in_err-made.was ∙ e2)))
+    (c.self.invariant e)
+
+pub invariant_of-self-in-Wrong : goal.invariant_of-self-in-Wrong
+invariant_of-self-in-Wrong c e =
+    stays c.self.inside.file c.make.new.self c.make.ensures.live
+    (c.make.ensures.asked_up (λ e2. not_wrong c.in_ok-made.made c.in-Wrong.reader made_as.Ready c.in-Wrong.is (sym c.in_ok-made.was ∙ e2) (λ f. cc)))
+    (c.self.invariant e)
+
+pub invariant_of-self-in_default : goal.invariant_of-self-in_default
+invariant_of-self-in_default c e =
+    stays c.self.inside.file c.make.new.self c.make.ensures.live
+    (c.make.ensures.asked_up (λ e2. c.in_default.not-Ready (ok_is c.in_ok-made.made made_as.Ready (sym c.in_ok-made.was ∙ e2))))
+    (c.self.invariant e)

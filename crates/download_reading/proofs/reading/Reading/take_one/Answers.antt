@@ -3,7 +3,7 @@ use Rattle.std.specs.Prelude.{Err}
 use Rattle.download_file.specs.Taking.{IsRefused}
 use Rattle.download_reading.specs.Causes.{IsBlameOf, IsPartFault}
 use Rattle.download_reading.proofs.Causes.{part_fault}
-use Rattle.std.proofs.Common.{◌≡◌, ◌∙◌, ℕ, List, [], Some, None, refl, sym, subst, ap}
+use Rattle.std.proofs.Common.{◌≡◌, ◌∙◌, ℕ, List, [], Contains, Some, None, refl, sym, subst, ap}
 use Rattle.std.proofs.lemmas.List.{append-nil}
 use Rattle.request_record.specs.Record.{RequestsState}
 use Rattle.share_holdings.specs.State.{HoldingsState}
@@ -126,3 +126,8 @@ returns-in_ok-blame-in-Err-Check-clause-causes c =
     (λ b k. part_fault (Some c.args.reader) bs r c.args.reader c.args.place c.in-Err-Check.check c.in-Some.bytes.now b c.requires.reading c.requires.live c.requires.waits a refused
     (subst (λ (x : ReadingState). IsBlameOf bs x c.args.reader c.in-Err-Check.check b) same k))
     c.blame.ensures.adds
+
+-- what was asked stays asked
+pub invariant_of-self : goal.invariant_of-self
+invariant_of-self c e q live =
+    c.take.ensures.asked_up q (c.self.invariant e q (subst (λ (l : List ℕ). Contains l q) c.take.ensures.live live))

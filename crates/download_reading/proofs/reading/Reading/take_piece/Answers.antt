@@ -1,4 +1,4 @@
-use Rattle.std.proofs.Common.{sym, subst, ap}
+use Rattle.std.proofs.Common.{ℕ, List, Contains, sym, subst, ap}
 use Rattle.download_file.specs.State.{FileState}
 use Rattle.download_reading.specs.Reading.{AreReading}
 use Rattle.download_reading.specs.State.{ReadingState}
@@ -12,3 +12,8 @@ returns-clause-reading c s before =
     let k = c.take_piece.ensures in
     all_made s r c.take_piece.new.self reading (ap (λ (f : FileState). f.live) k.rest) (ap (λ (f : FileState). f.readers) k.rest) k.asked
     (k.reads s.holdings.requests.entries reading.linked.kept.answers) k.right k.same
+
+-- what was asked stays asked
+pub invariant_of-self : goal.invariant_of-self
+invariant_of-self c e q live =
+    c.take_piece.ensures.asked_up q (c.self.invariant e q (subst (λ (l : List ℕ). Contains l q) (ap (λ (f : FileState). f.live) c.take_piece.ensures.rest) live))
