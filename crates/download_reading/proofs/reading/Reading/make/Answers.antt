@@ -129,22 +129,21 @@ returns-in-Ready c =
     let f = c.make.new.self in
     let q : ReadingState = (record { file = f; holdings = c.self.inside.holdings.items }) in
     let read = read_in bs c.holdings.result.now c.requests.result.now f c.requests.ensures.value c.holdings.ensures k.reads in
-    let was : c.make.result ≡ Ok made_as.Ready = c.in_ok-made.was ∙ ap Ok c.in-Ready.is in
     record {
       reading = all_made bs r f before k.live k.readers k.asked read k.right k.same;
       continues = subst (λ (x : ReadingState). Continues bs x bs q) c.self.view_is
           (made_continues bs r f before.linked k.live k.readers k.asked read k.right k.same (pieces_made r.file f c.make.result before.linked.kept.right.handout k.ready k.same_handout));
       causes = adds_none (IsBlockFault bs.holdings.requests.entries c.args.self.now.file) bs.holdings.blamed bs.holdings.blamed refl;
-      inconsistent = λ e. subst (λ (x : ReadingState). IsNoCodeWord x.file.handout.ueb) c.self.view_is (k.inconsistent (was ∙ e));
-      waits = λ e. subst (λ (x : ReadingState). CanNotGoOn x.file) c.self.view_is (k.waits (was ∙ e));
+      inconsistent = λ e. subst (λ (x : ReadingState). IsNoCodeWord x.file.handout.ueb) c.self.view_is (k.inconsistent (c.in_ok-made.was ∙ e));
+      waits = λ e. subst (λ (x : ReadingState). CanNotGoOn x.file) c.self.view_is (k.waits (c.in_ok-made.was ∙ e));
       still = λ e. record {
         same = refl;
         live = k.live ∙ ap (λ (x : ReadingState). x.file.live) c.self.view_is;
         readers = k.readers ∙ ap (λ (x : ReadingState). x.file.readers) c.self.view_is;
       };
-      handout = λ made e other. k.same_handout (λ e2. other (ok_is made made_as.Ready (sym e ∙ sym was ∙ e2))) ∙ ap (λ (x : ReadingState). x.file.handout) c.self.view_is;
-      ready = λ e. subst (λ (x : ReadingState). work bs q < work bs x) c.self.view_is (less_made bs r f before.linked.kept.right.handout (k.ready was));
-      wrong = λ reader e. absurd (not_wrong (made_as.Wrong reader) reader made_as.Ready refl (sym e) (λ g. cc));
+      handout = λ made e other. k.same_handout (λ e2. other (ok_is made made_as.Ready (sym e ∙ sym c.in_ok-made.was ∙ e2))) ∙ ap (λ (x : ReadingState). x.file.handout) c.self.view_is;
+      ready = λ e. subst (λ (x : ReadingState). work bs q < work bs x) c.self.view_is (less_made bs r f before.linked.kept.right.handout (k.ready (c.in_ok-made.was ∙ e)));
+      wrong = λ reader e. absurd (not_wrong c.in_ok-made.made reader made_as.Ready (ok_is c.in_ok-made.made (made_as.Wrong reader) e) (ap Ok c.in-Ready.is) (λ g. cc));
     }
 
 pub returns-in_ok-blame-in-Wrong-clause-inconsistent : goal.returns-in_ok-blame-in-Wrong-clause-inconsistent
@@ -190,8 +189,8 @@ returns-in_ok-blame-in-Wrong-clause-causes c =
     (subst (λ (q : RequestsState). RefutesReader q.entries c.self.inside.file c.in-Wrong.reader) (c.requests.ensures.value ∙ ap (λ (x : HoldingsState). x.requests) c.holdings.ensures) wrong)
     c.blame.ensures.requests c.blame.ensures.adds
 
-not_ok : (error : AllocError) (made : Made) → ◌≡◌ {A = Result Made AllocError} (Err error) (Ok made) → ⊥
-not_ok error made e = cc
+not_ok : {error : AllocError} → (result : Result Made AllocError) (made : Made) → result ≡ Err error → result ≡ Ok made → ⊥
+not_ok result made is e = cc
 
 -- what was asked of each stays asked
 stays : (old new : FileState) → new.live ≡ old.live → ((q : ℕ) → StaysAskedUp old new q) → AreAskedUp old → AreAskedUp new
@@ -200,7 +199,7 @@ stays old new same kept before q live = kept q (before q (subst (λ (l : List �
 pub invariant_of-self : goal.invariant_of-self
 invariant_of-self c e =
     stays c.self.inside.file c.make.new.self c.make.ensures.live
-    (c.make.ensures.asked_up (λ e2. not_ok c.in_err-made.error made_as.Ready (sym c.in_err-made.was ∙ e2)))
+    (c.make.ensures.asked_up (not_ok c.make.result made_as.Ready c.in_err-made.was))
     (c.self.invariant e)
 
 pub invariant_of-self-in-Wrong : goal.invariant_of-self-in-Wrong
