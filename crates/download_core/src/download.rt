@@ -99,6 +99,8 @@ impl Download {
     pub fn on_message(&mut self, from: NodeId, message: Message, now: u64) -> Result<(), AllocError>
         ensures advances { Advances from message now self.old self.new }
         ensures err { OnErr result (self.new.status ≡ Failed) }
+        // Only an `Err` makes it one that failed.
+        ensures ok { OnOk result (self.old.status ≢ Failed → self.new.status ≢ Failed) }
         ensures ended { self.old.status ≢ Running → IsOk result }
     {
         match self.machine.answer(self.status, from, message, now) {

@@ -116,6 +116,7 @@ impl Machine {
         ensures kept { IfOk result (IsKept self.new) }
         ensures failed { IsKept self.new Failed }
         ensures ended { status ≢ Running → IsOk result }
+        ensures well { status ≢ Failed → IfOk result (λ ended. ended ≢ Failed) }
     {
         let heard = self.beginnings.take_answer(from, message, now);
         if !is_running(status) {
@@ -270,6 +271,7 @@ impl Machine {
         requires { IsUnderWay self.old }
         ensures moves { MovesOn self.old self.new }
         ensures ends { IfOk result (EndsAs self.new) }
+        ensures well { IfOk result (λ status. status ≢ Failed) }
     {
         match &mut self.found {
             Some(found) => {
@@ -287,6 +289,7 @@ impl Machine {
         requires none { self.old.found ≡ None }
         ensures moves { MovesOn self.old self.new }
         ensures ends { IfOk result (EndsAs self.new) }
+        ensures well { IfOk result (λ status. status ≢ Failed) }
     {
         self.open_more()?;
         if 0 < self.beginnings.holdings().requests().outstanding() {
@@ -326,7 +329,8 @@ fn is_running(status: DownloadStatus) -> bool
 
 // Where a download stands whose file stands so.
 fn status_by(settled: Settled) -> DownloadStatus
-    ensures { result ≡ status_of settled }
+    ensures status { result ≡ status_of settled }
+    ensures well { result ≢ Failed }
 {
     match settled {
         Settled::Complete => DownloadStatus::Done,

@@ -26,6 +26,6 @@ pub returns-in_ok-settled-in-Some-clause-ends : goal.returns-in_ok-settled-in-So
 returns-in_ok-settled-in-Some-clause-ends c =
     let m = c.args.self.now in
     let k = c.in_ok-settled-in-Some in
-    subst (EndsAs (record m { beginnings = c.settle.new.beginnings; found = Some (record c.in-Some.found { reading = c.settle.new.self }) })) (sym c.status_by.ensures)
+    subst (EndsAs (record m { beginnings = c.settle.new.beginnings; found = Some (record c.in-Some.found { reading = c.settle.new.self }) })) (sym c.status_by.ensures.status)
     (settled_ends m c.in-Some.found c.settle.new.beginnings c.settle.new.self c.in-Some.is c.requires c.settle.ensures.continues (caused (goal.at.returns-in_ok-settled-in-Some-clause-ends c).After-settle) k.ensures.reading k.settled
     (λ e. k.ensures.complete.0 e) (λ e. c.settle.ensures.inconsistent (k.was ∙ ap Ok e)) (λ e. c.settle.ensures.waits (k.was ∙ ap Ok e)) (λ e. c.settle.ensures.too_few (k.was ∙ ap Ok e)))
