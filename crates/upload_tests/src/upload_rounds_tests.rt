@@ -209,6 +209,22 @@ impl<'a> Course<'a> {
         }
         Some(found)
     }
+
+    // Are these the requests that were sent to a node?
+    fn has_sent_to(&self, alloc: Global, node: NodeId, expected: &[(u64, Asked)]) -> bool {
+        match self.sent_to(alloc, node) {
+            Some(sent) => sent.as_slice() == expected,
+            None => false,
+        }
+    }
+
+    // Are these the Allocates that were sent?
+    fn has_allocated(&self, alloc: Global, expected: &[(NodeId, u8)]) -> bool {
+        match self.allocated(alloc) {
+            Some(allocated) => allocated.as_slice() == expected,
+            None => false,
+        }
+    }
 }
 
 // A store that keeps one share of the file.
@@ -227,6 +243,14 @@ fn store_with(alloc: Global, number: u8, bytes: &[u8]) -> Option<MemoryStore> {
     }
     store.close(&id, &share_digest(bytes)).ok()?;
     Some(store)
+}
+
+// Is an upload happy with these pairs?
+fn is_happy_with(upload: &Upload<WholeShares>, expected: &[(NodeId, u16)]) -> bool {
+    match happy_pairs(upload) {
+        Some(pairs) => pairs == expected,
+        None => false,
+    }
 }
 
 // The pairs of a happy upload.
@@ -317,14 +341,21 @@ const CLOSED_AGAIN: [(u64, Asked); 6] = [
     (5, Asked::Close(0)),
 ];
 
+// Does a server keep the one share?
+fn keeps_share(alloc: Global, course: &Course, node: NodeId) -> Option<bool> {
+    Some(course.keeps(&verify_cap()?, node, 0, &share(alloc, 7)?))
+}
+
 fn close_is_sent_again(alloc: Global) -> Option<bool> {
     let mut course = Course::new(alloc, &[Honest])?;
     course.lost = Some(Asked::Close(0));
     let mut upload = begun_one(alloc, &ONE)?;
     course.carry(alloc, &mut upload)?;
-    let sent = course.sent_to(alloc, 0)?;
-    let is_kept = course.keeps(&verify_cap()?, 0, 0, &share(alloc, 7)?);
-    Some(is_kept && sent.as_slice() == &CLOSED_AGAIN[..] && happy_pairs(&upload)? == &[(0, 0)][..])
+    Some(
+        keeps_share(alloc, &course, 0) == Some(true)
+            && course.has_sent_to(alloc, 0, &CLOSED_AGAIN)
+            && is_happy_with(&upload, &[(0, 0)]),
+    )
 }
 
 #[test]
@@ -338,29 +369,37 @@ fn junk_server(alloc: Global) -> Option<Server<MemoryStore>> {
     Some(Server::start(alloc, store, 1_000_000, false))
 }
 
+// Servers that do so, of which the first keeps other bytes under the number of the one share.
+fn after_junk(alloc: Global, conducts: &[Conduct]) -> Option<Course> {
+    let mut course = Course::new(alloc, conducts)?;
+    *course.grid.get_mut(0)? = junk_server(alloc)?;
+    Some(course)
+}
+
+// Does the first server keep the other bytes still?
+fn keeps_junk(course: &Course) -> Option<bool> {
+    Some(course.keeps(&verify_cap()?, 0, 0, b"junk"))
+}
+
 // The share goes to the second server, and the first one's stays as it is.
 fn goes_past_junk(alloc: Global) -> Option<bool> {
-    let mut course = Course::new(alloc, &[Honest, Honest])?;
-    *course.grid.get_mut(0)? = junk_server(alloc)?;
+    let mut course = after_junk(alloc, &[Honest, Honest])?;
     let mut upload = begun_one(alloc, &TWO)?;
     course.carry(alloc, &mut upload)?;
-    let allocated = course.allocated(alloc)?;
-    let cap = verify_cap()?;
-    let are_kept = course.keeps(&cap, 0, 0, b"junk") && course.keeps(&cap, 1, 0, &share(alloc, 7)?);
     Some(
-        are_kept
-            && allocated.as_slice() == &[(0, 0), (1, 0)][..]
-            && happy_pairs(&upload)? == &[(1, 0)][..],
+        keeps_junk(&course) == Some(true)
+            && keeps_share(alloc, &course, 1) == Some(true)
+            && course.has_allocated(alloc, &[(0, 0), (1, 0)])
+            && is_happy_with(&upload, &[(1, 0)]),
     )
 }
 
 // There is no other server.
 fn junk_alone_is_unhappy(alloc: Global) -> Option<bool> {
-    let mut course = Course::new(alloc, &[Honest])?;
-    *course.grid.get_mut(0)? = junk_server(alloc)?;
+    let mut course = after_junk(alloc, &[Honest])?;
     let mut upload = begun_one(alloc, &ONE)?;
     course.carry(alloc, &mut upload)?;
-    Some(ends_with_none(&upload) && course.keeps(&verify_cap()?, 0, 0, b"junk"))
+    Some(ends_with_none(&upload) && keeps_junk(&course) == Some(true))
 }
 
 #[test]
@@ -375,19 +414,30 @@ fn full_is_placed_past(alloc: Global) -> Option<bool> {
     let mut course = Course::new(alloc, &[Full, Honest, Honest, Honest])?;
     let mut upload = begun(alloc, 3)?;
     course.carry(alloc, &mut upload)?;
+    Some(
+        allocates_in_two_rounds(alloc, &course) == Some(true)
+            && course.has_sent_to(alloc, 0, &[(0, Asked::Ask), (0, Asked::Allocate(0))])
+            && has_happy_pair(&upload, (1, 0)),
+    )
+}
+
+// Are three shares placed at once, and the first one again on server 1?
+fn allocates_in_two_rounds(alloc: Global, course: &Course) -> Option<bool> {
     let allocated = course.allocated(alloc)?;
     let (last, first) = allocated.as_slice().split_last()?;
     let is_first_round = first.len() == 3
         && first.contains(&(0, 0))
         && first.contains(&(3, 1))
         && first.contains(&(2, 2));
-    let to_full = course.sent_to(alloc, 0)?;
-    Some(
-        is_first_round
-            && *last == (1, 0)
-            && to_full.as_slice() == &[(0, Asked::Ask), (0, Asked::Allocate(0))][..]
-            && happy_pairs(&upload)?.contains(&(1, 0)),
-    )
+    Some(is_first_round && *last == (1, 0))
+}
+
+// Is this one of the pairs of a happy upload?
+fn has_happy_pair(upload: &Upload<WholeShares>, pair: (NodeId, u16)) -> bool {
+    match happy_pairs(upload) {
+        Some(pairs) => pairs.contains(&pair),
+        None => false,
+    }
 }
 
 #[test]
@@ -435,8 +485,8 @@ fn prepared(alloc: Global) -> Option<PreparedUpload> {
     }
 }
 
-// Do nine servers keep nine shares of the file as they say?
-fn nine_keep(
+// Does each of these servers keep its share of the file?
+fn all_keep(
     alloc: Global,
     course: &Course,
     cap: &VerifyCap,
@@ -449,7 +499,18 @@ fn nine_keep(
             return Some(false);
         }
     }
-    Some(pairs.len() == 9)
+    Some(true)
+}
+
+// Do nine servers keep nine shares of the file as the upload says?
+fn nine_keep(
+    alloc: Global,
+    course: &Course,
+    cap: &VerifyCap,
+    upload: &Upload<WholeShares>,
+) -> Option<bool> {
+    let pairs = happy_pairs(upload)?;
+    Some(all_keep(alloc, course, cap, pairs)? && pairs.len() == 9)
 }
 
 // What a server is asked that never answers.
@@ -460,17 +521,23 @@ const UNANSWERED: [(u64, Asked); 4] = [
     (15, Asked::Ask),
 ];
 
+// The upload of the file to ten servers, and its verify cap.
+fn begun_ten(alloc: Global) -> Option<(VerifyCap, Upload<WholeShares>)> {
+    let prepared = prepared(alloc)?;
+    let cap = prepared.cap().to_verify();
+    Some((cap, prepared.start(alloc, &TEN, 5, 0).ok()?))
+}
+
 fn nine_of_ten_are_happy(alloc: Global) -> Option<bool> {
     let mut conducts = [Honest; 10];
     conducts[4] = Silent;
     let mut course = Course::new(alloc, &conducts)?;
-    let prepared = prepared(alloc)?;
-    let cap = prepared.cap().to_verify();
-    let mut upload = prepared.start(alloc, &TEN, 5, 0).ok()?;
+    let (cap, mut upload) = begun_ten(alloc)?;
     course.carry(alloc, &mut upload)?;
-    let to_silent = course.sent_to(alloc, 4)?;
-    let are_kept = nine_keep(alloc, &course, &cap, happy_pairs(&upload)?)?;
-    Some(are_kept && to_silent.as_slice() == &UNANSWERED[..])
+    Some(
+        nine_keep(alloc, &course, &cap, &upload) == Some(true)
+            && course.has_sent_to(alloc, 4, &UNANSWERED),
+    )
 }
 
 #[test]

@@ -1,6 +1,6 @@
 use Rattle.std.proofs.Common.{refl}
 use Rattle.std.specs.List.{IsDistinct}
-use Rattle.upload_tests.proofs.upload_rounds_tests.nine_of_ten_are_happy.Goals as goal
+use Rattle.upload_tests.proofs.upload_rounds_tests.begun_ten.Goals as goal
 
 pub start-requires : goal.start-requires
 unfolding IsDistinct
