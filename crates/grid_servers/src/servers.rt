@@ -9,7 +9,7 @@ use grid_rules::{Fault, is_memory, server_name};
 use local_grid::grid::LocalGrid;
 use local_grid::link::MemoryLink;
 use local_grid::node::Node;
-use server_core::server::Server;
+use server_core::server::{CAPACITY, Server};
 use share_store::error::StoreError;
 use share_store::folder::FolderStore;
 use socket_links::{GridLink, SocketLink, SocketPair, connect, listen};
@@ -18,9 +18,6 @@ use std::fs;
 use std::net::Net;
 use std::rt::Files;
 use wire::message::NodeId;
-
-/// The greatest sum of the lengths of a server's closed shares, in bytes.
-const CAPACITY: u64 = 1 << 42;
 
 /// The session of a command's one operation.
 pub const SESSION: u64 = 1;

@@ -20,6 +20,10 @@ use std::marker::Model;
 pub use wire::message::NodeId;
 use wire::message::{Body, Message, ReadLength, ShareId, ShareLength, StorageIndex};
 
+/// The bytes of closed shares that a server of a grid or of a world takes at most: more than one
+/// share of the greatest file has, also where one share is as long as the file.
+pub const CAPACITY: u64 = 1 << 42;
+
 /// The most buckets that are open at a time.
 const MOST_BUCKETS: usize = 1024;
 

@@ -28,7 +28,7 @@ use Rattle.world_operations.specs.Tasks.{requests_of}
 use Rattle.world_operations.proofs.Places.{get_below, member_flat_cases, member_map, member_none, place_of_member}
 use Rattle.world.specs.State.{WorldState, shelved}
 use Rattle.world.specs.Consistent.{IsConsistent}
-use Rattle.world.specs.Headline.{AcknowledgedKeep, HasNoClash, HonestKeep, IsAcknowledgement, IsHashed, IsUploadOf, Keeps, goal}
+use Rattle.world.specs.Headline.{AcknowledgedKeep, HappyIsAcknowledged, HasNoClash, HonestKeep, IsAcknowledgement, IsHashed, IsUploadOf, Keeps, goal}
 use Rattle.world.proofs.Acked as acked
 use Rattle.world.proofs.Happy.{Up, for_upload, happy_is_matched}
 use Rattle.world.proofs.Hashed.{encoding_among, share_among}
@@ -107,9 +107,14 @@ acknowledged w c file secret p pair number op u of counted =
       acknowledges = subst (λ (b : Body). Contains (acked_answer aim r.server r.asked b) pair) (sym came.says.body_is) said.2;
     }
 
-pub honest_keep : (w : WorldState) → IsConsistent w → HasNoClash w → HonestKeep w
-honest_keep w c no_clash file secret p pairs pair up chosen =
+-- what Happy names was acknowledged by messages that were sent
+pub happy_is_acknowledged : (w : WorldState) → IsConsistent w → HappyIsAcknowledged w
+happy_is_acknowledged w c file secret p pairs pair up chosen =
     let entries : List Request = up.upload.course.requests.entries in
     let matched : IsMatching (acked_pairs (goal file secret p) entries) pairs = (happy_is_matched w c file secret p pairs up).matching in
     let counted = All-contains (Contains (acked_pairs (goal file secret p) entries)) pairs pair matched.given chosen in
-    acknowledged_keep w c no_clash file secret p pair (acknowledged w c file secret p pair up.number up.operation up.upload up.upload_of counted)
+    acknowledged w c file secret p pair up.number up.operation up.upload up.upload_of counted
+
+pub honest_keep : (w : WorldState) → IsConsistent w → HasNoClash w → HonestKeep w
+honest_keep w c no_clash file secret p pairs pair up chosen =
+    acknowledged_keep w c no_clash file secret p pair (happy_is_acknowledged w c file secret p pairs pair up chosen)

@@ -7,10 +7,9 @@ use Rattle.world_operations.specs.declared.message.Sent.{Sent}
 use Rattle.world_operations.specs.declared.operation.Operation.{Operation}
 use Rattle.world.specs.declared.event.WorldError.{WorldError}
 use Rattle.world.specs.State.{WorldState, WorldValue, new_server, new_world}
-use Rattle.world.specs.Step.{Step, Steps}
 use Rattle.world.specs.Consistent.{IsKept, Preserves}
 use Rattle.world.specs.Headline.{IsLater, IsTrusted}
-use Rattle.world.specs.Taking.{IsRun, StepGives}
+use Rattle.world.specs.Taking.{AreTaken, IsRun, StepGives}
 use Rattle.world.proofs.Later.{later_still, same_world}
 use Rattle.world.proofs.Preserving.{new_consistent}
 use Rattle.world.proofs.Trusted.{trusted}
@@ -43,9 +42,9 @@ new_kept honest liars few = record {
 
 -- ---- runs
 
-steps_push : (xs : List Event) (a b c : WorldState) (e : Event) → Steps a xs b → Step b e c → Steps a (xs ++ e ∷ []) c
-steps_push [] a b c e s t = (c, subst (λ (w : WorldState). Step w e c) s t, refl)
-steps_push (x ∷ xs) a b c e s t = (s.0, s.1, steps_push xs s.0 b c e s.2 t)
+taken_push : (xs : List Event) (a b c : WorldValue) (e : Event) → AreTaken a xs b → StepGives b e (Ok tt) c → AreTaken a (xs ++ e ∷ []) c
+taken_push [] a b c e s t = (c, subst (λ (w : WorldValue). StepGives w e (Ok tt) c) s t, refl)
+taken_push (x ∷ xs) a b c e s t = (s.0, s.1, taken_push xs s.0 b c e s.2 t)
 
 take_next : {A : Type 0} (xs : List A) (i : ℕ) (x : A) → slice_get xs i ≡ Some x → take (suc i) xs ≡ take i xs ++ x ∷ []
 take_next [] i x e = absurd cc
@@ -53,7 +52,7 @@ take_next (z ∷ zs) zero x e = (let same : z ≡ x = cc in ap (λ y. y ∷ []) 
 take_next (z ∷ zs) (suc i) x e = ap (λ (l : List _). z ∷ l) (take_next zs i x e)
 
 pub record IsRunning (old now : WorldValue) (events : List Event) (taken : ℕ) : Type 0 where
-  pub steps : Steps old.state (take taken events) now.state
+  pub steps : AreTaken old (take taken events) now
   pub later : IsLater old.state now.state
   pub is_trusted : IsTrusted now.state
 
@@ -65,8 +64,8 @@ pub running_on : (old now next : WorldValue) (events : List Event) (taken : ℕ)
     → IsRunning old next events (taken + 1)
 running_on old now next events taken event r at gives later is_trusted =
     let e : taken + 1 ≡ suc taken = omega arith in record {
-      steps = subst (λ (l : List Event). Steps old.state l next.state) (sym (ap (λ (n : ℕ). take n events) e ∙ take_next events taken event at))
-          (steps_push (take taken events) old.state now.state next.state event r.steps gives.3);
+      steps = subst (λ (l : List Event). AreTaken old l next) (sym (ap (λ (n : ℕ). take n events) e ∙ take_next events taken event at))
+          (taken_push (take taken events) old now next event r.steps gives);
       later = later_still old.state now.state next.state r.later later;
       is_trusted = is_trusted;
     }
@@ -78,7 +77,7 @@ running_stops old now next events taken event e r at gives = record { mid = now;
 
 pub running_ends : (old now : WorldValue) (events : List Event) (taken all : ℕ) → IsRunning old now events taken → taken ≡ all → all ≡ length events → IsRun old events all (Ok tt) now
 running_ends old now events taken all r same whole =
-    record { mid = now; steps = subst (λ (n : ℕ). Steps old.state (take n events) now.state) same r.steps; ends = (whole, refl) }
+    record { mid = now; steps = subst (λ (n : ℕ). AreTaken old (take n events) now) same r.steps; ends = (whole, refl) }
 
 new_is : (honest liars : ℕ) (servers : List _) (heard : List (List Sent)) (operations : List Operation) (sent : List Sent) → servers ≡ replicate honest new_server → heard ≡ replicate liars []
     → operations ≡ [] → sent ≡ [] → new_world honest liars ≡ record { servers = servers; heard = heard; operations = operations; sent = sent; clock = 0 }

@@ -141,6 +141,14 @@ HappyIsMatched w =
     → (up : IsUploaded w file secret p pairs)
     → IsMatched file secret p up.upload.course.requests.entries pairs
 
+-- Each of these pairs was acknowledged by a message that was sent: by the server that it names, to
+-- the node that uploads.
+abbrev pub HappyIsAcknowledged : WorldState → Type 0
+HappyIsAcknowledged w =
+    (file secret : List ℕ) (p : UploadParameters) (pairs : List Pair) (pair : Pair)
+    → IsUploaded w file secret p pairs → Contains pairs pair
+    → IsAcknowledgement w file secret p pair
+
 -- And every honest server among them keeps exactly its share.
 abbrev pub HonestKeep : WorldState → Type 0
 HonestKeep w =
@@ -170,6 +178,7 @@ FilesAreGiven w =
 -- alone.
 pub record IsTrusted (w : WorldState) : Type 0 where
   pub happy_is_matched : HappyIsMatched w
+  pub happy_is_acknowledged : HappyIsAcknowledged w
   pub honest_keep : HasNoClash w → HonestKeep w
   pub acknowledged_keep : HasNoClash w → AcknowledgedKeep w
   pub downloads_agree : HasNoClash w → DownloadsAgree w

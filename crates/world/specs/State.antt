@@ -64,7 +64,7 @@ servers_of w = map server_of (nodes_of w)
 
 -- the bytes that a server takes at most
 abbrev pub server_capacity : ℕ
-server_capacity = 2 ^ 40
+server_capacity = 2 ^ 42
 
 -- a server with an empty store
 abbrev pub new_server : Machine MemoryState

@@ -201,8 +201,3 @@ Step old (FailStore node) new =
 Step old (Refuse number) new =
     (op : Operation) × (slice_get old.operations number ≡ Some op) × (new
     ≡ record old { operations = slice_set old.operations number (with_life Refused op) })
-
--- events in order, each taken
-abbrev pub Steps : WorldState → List Event → WorldState → Type 0
-Steps old [] new = new ≡ old
-Steps old (event ∷ events) new = (mid : WorldState) × Step old event mid × Steps mid events new

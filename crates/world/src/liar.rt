@@ -21,7 +21,7 @@ pub trait Liar: Drop {
 
 /// All that came to a liar, in order.
 #[derive(Drop)]
-pub struct Heard {
+pub(crate) struct Heard {
     items: Vec<Sent>,
 }
 
@@ -36,7 +36,7 @@ impl Model for Heard {
 
 impl Heard {
     /// Nothing.
-    pub fn new(alloc: Global) -> Heard
+    pub(crate) fn new(alloc: Global) -> Heard
         ensures { result ≡ [] }
     {
         Heard {
@@ -45,7 +45,7 @@ impl Heard {
     }
 
     /// The messages.
-    pub fn as_slice(&self) -> &[Sent]
+    pub(crate) fn as_slice(&self) -> &[Sent]
         ensures { result.now ≡ self.now }
     {
         self.items.as_slice()

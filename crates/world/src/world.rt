@@ -12,7 +12,7 @@ use crate::event::{Event, WorldError};
 use crate::liar::{Heard, Liar};
 use crate::scene::Scene;
 use download_core::status::Piece;
-use server_core::server::Server;
+use server_core::server::{CAPACITY, Server};
 use share_store::memory::MemoryStore;
 use std::alloc::{AllocError, Global};
 use std::marker::Model;
@@ -20,9 +20,6 @@ use world_operations::message::Sent;
 use world_operations::operation::Operation;
 use world_operations::status::Status;
 use world_operations::task::StartError;
-
-/// The bytes that a server takes at most.
-const CAPACITY: u64 = 1 << 40;
 
 /// A world of honest nodes and of liars. Whatever its events are, and whatever its calls answered:
 /// the headline holds of it (`IsTrusted`), and what was answered before stays (`IsLater`).
@@ -117,7 +114,8 @@ impl World {
         }
     }
 
-    /// Takes events in order, up to the first that is refused, and says how many were taken.
+    /// Takes events in order, each as `step` does, up to the first that is refused, and says how
+    /// many were taken.
     pub fn run(&mut self, events: &[Event]) -> (usize, Result<(), WorldError>)
         ensures run { IsRun self.old events.now result.0 result.1 self.new }
         ensures later { IsLater self.old.state self.new.state }
