@@ -18,7 +18,7 @@ pass 20;drain";
 }
 
 // The messages of an upload to two nodes before its last two, which are answers to `Close`.
-const BEFORE_CLOSED: &str = "nodes 2;upload 0 Z 1 2 2 131072;deliver 0;deliver 1;deliver 2;\
+const BEFORE_CLOSED: &str = "nodes 2;upload 0 Z 2 2 2 131072;deliver 0;deliver 1;deliver 2;\
 deliver 3;deliver 4;deliver 5;deliver 6;deliver 7;deliver 8;deliver 9;deliver 10;deliver 11;\
 deliver 12;deliver 13";
 
@@ -77,6 +77,14 @@ fn an_acknowledgement_counts_after_a_restart(rt: HostRuntime) {
     );
     let forgotten = "0 upload forgotten\nagree yes\nevents 18\n";
     assert!(rt; goes_on(alloc, "restart 0;deliver 14;deliver 15", forgotten));
+}
+
+#[test]
+fn closed_shares_outlive_restarts(rt: HostRuntime) {
+    let lines = "restart 1;deliver 15;deliver 15;restart 1;deliver 14;restart 0;restart 1;\
+download 0 0;drain";
+    let expected = "0 upload happy 2\n1 download done 56\nagree yes\n";
+    assert!(rt; late_and(rt.alloc(), lines, expected));
 }
 
 // Does the upload end, whichever message is the first after which a store fails?

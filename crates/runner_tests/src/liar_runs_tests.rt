@@ -37,34 +37,66 @@ drain;turn 3;turn 4;drain;pass 20;drain";
     assert!(rt; mentions(rt.alloc(), lines, expected));
 }
 
-// Does a script of two uploads and three downloads, of which 2,000 messages are drawn by words
-// from this number on, end where all bytes agree?
-fn agrees(alloc: Global, start: u64) -> bool {
-    let begin = "nodes 3 junk replay;upload 0 Z 1 3 3 131072;upload 1 Z 2 2 4 16;download 2 0;\
-download 0 1;download 1 0 3 50;turn 3;turn 4";
-    let lines = format!(in alloc; "{begin};random {start} 1000;turn 3;turn 4;random {start} 1000");
-    match lines {
-        Ok(lines) => mentions(alloc, lines.as_str(), "\nagree yes\nevents 2009\n"),
-        Err(_) => false,
+// What a script of two uploads and three downloads tells, of whose messages some are drawn by words
+// from this number on.
+fn told_by_schedule(alloc: Global, start: u64) -> Option<String> {
+    let uploads = "nodes 3 junk replay;upload 0 Z 1 3 3 131072;upload 1 Z 2 2 4 16";
+    let downloads = "download 2 0;download 0 1;download 1 0 3 50";
+    let later = start.checked_add(1000)?;
+    let lines = format!(in alloc;
+        "{uploads};random {start} 200;turn 3;turn 4;pass 20;drain;{downloads};\
+random {later} 300;turn 3;turn 4;drain;pass 20;drain"
+    );
+    told(alloc, lines.ok()?.as_str())
+}
+
+// Do all bytes of such a script agree, and does it tell of an upload that is happy, and of a
+// download that handed out the file?
+fn agrees(alloc: Global, start: u64) -> (bool, bool) {
+    match told_by_schedule(alloc, start) {
+        Some(text) => {
+            let told = text.as_str();
+            let ended = told.contains("upload happy") && told.contains("download done 56\n");
+            (told.contains("\nagree yes\n"), ended)
+        }
+        None => (false, false),
     }
 }
 
 #[test]
 fn schedules_agree(rt: HostRuntime) {
     let alloc = rt.alloc();
+    let mut count: u8 = 0;
     for start in 0..50 {
-        assert!(rt; agrees(alloc, start));
+        let (agree, ended) = agrees(alloc, start);
+        assert!(rt; agree);
+        count = count.saturating_add(u8::from(ended));
+    }
+    assert!(rt; count > 40);
+}
+
+// Where the first word of these numbers is even the honest node is asked, where it is odd the liar:
+// words of PCG32 by its paper.
+const EVEN: [u64; 4] = [1, 2, 5, 6];
+const ODD: [u64; 4] = [0, 3, 4, 7];
+
+// Does a word from this number on draw one of two messages, so that there are so many events?
+fn draws(alloc: Global, start: u64, events: u64) -> bool {
+    let lines =
+        format!(in alloc; "nodes 1 junk;upload 0 Z 1 1 1 131072;random {start} 1;turn 1;drain");
+    let expected = format!(in alloc; "0 upload running\nagree yes\nevents {events}\n");
+    match (lines, expected) {
+        (Ok(lines), Ok(expected)) => tells(alloc, lines.as_str(), expected.as_str()),
+        _ => false,
     }
 }
 
 #[test]
-fn the_same_words_draw_the_same(rt: HostRuntime) {
-    let alloc = rt.alloc();
-    let lines = "nodes 3;upload 0 Z 1 3 3 131072;random 1 20;random 2 20;drain";
-    let (first, second) = (told(alloc, lines), told(alloc, lines));
-    let (Some(first), Some(second)) = (first, second) else {
-        assert!(rt; false);
-        return;
-    };
-    assert!(rt; first.as_str() == second.as_str());
+fn words_draw_messages(rt: HostRuntime) {
+    for start in &EVEN {
+        assert!(rt; draws(rt.alloc(), *start, 5));
+    }
+    for start in &ODD {
+        assert!(rt; draws(rt.alloc(), *start, 6));
+    }
 }

@@ -8,4 +8,6 @@ mod honest;
 #[cfg(test)]
 mod keepers;
 #[cfg(test)]
+mod turns_tests;
+#[cfg(test)]
 mod world_runs_tests;

@@ -1,6 +1,6 @@
 //! Whole runs of worlds: scripts whose ends were written down beforehand.
 
-use crate::honest::{drain, handed_out, happiness, read_cap, upload};
+use crate::honest::{drain, happiness, read_cap, upload};
 use proved_parts::Bytes;
 use std::alloc::Global;
 use wire::message::NodeId;
@@ -10,6 +10,7 @@ use world::liar::{Liar, LiarFault};
 use world_operations::job::Job;
 use world_operations::message::Sent;
 use world_operations::operation::Life;
+use world_operations::status::Status;
 
 // A liar that never sends.
 #[derive(Drop)]
@@ -21,20 +22,45 @@ impl Liar for Silent {
     }
 }
 
-// Three honest nodes: how many pairs there are, and how many events.
-fn three_nodes(alloc: Global) -> Option<(usize, usize)> {
+// An upload to three honest nodes, and each message once, oldest first.
+fn upload_events(alloc: Global) -> Option<Vec<Event>> {
+    let mut events = Vec::new(alloc);
+    events.push(Event::Start(0, upload(alloc, 1, 3, 3)?)).ok()?;
+    for place in 0..24 {
+        events.push(Event::Deliver(place)).ok()?;
+    }
+    Some(events)
+}
+
+// A run of these events: how many were taken, how it ended, and what became of the upload.
+fn three_nodes(alloc: Global) -> Option<(usize, Result<(), WorldError>, Option<Status>)> {
+    let events = upload_events(alloc)?;
     let mut world = World::new(alloc, 3, Vec::new(alloc)).ok()?;
-    world.step(&Event::Start(0, upload(alloc, 1, 3, 3)?)).ok()?;
-    let delivered = drain(&mut world, 0)?;
-    Some((
-        happiness(world.operations().first()?)?,
-        delivered.checked_add(1)?,
-    ))
+    let (taken, ended) = world.run(events.as_slice());
+    Some((taken, ended, world.status(0)))
 }
 
 #[test]
 fn three_honest_nodes_are_happy(rt: HostRuntime) {
-    assert!(rt; three_nodes(rt.alloc()) == Some((3, 25)));
+    let expected = (25, Ok(()), Some(Status::Happy(3)));
+    assert!(rt; three_nodes(rt.alloc()) == Some(expected));
+}
+
+// A run whose second event is refused.
+fn refused_run(alloc: Global) -> Option<(usize, Result<(), WorldError>, Option<Status>)> {
+    let mut events = Vec::new(alloc);
+    events.push(Event::Pass(1)).ok()?;
+    events.push(Event::Deliver(0)).ok()?;
+    events.push(Event::Pass(1)).ok()?;
+    let mut world = World::new(alloc, 1, Vec::new(alloc)).ok()?;
+    let (taken, ended) = world.run(events.as_slice());
+    Some((taken, ended, world.status(0)))
+}
+
+#[test]
+fn a_run_stops_at_the_first_refusal(rt: HostRuntime) {
+    let expected = (1, Err(WorldError::BadEvent), None);
+    assert!(rt; refused_run(rt.alloc()) == Some(expected));
 }
 
 // Two honest nodes and a silent one: 20 seconds pass, and each honest node ticks.
@@ -82,13 +108,44 @@ fn there_is_no_message(rt: HostRuntime) {
     assert!(rt; delivers_nothing(rt.alloc()) == Some(true));
 }
 
-// Two uploads of the file at once, and then two downloads at once, of all of it and of a part: what
-// they came to.
-fn all_at_once(alloc: Global) -> Option<(usize, usize, usize)> {
+// Two uploads and a download are begun before anything is delivered: what became of each.
+fn all_at_once(alloc: Global) -> Option<[Option<Status>; 3]> {
     let mut world = World::new(alloc, 3, Vec::new(alloc)).ok()?;
     world.step(&Event::Start(0, upload(alloc, 1, 3, 3)?)).ok()?;
     world.step(&Event::Start(1, upload(alloc, 1, 3, 3)?)).ok()?;
-    let first = drain(&mut world, 0)?;
+    let cap = read_cap(alloc)?;
+    world
+        .step(&Event::Start(2, Job::Download(cap, 0, 56)))
+        .ok()?;
+    drain(&mut world, 0)?;
+    Some([world.status(0), world.status(1), world.status(2)])
+}
+
+#[test]
+fn all_at_once_end(rt: HostRuntime) {
+    let expected = [
+        Some(Status::Happy(3)),
+        Some(Status::Unhappy(0, 3)),
+        Some(Status::NotEnoughShares),
+    ];
+    assert!(rt; all_at_once(rt.alloc()) == Some(expected));
+}
+
+// How many pieces and bytes the operation of this number handed out.
+fn given_by(world: &World, number: usize) -> Option<(usize, usize)> {
+    let pieces = world.given(number)?;
+    let mut count: usize = 0;
+    for piece in pieces {
+        count = count.saturating_add(piece.bytes.as_slice().len());
+    }
+    Some((pieces.len(), count))
+}
+
+// An upload, and then two downloads at once, of all of the file and of a part: what they handed out.
+fn handed_out(alloc: Global) -> Option<[Option<(usize, usize)>; 3]> {
+    let events = upload_events(alloc)?;
+    let mut world = World::new(alloc, 3, Vec::new(alloc)).ok()?;
+    world.run(events.as_slice()).1.ok()?;
     let cap = read_cap(alloc)?;
     world
         .step(&Event::Start(1, Job::Download(cap, 0, 56)))
@@ -96,13 +153,16 @@ fn all_at_once(alloc: Global) -> Option<(usize, usize, usize)> {
     world
         .step(&Event::Start(2, Job::Download(cap, 10, 20)))
         .ok()?;
-    drain(&mut world, first)?;
-    let happy = happiness(world.operations().first()?)?;
-    let whole = handed_out(world.operations().get(2)?)?;
-    Some((happy, whole, handed_out(world.operations().get(3)?)?))
+    drain(&mut world, 24)?;
+    Some([
+        given_by(&world, 0),
+        given_by(&world, 1),
+        given_by(&world, 2),
+    ])
 }
 
 #[test]
 fn what_was_uploaded_is_downloaded(rt: HostRuntime) {
-    assert!(rt; all_at_once(rt.alloc()) == Some((3, 56, 10)));
+    let expected = [Some((0, 0)), Some((1, 56)), Some((1, 10))];
+    assert!(rt; handed_out(rt.alloc()) == Some(expected));
 }
