@@ -37,22 +37,14 @@ enum Wrong {
     Missing(usize),
 }
 
-// How a download ended: its status, how many right bytes it handed out, and how many it blamed.
-#[derive(Clone, Copy, PartialEq, Eq, Debug)]
+// How a download ended: its status, how many right bytes it handed out, how many shares it blamed,
+// and for how many segments it had proof.
+#[derive(Clone, Copy, PartialEq, Eq)]
 struct Ending {
-    status: Status,
+    status: DownloadStatus,
     bytes: usize,
     blamed: usize,
     parts: usize,
-}
-
-#[derive(Clone, Copy, PartialEq, Eq, Debug)]
-enum Status {
-    Running,
-    Done,
-    NotEnoughShares,
-    Inconsistent,
-    Failed,
 }
 
 const SMALL: Shape = Shape {
@@ -65,6 +57,16 @@ const SMALL: Shape = Shape {
 
 const TWO: Shape = Shape {
     size: 131_074,
+    needed: 3,
+    total: 10,
+    segment: 131_072,
+    servers: 10,
+};
+
+// Three segments, of 131,073, 131,073 and one byte. A read of blocks has 32,768 bytes at most, and a
+// block 43,691: so the second read ends the first block, and not the second.
+const THREE: Shape = Shape {
+    size: 262_147,
     needed: 3,
     total: 10,
     segment: 131_072,
@@ -100,47 +102,57 @@ fn read_cap(encoded: &Encoded) -> Option<ReadCap> {
     }
 }
 
-// What a server answers.
-fn answer(
-    alloc: Global,
-    encoded: &Encoded,
-    shape: &Shape,
+// The servers of a file, and what goes wrong there.
+#[derive(Clone, Copy)]
+struct Grid<'a> {
+    encoded: &'a Encoded,
+    shape: &'a Shape,
     wrong: Wrong,
-    node: NodeId,
-    request: &Message,
-) -> Option<Message> {
-    let body = match &request.body {
-        Body::Ask(_) => {
-            let mut held = Vec::new(alloc);
-            for number in 0..encoded.shares.len() {
-                if number % shape.servers.max(1) == usize::from(node) {
-                    held.push(HeldShare {
-                        share: u8::try_from(number).ok()?,
-                        digest: [0; 32],
-                    })
-                    .ok()?;
-                }
+}
+
+impl<'a> Grid<'a> {
+    // Does a server not answer, after so many answers of all of them?
+    fn is_silent(&self, node: NodeId, answers: usize) -> bool {
+        match self.wrong {
+            Wrong::Silent(first) => first <= usize::from(node),
+            Wrong::SilentAfter(most) => most <= answers,
+            _ => false,
+        }
+    }
+
+    // What a server answers.
+    fn answer(&self, alloc: Global, node: NodeId, request: &Message) -> Option<Message> {
+        let body = match &request.body {
+            Body::Ask(_) => Body::Have(false, self.held_at(alloc, node)?),
+            Body::Read(id, offset, length) => {
+                let number = usize::from(id.share);
+                let share = self.encoded.shares.get(number)?.as_slice();
+                let (offset, length) = (*offset as usize, length.get() as usize);
+                read(alloc, share, self.wrong, number, offset, length)?
             }
-            Body::Have(false, HeldList::from_vec(held)?)
+            _ => return None,
+        };
+        Some(Message {
+            session: request.session,
+            number: request.number,
+            body,
+        })
+    }
+
+    // The shares of a server.
+    fn held_at(&self, alloc: Global, node: NodeId) -> Option<HeldList> {
+        let mut held = Vec::new(alloc);
+        for number in 0..self.encoded.shares.len() {
+            if number % self.shape.servers.max(1) == usize::from(node) {
+                held.push(HeldShare {
+                    share: u8::try_from(number).ok()?,
+                    digest: [0; 32],
+                })
+                .ok()?;
+            }
         }
-        Body::Read(id, offset, length) => {
-            let share = encoded.shares.get(usize::from(id.share))?.as_slice();
-            read(
-                alloc,
-                share,
-                wrong,
-                usize::from(id.share),
-                *offset as usize,
-                length.get() as usize,
-            )?
-        }
-        _ => return None,
-    };
-    Some(Message {
-        session: request.session,
-        number: request.number,
-        body,
-    })
+        HeldList::from_vec(held)
+    }
 }
 
 fn read(
@@ -182,84 +194,125 @@ fn read(
     Some(Body::Data(ReadData::from_vec(bytes)?))
 }
 
-// A download of a range, to its end.
-fn end_of(alloc: Global, shape: &Shape, wrong: Wrong, from: usize, to: usize) -> Option<Ending> {
+// How far a download is: the seconds, how many answers came, and how many pieces and right bytes
+// were taken.
+#[derive(Clone, Copy)]
+struct SoFar {
+    now: u64,
+    answers: usize,
+    pieces: usize,
+    bytes: usize,
+}
+
+// The next message goes to its server, and the answer comes back. Where there is none five seconds
+// pass.
+fn turn(alloc: Global, grid: &Grid<'_>, download: &mut Download, far: &mut SoFar) -> Option<()> {
+    match download.take_outgoing() {
+        Some((node, request)) => {
+            if !grid.is_silent(node, far.answers) {
+                let message = grid.answer(alloc, node, &request)?;
+                far.answers = far.answers.saturating_add(1);
+                download.on_message(node, message, far.now).ok()?;
+            }
+        }
+        None => {
+            far.now = far.now.saturating_add(5);
+            download.tick(far.now).ok()?;
+        }
+    }
+    Some(())
+}
+
+// Takes what is handed out, from this place of the file on. `None` where a byte is not the file's.
+fn take(download: &mut Download, file: &[u8], from: usize, far: &mut SoFar) -> Option<()> {
+    for _ in 0..1000 {
+        let Some(piece) = download.take_bytes() else {
+            break;
+        };
+        let taken = piece.bytes.as_slice();
+        let place = from.saturating_add(far.bytes);
+        let right = file.get(place..place.saturating_add(taken.len()))?;
+        if piece.place != place as u64 || right != taken {
+            return None;
+        }
+        far.pieces = far.pieces.saturating_add(1);
+        far.bytes = far.bytes.saturating_add(taken.len());
+    }
+    Some(())
+}
+
+// For how many segments a download has proof; 1,000 where the proof is none.
+fn parts_of(alloc: Global, download: &Download, cap: &ReadCap) -> Option<usize> {
+    match download.evidence(alloc).ok()? {
+        Some(evidence) if evidence.proves(&cap.to_verify()) => {
+            Some(evidence.parts.as_slice().len())
+        }
+        Some(_) => Some(1000),
+        None => Some(0),
+    }
+}
+
+// A download of a range, to its end, and in how many pieces its bytes came.
+fn course(
+    alloc: Global,
+    shape: &Shape,
+    wrong: Wrong,
+    range: (usize, usize),
+) -> Option<(Ending, usize)> {
+    let (from, to) = range;
     let file = file_of(alloc, shape.size).ok()?;
     let encoded = encoded(alloc, shape)?;
     let cap = read_cap(&encoded)?;
+    let grid = Grid {
+        encoded: &encoded,
+        shape,
+        wrong,
+    };
     let mut download = Download::start(alloc, cap, from as u64, to as u64, &SERVERS, 5, 0).ok()?;
-    let mut now: u64 = 0;
-    let mut answers: usize = 0;
-    let mut bytes: usize = 0;
+    let mut far = SoFar {
+        now: 0,
+        answers: 0,
+        pieces: 0,
+        bytes: 0,
+    };
     for _ in 0..100_000 {
         if download.status() != DownloadStatus::Running {
             break;
         }
-        match download.take_outgoing() {
-            Some((node, request)) => {
-                let is_silent = match wrong {
-                    Wrong::Silent(first) => first <= usize::from(node),
-                    Wrong::SilentAfter(most) => most <= answers,
-                    _ => false,
-                };
-                if !is_silent {
-                    let message = answer(alloc, &encoded, shape, wrong, node, &request)?;
-                    answers = answers.saturating_add(1);
-                    download.on_message(node, message, now).ok()?;
-                }
-            }
-            None => {
-                now = now.saturating_add(5);
-                download.tick(now).ok()?;
-            }
-        }
-        for _ in 0..1000 {
-            let Some(piece) = download.take_bytes() else {
-                break;
-            };
-            let place = piece.place as usize;
-            let taken = piece.bytes.as_slice();
-            if place != from.saturating_add(bytes) {
-                return None;
-            }
-            if file.get(place..place.saturating_add(taken.len()))? != taken {
-                return None;
-            }
-            bytes = bytes.saturating_add(taken.len());
-        }
+        turn(alloc, &grid, &mut download, &mut far)?;
+        take(&mut download, &file, from, &mut far)?;
     }
-    let status = match download.status() {
-        DownloadStatus::Running => Status::Running,
-        DownloadStatus::Done => Status::Done,
-        DownloadStatus::NotEnoughShares => Status::NotEnoughShares,
-        DownloadStatus::Inconsistent => Status::Inconsistent,
-        DownloadStatus::Failed => Status::Failed,
-    };
-    let parts = match download.evidence(alloc).ok()? {
-        Some(evidence) => {
-            if evidence.proves(&cap.to_verify()) {
-                evidence.parts.as_slice().len()
-            } else {
-                1000
-            }
-        }
-        None => 0,
-    };
-    Some(Ending {
-        status,
-        bytes,
+    let ending = Ending {
+        status: download.status(),
+        bytes: far.bytes,
         blamed: download.blamed().len(),
-        parts,
-    })
+        parts: parts_of(alloc, &download, &cap)?,
+    };
+    Some((ending, far.pieces))
 }
 
-const DONE: Status = Status::Done;
+// A download of a range, to its end.
+fn end_of(alloc: Global, shape: &Shape, wrong: Wrong, from: usize, to: usize) -> Option<Ending> {
+    let (ending, _) = course(alloc, shape, wrong, (from, to))?;
+    Some(ending)
+}
 
-const FEW: Status = Status::NotEnoughShares;
+const DONE: DownloadStatus = DownloadStatus::Done;
+
+const FEW: DownloadStatus = DownloadStatus::NotEnoughShares;
 
 // What is downloaded, what goes wrong, and how it ends: the status, how many bytes were handed out,
 // how many shares were blamed, and how many segments were proved.
-const DOWNLOADS: [(Shape, Wrong, usize, usize, Status, usize, usize, usize); 20] = [
+const DOWNLOADS: [(
+    Shape,
+    Wrong,
+    usize,
+    usize,
+    DownloadStatus,
+    usize,
+    usize,
+    usize,
+); 21] = [
     (SMALL, Wrong::Nothing, 0, 30_000, DONE, 30_000, 0, 8),
     (TWO, Wrong::Nothing, 0, 131_074, DONE, 131_074, 0, 2),
     (TWO, Wrong::Nothing, 131_073, 131_074, DONE, 1, 0, 1),
@@ -270,6 +323,17 @@ const DOWNLOADS: [(Shape, Wrong, usize, usize, Status, usize, usize, usize); 20]
     (SMALL, Wrong::Silent(3), 0, 30_000, DONE, 30_000, 0, 8),
     (SMALL, Wrong::Silent(2), 0, 30_000, FEW, 0, 0, 0),
     (TWO, Wrong::SilentAfter(21), 0, 131_074, FEW, 0, 0, 0),
+    // The first of three segments is proved once the second read of each block section came.
+    (
+        THREE,
+        Wrong::SilentAfter(34),
+        0,
+        262_147,
+        FEW,
+        131_073,
+        0,
+        1,
+    ),
     // The header, and the extension block's length field.
     (SMALL, Wrong::Damaged(1, 3), 0, 30_000, DONE, 30_000, 1, 8),
     (SMALL, Wrong::Damaged(1, 30), 0, 30_000, DONE, 30_000, 1, 8),
@@ -324,6 +388,19 @@ fn downloads(rt: HostRuntime) {
             parts: *parts,
         };
         let ended = end_of(rt.alloc(), shape, *wrong, *from, *to);
-        assert!(rt; ended == Some(expected), "download {i}: {ended:?}");
+        assert!(rt; ended == Some(expected), "download {i}");
     }
+}
+
+// The last byte of a segment and the first of the next come in two pieces.
+#[test]
+fn a_piece_is_of_one_segment(rt: HostRuntime) {
+    let ended = course(rt.alloc(), &TWO, Wrong::Nothing, (131_072, 131_074));
+    let expected = Ending {
+        status: DONE,
+        bytes: 2,
+        blamed: 0,
+        parts: 2,
+    };
+    assert!(rt; ended == Some((expected, 2)));
 }

@@ -183,6 +183,38 @@ fn shares_that_end_early_are_blamed(rt: HostRuntime) {
     }
 }
 
+// A share of a file of 56 bytes that ends at each place: the share is blamed, and the file comes.
+fn each_cut_is_blamed(alloc: Global) -> Option<bool> {
+    let encoded = encoded(alloc, SMALLEST, 0)?;
+    let file = text_of(alloc, SMALLEST, 0).ok()?;
+    let cap = cap_of(&encoded)?;
+    let length = encoded.shares.first()?.as_slice().len();
+    let mut blamed = 0;
+    for cut in 0..length {
+        let mut held = one_each(alloc, &encoded)?;
+        held.get_mut(0)?.bytes.truncate(cut);
+        let course = course_of(alloc, cap, &file, (0, SMALLEST), &held, None)?;
+        blamed += usize::from(is_blamed_alone(&course));
+    }
+    Some(length == 633 && blamed == length)
+}
+
+// The least file that is not held by its cap, in bytes.
+const SMALLEST: usize = 56;
+
+// Did a file of one segment come, and was share 0 of server 0 blamed for its length and no other?
+fn is_blamed_alone(course: &Course) -> bool {
+    course.status == DownloadStatus::Done
+        && course.bytes == SMALLEST
+        && course.parts() == 1
+        && course.blamed.as_slice() == [(0, 0, Check::Layout)].as_slice()
+}
+
+#[test]
+fn shares_that_end_anywhere_are_blamed(rt: HostRuntime) {
+    assert!(rt; each_cut_is_blamed(rt.alloc()) == Some(true));
+}
+
 // Of three numbers that are there, 0 is blamed at server 0 and good at server 5, and server 0 has 1
 // too: neither the server nor the number is given up.
 fn is_one_copy_blamed(alloc: Global) -> Option<bool> {
