@@ -169,9 +169,16 @@ pub(crate) fn get_line(rt: &HostRuntime, cap: &str) -> Result<String, AllocError
     format!(in rt.alloc(); "grid get {cap} --grid {root}/grid")
 }
 
+// Whether `get` of a cap ends so, in memory and over sockets.
 pub(crate) fn get_gives(rt: &HostRuntime, cap: &str, status: u8, out: &[u8], err: &str) -> bool {
     match get_line(rt, cap) {
-        Ok(line) => gives(rt, line.as_str(), status, out, err),
+        Ok(line) => {
+            gives(rt, line.as_str(), status, out, err)
+                && match format!(in rt.alloc(); "{line} --net") {
+                    Ok(line) => gives(rt, line.as_str(), status, out, err),
+                    Err(_) => false,
+                }
+        }
         Err(_) => false,
     }
 }

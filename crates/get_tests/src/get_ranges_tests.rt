@@ -84,7 +84,7 @@ pub(crate) fn get_line(rt: &HostRuntime, cap: &str, options: &str) -> Result<Str
     format!(in rt.alloc(); "grid get {cap} --grid {root}/grid{gap}{options}")
 }
 
-// Whether `get` with these options ends so. No, where memory is out.
+// Whether `get` with these options ends so, in memory and over sockets. No, where memory is out.
 pub(crate) fn get_gives(
     rt: &HostRuntime,
     (cap, options): (&str, &str),
@@ -92,11 +92,21 @@ pub(crate) fn get_gives(
     out: &[u8],
     err: &str,
 ) -> bool {
-    let ended = match get_line(rt, cap, options) {
-        Ok(line) => run(rt, line.as_str()),
-        Err(error) => Err(error),
-    };
-    match ended {
+    match get_line(rt, cap, options) {
+        Ok(line) => {
+            ends_so(rt, line.as_str(), status, out, err)
+                && match format!(in rt.alloc(); "{line} --net") {
+                    Ok(line) => ends_so(rt, line.as_str(), status, out, err),
+                    Err(_) => false,
+                }
+        }
+        Err(_) => false,
+    }
+}
+
+// Whether the words of a line end so.
+fn ends_so(rt: &HostRuntime, line: &str, status: u8, out: &[u8], err: &str) -> bool {
+    match run(rt, line) {
         Ok(ended) => {
             ended.status == status
                 && ended.out.as_slice() == out

@@ -4,15 +4,17 @@ ghost use Rattle.std.specs.Prelude.{◌≡◌, ◌≤◌, length, nat_eq};
 ghost use Rattle.std.specs.List.{IsDistinct};
 ghost use Rattle.grid_rules.specs.Range.{IsWithin};
 
-use crate::progress::{Counted, Progress};
+use crate::progress::{Counted, Progress, Writing};
 use crate::words::GetWords;
 use crate::{Failure, print};
 use cap_text::{Cap, ReadCap};
 use download_core::Download;
 use grid_clients::download::DownloadClient;
+use grid_clients::watched::Watched;
 use grid_rules::{ByteRange, Fault, Work, range_of, reached_range_end};
 use grid_servers::{FolderGrid, SESSION, is_grid, open_servers, standing_servers};
 use std::alloc::Global;
+use std::cell::Cell;
 use std::io::{IsTerminal, Write};
 use std::net::Net;
 use std::rt::{Clock, Files};
@@ -32,19 +34,33 @@ where
     E: Write + IsTerminal,
 {
     match read_cap(words.cap)? {
-        Cap::Chk(cap) => {
-            let range = range_of(words.from, words.to, cap.size())?;
-            progress.begin(Work::Write(cap.needed(), range.to.saturating_sub(range.from)));
-            let (mut servers, download) = begin(rt, words, cap, &range)?;
-            carry(&mut servers, download, Counted::new(&mut *out, progress))?;
-            print(out, &[])
-        }
+        Cap::Chk(cap) => get_range(rt, words, cap, out, progress),
         Cap::Verify(_) => Err(Failure::Fault(Fault::NeedsReadCap)),
         Cap::Lit(cap) => {
             let range = range_of(words.from, words.to, cap.data().len() as u64)?;
             print(out, bytes_in(cap.data(), &range))
         }
     }
+}
+
+// Writes bytes of the file of a cap from what the servers answer.
+fn get_range<R, O, E>(
+    rt: &R,
+    words: &GetWords,
+    cap: ReadCap,
+    out: &mut O,
+    progress: &mut Progress<'_, R, E>,
+) -> Result<(), Failure>
+where
+    R: Files + Net + Clock + AllocGlobal + Clone + Drop,
+    O: Write,
+    E: Write + IsTerminal,
+{
+    let range = range_of(words.from, words.to, cap.size())?;
+    progress.begin(Work::Write(cap.needed(), range.to.saturating_sub(range.from)));
+    let (mut servers, download) = begin(rt, words, cap, &range)?;
+    carry(&mut servers, download, &mut *out, progress)?;
+    print(out, &[])
 }
 
 /// The cap that a text spells.
@@ -92,17 +108,25 @@ fn begin_download(
 }
 
 // Carries a download to its end, and writes what it hands out.
-fn carry<R, W>(servers: &mut FolderGrid<R>, download: Download, out: W) -> Result<(), Failure>
+fn carry<R, O, E>(
+    servers: &mut FolderGrid<R>,
+    download: Download,
+    out: &mut O,
+    progress: &mut Progress<'_, R, E>,
+) -> Result<(), Failure>
 where
-    R: Files + Net + AllocGlobal + Drop,
-    W: Write + Drop,
+    R: Files + Net + Clock + AllocGlobal + Drop,
+    O: Write,
+    E: Write + IsTerminal,
 {
-    let mut client = DownloadClient::new(download, out);
-    if let Err(refusal) = servers.run(&mut client) {
+    let taken = Cell::new(0);
+    let client = DownloadClient::new(download, Counted::new(out, &taken));
+    let mut watched = Watched::new(client, Writing::new(progress, &taken));
+    if let Err(refusal) = servers.run(&mut watched) {
         return Err(Failure::Fault(Fault::from(refusal)));
     }
-    if client.has_failed() {
+    if watched.client().has_failed() {
         return Err(Failure::Writer);
     }
-    Ok(reached_range_end(client.status())?)
+    Ok(reached_range_end(watched.client().status())?)
 }

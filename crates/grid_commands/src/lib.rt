@@ -55,14 +55,22 @@ impl From<Fault> for Failure {
 
 /// Runs the command that `words` asks for, of which the first is the program's name. Its result
 /// goes to `out`, and a fault, as one line with its number and name, to `err`. A `get` writes as it
-/// reads, so that a beginning of its range may stand on `out` where it ends with a fault. Where
-/// `err` is a terminal, a command that takes more than a second tells there how far it is, and
-/// clears that line before it ends.
+/// reads, so that a beginning of its range may stand on `out` where it ends with a fault.
 ///
-/// The exit status is 0 where it is done, 2 for wrong words, 3 for refused input, 4 for an unhappy
-/// upload, 5 for too few shares, also where a `check` finds too few good ones and prints so, 6 for
-/// inconsistent ones, also where the bytes of a `world` do not agree and it prints so, and 7 for a file, a folder, a socket or memory, or a fault of `out` or `err`,
-/// after which nothing more is written.
+/// Where `err` is a terminal, a `put`, `get` or `check` that takes more than a second tells there
+/// how far it is, and clears that line before it ends. A fault of that line is passed over.
+///
+/// | Status | Where it ended |
+/// |---|---|
+/// | 0 | it is done |
+/// | 2 | the words are wrong |
+/// | 3 | its input is refused |
+/// | 4 | an upload is unhappy |
+/// | 5 | there are too few shares, also where a `check` finds too few good ones and prints so |
+/// | 6 | shares are inconsistent, or a `world` prints that its bytes do not agree |
+/// | 7 | a file, a folder, a socket or memory failed, or `out` or `err` |
+///
+/// Where `out` fails, its result ends there, and no fault is told.
 pub fn grid<R, S, O, E>(rt: &R, words: &[S], out: &mut O, err: &mut E) -> u8
 where
     R: Files + Net + Clock + AllocGlobal + Clone + Drop,

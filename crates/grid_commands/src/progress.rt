@@ -3,6 +3,7 @@
 use grid_clients::watched::Watch;
 use grid_rules::{Amount, Work, progress_line};
 use std::alloc::Global;
+use std::cell::Cell;
 use std::io::{self, IsTerminal, Write};
 use std::rt::Clock;
 use std::time::{Duration, Instant};
@@ -131,8 +132,9 @@ where
     E: Write + IsTerminal,
 {
     fn asked(&mut self, message: &Message) {
-        if let Body::Write(_, _, data) = &message.body {
-            self.add(0, data.as_slice().len() as u64);
+        match &message.body {
+            Body::Write(_, _, data) => self.add(0, data.as_slice().len() as u64),
+            _ => self.add(0, 0),
         }
     }
 
@@ -147,36 +149,69 @@ where
     }
 }
 
-/// A writer that counts what it takes.
+/// A writer that counts the bytes that it takes.
 #[derive(Drop)]
-pub(crate) struct Counted<'a, 'b, O, R, E> {
+pub(crate) struct Counted<'a, O> {
     out: &'a mut O,
-    progress: &'a mut Progress<'b, R, E>,
+    taken: &'a Cell<u64>,
 }
 
-impl<'a, 'b, O, R, E> Counted<'a, 'b, O, R, E> {
-    /// A writer whose bytes are those of the work that was begun.
-    pub(crate) fn new(
-        out: &'a mut O,
-        progress: &'a mut Progress<'b, R, E>,
-    ) -> Counted<'a, 'b, O, R, E> {
-        Counted { out, progress }
+impl<'a, O> Counted<'a, O> {
+    /// A writer that adds to this count.
+    pub(crate) fn new(out: &'a mut O, taken: &'a Cell<u64>) -> Counted<'a, O> {
+        Counted { out, taken }
     }
 }
 
-impl<'a, 'b, O, R, E> Write for Counted<'a, 'b, O, R, E>
-where
-    O: Write,
-    R: Clock + AllocGlobal,
-    E: Write + IsTerminal,
-{
+impl<'a, O: Write> Write for Counted<'a, O> {
     fn write(&mut self, buf: &[u8]) -> io::Result<usize> {
-        let taken = self.out.write(buf)?;
-        self.progress.add(0, taken as u64);
-        Ok(taken)
+        let count = self.out.write(buf)?;
+        self.taken
+            .set(self.taken.get().saturating_add(count as u64));
+        Ok(count)
     }
 
     fn flush(&mut self) -> io::Result<()> {
         self.out.flush()
+    }
+}
+
+/// Tells how far a command is by the bytes that its writer took.
+#[derive(Drop)]
+pub(crate) struct Writing<'a, 'b, R, E> {
+    progress: &'a mut Progress<'b, R, E>,
+    taken: &'a Cell<u64>,
+}
+
+impl<'a, 'b, R, E> Writing<'a, 'b, R, E>
+where
+    R: Clock + AllocGlobal,
+    E: Write + IsTerminal,
+{
+    /// What tells of the bytes in this count.
+    pub(crate) fn new(
+        progress: &'a mut Progress<'b, R, E>,
+        taken: &'a Cell<u64>,
+    ) -> Writing<'a, 'b, R, E> {
+        Writing { progress, taken }
+    }
+
+    // Tells of the bytes that were taken since the last message.
+    fn look(&mut self) {
+        self.progress.add(0, self.taken.replace(0));
+    }
+}
+
+impl<'a, 'b, R, E> Watch for Writing<'a, 'b, R, E>
+where
+    R: Clock + AllocGlobal,
+    E: Write + IsTerminal,
+{
+    fn asked(&mut self, _message: &Message) {
+        self.look();
+    }
+
+    fn heard(&mut self, _message: &Message) {
+        self.look();
     }
 }

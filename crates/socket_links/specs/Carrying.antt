@@ -1,5 +1,5 @@
 -- Bytes that go from one end of a connection to the other, piece by piece.
-use Rattle.std.specs.Prelude.{◌≡◌, ℕ, ◌≤◌, List, [], ◌∷◌, length}
+use Rattle.std.specs.Prelude.{◌≡◌, ◌⊎◌, ℕ, ◌≤◌, List, [], ◌∷◌, length}
 use Rattle.std.specs.List.{flat_map}
 use Rattle.local_grid.specs.declared.link.Way.{Way}
 use Rattle.socket_links.specs.Ends.{EndsCalls}
@@ -27,3 +27,17 @@ pub record Carries {E : Type 0} (calls : EndsCalls E) (way : Way) (old : E)
   pub passes : PassesEach calls way old pieces new
   pub sends : sent ≡ flat_map (λ (p : List ℕ × List ℕ). p.0) pieces
   pub comes : came ≡ flat_map (λ (p : List ℕ × List ℕ). p.1) pieces
+
+-- A call fails: the sending of a piece, or, once one was sent, the reading of what comes.
+abbrev pub Fails : {E : Type 0} → EndsCalls E → Way → E → Type 0
+Fails {E = E} calls way old =
+    ((last : E) × calls.failed old way last)
+    ⊎ ((piece : List ℕ) × (between : E) × (last : E) × calls.sent old way piece between
+    × calls.failed between way last)
+
+-- Pieces of bytes are carried, and then a call fails.
+pub record Breaks {E : Type 0} (calls : EndsCalls E) (way : Way) (old : E) : Type 0 where
+  pub pieces : List (List ℕ × List ℕ)
+  pub last : E
+  pub passes : PassesEach calls way old pieces last
+  pub fails : Fails calls way last

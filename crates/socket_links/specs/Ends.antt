@@ -6,10 +6,11 @@ use Rattle.local_grid.specs.declared.link.Way.TheVariants.{ToServer, ToClient}
 use Rattle.socket_links.specs.declared.ends.SocketPair.{SocketPair}
 
 -- What the calls on both ends do, as relations between the state before a call and the state after
--- it: bytes are sent at the end where a way begins, and bytes come at its other end.
+-- it: bytes are sent at the end where a way begins, bytes come at its other end, or the call fails.
 pub record EndsCalls (E : Type 0) : Type 1 where
   pub sent : E → Way → List ℕ → E → Type 0
   pub came : E → Way → List ℕ → E → Type 0
+  pub failed : E → Way → E → Type 0
 
 -- what was written to an end, where it is known, grows by these bytes
 abbrev pub Grows : {S : Type 0} → (S → Option (List ℕ)) → S → List ℕ → S → Type 0
@@ -35,10 +36,11 @@ PairCame remaining old ToServer bytes new =
 PairCame remaining old ToClient bytes new =
     Loses remaining old.client bytes new.client × (new.server ≡ old.server)
 
--- the calls on two streams, by what is known of their bytes
+-- the calls on two streams, by what is known of their bytes. Of a call that fails nothing is known.
 abbrev pub pair_calls : {S : Type 0} → (S → Option (List ℕ)) → (S → Option (List ℕ))
     → EndsCalls (SocketPair S)
 pair_calls contents remaining = record {
   sent = PairSent contents;
   came = PairCame remaining;
+  failed = λ old way new. Unit {0};
 }

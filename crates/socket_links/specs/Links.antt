@@ -1,19 +1,29 @@
 -- What links over sockets carry.
-use Rattle.std.specs.Prelude.{◌≡◌, Option, Some, None}
-use Rattle.wire.specs.Frames.{frame}
+use Rattle.std.specs.Prelude.{◌≡◌, ◌≢◌, ◌⊎◌, ℕ, List, Option, Some, None}
+use Rattle.wire.specs.Frames.{IsMessage, frame}
 use Rattle.wire.specs.declared.message.Message.{Message}
 use Rattle.local_grid.specs.declared.link.Way.{Way}
-use Rattle.socket_links.specs.Carrying.{Carries}
+use Rattle.socket_links.specs.Carrying.{Breaks, Carries}
 use Rattle.socket_links.specs.Ends.{EndsCalls}
 use Rattle.socket_links.specs.declared.link.GridLink.{GridLink}
 use Rattle.socket_links.specs.declared.link.GridLink.TheVariants.{Memory, Sockets}
 
+-- bytes are sent, and what comes is the frame of no message
+pub record ComesElse {E : Type 0} (calls : EndsCalls E) (way : Way) (old : E) (sent : List ℕ)
+    : Type 0 where
+  pub bytes : List ℕ
+  pub last : E
+  pub carries : Carries calls way old sent bytes last
+  pub none : (m : Message) → IsMessage m → bytes ≢ frame m
+
 -- A message goes a way over both ends of a connection, while there are any: its frame is sent, and
--- the frame of the message that comes out is what came. Where none comes out, the ends are closed.
+-- the frame of the message that comes out is what came. None comes out only where a call on an end
+-- failed, or something else came than a frame: then the ends are closed.
 abbrev pub IsCarried : {E : Type 0} → EndsCalls E → Option E → Way → Message → Option Message
     → Option E → Type 0
 IsCarried calls None way m came after = (came ≡ None) × (after ≡ None)
-IsCarried calls (Some ends) way m None after = after ≡ None
+IsCarried calls (Some ends) way m None after =
+    (after ≡ None) × (Breaks calls way ends ⊎ ComesElse calls way ends (frame m))
 IsCarried {E = E} calls (Some ends) way m (Some out) after =
     (last : E) × (after ≡ Some last) × Carries calls way ends (frame m) (frame out) last
 

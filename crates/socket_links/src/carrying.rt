@@ -1,7 +1,8 @@
 //! A frame goes from one end of a connection to the other.
 
-ghost use Rattle.std.specs.Prelude.{◌≡◌, ◌++◌, ◌≤◌, List, ℕ, OnOk, length};
-ghost use Rattle.socket_links.specs.Carrying.{Carries, Passes};
+ghost use Rattle.std.specs.Prelude.{◌≡◌, ◌++◌, ◌≤◌, List, ℕ, IsErrOf, OnOk, length};
+ghost use Rattle.socket_links.specs.Carrying.{Breaks, Carries, Fails, Passes};
+ghost use Rattle.socket_links.specs.declared.carrying.CarryFault.{CarryFault};
 
 use crate::ends::Ends;
 use local_grid::link::Way;
@@ -45,8 +46,9 @@ pub(crate) fn carry<E: Ends>(
     frame: &[u8],
     came: &mut Vec<u8>,
 ) -> Result<(), CarryFault>
-    ensures { OnOk result ((bytes : List ℕ) × (came.new.items ≡ came.old.items ++ bytes)
+    ensures ok { OnOk result ((bytes : List ℕ) × (came.new.items ≡ came.old.items ++ bytes)
         × Carries E.calls way ends.old frame.now bytes ends.new) }
+    ensures socket { IsErrOf result CarryFault.Socket → Breaks E.calls way ends.old }
 {
     let mut rest = frame;
     'pieces: while !rest.is_empty() {
@@ -65,8 +67,9 @@ fn carry_piece<E: Ends>(
     came: &mut Vec<u8>,
 ) -> Result<(), CarryFault>
     requires { length piece.now ≤ 4096 }
-    ensures { OnOk result ((bytes : List ℕ) × (came.new.items ≡ came.old.items ++ bytes)
+    ensures ok { OnOk result ((bytes : List ℕ) × (came.new.items ≡ came.old.items ++ bytes)
         × Passes E.calls way ends.old piece.now bytes ends.new) }
+    ensures socket { IsErrOf result CarryFault.Socket → Fails E.calls way ends.old }
 {
     let mut buffer = [0u8; STEP];
     let room = &mut buffer[..piece.len()];

@@ -1,6 +1,6 @@
 //! Both ends of a connection.
 
-ghost use Rattle.std.specs.Prelude.{OnOk};
+ghost use Rattle.std.specs.Prelude.{OnErr, OnOk};
 ghost use Rattle.socket_links.specs.Ends.{EndsCalls, pair_calls};
 
 use local_grid::link::Way;
@@ -15,11 +15,13 @@ pub trait Ends {
 
     /// Writes a piece at the end where a way begins.
     fn send(&mut self, way: Way, piece: &[u8]) -> io::Result<()>
-        ensures { OnOk result (calls.sent self.old way piece.now self.new) };
+        ensures ok { OnOk result (calls.sent self.old way piece.now self.new) }
+        ensures err { OnErr result (calls.failed self.old way self.new) };
 
     /// Fills the room with what comes at the other end of the way.
     fn receive(&mut self, way: Way, room: &mut [u8]) -> io::Result<()>
-        ensures { OnOk result (calls.came self.old way room.new self.new) };
+        ensures ok { OnOk result (calls.came self.old way room.new self.new) }
+        ensures err { OnErr result (calls.failed self.old way self.new) };
 }
 
 /// The client's end and the server's.

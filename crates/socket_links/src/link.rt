@@ -1,9 +1,9 @@
 //! Links over sockets, and beside them those in memory.
 
-ghost use Rattle.std.specs.Prelude.{◌≡◌, IfOk, IfSome, None, OnOk, Some};
+ghost use Rattle.std.specs.Prelude.{◌≡◌, ◌⊎◌, IfNone, IfOk, IfSome, None, OnOk, Some};
 ghost use Rattle.wire.specs.Frames.{frame};
-ghost use Rattle.socket_links.specs.Carrying.{Carries};
-ghost use Rattle.socket_links.specs.Links.{IsCarried, IsCarriedOver};
+ghost use Rattle.socket_links.specs.Carrying.{Breaks, Carries};
+ghost use Rattle.socket_links.specs.Links.{ComesElse, IsCarried, IsCarriedOver};
 
 use crate::carrying::{CarryFault, carry};
 use crate::ends::Ends;
@@ -66,8 +66,10 @@ fn carried<E: Ends>(
     way: Way,
     sent: &[u8],
 ) -> Result<Option<Message>, AllocError>
-    ensures { IfOk result (λ o. IfSome o
+    ensures some { IfOk result (λ o. IfSome o
         (λ out. Carries E.calls way ends.old sent.now (frame out) ends.new)) }
+    ensures none { IfOk result (λ o. IfNone o
+        (Breaks E.calls way ends.old ⊎ ComesElse E.calls way ends.old sent.now)) }
 {
     let mut came = Vec::with_capacity(alloc, sent.len())?;
     match carry(ends, way, sent, &mut came) {

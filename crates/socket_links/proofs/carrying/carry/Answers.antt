@@ -9,7 +9,7 @@ pieces-init g c = sent_none g.E.Ends.calls c.args.way c.args.ends.now c.args.fra
 
 pub pieces-preserved : goal.pieces-preserved
 pieces-preserved g c =
-    let step = c.in_ok-carry_piece.ensures in
+    let step = c.in_ok-carry_piece.ensures.ok in
     let rest = c.pieces.rest.now in
     let n = c.min.result in
     let piece = c.split_at.result.0.now in
@@ -18,6 +18,6 @@ pieces-preserved g c =
     sent_more g.E.Ends.calls c.args.way c.args.ends.now c.pieces.ends c.carry_piece.new.ends c.args.frame.now rest piece c.split_at.result.1.now c.args.came.now.items c.pieces.came.items c.carry_piece.new.came.items step.0
     c.pieces.invariant cut step.1 step.2
 
-pub returns : goal.returns
-returns g c = sent_whole g.E.Ends.calls c.args.way c.args.ends.now c.pieces.ends c.args.frame.now c.pieces.rest.now c.args.came.now.items c.pieces.came.items
+pub returns-clause-ok : goal.returns-clause-ok
+returns-clause-ok g c = sent_whole g.E.Ends.calls c.args.way c.args.ends.now c.pieces.ends c.args.frame.now c.pieces.rest.now c.args.came.now.items c.pieces.came.items
     (nil_from_length c.pieces.rest.now (eqb-true _ 0 (sym c.is_empty.ensures ∙ c.pieces-test.false))) c.pieces.invariant
