@@ -18,7 +18,7 @@ use Rattle.share_opening.specs.Reads.{Brought}
 use Rattle.share_opening.specs.declared.opening.Opening.TheVariants.{Start, Second, Header, Block}
 use Rattle.share_reading.specs.Reading as reading
 use Rattle.share_reading.specs.Reads.{AsksNone, IsAsked, IsReadBy, more_back, more_front}
-use Rattle.share_reading.specs.Verdict.{AreAnswered, AreFull, IsJudged, IsVerdict, Settled, brought_at, brought_by, brought_of}
+use Rattle.share_reading.specs.Verdict.{AreAnswered, AreFull, HasLed, IsJudged, IsVerdict, Settled, brought_at, brought_by, brought_of}
 use Rattle.share_reading.specs.Whole.{IsWhole, joined}
 use Rattle.share_reading.specs.declared.reading.Progress.{Progress}
 use Rattle.share_reading.specs.declared.reading.Progress.TheVariants.{Next, Whole}
@@ -329,18 +329,17 @@ module _ (cap : VerifyCapValue) (es : List Request) (todo : List ℕ) (o : Offer
     new_brought : Contains (brought_of reads) (reading.next_place r, bytes)
     new_brought = brought_has reads last_read bytes last_among refl
 
+    has_led : HasLed cap reads r bytes
+    has_led = record { front = is.front; back = is.back; led = is.led; among = old_brought; last = last_among }
+
     -- the share is not read on
     pub is_stopped : (check : Check) → reading.IsStop cap r bytes check → IsEnded cap es o (verdicts.Corrupt check)
     is_stopped check stop = record {
       verdict = inl (record {
         answered = all_answered;
-        front = is.front;
-        back = is.back;
         reading = r;
-        led = is.led;
-        among = old_brought;
         bytes = bytes;
-        last = last_among;
+        has_led = has_led;
         stop = stop;
       });
       quiet = all_quiet cap es todo o r place is q there settled;
@@ -392,14 +391,15 @@ module _ (cap : VerifyCapValue) (es : List Request) (todo : List ℕ) (o : Offer
       is_joined : reading.Advances cap r bytes Whole → IsWhole (brought_of reads) (joined more_reads)
       is_joined a = same_whole more_reads (brought_of reads) (joined more_reads) more_brought brought_more (end_whole cap is.front is.back r bytes is.led a)
 
-      judged : (text : List ℕ) (v : Verdict) → IsWhole (brought_of reads) text → IsJudged cap o.share text v → IsVerdict cap o.share reads v
-      judged text verdicts.Good whole held = record { bytes = text; full = all_full; whole = whole; sound = held }
-      judged text (verdicts.Corrupt check) whole held = inr (record { bytes = text; full = all_full; whole = whole; fault = held.0; first = held.1; check_is = held.2 })
-      judged text verdicts.Lost whole held = absurd held
+      judged : (text : List ℕ) (v : Verdict) → reading.Advances cap r bytes Whole → IsWhole (brought_of reads) text → IsJudged cap o.share text v → IsVerdict cap o.share reads v
+      judged text verdicts.Good a whole held = record { bytes = text; full = all_full; whole = whole; sound = held }
+      judged text (verdicts.Corrupt check) a whole held =
+          inr (record { read_whole = record { reading = r; bytes = bytes; has_led = has_led; ends = a }; bytes = text; full = all_full; whole = whole; fault = held.0; first = held.1; check_is = held.2 })
+      judged text verdicts.Lost a whole held = absurd held
 
       pub is_judged : (text : List ℕ) (v : Verdict) → reading.Advances cap r bytes Whole → text ≡ joined more_reads → IsJudged cap o.share text v → IsEnded cap es o v
       is_judged text v a same held = record {
-        verdict = judged text v (subst (IsWhole (brought_of reads)) (sym same) (is_joined a)) held;
+        verdict = judged text v a (subst (IsWhole (brought_of reads)) (sym same) (is_joined a)) held;
         quiet = all_quiet cap es todo o r place is q there settled;
       }
 

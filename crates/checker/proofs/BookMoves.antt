@@ -91,20 +91,21 @@ keys_kept offers k o n t keys at key are = (
   ap (λ (l : List Pair). take t.count (drop t.first l)) (map_set key_of offers k o n at key) ∙ are.1,
 )
 
--- the share of an offer of the same server
-told_as : (n : ℕ) (entries : List Request) (todo : List ℕ) (o x : Offer) → o.server ≡ x.server → IsTold n entries todo o → IsTold n entries todo x
-told_as n entries todo o x same is = record {
+-- an offer of the same share
+told_as : (total n : ℕ) (entries : List Request) (todo : List ℕ) (o x : Offer) → key_of o ≡ key_of x → IsTold total n entries todo o → IsTold total n entries todo x
+told_as total n entries todo o x same is = record {
   place = is.place;
   first = is.first;
   request = is.request;
   there = is.there;
-  server = is.server ∙ same;
+  server = is.server ∙ ap (λ (p : Pair). p.0) same;
   quiet = is.quiet;
   taken = is.taken;
+  listed = subst (Contains (offered_in total is.request.server is.request.outcome)) same is.listed;
 }
 
-told_push : (n : ℕ) (entries : List Request) (todo : List ℕ) (new : Request) (o : Offer) → IsTold n entries todo o → IsTold n (entries ++ new ∷ []) todo o
-told_push n entries todo new o is = record {
+told_push : (total n : ℕ) (entries : List Request) (todo : List ℕ) (new : Request) (o : Offer) → IsTold total n entries todo o → IsTold total n (entries ++ new ∷ []) todo o
+told_push total n entries todo new o is = record {
   place = is.place;
   first = is.first;
   request = is.request;
@@ -112,6 +113,7 @@ told_push n entries todo new o is = record {
   server = is.server;
   quiet = is.quiet;
   taken = is.taken;
+  listed = is.listed;
 }
 
 -- ---- one offer is another now
@@ -128,7 +130,7 @@ module _ (cap : VerifyCapValue) (entries : List Request) (told : List Told) (own
     ]
   ]
 
-  pub told_less : (l : ℕ) (x : Offer) → slice_get offers l ≡ Some x → IsTold (length told) entries todo x
+  pub told_less : (l : ℕ) (x : Offer) → slice_get offers l ≡ Some x → IsTold cap.total (length told) entries todo x
   told_less l x e = let old = b.offered l x e in
       record {
         place = old.place;
@@ -138,6 +140,7 @@ module _ (cap : VerifyCapValue) (entries : List Request) (told : List Told) (own
         server = old.server;
         quiet = old.quiet;
         taken = λ h. old.taken (tail place old.place todo h);
+        listed = old.listed;
       }
 
   pub quiet_less : (i : ℕ) (r : Request) → Contains todo i → slice_get entries i ≡ Some r → is_outstanding r.outcome ≡ false
@@ -193,7 +196,7 @@ module _ (cap : VerifyCapValue) (entries : List Request) (told : List Told) (own
       | inr other ↦ others_less cap entries told owners offers begun place todo b after k o q at there about l x other.0 other.1
     ];
     offered = λ l x e. elim (get_changed offers k l o n x at e) [
-      | inl here ↦ told_as (length told) entries todo o x (ap (λ (p : Pair). p.0) (sym key) ∙ ap (λ (y : Offer). y.server) (sym here.1))
+      | inl here ↦ told_as cap.total (length told) entries todo o x (sym key ∙ ap key_of (sym here.1))
           (told_less cap entries told owners offers begun place todo b after k o at)
       | inr other ↦ told_less cap entries told owners offers begun place todo b after l x other.1
     ];
@@ -235,7 +238,7 @@ module _ (cap : VerifyCapValue) (entries : List Request) (told : List Told) (own
 
   pub book_asked : (old : List ℕ) → IsBook cap entries told owners offers begun old
       → ((l : ℕ) (x : Offer) → l ≢ k → slice_get offers l ≡ Some x → IsOffer cap entries todo x)
-      → ((l : ℕ) (x : Offer) → slice_get offers l ≡ Some x → IsTold (length told) entries todo x)
+      → ((l : ℕ) (x : Offer) → slice_get offers l ≡ Some x → IsTold cap.total (length told) entries todo x)
       → ((i : ℕ) (t : Told) (q : Request) → slice_get told i ≡ Some t → slice_get entries i ≡ Some q → HasTold cap.total todo offers i t q)
       → ((i : ℕ) (q : Request) → Contains todo i → slice_get entries i ≡ Some q → is_outstanding q.outcome ≡ false)
       → ((i : ℕ) → Contains todo i → i < length entries)
@@ -268,8 +271,8 @@ module _ (cap : VerifyCapValue) (entries : List Request) (told : List Told) (own
           (others l x other.0 other.1)
     ];
     offered = λ l x e. elim (get_changed offers k l o n x at e) [
-      | inl here ↦ told_push (length told) entries todo new x (told_as (length told) entries todo o x (ap (λ (p : Pair). p.0) (sym key) ∙ ap (λ (y : Offer). y.server) (sym here.1)) (offered k o at))
-      | inr other ↦ told_push (length told) entries todo new x (offered l x other.1)
+      | inl here ↦ told_push cap.total (length told) entries todo new x (told_as cap.total (length told) entries todo o x (sym key ∙ ap key_of (sym here.1)) (offered k o at))
+      | inr other ↦ told_push cap.total (length told) entries todo new x (offered l x other.1)
     ];
     tells = λ i t q e f. elim (get_pushed entries new q i f) [
       | inl before ↦ elim (tells i t q e before) [
@@ -330,6 +333,7 @@ book_goes cap es ns told owners offers begun todo goes waited quiet inside b = r
         server = is.server;
         quiet = is.quiet;
         taken = λ h. true≢false (sym (waited is.place is.request h is.there) ∙ is.quiet);
+        listed = is.listed;
       });
   tells = λ i t r e f. tells_on i t r e f;
   quiet = quiet;

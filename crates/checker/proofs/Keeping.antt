@@ -1,5 +1,5 @@
 -- What is kept of each check, as it goes on.
-use Rattle.std.proofs.Common.{◌≡◌, ◌≢◌, ℕ, zero, suc, ◌+◌, ◌<◌, ◌≤◌, List, [], ◌∷◌, ◌++◌, length, get_or, drop, map, replicate, eqb, append_assoc, true≢false, Bool, true, false, cond, inl, inr, Option, Some, None, Result, Ok, Err, ap, refl, sym, subst, ◌∙◌, arith}
+use Rattle.std.proofs.Common.{◌≡◌, ◌≢◌, ℕ, zero, suc, ◌+◌, ◌<◌, ◌≤◌, List, [], ◌∷◌, ◌++◌, length, get_or, drop, map, replicate, eqb, append_assoc, true≢false, Bool, true, false, cond, inl, inr, Option, Some, None, Result, Ok, Err, ap, refl, sym, subst, ◌∙◌, arith, ◌-◌}
 use Rattle.std.specs.Prelude.{Contains, slice_get}
 use Rattle.std.specs.Result.{IfOk}
 use Rattle.std.specs.List.{AllByRecursion, IsDistinct}
@@ -7,8 +7,8 @@ use Rattle.std.proofs.lemmas.List.Sums.{sum_by-cons}
 use Rattle.std.proofs.Common.{drop-cons}
 use Rattle.std.proofs.lemmas.List.{append-nil, drop_all, length-map, length-replicate}
 use Rattle.std.proofs.lemmas.List.Elements.{Contains-get_or}
-use Rattle.std.proofs.lemmas.Option.{none-some, same_Some}
-use Rattle.std.proofs.lemmas.Bool.{eq-eqb}
+use Rattle.std.proofs.lemmas.Option.{none-some, same_Some, slice_get_within}
+use Rattle.std.proofs.lemmas.Bool.{eq-eqb, cases_lt}
 use Rattle.cap_text.specs.Cap.{VerifyCapValue}
 use Rattle.request_record.specs.declared.requests.Asked.{Asked}
 use Rattle.request_record.specs.declared.requests.Asked.TheVariants.{Holdings}
@@ -18,12 +18,13 @@ use Rattle.request_record.specs.Record.{RequestsState, TakesNext, asked_all, ask
 use Rattle.request_record.specs.Asking.{AsksOnce, asks_of, begun, fresh}
 use Rattle.share_reading.proofs.ConsecutiveLemmas.{contains_head, contains_none}
 use Rattle.checker.specs.Moves.{GoesOn}
-use Rattle.checker.specs.Right.{AreOfShares, IsRight}
-use Rattle.checker.specs.Book.{AreAsked, AreKeys, AreLost, AsksMore, HasBook, IsAskedBy, IsBook, IsFresh, IsKept, IsSafe, state_of}
-use Rattle.checker.specs.Shares.{offered_in}
+use Rattle.checker.specs.Right.{AreAsked, AreOffered, AreOfShares, IsAskedBy, IsRight}
+use Rattle.checker.specs.Book.{AreKeys, AreLost, AsksMore, HasBook, IsAbout, IsBook, IsFresh, IsKept, IsSafe, state_of}
+use Rattle.checker.specs.Offers.{key_of}
+use Rattle.checker.specs.Shares.{offered_in, offered_pairs, offered_to}
 use Rattle.checker.specs.declared.machine.Machine.{Machine}
 use Rattle.checker.specs.declared.machine.Told.{Told}
-use Rattle.checker.proofs.Entries.{GoesTo, get_kept, was_at}
+use Rattle.checker.proofs.Entries.{GoesTo, about_by, about_one, flat_map_has, get_kept, was_at}
 use Rattle.checker.proofs.BookMoves.{book_goes}
 use Rattle.checker.proofs.RecordMoves.{IsCounted, IsTicked, shares_go}
 use Rattle.checker.proofs.MachineMoves.{book_as, get_of}
@@ -215,10 +216,12 @@ kept_ticked m r lost Failed ended t once k = failed_kept (with_requests m r) (sa
 -- ---- what the calls do
 
 pub goes_on_ended : (m : Machine) (r : RequestsState) (servers : List ℕ) (status : CheckStatus) → GoesOn r (state_of m servers status) (state_of (with_requests m r) servers status)
-goes_on_ended m r servers status = record { cap = refl; servers = refl; asks = []; requests = refl; ended = λ _. refl }
+goes_on_ended m r servers status = record { cap = refl; servers = refl; asks = []; requests = refl; ended = λ _. refl; well = λ was. was }
 
-pub goes_on_running : (m new : Machine) (r : RequestsState) (servers : List ℕ) (status ended : CheckStatus) → status ≡ Running → AsksMore (with_requests m r) new → GoesOn r (state_of m servers status) (state_of new servers ended)
-goes_on_running m new r servers status ended runs more = record { cap = more.cap; servers = refl; asks = more.asks; requests = more.requests; ended = λ no. absurd (no runs) }
+pub goes_on_running : (m new : Machine) (r : RequestsState) (servers : List ℕ) (status ended : CheckStatus) → status ≡ Running → AsksMore (with_requests m r) new → ended ≢ Failed
+    → GoesOn r (state_of m servers status) (state_of new servers ended)
+goes_on_running m new r servers status ended runs more well =
+    record { cap = more.cap; servers = refl; asks = more.asks; requests = more.requests; ended = λ no. absurd (no runs); well = λ _. well }
 
 pub if_ok_then : {A E : Type 0} (r : Result A E) (P Q : A → Type 0) → IfOk r P → ((a : A) → P a → Q a) → IfOk r Q
 if_ok_then (Ok a) P Q p f = f a p
@@ -338,5 +341,33 @@ module _ (cap : VerifyCapValue) (servers : List ℕ) (session now : ℕ) (m : Ma
 
 -- ---- what holds of each check
 
+-- each share that is read was offered by the server that is asked
+offered_of : (m : Machine) → HasBook m [] → AreOffered m.cap.total m.requests.entries
+offered_of m b i r share offset len at asks = elim (cases_lt i (length m.told.items)) [
+  | inl lt ↦ absurd (not_read (b.asks i r lt at) asks)
+  | inr le ↦ (
+      let es : List Request = m.requests.entries in
+      let n : ℕ = length m.told.items in
+      let within : i - n < length m.owners.items = omega (arith, le, b.long, slice_get_within es i r at) in
+      let k = get_of m.owners.items (i - n) within in
+      let owner = b.owned (i - n) k.0 k.1 in
+      let here : n + (i - n) ≡ i = omega (arith, le) in
+      let same : owner.request ≡ r = same_Some owner.request r (sym owner.asks ∙ ap (slice_get es) here ∙ at) in
+      let mine : IsAbout (key_of owner.offer) r = subst (IsAbout (key_of owner.offer)) same owner.about in
+      let key : key_of owner.offer ≡ (r.server, share) = about_one (key_of owner.offer) (r.server, share) r mine (about_by (r.server, share) r offset len refl asks) in
+      let told = b.offered k.0 owner.offer owner.there in
+      let listed : Contains (offered_to m.cap.total told.request.server told.request.asked told.request.outcome) (key_of owner.offer) =
+      subst (λ (a : Asked). Contains (offered_to m.cap.total told.request.server a told.request.outcome) (key_of owner.offer)) (sym (b.asks told.place told.request told.first told.there)) told.listed in
+      subst (Contains (offered_pairs m.cap.total es)) key
+      (flat_map_has (λ (x : Request). offered_to m.cap.total x.server x.asked x.outcome) es told.place told.request (key_of owner.offer) told.there listed))
+]
+
 pub right_of : (m : Machine) (servers : List ℕ) (status : CheckStatus) → IsKept m status → IsRight (state_of m servers status)
-right_of m servers status k = record { works = k.works; idle = k.idle; once = k.safe.once; reads = k.safe.reads }
+right_of m servers status k = record {
+  works = k.works;
+  idle = k.idle;
+  once = k.safe.once;
+  reads = k.safe.reads;
+  asked = k.safe.asked;
+  offered = λ well. offered_of m (k.book well);
+}

@@ -25,8 +25,8 @@ use Rattle.share_reading.specs.declared.verdict.Verdict.TheVariants as verdicts
 use Rattle.share_reading.proofs.ConsecutiveLemmas.{contains_none}
 use Rattle.checker.specs.Shares.{settled_of}
 use Rattle.checker.specs.Offers.{IsKeptBy, key_of, with_stage}
-use Rattle.checker.specs.Right.{AreOfShares}
-use Rattle.checker.specs.Book.{AreAsked, AreReadAt, AsksNothing, HasAsked, HasBook, HasBytes, IsAbout, IsAskedBy, IsAt, IsBook, IsEnded, IsReadOn, IsReading, IsSafe, IsSettledAt, IsStarted, IsUnread}
+use Rattle.checker.specs.Right.{AreAsked, AreOfShares, IsAskedBy}
+use Rattle.checker.specs.Book.{AreReadAt, AsksNothing, HasAsked, HasBook, HasBytes, IsAbout, IsAt, IsBook, IsEnded, IsReadOn, IsReading, IsSafe, IsSettledAt, IsStarted, IsUnread}
 use Rattle.checker.specs.declared.machine.Machine.{Machine}
 use Rattle.checker.specs.declared.machine.Told.{Told}
 use Rattle.checker.specs.declared.offers.Offer.{Offer}

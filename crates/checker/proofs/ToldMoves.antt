@@ -21,7 +21,7 @@ use Rattle.checker.specs.Shares.{offered_in}
 use Rattle.checker.specs.Book.{AreKeys, ArePushed, HasTold, IsAbout, IsAt, IsBook, IsNew, IsOffer, IsOwner, IsReadOnlyAt, IsTakenOnce, IsTold}
 use Rattle.checker.specs.declared.machine.Told.{Told}
 use Rattle.checker.specs.declared.offers.Offer.{Offer}
-use Rattle.checker.proofs.Entries.{about_one, about_read, both, get_set_other, get_set_same}
+use Rattle.checker.proofs.Entries.{about_one, about_read, both, get_set_other, get_set_same, has_mapped}
 use Rattle.checker.proofs.OfferMoves.{offer_other}
 use Rattle.checker.proofs.BookMoves.{tail}
 use Rattle.checker.proofs.Joining.{pair_at}
@@ -247,7 +247,7 @@ module _ (cap : VerifyCapValue) (es : List Request) (told : List Told) (owners :
         subst (IsAt cap es todo x) (sym is.stage) (record { front = is.front; back = is.back; none = new_unread new.index x new.there }))
   ]
 
-  told_more : (l : ℕ) (x : Offer) → slice_get (offers ++ more) l ≡ Some x → IsTold (length told) es todo x
+  told_more : (l : ℕ) (x : Offer) → slice_get (offers ++ more) l ≡ Some x → IsTold cap.total (length told) es todo x
   told_more l x e = elim (get_either offers more l x e) [
     | inl old ↦ (
         let is = b.offered l x old in
@@ -259,6 +259,7 @@ module _ (cap : VerifyCapValue) (es : List Request) (told : List Told) (owners :
           server = is.server;
           quiet = is.quiet;
           taken = λ h. is.taken (tail place is.place todo h);
+          listed = is.listed;
         })
     | inr new ↦ record {
       place = place;
@@ -268,6 +269,7 @@ module _ (cap : VerifyCapValue) (es : List Request) (told : List Told) (owners :
       server = sym (new_server new.index x new.there);
       quiet = quiet_here;
       taken = not_again new.index x new.there;
+      listed = subst (λ (l : List Pair). Contains l (key_of x)) (listed ∙ sym offered) (has_mapped key_of more new.index x new.there);
     }
   ]
 
@@ -304,7 +306,7 @@ module _ (cap : VerifyCapValue) (es : List Request) (told : List Told) (owners :
         owned = λ p l e. subst (λ n. IsOwner es (offers ++ more) (n + p) l) (sym same_length) (owner_left (length told + p) l (b.owned p l e));
         apart = apart_more;
         reading = reading_more;
-        offered = λ l x e. subst (λ n. IsTold n es todo x) (sym same_length) (told_more l x e);
+        offered = λ l x e. subst (λ n. IsTold cap.total n es todo x) (sym same_length) (told_more l x e);
         tells = tells_more;
         quiet = λ i r h e. b.quiet i r (tail place i todo h) e;
         inside = λ i h. b.inside i (tail place i todo h);

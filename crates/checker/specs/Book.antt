@@ -22,7 +22,7 @@ use Rattle.share_reading.specs.declared.reading.Progress.{Progress}
 use Rattle.share_reading.specs.declared.verdict.Verdict.{Verdict}
 use Rattle.share_reading.specs.declared.verdict.Verdict.TheVariants as verdicts
 use Rattle.checker.specs.Offers.{key_of, with_stage}
-use Rattle.checker.specs.Right.{AreOfShares}
+use Rattle.checker.specs.Right.{AreAsked, AreOfShares}
 use Rattle.checker.specs.Shares.{is_about, offered_in, settled_of}
 use Rattle.checker.specs.State.{CheckState}
 use Rattle.checker.specs.declared.machine.Machine.{Machine}
@@ -112,15 +112,17 @@ pub record IsOwner (entries : List Request) (offers : List Offer) (place k : ℕ
   pub asks : slice_get entries place ≡ Some request
   pub about : IsAbout (key_of offer) request
 
--- the share was offered in the answer to one of the first requests, which is taken in
-pub record IsTold (n : ℕ) (entries : List Request) (todo : List ℕ) (o : Offer) : Type 0 where
-  pub place : ℕ
-  pub first : place < n
-  pub request : Request
-  pub there : slice_get entries place ≡ Some request
-  pub server : request.server ≡ o.server
-  pub quiet : is_outstanding request.outcome ≡ false
-  pub taken : Contains todo place → ⊥
+-- the share is listed in the answer to one of the first requests, which is taken in
+pub record IsTold (total n : ℕ) (entries : List Request) (todo : List ℕ) (o : Offer) : Type 0
+  where
+    pub place : ℕ
+    pub first : place < n
+    pub request : Request
+    pub there : slice_get entries place ≡ Some request
+    pub server : request.server ≡ o.server
+    pub quiet : is_outstanding request.outcome ≡ false
+    pub taken : Contains todo place → ⊥
+    pub listed : Contains (offered_in total request.server request.outcome) (key_of o)
 
 -- these are the shares of the offers of a server
 abbrev pub AreKeys : List Offer → Told → List Pair → Type 0
@@ -151,7 +153,7 @@ pub record IsBook (cap : VerifyCapValue) (entries : List Request) (told : List T
       → slice_get offers l ≡ Some b → key_of a ≡ key_of b → k ≡ l
   pub reading : (k : ℕ) (o : Offer) → slice_get offers k ≡ Some o → IsOffer cap entries todo o
   pub offered : (k : ℕ) (o : Offer) → slice_get offers k ≡ Some o
-      → IsTold (length told) entries todo o
+      → IsTold cap.total (length told) entries todo o
   pub tells : (i : ℕ) (t : Told) (r : Request) → slice_get told i ≡ Some t
       → slice_get entries i ≡ Some r → HasTold cap.total todo offers i t r
   pub quiet : (i : ℕ) (r : Request) → Contains todo i → slice_get entries i ≡ Some r
@@ -167,15 +169,6 @@ pub record IsBook (cap : VerifyCapValue) (entries : List Request) (told : List T
 abbrev pub HasBook : Machine → List ℕ → Type 0
 HasBook m todo =
     IsBook m.cap m.requests.entries m.told.items m.owners.items m.offers.items m.begun todo
-
--- a check asks which shares a server holds, and for bytes of them
-abbrev pub IsAskedBy : Asked → Type 0
-IsAskedBy Holdings = Unit {0}
-IsAskedBy (Reading share offset len) = Unit {0}
-IsAskedBy asked = ⊥
-
-abbrev pub AreAsked : List Request → Type 0
-AreAsked entries = (i : ℕ) (r : Request) → slice_get entries i ≡ Some r → IsAskedBy r.asked
 
 -- what is asked is right, whatever becomes of the check
 pub record IsSafe (m : Machine) : Type 0 where

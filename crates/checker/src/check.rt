@@ -93,7 +93,6 @@ impl Check {
 
     /// Where it stands. While it runs a request is outstanding, and once it is done none is. No
     /// server is asked the same thing twice, nor for a byte of a share twice.
-    #[tactic(auto, using(crate::proofs::Keeping::right_of))]
     pub fn status(&self) -> CheckStatus
         ensures value { result ≡ self.now.status }
         ensures right { IsRight self.now }

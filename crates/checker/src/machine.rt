@@ -1,6 +1,6 @@
 //! How a check takes what comes, and what it asks.
 
-ghost use Rattle.std.specs.Prelude.{◌≡◌, ◌↔◌, ◌<◌, ◌≤◌, ◌+◌, ◌++◌, ◌∷◌, List, ℕ, [], Some, None};
+ghost use Rattle.std.specs.Prelude.{◌≡◌, ◌≢◌, ◌↔◌, ◌<◌, ◌≤◌, ◌+◌, ◌++◌, ◌∷◌, List, ℕ, [], Some, None};
 ghost use Rattle.std.specs.Prelude.{IfNone, IfOk, IfSome, IsTrue, OnErr, OnOk, length, slice_get};
 ghost use Rattle.std.specs.Prelude.{filter, map, nat_lt};
 ghost use Rattle.placement.specs.Matching.{Pair};
@@ -288,7 +288,7 @@ impl Machine {
         requires safe { IsSafe self.old }
         requires book { HasBook self.old [] }
         ensures kept { IfOk result (IsKept self.new) }
-        ensures asks { IfOk result (λ _. AsksMore self.old self.new) }
+        ensures asks { IfOk result (λ status. AsksMore self.old self.new × (status ≢ Failed)) }
         ensures failed { IsSafe self.new }
     {
         let most = self.told.len().saturating_add(MORE_AT_ONCE);

@@ -138,6 +138,7 @@ impl Machine {
             (state_of self.old servers status) (state_of self.new servers ended)) }
         ensures err { OnErr result ((servers : List ℕ) → StopsAt now
             (state_of self.old servers status) (state_of self.new servers Failed)) }
+        ensures well { IfOk result (λ ended. status ≢ Failed → ended ≢ Failed) }
         ensures kept { IfOk result (IsKept self.new) }
         ensures failed { IsKept self.new Failed }
     {

@@ -1,6 +1,7 @@
 -- Why shares are blamed.
-use Rattle.std.proofs.Common.{◌≡◌, ℕ, inl, inr, List, Some, None, sym, ap, subst, ◌∙◌}
-use Rattle.std.specs.Prelude.{Option, slice_get}
+use Rattle.std.proofs.Common.{◌≡◌, ◌≢◌, ◌⊎◌, ℕ, inl, inr, List, ◌∷◌, length, Some, None, refl, sym, ap, subst, ◌∙◌}
+use Rattle.std.specs.Prelude.{Contains, Option, slice_get}
+use Rattle.placement.proofs.Members.{Contains-head}
 use Rattle.request_record.specs.declared.requests.Asked.TheVariants.{Reading}
 use Rattle.request_record.specs.declared.requests.Request.{Request}
 use Rattle.share_verify.specs.declared.check.Check.{Check}
@@ -16,8 +17,9 @@ use Rattle.share_beginnings.specs.State.{BeginningsState}
 use Rattle.share_beginnings.proofs.Entries.{same_of}
 use Rattle.download_file.specs.Changes.{IsSameFile}
 use Rattle.download_file.specs.Making.{RefutesReader}
-use Rattle.download_file.specs.State.{FileState, IsLive, first_waiting, waiting_at}
-use Rattle.download_file.specs.Taking.{IsRefused}
+use Rattle.download_file.specs.State.{FileState, IsLive, first_place, first_waiting, waiting_at, waiting_in}
+use Rattle.download_file.specs.declared.reader.Waiting.{Waiting}
+use Rattle.download_file.specs.Taking.{IsRefused, RefutesPart}
 use Rattle.cap_text.specs.Cap.{VerifyCapValue}
 use Rattle.share_beginnings.specs.Causes.{IsBeginningFault}
 use Rattle.download_segments.specs.State.{HandoutState}
@@ -62,6 +64,10 @@ part_moved es ns f g b stays same k = record {
   bytes = k.bytes;
   answer = k.answer;
   refused = k.refused;
+  live = k.live;
+  share = k.share;
+  place_is = k.place_is;
+  length_is = k.length_is;
 }
 
 pub block_moved : (es ns : List Request) (f g : FileState) (b : Blame) → StaysTo es ns → IsFileAlike f g → IsBlockFault es g b → IsBlockFault ns f b
@@ -85,9 +91,14 @@ part_fault but s r reader place check bytes b reading live first answered refuse
     let now = reading.linked.live reader live in
     let one : now.holding ≡ blame.holding = same_of (slice_get r.holdings reader) now.holding blame.holding now.of blame.of in
     let held : now.held ≡ blame.held = same_of (slice_get s.holdings.table.holdings now.holding) now.held blame.held now.is (subst (λ x. IsHolding s.holdings.table x blame.held) (sym one) blame.is) in
-    let w = first_is (waiting_at r.file reader) place first in
-    let a = (reading.awaits.asked reader now.held w.0 (record { live = live; holding = now.holding; of = now.of; is = now.is; left = now.left }) w.1).read in
-    let same : a.request ≡ answered.request = same_of (slice_get s.holdings.requests.entries place) a.request answered.request (ap (slice_get s.holdings.requests.entries) (sym w.2) ∙ a.there) answered.there in
+    let part : Waiting = refused.first in
+    let waits : waiting_at r.file reader ≡ part ∷ refused.others = ap waiting_in refused.there ∙ refused.waits in
+    let at : part.place ≡ place = same_of (first_waiting r.file reader) part.place place (ap first_place waits) first in
+    let among : Contains (waiting_at r.file reader) part = subst (λ (l : List Waiting). Contains l part) (sym waits) (Contains-head part refused.others) in
+    let a = (reading.awaits.asked reader now.held part (record { live = live; holding = now.holding; of = now.of; is = now.is; left = now.left }) among).read in
+    let of = reading.linked.kept.forth reader blame.holding blame.of in
+    let blamed : of.held ≡ blame.held = same_of (slice_get s.holdings.table.holdings blame.holding) of.held blame.held of.is blame.is in
+    let same : a.request ≡ answered.request = same_of (slice_get s.holdings.requests.entries place) a.request answered.request (ap (slice_get s.holdings.requests.entries) (sym at) ∙ a.there) answered.there in
     record {
       file = r.file;
       right = reading.linked.kept.right;
@@ -96,14 +107,26 @@ part_fault but s r reader place check bytes b reading live first answered refuse
       place = place;
       first = first;
       request = a.request;
-      there = ap (slice_get s.holdings.requests.entries) (sym w.2) ∙ a.there;
+      there = ap (slice_get s.holdings.requests.entries) (sym at) ∙ a.there;
       of_server = a.of_server ∙ ap (λ (h : Holding). h.server) held ∙ sym blame.of_server;
-      offset = w.0.wanted.read.place;
-      len = w.0.wanted.read.length;
-      asked = a.asked ∙ ap (λ (h : Holding). Reading h.share w.0.wanted.read.place w.0.wanted.read.length) held ∙ ap (λ n. Reading n w.0.wanted.read.place w.0.wanted.read.length) (sym blame.of_share);
+      offset = part.wanted.read.place;
+      len = part.wanted.read.length;
+      asked = a.asked ∙ ap (λ (h : Holding). Reading h.share part.wanted.read.place part.wanted.read.length) held ∙ ap (λ n. Reading n part.wanted.read.place part.wanted.read.length) (sym blame.of_share);
       bytes = bytes;
       answer = ap (λ (q : Request). q.outcome) same ∙ answered.answer;
-      refused = subst (IsRefused r.file reader bytes) (sym blame.check_is) refused;
+      refused = record {
+        r = refused.r;
+        there = refused.there;
+        first = part;
+        others = refused.others;
+        waits = refused.waits;
+        why = subst (λ (c : Check). ((c ≡ checks.Layout) × (length bytes ≢ part.wanted.read.length))
+            ⊎ ((length bytes ≡ part.wanted.read.length) × RefutesPart r.file.handout r.file.first r.file.end refused.r part.wanted.part bytes c)) (sym blame.check_is) refused.why;
+      };
+      live = live;
+      share = of.share ∙ ap (λ (h : Holding). Some h.share) blamed ∙ ap Some (sym blame.of_share);
+      place_is = refl;
+      length_is = refl;
     }
 
 -- the block that a reader holds is wrong

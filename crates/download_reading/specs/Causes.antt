@@ -15,7 +15,7 @@ use Rattle.share_beginnings.specs.State.{BeginningsState}
 use Rattle.download_file.specs.Answers.{IsRead, KeepsAnswers}
 use Rattle.download_file.specs.Making.{RefutesReader}
 use Rattle.download_file.specs.Right.{IsFile}
-use Rattle.download_file.specs.State.{FileState, first_waiting, shares}
+use Rattle.download_file.specs.State.{FileState, IsLive, first_waiting, shares}
 use Rattle.download_file.specs.Taking.{IsRefused}
 use Rattle.download_reading.specs.Reading.{IsOf}
 use Rattle.download_reading.specs.State.{ReadingState}
@@ -29,8 +29,8 @@ pub record IsFileAlike (f g : FileState) : Type 0 where
   pub first : g.first ≡ f.first
   pub end : g.end ≡ f.end
 
--- What the share's server answered to a read of it is refused as the part that a reader of this
--- file took next.
+-- A reader of the share in this file waited for a part first, which is what was asked of the share's
+-- server, and what that server answered is refused as this part.
 pub record IsPartFault (entries : List Request) (f : FileState) (b : Blame) : Type 0 where
   pub file : FileState
   pub right : IsFile file
@@ -47,6 +47,10 @@ pub record IsPartFault (entries : List Request) (f : FileState) (b : Blame) : Ty
   pub bytes : List ℕ
   pub answer : request.outcome ≡ Answered (Data bytes)
   pub refused : IsRefused file reader bytes b.check
+  pub live : IsLive file reader
+  pub share : slice_get (shares file) reader ≡ Some b.share
+  pub place_is : offset ≡ refused.first.wanted.read.place
+  pub length_is : len ≡ refused.first.wanted.read.length
 
 -- The block of the next segment that the share's reader holds is not the one that its block tree
 -- tells.

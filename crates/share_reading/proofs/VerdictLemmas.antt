@@ -56,10 +56,11 @@ full_last reads read bytes full at is =
 -- no share is good that has what was read where reading stopped
 stopped_or_good : (cap : VerifyCapValue) (num : ℕ) (reads : List Settled) (check : Check) → IsStopped cap reads check → IsGood cap num reads → ⊥
 stopped_or_good cap num reads check s g =
-    let at = brought_has reads _ s.bytes s.last refl in
-    stop cap s.front s.back s.reading s.bytes check num g.bytes s.led s.stop
-    (full_last reads _ s.bytes g.full s.last refl)
-    (has_among reads (s.front ++ s.back) g.bytes s.among g.whole.has)
+    let l = s.has_led in
+    let at = brought_has reads _ s.bytes l.last refl in
+    stop cap l.front l.back s.reading s.bytes check num g.bytes l.led s.stop
+    (full_last reads _ s.bytes g.full l.last refl)
+    (has_among reads (l.front ++ l.back) g.bytes l.among g.whole.has)
     (g.whole.has (next_place s.reading, s.bytes) at)
     (sound_passes cap num g.bytes check g.sound)
 

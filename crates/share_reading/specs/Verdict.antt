@@ -8,9 +8,10 @@ use Rattle.share_verify.specs.Verify.{IsFirstFault, IsSoundShare}
 use Rattle.share_verify.specs.declared.check.Check.{Check}
 use Rattle.share_verify.specs.declared.fault.ShareFault.{ShareFault}
 use Rattle.share_opening.specs.Reads.{Brought}
-use Rattle.share_reading.specs.Reading.{IsStop, next_length, next_place}
+use Rattle.share_reading.specs.Reading.{Advances, IsStop, next_length, next_place}
 use Rattle.share_reading.specs.Reads.{IsReadBy}
 use Rattle.share_reading.specs.Whole.{IsWhole}
+use Rattle.share_reading.specs.declared.reading.Progress.TheVariants.{Whole}
 use Rattle.share_reading.specs.declared.reading.Reading.{Reading}
 use Rattle.share_reading.specs.declared.verdict.Verdict.{Verdict}
 use Rattle.share_reading.specs.declared.verdict.Verdict.TheVariants.{Good, Corrupt, Lost}
@@ -50,26 +51,40 @@ pub record IsGood (cap : VerifyCapValue) (num : ℕ) (reads : List Settled) : Ty
   pub whole : IsWhole (brought_of reads) bytes
   pub sound : IsSoundShare cap num bytes
 
--- what the reads brought led to a reading that stopped by this check
-pub record IsStopped (cap : VerifyCapValue) (reads : List Settled) (check : Check) : Type 0 where
-  pub answered : AreAnswered reads
+-- what the reads brought led to a reading, whose next bytes came too
+pub record HasLed (cap : VerifyCapValue) (reads : List Settled) (reading : Reading)
+    (bytes : List ℕ) : Type 0 where
   pub front : List Brought
   pub back : List Brought
-  pub reading : Reading
   pub led : IsReadBy cap front back reading
   pub among : (read : Brought) → Contains (front ++ back) read
       → Contains (brought_of reads) read
-  pub bytes : List ℕ
   pub last : Contains reads (record {
     place = next_place reading;
     len = next_length reading;
     answer = Some bytes;
   })
+
+-- what the reads brought led to a reading that stopped by this check
+pub record IsStopped (cap : VerifyCapValue) (reads : List Settled) (check : Check) : Type 0 where
+  pub answered : AreAnswered reads
+  pub reading : Reading
+  pub bytes : List ℕ
+  pub has_led : HasLed cap reads reading bytes
   pub stop : IsStop cap reading bytes check
 
--- what the reads brought, joined by place, fails this check first
+-- the share was read to its end
+pub record IsReadWhole (cap : VerifyCapValue) (reads : List Settled) : Type 0 where
+  pub reading : Reading
+  pub bytes : List ℕ
+  pub has_led : HasLed cap reads reading bytes
+  pub ends : Advances cap reading bytes Whole
+
+-- The share was read to its end, and what the reads brought, joined by place, fails this check
+-- first.
 pub record FailsFirst (cap : VerifyCapValue) (num : ℕ) (reads : List Settled) (check : Check)
     : Type 0 where
+  pub read_whole : IsReadWhole cap reads
   pub bytes : List ℕ
   pub full : AreFull reads
   pub whole : IsWhole (brought_of reads) bytes

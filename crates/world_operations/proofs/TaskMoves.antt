@@ -227,7 +227,7 @@ check_takes c e (Some f) t = (let is = t.3 in
 
 pub advanced : (from now : ℕ) (m : Message) (old new : Task) → Advances from m now old new → GoesOn (IsSaid from m (requests_of old).session) old new
 advanced from now m (Uploading u) (Uploading v) a = upload_advances from now m u v a
-advanced from now m (Downloading d) (Downloading e) a = download_moves (IsSaid from m d.requests.session) d e (after_message from m now d.requests) (follows_message from now m d.requests) a
+advanced from now m (Downloading d) (Downloading e) a = download_moves (IsSaid from m d.requests.session) d e (after_message from m now d.requests) (follows_message from now m d.requests) a.0
 advanced from now m (Checking c) (Checking e) a = check_moves (IsSaid from m c.requests.session) c e (after_message from m now c.requests) (follows_message from now m c.requests) a
 advanced from now m (Gone number) new a = same_goes (IsSaid from m number) (Gone number) new a
 advanced from now m (Uploading u) (Downloading e) a = absurd a
@@ -242,7 +242,7 @@ advanced from now m (Checking c) (Gone n) a = absurd a
 
 pub ticked_on : (now : ℕ) (old new : Task) → TicksOn now old new → GoesOn Nothing old new
 ticked_on now (Uploading u) (Uploading v) a = upload_ticks now u v a
-ticked_on now (Downloading d) (Downloading e) a = download_moves Nothing d e (after_tick now d.requests) (follows_tick now d.requests) a
+ticked_on now (Downloading d) (Downloading e) a = download_moves Nothing d e (after_tick now d.requests) (follows_tick now d.requests) a.0
 ticked_on now (Checking c) (Checking e) a = check_moves Nothing c e (after_tick now c.requests) (follows_tick now c.requests) a
 ticked_on now (Gone number) new a = same_goes Nothing (Gone number) new a
 ticked_on now (Uploading u) (Downloading e) a = absurd a

@@ -13,6 +13,8 @@ use Rattle.upload_core.specs.Sending as upload_sends
 use Rattle.download_segments.specs.declared.piece.Piece.{Piece}
 use Rattle.download_core.specs.Moves as download
 use Rattle.download_core.specs.Sending as download_sends
+use Rattle.download_core.specs.State.{DownloadState}
+use Rattle.download_core.specs.declared.status.DownloadStatus.TheVariants.{Failed}
 use Rattle.checker.specs.Moves as check
 use Rattle.checker.specs.Sending as check_sends
 use Rattle.world_operations.specs.declared.job.Job.{Job}
@@ -55,17 +57,23 @@ pub record UploadTicks (now : ℕ) (old new : upload_sends.Uploading (List (List
   pub running : old.course.status ≡ uploads.Running → upload.TicksOn now old.course new.course
   pub ended : old.course.status ≢ uploads.Running → new ≡ old
 
+-- a call that succeeds makes no download fail
+abbrev pub StaysWell : DownloadState → DownloadState → Type 0
+StaysWell old new = old.status ≢ Failed → new.status ≢ Failed
+
 -- a message, a tick, a message that is taken, and a piece that is taken
 abbrev pub Advances : ℕ → Message → ℕ → Task → Task → Type 0
 Advances from m now (Uploading old) (Uploading new) = UploadAdvances from m now old new
-Advances from m now (Downloading old) (Downloading new) = download.Advances from m now old new
+Advances from m now (Downloading old) (Downloading new) =
+    download.Advances from m now old new × StaysWell old new
 Advances from m now (Checking old) (Checking new) = check.Advances from m now old new
 Advances from m now (Gone number) new = new ≡ Gone number
 Advances from m now old new = ⊥
 
 abbrev pub TicksOn : ℕ → Task → Task → Type 0
 TicksOn now (Uploading old) (Uploading new) = UploadTicks now old new
-TicksOn now (Downloading old) (Downloading new) = download.TicksOn now old new
+TicksOn now (Downloading old) (Downloading new) =
+    download.TicksOn now old new × StaysWell old new
 TicksOn now (Checking old) (Checking new) = check.TicksOn now old new
 TicksOn now (Gone number) new = new ≡ Gone number
 TicksOn now old new = ⊥

@@ -70,4 +70,4 @@ returns-clause-ok c =
     if_ok_then c.settle.result _ _ c.settle.ensures.asks
     (λ ended more servers. subst (λ (x : RequestsState). GoesOn x (state_of m servers c.args.status) (state_of c.settle.new.self servers ended)) c.in_ok-lost.ensures.ok
     (goes_on_running m c.settle.new.self r servers c.args.status ended (c.is_running.ensures.0 c.if-not-is_running.false)
-    (asks_trans (record m { requests = r }) c.lose.new.self c.settle.new.self c.in_ok-lose.ensures.asks more)))
+    (asks_trans (record m { requests = r }) c.lose.new.self c.settle.new.self c.in_ok-lose.ensures.asks more.0) more.1))
