@@ -1,5 +1,5 @@
 -- What comes of the answer to the request for the next bytes of a share.
-use Rattle.std.proofs.Common.{◌≡◌, ℕ, zero, suc, ◌+◌, ◌≤◌, Bool, true, false, cond, List, [], ◌∷◌, ◌++◌, length, Option, Some, None, ap, refl, sym, subst, ◌∙◌, arith, inl, inr, ◌⊎◌, true≢false}
+use Rattle.std.proofs.Common.{◌≡◌, ℕ, ◌+◌, ◌≤◌, Bool, true, false, cond, List, [], ◌∷◌, ◌++◌, length, Option, Some, None, ap, refl, sym, subst, ◌∙◌, arith, inl, inr, ◌⊎◌, true≢false}
 use Rattle.std.specs.Prelude.{Contains, slice_get}
 use Rattle.std.proofs.lemmas.List.Elements.{Contains-append_left, Contains-append_right, Contains-append_cases, Contains-push, Contains-push_cases}
 use Rattle.std.proofs.lemmas.Option.{same_Some}
@@ -29,11 +29,11 @@ use Rattle.share_reading.specs.declared.verdict.Verdict.TheVariants as verdicts
 use Rattle.share_reading.proofs.ConsecutiveLemmas.{contains_cases, contains_head, contains_none, contains_tail}
 use Rattle.share_reading.proofs.ReadingLemmas.{ask, end_whole, go_on, more_led}
 use Rattle.share_reading.proofs.VerdictLemmas.{brought_has}
-use Rattle.checker.specs.Shares.{settled_in, settled_of}
+use Rattle.checker.specs.Shares.{offered_pairs, settled_in, settled_of}
 use Rattle.checker.specs.Offers.{IsKeptBy, key_of}
 use Rattle.checker.specs.Book.{AreReadAt, HasBytes, IsAbout, IsEnded, IsReadAt, IsReadOnlyAt, IsReading, IsUnread}
 use Rattle.checker.specs.declared.offers.Offer.{Offer}
-use Rattle.checker.proofs.Entries.{about_by, IsSettledBy, flat_map_from, get_pushed, settled_from, settled_has}
+use Rattle.checker.proofs.Entries.{about_by, IsSettledBy, flat_map_from, get_contains, get_pushed, settled_from, settled_has}
 use Rattle.checker.proofs.OfferMoves.{IsOneOf, brought, last, reads_push, all_quiet, next_about, next_asked, one_of, same_next}
 
 -- ---- what a request that waits no more tells
@@ -164,11 +164,6 @@ brought_from reads b at =
     let found = flat_map_from brought_by reads b at in
     let parts = brought_in found.source.place found.source.answer b found.has in
     record { read = found.source; among = get_contains reads found.place found.source found.there; place = parts.0; answer = parts.1 }
-  where
-    get_contains : {X : Type 0} (xs : List X) (i : ℕ) (x : X) → slice_get xs i ≡ Some x → Contains xs x
-    get_contains [] i x e = absurd cc
-    get_contains (y ∷ ys) zero x e = subst (Contains (y ∷ ys)) (same_Some y x e) (contains_head y ys)
-    get_contains (y ∷ ys) (suc i) x e = contains_tail y x ys (get_contains ys i x e)
 
 -- ---- the next request
 
@@ -191,12 +186,14 @@ pub record IsSafeToAsk (cap : VerifyCapValue) (es : List Request) (key : Pair) (
   pub apart : (i : ℕ) (x : Request) (offset count : ℕ) → slice_get es i ≡ Some x → IsAbout key x → x.asked ≡ Reading key.1 offset count
       → (offset + count ≤ reading.next_place r) ⊎ (reading.next_place r + reading.next_length r ≤ offset)
   pub asked : IsAsked cap (brought_of (settled_of es key.0 key.1)) (reading.next_place r) (reading.next_length r)
+  pub listed : Contains (offered_pairs cap.total es) key
 
 -- the first bytes are
-pub safe_first : (cap : VerifyCapValue) (es : List Request) (o : Offer) → IsUnread es o → IsSafeToAsk cap es (key_of o) (Beginning Start)
-safe_first cap es o is = record {
+pub safe_first : (cap : VerifyCapValue) (es : List Request) (o : Offer) → IsUnread es o → Contains (offered_pairs cap.total es) (key_of o) → IsSafeToAsk cap es (key_of o) (Beginning Start)
+safe_first cap es o is listed = record {
   apart = λ i x offset count at about asked. absurd (contains_none i (is.none i x at about));
   asked = inl (record { opening = Start; led = tt; place_is = refl; len_is = refl });
+  listed = listed;
 }
 
 abbrev pub next_request : ℕ → ℕ → readings.Reading → ℕ → Request
@@ -339,7 +336,7 @@ module _ (cap : VerifyCapValue) (es : List Request) (todo : List ℕ) (o : Offer
         answered = all_answered;
         reading = r;
         bytes = bytes;
-        has_led = has_led;
+        led = has_led;
         stop = stop;
       });
       quiet = all_quiet cap es todo o r place is q there settled;
@@ -393,8 +390,7 @@ module _ (cap : VerifyCapValue) (es : List Request) (todo : List ℕ) (o : Offer
 
       judged : (text : List ℕ) (v : Verdict) → reading.Advances cap r bytes Whole → IsWhole (brought_of reads) text → IsJudged cap o.share text v → IsVerdict cap o.share reads v
       judged text verdicts.Good a whole held = record { bytes = text; full = all_full; whole = whole; sound = held }
-      judged text (verdicts.Corrupt check) a whole held =
-          inr (record { read_whole = record { reading = r; bytes = bytes; has_led = has_led; ends = a }; bytes = text; full = all_full; whole = whole; fault = held.0; first = held.1; check_is = held.2 })
+      judged text (verdicts.Corrupt check) a whole held = inr (record { reading = r; last_bytes = bytes; led = has_led; ends = a; bytes = text; full = all_full; whole = whole; fault = held.0; first = held.1; check_is = held.2 })
       judged text verdicts.Lost a whole held = absurd held
 
       pub is_judged : (text : List ℕ) (v : Verdict) → reading.Advances cap r bytes Whole → text ≡ joined more_reads → IsJudged cap o.share text v → IsEnded cap es o v
@@ -445,8 +441,8 @@ module _ (cap : VerifyCapValue) (es : List Request) (todo : List ℕ) (o : Offer
             (subst (λ (l : List ℕ). IsReadOnlyAt es (key_of o) l) (ap (λ (l : List ℕ). l ++ n.back.items) (sym front) ∙ ap (λ (l : List ℕ). m.front.items ++ l) (sym back)) only_kept)
 
         -- and it is safe to ask it
-        pub safe_next : (next : readings.Reading) → reading.Advances cap r bytes (Next next) → IsSafeToAsk cap es (key_of o) next
-        safe_next next a = record { apart = apart_from; asked = more_asked cap more_reads (brought_of reads) (reading.next_place next) (reading.next_length next) more_brought law.0 }
+        pub safe_next : (next : readings.Reading) → reading.Advances cap r bytes (Next next) → Contains (offered_pairs cap.total es) (key_of o) → IsSafeToAsk cap es (key_of o) next
+        safe_next next a listed = record { apart = apart_from; asked = more_asked cap more_reads (brought_of reads) (reading.next_place next) (reading.next_length next) more_brought law.0; listed = listed }
           where
             law : IsAsked cap more_reads (reading.next_place next) (reading.next_length next)
                 × ((b : Brought) → Contains more_reads b → AsksNone b (reading.next_place next) (reading.next_length next))

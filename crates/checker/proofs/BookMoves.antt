@@ -91,7 +91,7 @@ keys_kept offers k o n t keys at key are = (
   ap (λ (l : List Pair). take t.count (drop t.first l)) (map_set key_of offers k o n at key) ∙ are.1,
 )
 
--- an offer of the same share
+-- the same share of the same server
 told_as : (total n : ℕ) (entries : List Request) (todo : List ℕ) (o x : Offer) → key_of o ≡ key_of x → IsTold total n entries todo o → IsTold total n entries todo x
 told_as total n entries todo o x same is = record {
   place = is.place;
@@ -101,7 +101,7 @@ told_as total n entries todo o x same is = record {
   server = is.server ∙ ap (λ (p : Pair). p.0) same;
   quiet = is.quiet;
   taken = is.taken;
-  listed = subst (Contains (offered_in total is.request.server is.request.outcome)) same is.listed;
+  listed = subst (λ (p : Pair). Contains (offered_in total p.0 is.request.outcome) p) same is.listed;
 }
 
 told_push : (total n : ℕ) (entries : List Request) (todo : List ℕ) (new : Request) (o : Offer) → IsTold total n entries todo o → IsTold total n (entries ++ new ∷ []) todo o

@@ -1,5 +1,5 @@
 -- The requests of a record, as it goes on, and what they tell of a share.
-use Rattle.std.proofs.Common.{◌≡◌, ℕ, zero, suc, ◌<◌, Bool, true, false, cond, List, [], ◌∷◌, ◌++◌, length, set, Some, ap, refl, sym, subst, ◌∙◌, arith, inl, inr, ◌⊎◌, true≢false, map}
+use Rattle.std.proofs.Common.{◌≡◌, ℕ, zero, suc, ◌<◌, Bool, true, false, cond, List, [], ◌∷◌, ◌++◌, length, set, Some, ap, refl, sym, subst, ◌∙◌, arith, inl, inr, ◌⊎◌, true≢false}
 use Rattle.std.specs.Prelude.{Contains, slice_get, ◌==◌, ◌&&◌}
 use Rattle.std.specs.List.{flat_map}
 use Rattle.std.proofs.lemmas.List.{append-nil}
@@ -16,7 +16,7 @@ use Rattle.request_record.specs.declared.requests.Request.{Request}
 use Rattle.request_record.specs.Record.{is_outstanding}
 use Rattle.request_record.proofs.RecordLaws.{get_push}
 use Rattle.share_reading.specs.Verdict.{Settled}
-use Rattle.share_reading.proofs.ConsecutiveLemmas.{contains_none, contains_head}
+use Rattle.share_reading.proofs.ConsecutiveLemmas.{contains_head, contains_none, contains_tail}
 use Rattle.checker.specs.Shares.{is_about, reads_share, settled_by, settled_in, settled_of}
 use Rattle.checker.specs.Book.{IsAbout}
 
@@ -44,6 +44,11 @@ get_pushed (z ∷ zs) x y (suc i) e = elim (get_pushed zs x y i e) [
   | inr last ↦ inr (ap suc last.0, last.1)
 ]
 
+pub get_contains : {X : Type 0} (xs : List X) (i : ℕ) (x : X) → slice_get xs i ≡ Some x → Contains xs x
+get_contains [] i x e = absurd cc
+get_contains (y ∷ ys) zero x e = subst (Contains (y ∷ ys)) (same_Some y x e) (contains_head y ys)
+get_contains (y ∷ ys) (suc i) x e = contains_tail y x ys (get_contains ys i x e)
+
 pub get_kept : {X : Type 0} (xs : List X) (x y : X) (i : ℕ) → slice_get xs i ≡ Some y → slice_get (xs ++ x ∷ []) i ≡ Some y
 get_kept xs x y i e = get_push xs x i (slice_get_within xs i y e) ∙ e
 
@@ -61,11 +66,6 @@ flat_map_has f [] i x a e at = absurd cc
 flat_map_has f (y ∷ ys) zero x a e at =
     Contains-append_left (f y) (flat_map f ys) a (subst (λ z. Contains (f z) a) (sym (same_Some y x e)) at)
 flat_map_has f (y ∷ ys) (suc i) x a e at = Contains-append_right (f y) (flat_map f ys) a (flat_map_has f ys i x a e at)
-
-pub has_mapped : {X A : Type 0} (f : X → A) (xs : List X) (i : ℕ) (x : X) → slice_get xs i ≡ Some x → Contains (map f xs) (f x)
-has_mapped f [] i x e = absurd cc
-has_mapped f (y ∷ ys) zero x e = subst (λ a. Contains (f y ∷ map f ys) a) (ap f (same_Some y x e)) (contains_head (f y) (map f ys))
-has_mapped {A = A} f (y ∷ ys) (suc i) x e = Contains-append_right {X = A} (f y ∷ []) (map f ys) (f x) (has_mapped f ys i x e)
 
 pub record IsFrom {X A : Type 0} (f : X → List A) (xs : List X) (a : A) : Type 0 where
   pub place : ℕ
@@ -111,7 +111,7 @@ about_read key r is = read_of key.1 r.asked (both (r.server == key.0) (reads_sha
 pub about_by : (key : Pair) (r : Request) (offset len : ℕ) → r.server ≡ key.0 → r.asked ≡ Reading key.1 offset len → IsAbout key r
 about_by key r offset len server asked = rw (eq-eqb r.server key.0 server, ap (reads_share key.1) asked ∙ eq-eqb key.1 key.1 refl) refl
 
-abbrev pub reading_share : Asked → ℕ
+abbrev reading_share : Asked → ℕ
 reading_share Holdings = 0
 reading_share (Allocation n len) = 0
 reading_share (Writing n offset len) = 0
@@ -134,11 +134,11 @@ about_same key r n server asked is =
 
 -- ---- what waits no more
 
-waits_or_not : (b : Bool) → (b ≡ true) ⊎ (b ≡ false)
+pub waits_or_not : (b : Bool) → (b ≡ true) ⊎ (b ≡ false)
 waits_or_not true = inl refl
 waits_or_not false = inr refl
 
-is_waiting : (o : Outcome) → is_outstanding o ≡ true → o ≡ Outstanding
+pub is_waiting : (o : Outcome) → is_outstanding o ≡ true → o ≡ Outstanding
 is_waiting Unawaited e = absurd cc
 is_waiting Outstanding e = refl
 is_waiting (Answered body) e = absurd cc

@@ -1,5 +1,5 @@
 -- What is kept of each check, as it goes on.
-use Rattle.std.proofs.Common.{◌≡◌, ◌≢◌, ℕ, zero, suc, ◌+◌, ◌<◌, ◌≤◌, List, [], ◌∷◌, ◌++◌, length, get_or, drop, map, replicate, eqb, append_assoc, true≢false, Bool, true, false, cond, inl, inr, Option, Some, None, Result, Ok, Err, ap, refl, sym, subst, ◌∙◌, arith, ◌-◌}
+use Rattle.std.proofs.Common.{◌≡◌, ◌≢◌, ℕ, zero, suc, ◌+◌, ◌<◌, ◌≤◌, List, [], ◌∷◌, ◌++◌, length, get_or, drop, map, replicate, eqb, append_assoc, true≢false, Bool, true, false, cond, inl, inr, Option, Some, None, Result, Ok, Err, ap, refl, sym, subst, ◌∙◌, arith}
 use Rattle.std.specs.Prelude.{Contains, slice_get}
 use Rattle.std.specs.Result.{IfOk}
 use Rattle.std.specs.List.{AllByRecursion, IsDistinct}
@@ -7,8 +7,8 @@ use Rattle.std.proofs.lemmas.List.Sums.{sum_by-cons}
 use Rattle.std.proofs.Common.{drop-cons}
 use Rattle.std.proofs.lemmas.List.{append-nil, drop_all, length-map, length-replicate}
 use Rattle.std.proofs.lemmas.List.Elements.{Contains-get_or}
-use Rattle.std.proofs.lemmas.Option.{none-some, same_Some, slice_get_within}
-use Rattle.std.proofs.lemmas.Bool.{eq-eqb, cases_lt}
+use Rattle.std.proofs.lemmas.Option.{none-some, same_Some}
+use Rattle.std.proofs.lemmas.Bool.{eq-eqb}
 use Rattle.cap_text.specs.Cap.{VerifyCapValue}
 use Rattle.request_record.specs.declared.requests.Asked.{Asked}
 use Rattle.request_record.specs.declared.requests.Asked.TheVariants.{Holdings}
@@ -18,15 +18,14 @@ use Rattle.request_record.specs.Record.{RequestsState, TakesNext, asked_all, ask
 use Rattle.request_record.specs.Asking.{AsksOnce, asks_of, begun, fresh}
 use Rattle.share_reading.proofs.ConsecutiveLemmas.{contains_head, contains_none}
 use Rattle.checker.specs.Moves.{GoesOn}
-use Rattle.checker.specs.Right.{AreAsked, AreOffered, AreOfShares, IsAskedBy, IsRight}
-use Rattle.checker.specs.Book.{AreKeys, AreLost, AsksMore, HasBook, IsAbout, IsBook, IsFresh, IsKept, IsSafe, state_of}
-use Rattle.checker.specs.Offers.{key_of}
-use Rattle.checker.specs.Shares.{offered_in, offered_pairs, offered_to}
+use Rattle.checker.specs.Right.{AreAsked, AreOfShares, IsRight, MayAsk}
+use Rattle.checker.specs.Book.{AreKeys, AreLost, AsksMore, HasBook, IsBook, IsFresh, IsKept, IsSafe, state_of}
+use Rattle.checker.specs.Shares.{offered_in}
 use Rattle.checker.specs.declared.machine.Machine.{Machine}
 use Rattle.checker.specs.declared.machine.Told.{Told}
-use Rattle.checker.proofs.Entries.{GoesTo, about_by, about_one, flat_map_has, get_kept, was_at}
+use Rattle.checker.proofs.Entries.{GoesTo, get_kept, was_at}
 use Rattle.checker.proofs.BookMoves.{book_goes}
-use Rattle.checker.proofs.RecordMoves.{IsCounted, IsTicked, shares_go}
+use Rattle.checker.proofs.RecordMoves.{IsCounted, IsTicked, may_more, offered_goes, shares_go}
 use Rattle.checker.proofs.MachineMoves.{book_as, get_of}
 use Rattle.checker.proofs.ToldMoves.{not_read}
 use Rattle.checker.specs.declared.status.CheckStatus.{CheckStatus}
@@ -42,7 +41,7 @@ kept_same m r status same k = record {
   safe = record {
     once = subst AsksOnce (sym same) k.safe.once;
     reads = subst (AreOfShares m.cap) (sym same) k.safe.reads;
-    asked = subst AreAsked (sym same) k.safe.asked;
+    asked = subst (AreAsked m.cap) (sym same) k.safe.asked;
   };
   book = λ ok. subst (λ (l : List Request). IsBook m.cap l m.told.items m.owners.items m.offers.items m.begun []) (sym same) (k.book ok);
   works = λ e. subst (λ (l : List Request). 0 < outstanding_count l) (sym same) (k.works e);
@@ -168,7 +167,12 @@ pub safe_goes : (m : Machine) (r : RequestsState) (todo : List ℕ) → GoesTo m
 safe_goes m r todo goes once safe = record {
   once = once;
   reads = shares_go m.cap m.requests.entries r.entries todo goes safe.reads;
-  asked = λ i n e. (let was = was_at m.requests.entries r.entries todo goes i n e in subst IsAskedBy (sym was.asked) (safe.asked i was.request was.there));
+  asked = λ i n e. (
+      let was = was_at m.requests.entries r.entries todo goes i n e in
+      subst (λ s. MayAsk m.cap r.entries s n.asked) (sym was.server)
+      (subst (MayAsk m.cap r.entries was.request.server) (sym was.asked)
+      (may_more m.cap m.requests.entries r.entries (offered_goes m.cap.total m.requests.entries r.entries todo goes) was.request.server was.request.asked
+      (safe.asked i was.request was.there))));
 }
 
 pub book_counted : (m : Machine) (r : RequestsState) (place : ℕ) → IsCounted m.requests.entries r.entries place → HasBook m [] → HasBook (with_requests m r) (place ∷ [])
@@ -216,16 +220,14 @@ kept_ticked m r lost Failed ended t once k = failed_kept (with_requests m r) (sa
 -- ---- what the calls do
 
 pub goes_on_ended : (m : Machine) (r : RequestsState) (servers : List ℕ) (status : CheckStatus) → GoesOn r (state_of m servers status) (state_of (with_requests m r) servers status)
-goes_on_ended m r servers status = record { cap = refl; servers = refl; asks = []; requests = refl; ended = λ _. refl; well = λ was. was }
+goes_on_ended m r servers status = record { cap = refl; servers = refl; asks = []; requests = refl; ended = λ _. refl; fails = λ ok. ok }
 
-pub goes_on_running : (m new : Machine) (r : RequestsState) (servers : List ℕ) (status ended : CheckStatus) → status ≡ Running → AsksMore (with_requests m r) new → ended ≢ Failed
-    → GoesOn r (state_of m servers status) (state_of new servers ended)
-goes_on_running m new r servers status ended runs more well =
-    record { cap = more.cap; servers = refl; asks = more.asks; requests = more.requests; ended = λ no. absurd (no runs); well = λ _. well }
+pub goes_on_running : (m new : Machine) (r : RequestsState) (servers : List ℕ) (status ended : CheckStatus) → status ≡ Running → ended ≢ Failed → AsksMore (with_requests m r) new → GoesOn r (state_of m servers status) (state_of new servers ended)
+goes_on_running m new r servers status ended runs stands more = record { cap = more.cap; servers = refl; asks = more.asks; requests = more.requests; ended = λ no. absurd (no runs); fails = λ _. stands }
 
-pub if_ok_then : {A E : Type 0} (r : Result A E) (P Q : A → Type 0) → IfOk r P → ((a : A) → P a → Q a) → IfOk r Q
-if_ok_then (Ok a) P Q p f = f a p
-if_ok_then (Err e) P Q p f = tt
+pub if_ok_both : {A E : Type 0} (r : Result A E) (P Q R : A → Type 0) → IfOk r P → IfOk r Q → ((a : A) → P a → Q a → R a) → IfOk r R
+if_ok_both (Ok a) P Q R p q f = f a p q
+if_ok_both (Err e) P Q R p q f = tt
 
 -- ---- a check begins
 
@@ -287,7 +289,7 @@ module _ (cap : VerifyCapValue) (servers : List ℕ) (session now : ℕ) (m : Ma
   fresh_safe = record {
     once = subst AsksOnce (sym entries_are) (begun_once servers now distinct);
     reads = subst (AreOfShares m.cap) (sym entries_are) (λ i r share offset len e asked. absurd (not_read (all_holdings i r e) asked));
-    asked = subst AreAsked (sym entries_are) (λ i r e. subst IsAskedBy (sym (all_holdings i r e)) tt);
+    asked = subst (AreAsked m.cap) (sym entries_are) (λ i r e. subst (MayAsk m.cap asked_first r.server) (sym (all_holdings i r e)) tt);
   }
 
   abbrev told_first : List Told
@@ -341,33 +343,5 @@ module _ (cap : VerifyCapValue) (servers : List ℕ) (session now : ℕ) (m : Ma
 
 -- ---- what holds of each check
 
--- each share that is read was offered by the server that is asked
-offered_of : (m : Machine) → HasBook m [] → AreOffered m.cap.total m.requests.entries
-offered_of m b i r share offset len at asks = elim (cases_lt i (length m.told.items)) [
-  | inl lt ↦ absurd (not_read (b.asks i r lt at) asks)
-  | inr le ↦ (
-      let es : List Request = m.requests.entries in
-      let n : ℕ = length m.told.items in
-      let within : i - n < length m.owners.items = omega (arith, le, b.long, slice_get_within es i r at) in
-      let k = get_of m.owners.items (i - n) within in
-      let owner = b.owned (i - n) k.0 k.1 in
-      let here : n + (i - n) ≡ i = omega (arith, le) in
-      let same : owner.request ≡ r = same_Some owner.request r (sym owner.asks ∙ ap (slice_get es) here ∙ at) in
-      let mine : IsAbout (key_of owner.offer) r = subst (IsAbout (key_of owner.offer)) same owner.about in
-      let key : key_of owner.offer ≡ (r.server, share) = about_one (key_of owner.offer) (r.server, share) r mine (about_by (r.server, share) r offset len refl asks) in
-      let told = b.offered k.0 owner.offer owner.there in
-      let listed : Contains (offered_to m.cap.total told.request.server told.request.asked told.request.outcome) (key_of owner.offer) =
-      subst (λ (a : Asked). Contains (offered_to m.cap.total told.request.server a told.request.outcome) (key_of owner.offer)) (sym (b.asks told.place told.request told.first told.there)) told.listed in
-      subst (Contains (offered_pairs m.cap.total es)) key
-      (flat_map_has (λ (x : Request). offered_to m.cap.total x.server x.asked x.outcome) es told.place told.request (key_of owner.offer) told.there listed))
-]
-
 pub right_of : (m : Machine) (servers : List ℕ) (status : CheckStatus) → IsKept m status → IsRight (state_of m servers status)
-right_of m servers status k = record {
-  works = k.works;
-  idle = k.idle;
-  once = k.safe.once;
-  reads = k.safe.reads;
-  asked = k.safe.asked;
-  offered = λ well. offered_of m (k.book well);
-}
+right_of m servers status k = record { works = k.works; idle = k.idle; once = k.safe.once; reads = k.safe.reads; asked = k.safe.asked }

@@ -1,13 +1,13 @@
 -- How a check goes on, step by step.
 use Rattle.std.proofs.Common.{◌≡◌, ℕ, zero, suc, ◌+◌, ◌-◌, ◌<◌, ◌≤◌, false, List, [], ◌∷◌, ◌++◌, length, set, Result, Ok, Err, Some, Vec, Global, ap, refl, sym, subst, ◌∙◌, arith, inl, inr, ◌⊎◌}
-use Rattle.std.specs.Prelude.{slice_get}
+use Rattle.std.specs.Prelude.{Contains, slice_get}
 use Rattle.std.specs.Result.{OnErr, OnOk}
 use Rattle.std.proofs.lemmas.Bool.{cases_lt}
 use Rattle.std.proofs.lemmas.Option.{slice_get_within}
 use Rattle.cap_text.specs.Cap.{VerifyCapValue}
 use Rattle.placement.specs.Matching.{Pair}
 use Rattle.request_record.specs.declared.requests.Asked.{Asked}
-use Rattle.request_record.specs.declared.requests.Asked.TheVariants.{Reading}
+use Rattle.request_record.specs.declared.requests.Asked.TheVariants.{Holdings, Reading}
 use Rattle.request_record.specs.declared.requests.Request.{Request}
 use Rattle.request_record.specs.Record.{RequestsState, asked_all, is_outstanding}
 use Rattle.request_record.specs.Asking.{AsksOnce}
@@ -23,19 +23,19 @@ use Rattle.share_reading.specs.declared.reading.Reading.TheVariants.{Beginning}
 use Rattle.share_reading.specs.declared.verdict.Verdict.{Verdict}
 use Rattle.share_reading.specs.declared.verdict.Verdict.TheVariants as verdicts
 use Rattle.share_reading.proofs.ConsecutiveLemmas.{contains_none}
-use Rattle.checker.specs.Shares.{settled_of}
+use Rattle.checker.specs.Shares.{offered_in, offered_pairs, offered_to, settled_of}
 use Rattle.checker.specs.Offers.{IsKeptBy, key_of, with_stage}
-use Rattle.checker.specs.Right.{AreAsked, AreOfShares, IsAskedBy}
+use Rattle.checker.specs.Right.{AreAsked, AreOfShares, MayAsk}
 use Rattle.checker.specs.Book.{AreReadAt, AsksNothing, HasAsked, HasBook, HasBytes, IsAbout, IsAt, IsBook, IsEnded, IsReadOn, IsReading, IsSafe, IsSettledAt, IsStarted, IsUnread}
 use Rattle.checker.specs.declared.machine.Machine.{Machine}
 use Rattle.checker.specs.declared.machine.Told.{Told}
 use Rattle.checker.specs.declared.offers.Offer.{Offer}
 use Rattle.checker.specs.declared.offers.Stage.TheVariants.{Waiting, Read, Ended}
-use Rattle.checker.proofs.Entries.{get_pushed}
+use Rattle.checker.proofs.Entries.{flat_map_has, get_pushed}
 use Rattle.checker.proofs.OfferMoves.{waits_about}
 use Rattle.checker.proofs.AnswerMoves.{IsSafeToAsk, goes_on, is_judged, is_lost, is_stopped, back_kept, front_kept, next_request, reads_first, safe_next}
 use Rattle.checker.proofs.BookMoves.{book_asked, book_done, tail, book_ended, others_less, quiet_less, tells_less, told_less}
-use Rattle.checker.proofs.RecordMoves.{once_next, shares_next}
+use Rattle.checker.proofs.RecordMoves.{may_more, offered_push, once_next, shares_next}
 use Rattle.checker.proofs.Joining.{joined_both}
 
 -- ---- the same, spelled otherwise
@@ -77,14 +77,30 @@ shares_asked_now m new k r o safe may a =
     subst (λ (c : VerifyCapValue). AreOfShares c new.requests.entries) (sym a.cap)
     (subst (AreOfShares m.cap) (sym (entries_asked m new k r o a)) (shares_next m.cap m.requests.entries (key_of o) r m.requests.clock may safe.reads))
 
-pub kinds_asked_now : (m new : Machine) (k : ℕ) (r : readings.Reading) (o : Offer) → IsSafe m → HasAsked m k r o new → AreAsked new.requests.entries
-kinds_asked_now m new k r o safe a = subst AreAsked (sym (entries_asked m new k r o a)) kinds
+pub kinds_asked_now : (m new : Machine) (k : ℕ) (r : readings.Reading) (o : Offer) → IsSafe m → IsSafeToAsk m.cap m.requests.entries (key_of o) r → HasAsked m k r o new → AreAsked new.cap new.requests.entries
+kinds_asked_now m new k r o safe may a =
+    subst (λ (c : VerifyCapValue). AreAsked c new.requests.entries) (sym a.cap) (subst (AreAsked m.cap) (sym (entries_asked m new k r o a)) kinds)
   where
-    kinds : AreAsked (m.requests.entries ++ next_request o.server o.share r m.requests.clock ∷ [])
-    kinds i x e = elim (get_pushed m.requests.entries (next_request o.server o.share r m.requests.clock) x i e) [
-      | inl before ↦ safe.asked i x before
-      | inr pushed ↦ subst (λ (q : Request). IsAskedBy q.asked) pushed.1 tt
+    one : Request
+    one = next_request o.server o.share r m.requests.clock
+
+    more : List Request
+    more = m.requests.entries ++ one ∷ []
+
+    kinds : AreAsked m.cap more
+    kinds i x e = elim (get_pushed m.requests.entries one x i e) [
+      | inl before ↦ may_more m.cap m.requests.entries more (offered_push m.cap.total m.requests.entries one) x.server x.asked (safe.asked i x before)
+      | inr pushed ↦ subst (λ (q : Request). MayAsk m.cap more q.server q.asked) pushed.1 (offered_push m.cap.total m.requests.entries one (key_of o) may.listed)
     ]
+
+-- the share of each offer was offered
+pub listed_at : (m : Machine) (todo : List ℕ) → HasBook m todo → (k : ℕ) (o : Offer) → slice_get m.offers.items k ≡ Some o → Contains (offered_pairs m.cap.total m.requests.entries) (key_of o)
+listed_at m todo b k o at =
+    let is = b.offered k o at in
+    let holdings : is.request.asked ≡ Holdings = b.asks is.place is.request is.first is.there in
+    flat_map_has (λ (r : Request). offered_to m.cap.total r.server r.asked r.outcome) m.requests.entries is.place is.request (key_of o) is.there
+    (subst (λ (a : Asked). Contains (offered_to m.cap.total is.request.server a is.request.outcome) (key_of o)) (sym holdings)
+    (subst (λ s. Contains (offered_in m.cap.total s is.request.outcome) (key_of o)) (sym is.server) is.listed))
 
 pub unread_at : (m : Machine) (o : Offer) → HasBook m [] → slice_get m.offers.items m.begun ≡ Some o → IsUnread m.requests.entries o
 unread_at m o b at = subst (IsAt m.cap m.requests.entries [] o) (b.unread m.begun o at (omega arith)) (b.reading m.begun o at)
@@ -190,7 +206,7 @@ module _ (m : Machine) (place : ℕ) (todo : List ℕ) (k : ℕ) (o : Offer) (r 
       pub may_ask : (next : readings.Reading) → reading.Advances m.cap r bytes (Next next) → IsSafeToAsk m.cap es (key_of n) next
       may_ask next a =
           subst (λ (key : Pair). IsSafeToAsk m.cap es key next) (sym kept_key)
-          (safe_next m.cap es (place ∷ todo) o r place is_reading asked is_reading.next.there is_settled bytes has long n kept next a)
+          (safe_next m.cap es (place ∷ todo) o r place is_reading asked is_reading.next.there is_settled bytes has long n kept next a (listed_at m (place ∷ todo) b k o at))
 
       begun_before : k < m.begun
       begun_before = elim (cases_lt k m.begun) [
@@ -231,8 +247,8 @@ module _ (m : Machine) (place : ℕ) (todo : List ℕ) (k : ℕ) (o : Offer) (r 
         pub taken_shares : IsSafe m → AreOfShares new.cap new.requests.entries
         taken_shares safe = shares_asked_now (record m { offers = v }) new k next n (record { once = safe.once; reads = safe.reads; asked = safe.asked }) (may_ask next a) asked_now
 
-        pub taken_kinds : IsSafe m → AreAsked new.requests.entries
-        taken_kinds safe = kinds_asked_now (record m { offers = v }) new k next n (record { once = safe.once; reads = safe.reads; asked = safe.asked }) asked_now
+        pub taken_kinds : IsSafe m → AreAsked new.cap new.requests.entries
+        taken_kinds safe = kinds_asked_now (record m { offers = v }) new k next n (record { once = safe.once; reads = safe.reads; asked = safe.asked }) (may_ask next a) asked_now
 
 -- ---- results
 
@@ -247,7 +263,8 @@ by_result (Err e) P Q C p q f g = g q
 pub safe_same : (m new : Machine) → AsksNothing m new → IsSafe m → IsSafe new
 safe_same m new same safe = record {
   once = subst AsksOnce (ap (λ (x : RequestsState). x.entries) (sym same.requests)) safe.once;
-  asked = subst AreAsked (ap (λ (x : RequestsState). x.entries) (sym same.requests)) safe.asked;
+  asked = subst (λ (c : VerifyCapValue). AreAsked c new.requests.entries) (sym same.cap)
+      (subst (λ (l : List Request). AreAsked m.cap l) (ap (λ (x : RequestsState). x.entries) (sym same.requests)) safe.asked);
   reads = subst (λ (c : VerifyCapValue). AreOfShares c new.requests.entries) (sym same.cap)
       (subst (λ (l : List Request). AreOfShares m.cap l) (ap (λ (x : RequestsState). x.entries) (sym same.requests)) safe.reads);
 }

@@ -3,6 +3,8 @@ use Rattle.std.proofs.Common.{◌≡◌, ℕ, zero, suc, ◌+◌, ◌<◌, ◌�
 use Rattle.std.specs.Prelude.{Contains, slice_get, nat_le}
 use Rattle.std.proofs.lemmas.Bool.{cases_lt}
 use Rattle.std.proofs.lemmas.List.{length-map, length-set}
+use Rattle.std.proofs.lemmas.List.Concat.{flat_map-append}
+use Rattle.std.proofs.lemmas.List.Elements.{Contains-append_left}
 use Rattle.std.proofs.lemmas.Option.{slice_get_within, same_Some}
 use Rattle.cap_text.specs.Cap.{VerifyCapValue}
 use Rattle.placement.specs.Matching.{Pair}
@@ -10,6 +12,7 @@ use Rattle.wire.specs.declared.message.Body.{Body}
 use Rattle.wire.specs.declared.message.Message.{Message}
 use Rattle.request_record.specs.declared.requests.Asked.{Asked}
 use Rattle.request_record.specs.declared.requests.Asked.TheVariants.{Holdings, Allocation, Writing, Closing, Reading, Aborting}
+use Rattle.request_record.specs.declared.requests.Outcome.{Outcome}
 use Rattle.request_record.specs.declared.requests.Outcome.TheVariants.{Answered, Lost}
 use Rattle.request_record.specs.declared.requests.Request.{Request}
 use Rattle.request_record.specs.Record.{RequestsState, age_of, answered_in, at, counted_at, counts_at, is_lost_at, is_outstanding, is_resent_at, lost_places, places_from, resent_one, ticked_one, with_outcome}
@@ -23,9 +26,9 @@ use Rattle.share_reading.specs.Verdict.{Settled, brought_of}
 use Rattle.share_reading.specs.declared.reading.Reading as readings
 use Rattle.share_reading.proofs.ConsecutiveLemmas.{contains_cases, contains_head, contains_none, contains_tail}
 use Rattle.share_reading.proofs.VerdictLemmas.{brought_has}
-use Rattle.checker.specs.Right.{AreOfShares}
-use Rattle.checker.specs.Shares.{settled_of}
-use Rattle.checker.proofs.Entries.{BecomesAt, GoesTo, IsSettledBy, about_by, both, get_pushed, get_set_other, get_set_same, settled_from, settled_has, settled_push, unsettled, was_at}
+use Rattle.checker.specs.Right.{AreOfShares, MayAsk}
+use Rattle.checker.specs.Shares.{offered_in, offered_pairs, offered_to, settled_of}
+use Rattle.checker.proofs.Entries.{BecomesAt, GoesTo, IsSettledBy, about_by, both, flat_map_from, flat_map_has, get_pushed, get_set_other, get_set_same, is_waiting, settled_from, settled_has, settled_push, unsettled, waits_or_not, was_at}
 use Rattle.checker.proofs.AnswerMoves.{IsSafeToAsk, brought_from, more_asked, next_request}
 
 -- ---- a message
@@ -248,6 +251,43 @@ apart_none (Writing n offset l) share place len none = λ e. cc
 apart_none (Closing n) share place len none = λ e. cc
 apart_none (Reading n offset count) share place len none = λ same. none offset count (ap (λ m. Reading m offset count) same)
 apart_none (Aborting n) share place len none = λ e. cc
+
+-- ---- what was offered stays offered
+
+unoffered : (total server : ℕ) (a : Asked) (o : Outcome) → is_outstanding o ≡ true → offered_to total server a o ≡ []
+unoffered total server Holdings o e = ap (offered_in total server) (is_waiting o e)
+unoffered total server (Allocation n len) o e = refl
+unoffered total server (Writing n offset len) o e = refl
+unoffered total server (Closing n) o e = refl
+unoffered total server (Reading n offset len) o e = refl
+unoffered total server (Aborting n) o e = refl
+
+abbrev offers_in : ℕ → Request → List Pair
+offers_in total r = offered_to total r.server r.asked r.outcome
+
+pub offered_goes : (total : ℕ) (es ns : List Request) (todo : List ℕ) → GoesTo es ns todo → (p : Pair) → Contains (offered_pairs total es) p → Contains (offered_pairs total ns) p
+offered_goes total es ns todo goes p at =
+    let found = flat_map_from (offers_in total) es p at in
+    let source = found.source in
+    let becomes = goes.each found.place source found.there in
+    elim (waits_or_not (is_outstanding source.outcome)) [
+      | inl waits ↦ absurd (contains_none p (subst (λ (l : List Pair). Contains l p) (unoffered total source.server source.asked source.outcome waits) found.has))
+      | inr quiet ↦ flat_map_has (offers_in total) ns found.place becomes.request p becomes.there (subst (λ (x : Request). Contains (offers_in total x) p) (sym (becomes.still quiet)) found.has)
+    ]
+
+pub offered_push : (total : ℕ) (es : List Request) (new : Request) (p : Pair) → Contains (offered_pairs total es) p → Contains (offered_pairs total (es ++ new ∷ [])) p
+offered_push total es new p at =
+    subst (λ (l : List Pair). Contains l p) (sym (flat_map-append (offers_in total) es (new ∷ [])))
+    (Contains-append_left (offered_pairs total es) (offered_pairs total (new ∷ [])) p at)
+
+pub may_more : (cap : VerifyCapValue) (es ns : List Request) → ((p : Pair) → Contains (offered_pairs cap.total es) p → Contains (offered_pairs cap.total ns) p)
+    → (server : ℕ) (a : Asked) → MayAsk cap es server a → MayAsk cap ns server a
+may_more cap es ns more server Holdings may = tt
+may_more cap es ns more server (Allocation n len) may = absurd may
+may_more cap es ns more server (Writing n offset len) may = absurd may
+may_more cap es ns more server (Closing n) may = absurd may
+may_more cap es ns more server (Reading n offset len) may = more (server, n) may
+may_more cap es ns more server (Aborting n) may = absurd may
 
 pub once_next : (cap : VerifyCapValue) (es : List Request) (key : Pair) (r : readings.Reading) (now : ℕ) → IsSafeToAsk cap es key r → AsksOnce es → AsksOnce (es ++ next_request key.0 key.1 r now ∷ [])
 once_next cap es key r now safe once =

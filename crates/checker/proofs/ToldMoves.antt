@@ -21,7 +21,7 @@ use Rattle.checker.specs.Shares.{offered_in}
 use Rattle.checker.specs.Book.{AreKeys, ArePushed, HasTold, IsAbout, IsAt, IsBook, IsNew, IsOffer, IsOwner, IsReadOnlyAt, IsTakenOnce, IsTold}
 use Rattle.checker.specs.declared.machine.Told.{Told}
 use Rattle.checker.specs.declared.offers.Offer.{Offer}
-use Rattle.checker.proofs.Entries.{about_one, about_read, both, get_set_other, get_set_same, has_mapped}
+use Rattle.checker.proofs.Entries.{about_one, about_read, both, get_contains, get_set_other, get_set_same}
 use Rattle.checker.proofs.OfferMoves.{offer_other}
 use Rattle.checker.proofs.BookMoves.{tail}
 use Rattle.checker.proofs.Joining.{pair_at}
@@ -154,6 +154,12 @@ module _ (cap : VerifyCapValue) (es : List Request) (told : List Told) (owners :
       apart : (x y : Request) → x.asked ≡ Holdings → y.asked ≡ Holdings → AreApart x.asked y.asked → ⊥
       apart x y e f h = subst (λ (a : Asked). AreApart a Holdings) e (subst (AreApart x.asked) f h) refl
 
+  -- it is one of those that the answer lists
+  listed_new : (j : ℕ) (y : Offer) → slice_get more j ≡ Some y → Contains (offered_in cap.total y.server q.outcome) (key_of y)
+  listed_new j y e =
+      subst (λ s. Contains (offered_in cap.total s q.outcome) (key_of y)) (sym (new_server j y e))
+      (subst (λ (l : List Pair). Contains l (key_of y)) (listed ∙ sym offered) (get_contains (map key_of more) j (key_of y) (get_mapped key_of more j y e)))
+
   -- so none of those that were there is of this server
   old_other : (l : ℕ) (x : Offer) → slice_get offers l ≡ Some x → x.server ≡ q.server → ⊥
   old_other l x e same =
@@ -269,7 +275,7 @@ module _ (cap : VerifyCapValue) (es : List Request) (told : List Told) (owners :
       server = sym (new_server new.index x new.there);
       quiet = quiet_here;
       taken = not_again new.index x new.there;
-      listed = subst (λ (l : List Pair). Contains l (key_of x)) (listed ∙ sym offered) (has_mapped key_of more new.index x new.there);
+      listed = listed_new new.index x new.there;
     }
   ]
 

@@ -112,17 +112,17 @@ pub record IsOwner (entries : List Request) (offers : List Offer) (place k : ℕ
   pub asks : slice_get entries place ≡ Some request
   pub about : IsAbout (key_of offer) request
 
--- the share is listed in the answer to one of the first requests, which is taken in
-pub record IsTold (total n : ℕ) (entries : List Request) (todo : List ℕ) (o : Offer) : Type 0
-  where
-    pub place : ℕ
-    pub first : place < n
-    pub request : Request
-    pub there : slice_get entries place ≡ Some request
-    pub server : request.server ≡ o.server
-    pub quiet : is_outstanding request.outcome ≡ false
-    pub taken : Contains todo place → ⊥
-    pub listed : Contains (offered_in total request.server request.outcome) (key_of o)
+-- the share was offered in the answer to one of the first requests, which is taken in
+pub record IsTold (total n : ℕ) (entries : List Request) (todo : List ℕ) (o : Offer)
+    : Type 0 where
+  pub place : ℕ
+  pub first : place < n
+  pub request : Request
+  pub there : slice_get entries place ≡ Some request
+  pub server : request.server ≡ o.server
+  pub quiet : is_outstanding request.outcome ≡ false
+  pub taken : Contains todo place → ⊥
+  pub listed : Contains (offered_in total o.server request.outcome) (key_of o)
 
 -- these are the shares of the offers of a server
 abbrev pub AreKeys : List Offer → Told → List Pair → Type 0
@@ -174,7 +174,7 @@ HasBook m todo =
 pub record IsSafe (m : Machine) : Type 0 where
   pub once : AsksOnce m.requests.entries
   pub reads : AreOfShares m.cap m.requests.entries
-  pub asked : AreAsked m.requests.entries
+  pub asked : AreAsked m.cap m.requests.entries
 
 -- what is kept of each check
 pub record IsKept (m : Machine) (status : CheckStatus) : Type 0 where

@@ -17,15 +17,15 @@ pub record Begins (cap : VerifyCapValue) (servers : List ℕ) (session now : ℕ
   pub runs : servers ≢ [] → c.status ≡ Running
   pub alone : servers ≡ [] → c.status ≡ Done
 
--- The record goes on from a message or a tick, and while the check runs more may be asked. It does
--- not fail.
+-- The record goes on from a message or a tick, and while the check runs more may be asked. A check
+-- that has not failed does not fail.
 pub record GoesOn (r : RequestsState) (old new : CheckState) : Type 0 where
   pub cap : new.cap ≡ old.cap
   pub servers : new.servers ≡ old.servers
   pub asks : List (ℕ × Asked)
   pub requests : new.requests ≡ asked_all asks r
   pub ended : old.status ≢ Running → new ≡ with_record old r
-  pub well : old.status ≢ Failed → new.status ≢ Failed
+  pub fails : old.status ≢ Failed → new.status ≢ Failed
 
 abbrev pub Advances : ℕ → Message → ℕ → CheckState → CheckState → Type 0
 Advances from m now old new = GoesOn (after_message from m now old.requests) old new

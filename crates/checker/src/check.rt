@@ -92,7 +92,8 @@ impl Check {
     }
 
     /// Where it stands. While it runs a request is outstanding, and once it is done none is. No
-    /// server is asked the same thing twice, nor for a byte of a share twice.
+    /// server is asked the same thing twice, nor for a byte of a share twice, nor anything else but
+    /// which shares it holds, and bytes of those that it offered.
     pub fn status(&self) -> CheckStatus
         ensures value { result ≡ self.now.status }
         ensures right { IsRight self.now }

@@ -1,6 +1,7 @@
 //! How a check takes what comes, and what it asks.
 
-ghost use Rattle.std.specs.Prelude.{◌≡◌, ◌≢◌, ◌↔◌, ◌<◌, ◌≤◌, ◌+◌, ◌++◌, ◌∷◌, List, ℕ, [], Some, None};
+ghost use Rattle.std.specs.Prelude.{◌≡◌, ◌≢◌, ◌↔◌, ◌<◌, ◌≤◌, ◌+◌, ◌++◌, ◌∷◌, List, ℕ, []};
+ghost use Rattle.std.specs.Prelude.{None, Some};
 ghost use Rattle.std.specs.Prelude.{IfNone, IfOk, IfSome, IsTrue, OnErr, OnOk, length, slice_get};
 ghost use Rattle.std.specs.Prelude.{filter, map, nat_lt};
 ghost use Rattle.placement.specs.Matching.{Pair};
@@ -277,7 +278,9 @@ impl Machine {
             → IsJudged self.now.cap o.share (joined front ++ joined back) verdict) }
     {
         let found = &self.offers[offer];
-        let mut bytes = Vec::new(self.alloc);
+        let front = size_at(&self.requests, &found.front);
+        let back = size_at(&self.requests, &found.back);
+        let mut bytes = Vec::with_capacity(self.alloc, front.saturating_add(back))?;
         join(&mut bytes, &self.requests, &found.front)?;
         join(&mut bytes, &self.requests, &found.back)?;
         Ok(judge(&self.cap, u16::from(found.share), &bytes))
@@ -288,7 +291,8 @@ impl Machine {
         requires safe { IsSafe self.old }
         requires book { HasBook self.old [] }
         ensures kept { IfOk result (IsKept self.new) }
-        ensures asks { IfOk result (λ status. AsksMore self.old self.new × (status ≢ Failed)) }
+        ensures asks { IfOk result (λ _. AsksMore self.old self.new) }
+        ensures stands { IfOk result (λ status. status ≢ Failed) }
         ensures failed { IsSafe self.new }
     {
         let most = self.told.len().saturating_add(MORE_AT_ONCE);
@@ -369,6 +373,17 @@ fn push_offers(
         }
     }
     Ok(())
+}
+
+// How many bytes the requests at these places brought.
+fn size_at(requests: &Requests, places: &[usize]) -> usize {
+    let mut size: usize = 0;
+    for place in places {
+        if let Some(found) = bytes_at(requests, *place) {
+            size = size.saturating_add(found.len());
+        }
+    }
+    size
 }
 
 // Adds the bytes that the requests at these places brought.

@@ -26,7 +26,7 @@ use Rattle.download_core.specs.declared.status.DownloadStatus.{DownloadStatus}
 use Rattle.download_core.specs.declared.status.DownloadStatus.TheVariants.{Running, Done, NotEnoughShares, Inconsistent, Failed}
 use Rattle.download_core.specs.Causes.{IsCause}
 use Rattle.download_core.specs.Given.{GivenIsProved, IsFileIfFound, IsRightIfFound}
-use Rattle.download_core.specs.Reads.{ReadsBeside}
+use Rattle.download_core.specs.Reads.{AsksOrReads, ReadsBeside}
 use Rattle.download_core.specs.Right.{IsRight}
 use Rattle.download_core.specs.State.{accepted_in, handed_in, ready_in}
 use Rattle.download_core.specs.Steps.{AllIsFair, AreOpened, EndsAs, IsComplete, IsFor, IsInPhase, IsKept, IsTooFew, IsUnderWay, MovesOn, entries_of, found_of, state_of, status_of}
@@ -42,7 +42,7 @@ abbrev end_of : ℕ → Option FoundFile → ℕ
 end_of from None = from
 end_of from (Some f) = f.reading.file.handout.reached
 
-module _ (m : Machine) (servers : List ℕ) (status : DownloadStatus) (k : IsKept m status) (once : AsksOnce (entries_of m)) (right : IsRightIfFound (found_of m.found)) where
+module _ (m : Machine) (servers : List ℕ) (status : DownloadStatus) (k : IsKept m status) (asks : AsksOrReads (entries_of m)) (once : AsksOnce (entries_of m)) (right : IsRightIfFound (found_of m.found)) where
   consecutive : (f : Option FoundFile) → IsRightIfFound (found_of f) → AreConsecutive (handed_in m.from (found_of f)) (ready_in (found_of f)) (end_of m.from f)
   consecutive None r = refl
   consecutive (Some f) r = r.handout.consecutive
@@ -73,6 +73,7 @@ module _ (m : Machine) (servers : List ℕ) (status : DownloadStatus) (k : IsKep
     works = k.works;
     few = λ e. (let w = k.few e in record { quiet = w.quiet; few = w.few });
     inconsistent = k.inconsistent;
+    asks = asks;
     once = once;
     reads = k.fair.reads;
     beside = k.beside;

@@ -115,7 +115,7 @@ fair_accepted cap s t g f goes same geometry blames k =
 
 -- ---- a file goes on
 
-planned_on : (f g : FileState) (offset len : ℕ) → IsFileAlike f g → IsPlannedRead f offset len → IsPlannedRead g offset len
+pub planned_on : (f g : FileState) (offset len : ℕ) → IsFileAlike f g → IsPlannedRead f offset len → IsPlannedRead g offset len
 planned_on f g offset len same k = record {
   from = k.from;
   begins = (let a = k.begins in let b = same.first in omega (arith, a, b));

@@ -1,5 +1,8 @@
 -- How a download goes on, step by step.
-use Rattle.std.proofs.Common.{◌≡◌, ℕ, ◌/◌, ◌≤◌, arith, List, [], ◌++◌, Option, Some, None, refl, sym, ap, subst, ◌∙◌}
+use Rattle.std.proofs.Common.{◌≡◌, ℕ, ◌/◌, ◌≤◌, ◌⊎◌, inl, inr, arith, List, [], ◌++◌, length, Option, Some, None, refl, sym, ap, subst, ◌∙◌}
+use Rattle.std.specs.Prelude.{slice_get, slice_index_or}
+use Rattle.std.proofs.lemmas.Bool.{cases_lt}
+use Rattle.std.proofs.lemmas.Option.{slice_get-get_or, slice_get_within}
 use Rattle.std.proofs.lemmas.List.{append-nil, append_assoc}
 use Rattle.cap_text.specs.Cap.{ReadCapValue, VerifyCapValue, verify_cap_of}
 use Rattle.ueb.specs.Shape.{Contents}
@@ -7,7 +10,7 @@ use Rattle.share_layout.specs.Geometry.{Geometry}
 use Rattle.request_record.specs.declared.requests.Request.{Request}
 use Rattle.request_record.specs.Record.{RequestsState, asked_all}
 use Rattle.share_holdings.specs.declared.holding.Blame.{Blame}
-use Rattle.share_holdings.proofs.Records.{StaysTo, stays_asked}
+use Rattle.share_holdings.proofs.Records.{AskedAlike, StaysTo, stays_asked}
 use Rattle.placement.proofs.Members.{Contains-nil}
 use Rattle.share_beginnings.specs.Causes.{AddsBlames, IsOpeningFault, IsOtherHeader}
 use Rattle.share_beginnings.specs.Moves.{GoesOn, IsBlockAt}
@@ -16,6 +19,7 @@ use Rattle.share_beginnings.specs.Opening.{IsToldOf, nobody}
 use Rattle.share_beginnings.specs.declared.beginnings.News.{News}
 use Rattle.share_beginnings.specs.declared.beginnings.News.TheVariants as news
 use Rattle.share_beginnings.specs.State.{BeginningsState}
+use Rattle.share_beginnings.proofs.Caused.{reads_none, reads_trans}
 use Rattle.share_beginnings.proofs.Opened.{goes_none, goes_trans}
 use Rattle.download_segments.specs.declared.piece.Piece.{Piece}
 use Rattle.download_segments.specs.State.{HandoutState}
@@ -27,6 +31,8 @@ use Rattle.download_file.proofs.GrowLemmas.{given_keep}
 use Rattle.download_reading.specs.Reading.{AreReading}
 use Rattle.download_reading.specs.State.{ReadingState}
 use Rattle.download_reading.specs.Steps.{AddsPieces, Continues}
+use Rattle.download_file.specs.Asked.{IsPlannedRead}
+use Rattle.download_reading.proofs.Awaited.{goes_stays}
 use Rattle.download_reading.proofs.Causes.{alike_back, alike_of}
 use Rattle.download_reading.proofs.Ended.{file_none, file_trans}
 use Rattle.download_core.specs.declared.machine.FoundFile.{FoundFile}
@@ -37,10 +43,11 @@ use Rattle.download_core.specs.Given.{IsFileIfFound, IsHead}
 use Rattle.download_core.specs.Moves.{IsSame, StaysAccepted}
 use Rattle.download_core.specs.Moves as moves
 use Rattle.download_core.specs.Hashed.{IsGivenIn}
+use Rattle.download_core.specs.Reads.{PlansMore}
 use Rattle.download_core.specs.State.{Found, accepted_in, handed_in, ready_in}
 use Rattle.download_core.specs.Causes.{IsCause}
 use Rattle.download_core.specs.Steps.{AreOpened, FoundGrows, IsFair, IsFor, IsInPhase, IsUnderWay, MovesOn, entries_of, found_of, state_of}
-use Rattle.download_core.proofs.FairLemmas.{fair_accepted, fair_grows, fair_on, fair_opened, reads_for}
+use Rattle.download_core.proofs.FairLemmas.{fair_accepted, fair_grows, fair_on, fair_opened, planned_on, reads_for}
 use Rattle.download_core.proofs.Records.{file_stays, keeps_answers}
 
 -- ---- pieces
@@ -74,13 +81,42 @@ grows_trans from (Some a) (Some b) (Some c) first second = record {
   pieces = pieces_trans a.reading.file.handout b.reading.file.handout c.reading.file.handout first.pieces second.pieces;
 }
 
+-- ---- what more is read
+
+abbrev reads_planned : FileState → ℕ → ℕ → ℕ → ℕ → Type 0
+reads_planned f server share offset len = IsPlannedRead f offset len
+
+pub plans_none : (f : Option Found) (es ns : List Request) → ns ≡ es → PlansMore f es ns
+plans_none None es ns same = tt
+plans_none (Some f) es ns same = reads_none (reads_planned f.file) es ns same
+
+plans_trans : (from : ℕ) (es ns ms : List Request) (f g : Option FoundFile) → ((i : ℕ) (r : Request) → slice_get ns i ≡ Some r → slice_get ms i ≡ Some r) → FoundGrows from f g
+    → ((f ≡ None → g ≡ None) ⊎ (ns ≡ es)) → PlansMore (found_of f) es ns → PlansMore (found_of g) ns ms → PlansMore (found_of g) es ms
+plans_trans from es ns ms None None stays grows still first second = tt
+plans_trans from es ns ms None (Some g) stays grows (inl none) first second = (let e : Some g ≡ None = none refl in absurd cc)
+plans_trans from es ns ms None (Some g) stays grows (inr same) first second = subst (λ (l : List Request). PlansMore (found_of (Some g)) l ms) same second
+plans_trans from es ns ms (Some f) None stays grows still first second = absurd grows
+plans_trans from es ns ms (Some f) (Some g) stays grows still first second =
+    reads_trans (reads_planned g.reading.file) es ns ms stays
+    (λ place r share offset len there le asked. planned_on f.reading.file g.reading.file offset len (alike_of f.reading.file g.reading.file grows.same) (first place r share offset len there le asked))
+    second
+
+-- as many requests were there before the record went on
+pub plans_from : (f : Option Found) (es ns ms : List Request) → AskedAlike es ns → PlansMore f ns ms → PlansMore f es ms
+plans_from None es ns ms alike more = tt
+plans_from (Some f) es ns ms alike more = λ place r share offset len there le asked. elim (cases_lt place (length ns)) [
+  | inl lt ↦ (let w = alike place (slice_index_or ns place r) (slice_get-get_or ns place r lt) in let l = slice_get_within es place w.request w.there in absurd (omega (arith, l, le)))
+  | inr ge ↦ more place r share offset len there ge asked
+]
+
 -- ---- the whole
 
 pub moves_none : (m : Machine) → MovesOn m m
-moves_none m = record { cap = refl; verify = refl; from_is = refl; to_is = refl; goes = goes_none m.beginnings m.beginnings refl refl; found = grows_none m.from m.found; file = λ k. k; fair = λ k. k }
+moves_none m = record { cap = refl; verify = refl; from_is = refl; to_is = refl; goes = goes_none m.beginnings m.beginnings refl refl; found = grows_none m.from m.found; file = λ k. k; fair = λ k. k; later = plans_none (found_of m.found) (entries_of m) (entries_of m) refl }
 
-pub moves_trans : (x y z : Machine) → MovesOn x y → MovesOn y z → MovesOn x z
-moves_trans x y z first second = record {
+-- an extension block is found by a step before which nothing more was asked
+pub moves_trans : (x y z : Machine) → MovesOn x y → MovesOn y z → ((y.found ≡ None → z.found ≡ None) ⊎ (entries_of y ≡ entries_of x)) → MovesOn x z
+moves_trans x y z first second still = record {
   cap = second.cap ∙ first.cap;
   verify = second.verify ∙ first.verify;
   from_is = second.from_is ∙ first.from_is;
@@ -89,6 +125,7 @@ moves_trans x y z first second = record {
   found = grows_trans x.from x.found y.found z.found first.found (subst (λ (n : ℕ). FoundGrows n y.found z.found) first.from_is second.found);
   file = λ k. second.file (first.file k);
   fair = λ k. second.fair (first.fair k);
+  later = plans_trans y.from (entries_of x) (entries_of y) (entries_of z) y.found z.found (goes_stays y.beginnings z.beginnings second.goes) second.found still first.later second.later;
 }
 
 stays_on : (s t : BeginningsState) → GoesOn s t → StaysTo s.holdings.requests.entries t.holdings.requests.entries
@@ -96,8 +133,8 @@ stays_on s t goes = subst (λ (r : RequestsState). StaysTo s.holdings.requests.e
 
 -- shares are opened
 pub moves_asked : (m : Machine) (t : BeginningsState) → GoesOn m.beginnings t → AddsBlames (IsOpeningFault (verify_cap_of m.cap) (entries_of m)) m.beginnings.holdings.blamed t.holdings.blamed
-    → AddsReads (IsInBeginning t.holdings.requests.entries) (entries_of m) t.holdings.requests.entries → MovesOn m (record m { beginnings = t })
-moves_asked m t goes blames reads = record {
+    → AddsReads (IsInBeginning t.holdings.requests.entries) (entries_of m) t.holdings.requests.entries → m.found ≡ None → MovesOn m (record m { beginnings = t })
+moves_asked m t goes blames reads none = record {
   cap = refl;
   verify = refl;
   from_is = refl;
@@ -106,6 +143,7 @@ moves_asked m t goes blames reads = record {
   found = grows_none m.from m.found;
   file = λ k. file_stays m.cap m.from m.to (entries_of m) t.holdings.requests.entries (found_of m.found) (stays_on m.beginnings t goes) k;
   fair = λ k. fair_opened (verify_cap_of m.cap) m.beginnings t (found_of m.found) goes blames reads k;
+  later = subst (λ (f : Option FoundFile). PlansMore (found_of f) (entries_of m) t.holdings.requests.entries) (sym none) tt;
 }
 
 -- a file goes on
@@ -120,6 +158,7 @@ moves_read m f t r is on blames = record {
   found = subst (λ (o : Option FoundFile). FoundGrows m.from o (Some (record f { reading = r }))) (sym is) (record { place = refl; same = on.same; pieces = on.pieces });
   file = λ k. file (subst (λ (o : Option FoundFile). IsFileIfFound m.cap m.from m.to (entries_of m) (found_of o)) is k);
   fair = λ k. fair (subst (λ (o : Option FoundFile). IsFair (verify_cap_of m.cap) m.beginnings (found_of o)) is k);
+  later = λ place q share offset len there le asked. planned_on f.reading.file r.file offset len (alike_of f.reading.file r.file on.same) (on.reads place q share offset len there le asked);
 }
   where
     fair : IsFair (verify_cap_of m.cap) m.beginnings (found_of (Some f)) → IsFair (verify_cap_of m.cap) t (found_of (Some (record f { reading = r })))
@@ -155,6 +194,7 @@ moves_found m t g is goes handed same blames file = record {
   file = λ k. file;
   fair = λ k. fair_accepted (verify_cap_of m.cap) m.beginnings t g.reading.file.handout.geometry (record { place = g.place; file = g.reading.file }) goes same refl blames
       (subst (λ (f : Option FoundFile). IsFair (verify_cap_of m.cap) m.beginnings (found_of f)) is k);
+  later = plans_none (found_of (Some g)) (entries_of m) t.holdings.requests.entries (ap (λ (r : RequestsState). r.entries) same);
 }
 
 -- ---- while it runs
@@ -289,6 +329,7 @@ goes_on m n t r status ended requests blamed stays file running on servers = rec
   same = same_on m n t status ended blamed stays file on servers;
   asks = on.goes.asks;
   requests = on.goes.requests ∙ ap (asked_all on.goes.asks) requests;
+  later = subst (λ (x : RequestsState). PlansMore (found_of n.found) x.entries (entries_of n)) requests on.later;
   ended = λ other. absurd (other running);
 }
 
@@ -302,6 +343,7 @@ stands_still m t r status requests blamed stays file servers =
       same = same_on m (record m { beginnings = t }) t status status blamed stays file (moves_none (record m { beginnings = t })) servers;
       asks = [];
       requests = refl;
+      later = plans_none (found_of m.found) t.holdings.requests.entries t.holdings.requests.entries refl;
       ended = λ other. ended;
     })
   where

@@ -10,8 +10,8 @@ use Rattle.download_plan.specs.declared.part.Part.TheVariants.{ShareHashes, Bloc
 use Rattle.download_source.specs.Source.{IsSource, SourceState, first_of}
 use Rattle.request_record.specs.declared.requests.Asked.TheVariants.{Holdings, Reading}
 use Rattle.request_record.specs.declared.requests.Request.{Request}
-use Rattle.share_holdings.specs.Left.{IsBlamed, IsGone, IsLeft}
-use Rattle.share_holdings.specs.Right.{IsRight}
+use Rattle.share_holdings.specs.Left.{IsBlamed, IsGone, IsLeft, IsOffered}
+use Rattle.share_holdings.specs.Right.{IsOwned, IsRight}
 use Rattle.share_holdings.specs.State.{HoldingsState}
 use Rattle.share_holdings.specs.Table.{IsHolding}
 use Rattle.share_holdings.specs.declared.holding.Blame.{Blame}
@@ -30,7 +30,7 @@ use Rattle.download_file.specs.State.{FileState}
 use Rattle.download_file.proofs.WantedLemmas.{asked_passed}
 use Rattle.download_reading.specs.Reading.{AreKept}
 use Rattle.download_reading.specs.State.{ReadingState}
-use Rattle.download_core.specs.Reads.{IsPlannedOrBeside, ReadsBeside, ReadsNoMore}
+use Rattle.download_core.specs.Reads.{AsksOrReads, IsReadOfOffered, IsPlannedOrBeside, ReadsBeside, ReadsNoMore}
 use Rattle.download_core.specs.State.{Found}
 use Rattle.download_core.specs.Steps.{AreOpened}
 use Rattle.download_core.proofs.Records.{GoesFrom}
@@ -175,3 +175,30 @@ beside_stays es ns blamed (Some f) goes reads =
     let was = goes.alike place r there in
     reads place was.request share offset len was.there (was.same ∙ asked)
     (subst (λ (server : ℕ). IsLeft es blamed server share) (sym was.of_server) (λ gone. left.0 (gone_stays es ns r.server share goes.stays gone), left.1))
+
+-- ---- what is asked
+
+-- A request behind the first asks for a share that its server offered. The first ask which shares
+-- there are.
+pub asks_or_reads : (s : HoldingsState) → IsRight s → AsksOrReads s.requests.entries
+asks_or_reads s k place r there = elim (cases_lt place s.servers) [
+  | inl lt ↦ inl (k.first place r there lt)
+  | inr ge ↦ (
+      let i = place - s.servers in
+      let within = slice_get_within s.requests.entries place r there in
+      let count = k.counted in
+      let lt : i < length s.owners = omega (arith, within, count, ge) in
+      let at : s.servers + i ≡ place = omega (arith, ge) in
+      inr (by (slice_index_or s.owners i 0) (subst (λ (p : ℕ). IsOwned s p (slice_index_or s.owners i 0)) at (k.owned i (slice_index_or s.owners i 0) (slice_get-get_or s.owners i 0 lt)))))
+]
+  where
+    by : (holding : ℕ) → IsOwned s place holding → IsReadOfOffered s.requests.entries r
+    by holding o =
+        let same : o.request ≡ r = same_of (slice_get s.requests.entries place) o.request r o.there there in
+        record {
+          share = o.held.share;
+          offset = o.read.offset;
+          len = o.read.len;
+          asked = ap (λ (x : Request). x.asked) (sym same) ∙ o.read.asked;
+          offered = subst (λ (server : ℕ). IsOffered s.requests.entries server o.held.share) (sym o.read.of_server ∙ ap (λ (x : Request). x.server) same) (k.offered holding o.held o.is);
+        }

@@ -11,6 +11,7 @@ use Rattle.download_segments.specs.declared.piece.Piece.{Piece}
 use Rattle.download_core.specs.declared.status.DownloadStatus.TheVariants.{Running, Done}
 use Rattle.download_core.specs.declared.status.DownloadStatus.TheVariants.{NotEnoughShares}
 use Rattle.download_core.specs.Hashed.{StaysGiven}
+use Rattle.download_core.specs.Reads.{PlansMore}
 use Rattle.download_core.specs.State.{DownloadState, Found, accepted, handed, ready, with_record}
 
 -- the servers that are asked which shares they hold: none, where nothing is wanted
@@ -49,11 +50,12 @@ pub record IsSame (old new : DownloadState) : Type 0 where
   pub stays : StaysGiven old new
 
 -- The record goes on from a message or a tick, and while the download runs more may be asked, made
--- and blamed.
+-- and blamed. Where an extension block is accepted then, what more is read is planned.
 pub record GoesOn (r : RequestsState) (old new : DownloadState) : Type 0 where
   pub same : IsSame old new
   pub asks : List (ℕ × Asked)
   pub requests : new.requests ≡ asked_all asks r
+  pub later : PlansMore new.found r.entries new.requests.entries
   pub ended : old.status ≢ Running → new ≡ with_record old r
 
 abbrev pub Advances : ℕ → Message → ℕ → DownloadState → DownloadState → Type 0
@@ -62,11 +64,13 @@ Advances from m now old new = GoesOn (after_message from m now old.requests) old
 abbrev pub TicksOn : ℕ → DownloadState → DownloadState → Type 0
 TicksOn now old new = GoesOn (after_tick now old.requests) old new
 
--- A tick finds no memory: the record is as it was, or went on. What the download has stays.
+-- A tick finds no memory: the record is as it was, or went on. What the download has stays. Where
+-- an extension block is accepted, what more is read is planned.
 pub record StopsAt (now : ℕ) (old new : DownloadState) : Type 0 where
   pub same : IsSame old new
   pub requests : (new.requests ≡ old.requests) ⊎ ((asks : List (ℕ × Asked))
       × (new.requests ≡ asked_all asks (after_tick now old.requests)))
+  pub later : PlansMore new.found old.requests.entries new.requests.entries
 
 -- the file whose pieces were taken up to a place, where these are left
 abbrev pub with_handed : List Piece → ℕ → Found → Found

@@ -1,13 +1,26 @@
 -- Which bytes of shares a download reads.
 use Rattle.std.specs.Prelude.{◌≡◌, ◌⊎◌, ℕ, List, Option, Some, None, slice_get, ⊤}
-use Rattle.request_record.specs.declared.requests.Asked.TheVariants.{Reading}
+use Rattle.request_record.specs.declared.requests.Asked.TheVariants.{Holdings, Reading}
 use Rattle.request_record.specs.declared.requests.Request.{Request}
-use Rattle.share_holdings.specs.Left.{IsLeft}
+use Rattle.share_holdings.specs.Left.{IsLeft, IsOffered}
 use Rattle.share_holdings.specs.declared.holding.Blame.{Blame}
-use Rattle.share_beginnings.specs.Reads.{IsBeside, IsInBeginning}
+use Rattle.share_beginnings.specs.Reads.{AddsReads, IsBeside, IsInBeginning}
 use Rattle.download_file.specs.Asked.{IsPlannedRead}
 use Rattle.download_file.specs.State.{FileState}
 use Rattle.download_core.specs.State.{Found}
+
+-- the request reads bytes of a share that its server offered
+pub record IsReadOfOffered (entries : List Request) (request : Request) : Type 0 where
+  pub share : ℕ
+  pub offset : ℕ
+  pub len : ℕ
+  pub asked : request.asked ≡ Reading share offset len
+  pub offered : IsOffered entries request.server share
+
+-- Each request asks a server which shares it holds, or reads a share that its server offered.
+abbrev pub AsksOrReads : List Request → Type 0
+AsksOrReads entries = (place : ℕ) (request : Request) → slice_get entries place ≡ Some request
+    → (request.asked ≡ Holdings) ⊎ IsReadOfOffered entries request
 
 -- Bytes of any share, also of one that is blamed or gone, are read only in its beginning, as far as
 -- what was read of it led; and once an extension block is accepted, as a part of the plan for the
@@ -22,6 +35,13 @@ abbrev pub ReadsNoMore : List Request → Option Found → Type 0
 ReadsNoMore entries found = (place : ℕ) (request : Request) (share offset len : ℕ)
     → slice_get entries place ≡ Some request → request.asked ≡ Reading share offset len
     → MayRead entries found request.server share offset len
+
+-- Once an extension block is accepted, each read that is asked for from then on, of any share, is a
+-- part of the plan for the segments from some one on of those that are wanted.
+abbrev pub PlansMore : Option Found → List Request → List Request → Type 0
+PlansMore None old new = ⊤
+PlansMore (Some f) old new =
+    AddsReads (λ server share offset len. IsPlannedRead f.file offset len) old new
 
 -- Bytes of a share lie beside all plans of the file, in the header or behind the share hashes, or
 -- they are a part of the plan for the segments from some one on of those that are wanted.

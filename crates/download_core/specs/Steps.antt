@@ -25,7 +25,7 @@ use Rattle.download_core.specs.declared.status.DownloadStatus.TheVariants.{Incon
 use Rattle.download_core.specs.Causes.{AreCaused}
 use Rattle.download_core.specs.Ends.{HasNoCodeWord}
 use Rattle.download_core.specs.Given.{IsFileIfFound}
-use Rattle.download_core.specs.Reads.{ReadsBeside, ReadsNoMore}
+use Rattle.download_core.specs.Reads.{PlansMore, ReadsBeside, ReadsNoMore}
 use Rattle.download_core.specs.State.{DownloadState, Found}
 
 -- ---- what contracts see of it
@@ -130,7 +130,7 @@ abbrev pub AllIsFair : Machine → Type 0
 AllIsFair m = IsFair (verify_cap_of m.cap) m.beginnings (found_of m.found)
 
 -- It is for the same, more is asked and blamed, and what is read of a file stays right. What is
--- blamed and read stays fair.
+-- blamed and read stays fair, and what more is read of a file is planned.
 pub record MovesOn (old new : Machine) : Type 0 where
   pub cap : new.cap ≡ old.cap
   pub verify : new.verify ≡ old.verify
@@ -141,6 +141,7 @@ pub record MovesOn (old new : Machine) : Type 0 where
   pub file : IsFileIfFound old.cap old.from old.to (entries_of old) (found_of old.found)
       → IsFileIfFound new.cap new.from new.to (entries_of new) (found_of new.found)
   pub fair : AllIsFair old → AllIsFair new
+  pub later : PlansMore (found_of new.found) (entries_of old) (entries_of new)
 
 -- ---- how it ends
 

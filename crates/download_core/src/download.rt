@@ -118,10 +118,10 @@ impl Download {
     /// Takes note of a second. On an `Err` it has failed; what it has stays.
     pub fn tick(&mut self, now: u64) -> Result<(), AllocError>
         ensures ok { OnOk result (TicksOn now self.old self.new) }
-        // Only an `Err` makes it one that failed.
-        ensures well { OnOk result (self.old.status ≢ Failed → self.new.status ≢ Failed) }
         ensures err { OnErr result (self.new.status ≡ Failed) }
         ensures stops { OnErr result (StopsAt now self.old self.new) }
+        // Only an `Err` makes it one that failed.
+        ensures fails_not { OnOk result (self.old.status ≢ Failed → self.new.status ≢ Failed) }
     {
         match self.machine.pass(self.status, now) {
             Ok(status) => {

@@ -15,6 +15,7 @@ ghost use Rattle.download_core.specs.declared.status.DownloadStatus.TheVariants.
 ghost use Rattle.download_core.specs.Evidence.{IsEvidenceOf};
 ghost use Rattle.download_core.specs.Given.{IsFileIfFound, IsRightIfFound};
 ghost use Rattle.download_core.specs.Moves.{Advances, StopsAt, TakesPiece, TicksOn};
+ghost use Rattle.download_core.specs.Reads.{AsksOrReads};
 ghost use Rattle.download_core.specs.Sending.{Takes};
 ghost use Rattle.download_core.specs.Steps.{AreOpened, EndsAs, HearsOf, IsFor, IsKept, IsUnderWay};
 ghost use Rattle.download_core.specs.Steps.{MovesOn, OpensWith, PassesOn, entries_of, found_of};
@@ -138,9 +139,9 @@ impl Machine {
             (state_of self.old servers status) (state_of self.new servers ended)) }
         ensures err { OnErr result ((servers : List ℕ) → StopsAt now
             (state_of self.old servers status) (state_of self.new servers Failed)) }
-        ensures well { IfOk result (λ ended. status ≢ Failed → ended ≢ Failed) }
         ensures kept { IfOk result (IsKept self.new) }
         ensures failed { IsKept self.new Failed }
+        ensures well { status ≢ Failed → IfOk result (λ ended. ended ≢ Failed) }
     {
         self.beginnings.tick(now)?;
         if !is_running(status) {
@@ -190,10 +191,13 @@ impl Machine {
         }))
     }
 
-    /// A law: what is read and made of the file is right, and no byte is asked twice of one server.
-    /// The call does nothing.
+    /// A law: what is read and made of the file is right, servers are asked which shares they hold
+    /// and for shares that they offered, and no byte is asked twice of one server. The call does
+    /// nothing.
+    #[tactic(auto, using(crate::proofs::ReadLemmas::asks_or_reads))]
     pub(crate) fn is_right(&self)
         ensures file { IsRightIfFound (found_of self.now.found) }
+        ensures asks { AsksOrReads (entries_of self.now) }
         ensures once { AsksOnce (entries_of self.now) }
     {
         let _ = self.beginnings.holdings().requests();
@@ -271,6 +275,7 @@ impl Machine {
     fn settle(&mut self, patient: bool) -> Result<DownloadStatus, AllocError>
         requires { IsUnderWay self.old }
         ensures moves { MovesOn self.old self.new }
+        ensures none { self.old.found ≡ None → self.new.found ≡ None }
         ensures ends { IfOk result (EndsAs self.new) }
         ensures well { IfOk result (λ status. status ≢ Failed) }
     {
@@ -289,6 +294,7 @@ impl Machine {
         requires opened { AreOpened self.old.cap.total nobody self.old.beginnings }
         requires none { self.old.found ≡ None }
         ensures moves { MovesOn self.old self.new }
+        ensures none { self.new.found ≡ None }
         ensures ends { IfOk result (EndsAs self.new) }
         ensures well { IfOk result (λ status. status ≢ Failed) }
     {
@@ -308,7 +314,7 @@ impl Machine {
         ensures needed { 0 < self.old.cap.needed }
         ensures enough { OnOk result ((0 < read_count self.new.beginnings.holdings.table.numbers)
             ⊎ NoneIsFree self.new.beginnings.holdings.table) }
-        ensures moves { MovesOn self.old self.new }
+        ensures moves { self.old.found ≡ None → MovesOn self.old self.new }
     {
         let wanted = usize::from(self.cap.needed()).min(OPENINGS);
         while self.beginnings.holdings().reading() < wanted {

@@ -1,6 +1,7 @@
 -- Why shares are blamed.
-use Rattle.std.proofs.Common.{◌≡◌, ◌≢◌, ◌⊎◌, ℕ, inl, inr, List, ◌∷◌, length, Some, None, refl, sym, ap, subst, ◌∙◌}
-use Rattle.std.specs.Prelude.{Contains, Option, slice_get}
+use Rattle.std.proofs.Common.{◌≡◌, ℕ, inl, inr, List, ◌∷◌, Some, None, sym, ap, subst, ◌∙◌}
+use Rattle.std.specs.Prelude.{Option, option_map, slice_get, Contains}
+use Rattle.std.proofs.lemmas.Option.{slice_get-map}
 use Rattle.placement.proofs.Members.{Contains-head}
 use Rattle.request_record.specs.declared.requests.Asked.TheVariants.{Reading}
 use Rattle.request_record.specs.declared.requests.Request.{Request}
@@ -17,9 +18,9 @@ use Rattle.share_beginnings.specs.State.{BeginningsState}
 use Rattle.share_beginnings.proofs.Entries.{same_of}
 use Rattle.download_file.specs.Changes.{IsSameFile}
 use Rattle.download_file.specs.Making.{RefutesReader}
-use Rattle.download_file.specs.State.{FileState, IsLive, first_place, first_waiting, waiting_at, waiting_in}
+use Rattle.download_file.specs.State.{FileState, IsLive, ReaderState, first_place, first_waiting, shares, waiting_at, waiting_in}
+use Rattle.download_file.specs.Taking.{IsRefused}
 use Rattle.download_file.specs.declared.reader.Waiting.{Waiting}
-use Rattle.download_file.specs.Taking.{IsRefused, RefutesPart}
 use Rattle.cap_text.specs.Cap.{VerifyCapValue}
 use Rattle.share_beginnings.specs.Causes.{IsBeginningFault}
 use Rattle.download_segments.specs.State.{HandoutState}
@@ -28,7 +29,7 @@ use Rattle.download_reading.specs.Reading.{AreReadingBut}
 use Rattle.download_reading.specs.State.{ReadingState}
 use Rattle.download_reading.specs.Steps.{Continues}
 use Rattle.request_record.specs.Record.{RequestsState, is_outstanding}
-use Rattle.download_reading.proofs.Awaited.{first_is, goes_stays}
+use Rattle.download_reading.proofs.Awaited.{goes_stays}
 use Rattle.download_reading.proofs.Ended.{file_none}
 
 -- ---- the same file
@@ -53,21 +54,15 @@ part_moved es ns f g b stays same k = record {
   right = k.right;
   same = alike_trans f g k.file same k.same;
   reader = k.reader;
-  place = k.place;
-  first = k.first;
-  request = k.request;
-  there = stays k.place k.request k.there (ap is_outstanding k.answer);
-  of_server = k.of_server;
-  offset = k.offset;
-  len = k.len;
-  asked = k.asked;
-  bytes = k.bytes;
-  answer = k.answer;
-  refused = k.refused;
   live = k.live;
+  bytes = k.bytes;
+  refused = k.refused;
   share = k.share;
-  place_is = k.place_is;
-  length_is = k.length_is;
+  request = k.request;
+  there = stays k.refused.first.place k.request k.there (ap is_outstanding k.answer);
+  of_server = k.of_server;
+  asked = k.asked;
+  answer = k.answer;
 }
 
 pub block_moved : (es ns : List Request) (f g : FileState) (b : Blame) → StaysTo es ns → IsFileAlike f g → IsBlockFault es g b → IsBlockFault ns f b
@@ -84,6 +79,19 @@ block_moved es ns f g b stays same k = record {
   check = k.check;
 }
 
+-- what waits first
+waits_first : (f : FileState) (reader place : ℕ) (bytes : List ℕ) (check : Check) (k : IsRefused f reader bytes check) → first_waiting f reader ≡ Some place → Contains (waiting_at f reader) k.first × (k.first.place ≡ place)
+waits_first f reader place bytes check k e =
+    let same : waiting_at f reader ≡ k.first ∷ k.others = ap waiting_in k.there ∙ k.waits in
+    let one : Some k.first.place ≡ Some place = sym (ap first_place same) ∙ e in
+    (subst (λ (l : List Waiting). Contains l k.first) (sym same) (Contains-head k.first k.others), cc)
+
+-- the number of the share that a reader reads
+number_of : (f : FileState) (reader share : ℕ) (r : ReaderState) → slice_get f.readers reader ≡ Some r → slice_get (shares f) reader ≡ Some share → r.share ≡ share
+number_of f reader share r there is =
+    let at : slice_get (shares f) reader ≡ Some r.share = slice_get-map (λ (y : ReaderState). y.share) f.readers reader ∙ ap (λ o. option_map (λ (y : ReaderState). y.share) o) there in
+    same_of (slice_get (shares f) reader) r.share share at is
+
 -- the part that a reader waited for is refused
 pub part_fault : (but : Option ℕ) (s : BeginningsState) (r : ReadingState) (reader place : ℕ) (check : Check) (bytes : List ℕ) (b : Blame) → AreReadingBut but s r → IsLive r.file reader → first_waiting r.file reader ≡ Some place
     → IsAnsweredBy s.holdings.requests.entries place bytes → IsRefused r.file reader bytes check → IsBlameOf s r reader check b → IsPartFault s.holdings.requests.entries r.file b
@@ -91,42 +99,26 @@ part_fault but s r reader place check bytes b reading live first answered refuse
     let now = reading.linked.live reader live in
     let one : now.holding ≡ blame.holding = same_of (slice_get r.holdings reader) now.holding blame.holding now.of blame.of in
     let held : now.held ≡ blame.held = same_of (slice_get s.holdings.table.holdings now.holding) now.held blame.held now.is (subst (λ x. IsHolding s.holdings.table x blame.held) (sym one) blame.is) in
-    let part : Waiting = refused.first in
-    let waits : waiting_at r.file reader ≡ part ∷ refused.others = ap waiting_in refused.there ∙ refused.waits in
-    let at : part.place ≡ place = same_of (first_waiting r.file reader) part.place place (ap first_place waits) first in
-    let among : Contains (waiting_at r.file reader) part = subst (λ (l : List Waiting). Contains l part) (sym waits) (Contains-head part refused.others) in
-    let a = (reading.awaits.asked reader now.held part (record { live = live; holding = now.holding; of = now.of; is = now.is; left = now.left }) among).read in
-    let of = reading.linked.kept.forth reader blame.holding blame.of in
-    let blamed : of.held ≡ blame.held = same_of (slice_get s.holdings.table.holdings blame.holding) of.held blame.held of.is blame.is in
-    let same : a.request ≡ answered.request = same_of (slice_get s.holdings.requests.entries place) a.request answered.request (ap (slice_get s.holdings.requests.entries) (sym at) ∙ a.there) answered.there in
+    let k : IsRefused r.file reader bytes b.check = subst (IsRefused r.file reader bytes) (sym blame.check_is) refused in
+    let w = waits_first r.file reader place bytes b.check k first in
+    let own = reading.linked.kept.forth reader blame.holding blame.of in
+    let own_held : own.held ≡ blame.held = same_of (slice_get s.holdings.table.holdings blame.holding) own.held blame.held own.is blame.is in
+    let a = (reading.awaits.asked reader now.held k.first (record { live = live; holding = now.holding; of = now.of; is = now.is; left = now.left }) w.0).read in
+    let same : a.request ≡ answered.request = same_of (slice_get s.holdings.requests.entries place) a.request answered.request (ap (slice_get s.holdings.requests.entries) (sym w.1) ∙ a.there) answered.there in
     record {
       file = r.file;
       right = reading.linked.kept.right;
       same = alike_none r.file;
       reader = reader;
-      place = place;
-      first = first;
-      request = a.request;
-      there = ap (slice_get s.holdings.requests.entries) (sym at) ∙ a.there;
-      of_server = a.of_server ∙ ap (λ (h : Holding). h.server) held ∙ sym blame.of_server;
-      offset = part.wanted.read.place;
-      len = part.wanted.read.length;
-      asked = a.asked ∙ ap (λ (h : Holding). Reading h.share part.wanted.read.place part.wanted.read.length) held ∙ ap (λ n. Reading n part.wanted.read.place part.wanted.read.length) (sym blame.of_share);
-      bytes = bytes;
-      answer = ap (λ (q : Request). q.outcome) same ∙ answered.answer;
-      refused = record {
-        r = refused.r;
-        there = refused.there;
-        first = part;
-        others = refused.others;
-        waits = refused.waits;
-        why = subst (λ (c : Check). ((c ≡ checks.Layout) × (length bytes ≢ part.wanted.read.length))
-            ⊎ ((length bytes ≡ part.wanted.read.length) × RefutesPart r.file.handout r.file.first r.file.end refused.r part.wanted.part bytes c)) (sym blame.check_is) refused.why;
-      };
       live = live;
-      share = of.share ∙ ap (λ (h : Holding). Some h.share) blamed ∙ ap Some (sym blame.of_share);
-      place_is = refl;
-      length_is = refl;
+      bytes = bytes;
+      refused = k;
+      share = number_of r.file reader own.held.share k.r k.there own.share ∙ ap (λ (h : Holding). h.share) own_held ∙ sym blame.of_share;
+      request = a.request;
+      there = a.there;
+      of_server = a.of_server ∙ ap (λ (h : Holding). h.server) held ∙ sym blame.of_server;
+      asked = a.asked ∙ ap (λ (h : Holding). Reading h.share k.first.wanted.read.place k.first.wanted.read.length) held ∙ ap (λ n. Reading n k.first.wanted.read.place k.first.wanted.read.length) (sym blame.of_share);
+      answer = ap (λ (q : Request). q.outcome) same ∙ answered.answer;
     }
 
 -- the block that a reader holds is wrong

@@ -15,7 +15,7 @@ use Rattle.share_beginnings.specs.State.{BeginningsState}
 use Rattle.download_file.specs.Answers.{IsRead, KeepsAnswers}
 use Rattle.download_file.specs.Making.{RefutesReader}
 use Rattle.download_file.specs.Right.{IsFile}
-use Rattle.download_file.specs.State.{FileState, IsLive, first_waiting, shares}
+use Rattle.download_file.specs.State.{FileState, IsLive, shares}
 use Rattle.download_file.specs.Taking.{IsRefused}
 use Rattle.download_reading.specs.Reading.{IsOf}
 use Rattle.download_reading.specs.State.{ReadingState}
@@ -29,28 +29,23 @@ pub record IsFileAlike (f g : FileState) : Type 0 where
   pub first : g.first ≡ f.first
   pub end : g.end ≡ f.end
 
--- A reader of the share in this file waited for a part first, which is what was asked of the share's
--- server, and what that server answered is refused as this part.
+-- A reader of this file, which is read, reads the blamed share. The blamed server was asked for the
+-- part of that share that waits first of the reader, and the bytes that it answered are refused.
 pub record IsPartFault (entries : List Request) (f : FileState) (b : Blame) : Type 0 where
   pub file : FileState
   pub right : IsFile file
   pub same : IsFileAlike f file
   pub reader : ℕ
-  pub place : ℕ
-  pub first : first_waiting file reader ≡ Some place
-  pub request : Request
-  pub there : slice_get entries place ≡ Some request
-  pub of_server : request.server ≡ b.server
-  pub offset : ℕ
-  pub len : ℕ
-  pub asked : request.asked ≡ Reading b.share offset len
-  pub bytes : List ℕ
-  pub answer : request.outcome ≡ Answered (Data bytes)
-  pub refused : IsRefused file reader bytes b.check
   pub live : IsLive file reader
-  pub share : slice_get (shares file) reader ≡ Some b.share
-  pub place_is : offset ≡ refused.first.wanted.read.place
-  pub length_is : len ≡ refused.first.wanted.read.length
+  pub bytes : List ℕ
+  pub refused : IsRefused file reader bytes b.check
+  pub share : refused.r.share ≡ b.share
+  pub request : Request
+  pub there : slice_get entries refused.first.place ≡ Some request
+  pub of_server : request.server ≡ b.server
+  pub asked : request.asked ≡ Reading b.share refused.first.wanted.read.place
+      refused.first.wanted.read.length
+  pub answer : request.outcome ≡ Answered (Data bytes)
 
 -- The block of the next segment that the share's reader holds is not the one that its block tree
 -- tells.

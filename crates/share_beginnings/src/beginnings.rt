@@ -193,6 +193,9 @@ impl Beginnings {
         ensures found { IfOk result (λ o. IfSome o (λ _. IsFound self.new holding)) }
         ensures block { IfOk result (λ o. IfSome o
             (IsBlockAt cap.now self.new.holdings.requests.entries place)) }
+        // Where the extension block is found, nothing is asked.
+        ensures found_asks { IfOk result (λ o. IfSome o
+            (λ _. self.new.holdings.requests ≡ self.old.holdings.requests)) }
         ensures goes { GoesOn self.old self.new }
         ensures causes { AddsBlames (IsOpeningFault cap.now self.old.holdings.requests.entries)
             self.old.holdings.blamed self.new.holdings.blamed }

@@ -56,7 +56,7 @@ full_last reads read bytes full at is =
 -- no share is good that has what was read where reading stopped
 stopped_or_good : (cap : VerifyCapValue) (num : ℕ) (reads : List Settled) (check : Check) → IsStopped cap reads check → IsGood cap num reads → ⊥
 stopped_or_good cap num reads check s g =
-    let l = s.has_led in
+    let l = s.led in
     let at = brought_has reads _ s.bytes l.last refl in
     stop cap l.front l.back s.reading s.bytes check num g.bytes l.led s.stop
     (full_last reads _ s.bytes g.full l.last refl)

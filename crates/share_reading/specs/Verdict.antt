@@ -51,7 +51,8 @@ pub record IsGood (cap : VerifyCapValue) (num : ℕ) (reads : List Settled) : Ty
   pub whole : IsWhole (brought_of reads) bytes
   pub sound : IsSoundShare cap num bytes
 
--- what the reads brought led to a reading, whose next bytes came too
+-- what the reads brought led to a reading, and one of them brought these bytes, the next that it
+-- asks for
 pub record HasLed (cap : VerifyCapValue) (reads : List Settled) (reading : Reading)
     (bytes : List ℕ) : Type 0 where
   pub front : List Brought
@@ -70,21 +71,17 @@ pub record IsStopped (cap : VerifyCapValue) (reads : List Settled) (check : Chec
   pub answered : AreAnswered reads
   pub reading : Reading
   pub bytes : List ℕ
-  pub has_led : HasLed cap reads reading bytes
+  pub led : HasLed cap reads reading bytes
   pub stop : IsStop cap reading bytes check
 
--- the share was read to its end
-pub record IsReadWhole (cap : VerifyCapValue) (reads : List Settled) : Type 0 where
-  pub reading : Reading
-  pub bytes : List ℕ
-  pub has_led : HasLed cap reads reading bytes
-  pub ends : Advances cap reading bytes Whole
-
--- The share was read to its end, and what the reads brought, joined by place, fails this check
--- first.
+-- The share was read to its end: what the reads brought led to a reading that ended. Joined by
+-- place, it fails this check first.
 pub record FailsFirst (cap : VerifyCapValue) (num : ℕ) (reads : List Settled) (check : Check)
     : Type 0 where
-  pub read_whole : IsReadWhole cap reads
+  pub reading : Reading
+  pub last_bytes : List ℕ
+  pub led : HasLed cap reads reading last_bytes
+  pub ends : Advances cap reading last_bytes Whole
   pub bytes : List ℕ
   pub full : AreFull reads
   pub whole : IsWhole (brought_of reads) bytes

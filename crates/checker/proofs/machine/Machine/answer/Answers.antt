@@ -9,7 +9,7 @@ use Rattle.checker.specs.Book.{state_of}
 use Rattle.checker.specs.Moves.{GoesOn}
 use Rattle.checker.specs.declared.status.CheckStatus.TheVariants.{Running, Failed}
 use Rattle.checker.specs.declared.status.CheckStatus.{CheckStatus}
-use Rattle.checker.proofs.Keeping.{asks_trans, book_counted, goes_on_running, if_ok_then, kept_counted, kept_failed, safe_goes}
+use Rattle.checker.proofs.Keeping.{asks_trans, book_counted, goes_on_running, if_ok_both, kept_counted, kept_failed, safe_goes}
 use Rattle.checker.proofs.RecordMoves.{IsCounted, counted_at_place}
 use Rattle.checker.proofs.machine.Machine.answer.Goals as goal
 
@@ -75,7 +75,7 @@ pub returns-clause-ok : goal.returns-clause-ok
 returns-clause-ok c =
     let m = c.args.self.now in
     let r = c.take_answer.new.self in
-    if_ok_then c.settle.result _ _ c.settle.ensures.asks
-    (λ ended more servers. subst (λ (x : RequestsState). GoesOn x (state_of m servers c.args.status) (state_of c.settle.new.self servers ended)) c.take_answer.ensures.«record»
-    (goes_on_running m c.settle.new.self r servers c.args.status ended (c.is_running.ensures.0 c.if-not-is_running.false)
-    (asks_trans (record m { requests = r }) c.take_in.new.self c.settle.new.self c.in_ok-take_in.ensures.asks more.0) more.1))
+    if_ok_both c.settle.result _ _ _ c.settle.ensures.asks c.settle.ensures.stands
+    (λ ended more stands servers. subst (λ (x : RequestsState). GoesOn x (state_of m servers c.args.status) (state_of c.settle.new.self servers ended)) c.take_answer.ensures.«record»
+    (goes_on_running m c.settle.new.self r servers c.args.status ended (c.is_running.ensures.0 c.if-not-is_running.false) stands
+    (asks_trans (record m { requests = r }) c.take_in.new.self c.settle.new.self c.in_ok-take_in.ensures.asks more)))

@@ -1,11 +1,11 @@
-use Rattle.std.proofs.Common.{◌+◌, ◌∙◌, length, ap, subst, arith}
+use Rattle.std.proofs.Common.{[], ◌+◌, ◌∙◌, length, ap, subst, arith}
 use Rattle.std.proofs.lemmas.List.{length-set}
 use Rattle.share_opening.specs.declared.opening.Opening.TheVariants.{Start}
 use Rattle.share_reading.specs.declared.reading.Reading.TheVariants.{Beginning}
 use Rattle.share_reading.specs.declared.reading.Reading.{Reading}
 use Rattle.checker.specs.Book.{HasAsked}
 use Rattle.checker.proofs.AnswerMoves.{safe_first}
-use Rattle.checker.proofs.MachineMoves.{asks_asked, book_begun, one_ask, get_of, kinds_asked_now, once_asked_now, shares_asked_now, unread_at}
+use Rattle.checker.proofs.MachineMoves.{asks_asked, book_begun, one_ask, get_of, kinds_asked_now, listed_at, once_asked_now, shares_asked_now, unread_at}
 use Rattle.checker.proofs.machine.Machine.begin_next.Goals as goal
 
 pub overflow_add-self : goal.overflow_add-self
@@ -34,10 +34,10 @@ returns-clause-safe c =
     let m = c.args.self.now in
     let o = get_of m.offers.items m.begun c.requires.more in
     let a = subst (λ (r : Reading). HasAsked m m.begun r o.0 c.ask.new.self) c.start.ensures (c.in_ok-ask.ensures.ok o.0 o.1) in
-    let may = safe_first m.cap m.requests.entries o.0 (unread_at m o.0 c.requires.book o.1) in
+    let may = safe_first m.cap m.requests.entries o.0 (unread_at m o.0 c.requires.book o.1) (listed_at m [] c.requires.book m.begun o.0 o.1) in
     record {
       once = once_asked_now m c.ask.new.self m.begun (Beginning Start) o.0 c.requires.safe may a;
-      asked = kinds_asked_now m c.ask.new.self m.begun (Beginning Start) o.0 c.requires.safe a;
+      asked = kinds_asked_now m c.ask.new.self m.begun (Beginning Start) o.0 c.requires.safe may a;
       reads = shares_asked_now m c.ask.new.self m.begun (Beginning Start) o.0 c.requires.safe may a;
     }
 

@@ -8,7 +8,7 @@ use Rattle.checker.specs.Book.{HasBook, state_of}
 use Rattle.checker.specs.Moves.{GoesOn}
 use Rattle.checker.specs.declared.status.CheckStatus.TheVariants.{Running, Failed}
 use Rattle.checker.specs.declared.status.CheckStatus.{CheckStatus}
-use Rattle.checker.proofs.Keeping.{asks_trans, book_ticked, goes_on_running, if_ok_then, kept_ticked, kept_failed, safe_goes}
+use Rattle.checker.proofs.Keeping.{asks_trans, book_ticked, goes_on_running, if_ok_both, kept_ticked, kept_failed, safe_goes}
 use Rattle.checker.proofs.RecordMoves.{IsTicked, ticked_by}
 use Rattle.checker.proofs.machine.Machine.pass.Goals as goal
 
@@ -67,7 +67,7 @@ pub returns-clause-ok : goal.returns-clause-ok
 returns-clause-ok c =
     let m = c.args.self.now in
     let r = c.tick.new.self in
-    if_ok_then c.settle.result _ _ c.settle.ensures.asks
-    (λ ended more servers. subst (λ (x : RequestsState). GoesOn x (state_of m servers c.args.status) (state_of c.settle.new.self servers ended)) c.in_ok-lost.ensures.ok
-    (goes_on_running m c.settle.new.self r servers c.args.status ended (c.is_running.ensures.0 c.if-not-is_running.false)
-    (asks_trans (record m { requests = r }) c.lose.new.self c.settle.new.self c.in_ok-lose.ensures.asks more.0) more.1))
+    if_ok_both c.settle.result _ _ _ c.settle.ensures.asks c.settle.ensures.stands
+    (λ ended more stands servers. subst (λ (x : RequestsState). GoesOn x (state_of m servers c.args.status) (state_of c.settle.new.self servers ended)) c.in_ok-lost.ensures.ok
+    (goes_on_running m c.settle.new.self r servers c.args.status ended (c.is_running.ensures.0 c.if-not-is_running.false) stands
+    (asks_trans (record m { requests = r }) c.lose.new.self c.settle.new.self c.in_ok-lose.ensures.asks more)))

@@ -1,4 +1,4 @@
-use Rattle.std.proofs.Common.{◌∙◌, ℕ, List, sym, true≢false}
+use Rattle.std.proofs.Common.{◌∙◌, ℕ, inl, List, sym, true≢false}
 use Rattle.request_record.specs.Record.{RequestsState}
 use Rattle.request_record.specs.Asking.{after_message}
 use Rattle.download_core.specs.declared.status.DownloadStatus.TheVariants.{Failed}
@@ -84,7 +84,7 @@ returns-clause-ok c =
     let r : RequestsState = after_message c.args.from c.args.message c.args.now m.beginnings.holdings.requests in
     if_any c.settle.result (λ ended. (servers : List ℕ) → GoesOn r (state_of m servers c.args.status) (state_of n servers ended))
     (λ ended servers. goes_on m n t r c.args.status ended e.requests e.same.blamed (from_message c.args.from c.args.message c.args.now m.beginnings.holdings.requests t.holdings.requests e.requests).stays c.requires.file (c.is_running.ensures.0 c.if-not-is_running.false)
-    (moves_trans (record m { beginnings = t }) c.take_in.new.self n c.take_in.ensures.moves c.settle.ensures.moves) servers)
+    (moves_trans (record m { beginnings = t }) c.take_in.new.self n c.take_in.ensures.moves c.settle.ensures.moves (inl c.settle.ensures.none)) servers)
 
 pub returns-clause-err : goal.returns-clause-err
 returns-clause-err c =
@@ -95,7 +95,7 @@ returns-clause-err c =
     let r : RequestsState = after_message c.args.from c.args.message c.args.now m.beginnings.holdings.requests in
     on_any c.settle.result ((servers : List ℕ) → GoesOn r (state_of m servers c.args.status) (state_of n servers Failed))
     (λ servers. goes_on m n t r c.args.status Failed e.requests e.same.blamed (from_message c.args.from c.args.message c.args.now m.beginnings.holdings.requests t.holdings.requests e.requests).stays c.requires.file (c.is_running.ensures.0 c.if-not-is_running.false)
-    (moves_trans (record m { beginnings = t }) c.take_in.new.self n c.take_in.ensures.moves c.settle.ensures.moves) servers)
+    (moves_trans (record m { beginnings = t }) c.take_in.new.self n c.take_in.ensures.moves c.settle.ensures.moves (inl c.settle.ensures.none)) servers)
 
 pub returns-clause-kept : goal.returns-clause-kept
 returns-clause-kept c =
@@ -112,4 +112,4 @@ returns-clause-failed c =
     let t = c.take_answer-heard.new.self in
     let e = c.take_answer-heard.ensures in
     kept_fails m c.args.status t c.requires (from_message c.args.from c.args.message c.args.now m.beginnings.holdings.requests t.holdings.requests e.requests) e.same.blamed c.settle.new.self
-    (moves_trans (record m { beginnings = t }) c.take_in.new.self c.settle.new.self c.take_in.ensures.moves c.settle.ensures.moves)
+    (moves_trans (record m { beginnings = t }) c.take_in.new.self c.settle.new.self c.take_in.ensures.moves c.settle.ensures.moves (inl c.settle.ensures.none))

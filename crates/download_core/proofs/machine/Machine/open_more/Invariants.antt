@@ -1,4 +1,4 @@
-use Rattle.std.proofs.Common.{◌≡◌, ◌-◌}
+use Rattle.std.proofs.Common.{◌≡◌, ◌-◌, None}
 use Rattle.share_beginnings.specs.Opening.{nobody}
 use Rattle.share_holdings.specs.Numbers.{read_count}
 use Rattle.download_core.specs.Steps.{AreOpened, MovesOn}
@@ -7,7 +7,7 @@ use Rattle.download_core.proofs.machine.Machine.open_more.Given as goal
 abbrev pub invariant-loop-self : goal.invariant-loop-self
 invariant-loop-self l = record {
   opened : AreOpened l.initial.self.cap.total nobody l.self.beginnings;
-  moves : MovesOn l.initial.self l.self;
+  moves : l.initial.self.found ≡ None → MovesOn l.initial.self l.self;
   found : l.self.found ≡ l.initial.self.found;
 }
 

@@ -4,11 +4,11 @@ use Rattle.request_record.specs.Asking.{after_tick}
 use Rattle.share_beginnings.specs.State.{BeginningsState}
 use Rattle.download_core.specs.declared.status.DownloadStatus.TheVariants.{Failed}
 use Rattle.download_core.specs.Moves.{GoesOn, StopsAt}
-use Rattle.download_core.specs.Steps.{entries_of, EndsAs, IsKept, state_of}
+use Rattle.download_core.specs.Steps.{entries_of, EndsAs, found_of, IsKept, state_of}
 use Rattle.share_beginnings.proofs.Results.{if_ok_then}
 use Rattle.download_core.proofs.EndLemmas.{fair_still, kept_ends, kept_fails, kept_still}
 use Rattle.download_core.proofs.Results.{if_any, on_any}
-use Rattle.download_core.proofs.Going.{goes_on, moves_none, moves_trans, same_on, stands_still}
+use Rattle.download_core.proofs.Going.{goes_on, moves_none, moves_trans, plans_from, plans_none, same_on, stands_still}
 use Rattle.download_core.proofs.NewsLemmas.{passes_of}
 use Rattle.download_core.proofs.Records.{from_same, from_tick}
 use Rattle.download_core.proofs.machine.Machine.pass.Goals as goal
@@ -23,6 +23,7 @@ returns-in_err-tick-clause-err c =
       same = same_on m (record m { beginnings = t }) t c.args.status Failed (ap (λ (x : BeginningsState). x.holdings.blamed) e)
           (from_same (entries_of m) t.holdings.requests.entries (ap (λ (x : BeginningsState). x.holdings.requests.entries) e)).stays c.requires.file (moves_none (record m { beginnings = t })) servers;
       requests = inl (ap (λ (x : BeginningsState). x.holdings.requests) e);
+      later = plans_none (found_of m.found) (entries_of m) t.holdings.requests.entries (ap (λ (x : BeginningsState). x.holdings.requests.entries) e);
     })
 
 pub returns-then-not-is_running-clause-ok : goal.returns-then-not-is_running-clause-ok
@@ -63,7 +64,7 @@ returns-clause-ok c =
     let r : RequestsState = after_tick c.args.now m.beginnings.holdings.requests in
     if_any c.settle.result (λ ended. (servers : List ℕ) → GoesOn r (state_of m servers c.args.status) (state_of n servers ended))
     (λ ended servers. goes_on m n t r c.args.status ended ticks.requests ticks.same.blamed (from_tick c.args.now m.beginnings.holdings.requests t.holdings.requests ticks.requests).stays c.requires.file (c.is_running.ensures.0 c.if-not-is_running.false)
-    (moves_trans (record m { beginnings = t }) c.end_lost.new.self n c.end_lost.ensures.moves c.settle.ensures.moves) servers)
+    (moves_trans (record m { beginnings = t }) c.end_lost.new.self n c.end_lost.ensures.moves c.settle.ensures.moves (inl c.settle.ensures.none)) servers)
 
 pub returns-clause-err : goal.returns-clause-err
 returns-clause-err c =
@@ -71,11 +72,12 @@ returns-clause-err c =
     let t = c.tick.new.self in
     let n = c.settle.new.self in
     let ticks = c.in_ok-tick.ensures.ok in
-    let on = moves_trans (record m { beginnings = t }) c.end_lost.new.self n c.end_lost.ensures.moves c.settle.ensures.moves in
+    let on = moves_trans (record m { beginnings = t }) c.end_lost.new.self n c.end_lost.ensures.moves c.settle.ensures.moves (inl c.settle.ensures.none) in
     on_any c.settle.result ((servers : List ℕ) → StopsAt c.args.now (state_of m servers c.args.status) (state_of n servers Failed))
     (λ servers. record {
       same = same_on m n t c.args.status Failed ticks.same.blamed (from_tick c.args.now m.beginnings.holdings.requests t.holdings.requests ticks.requests).stays c.requires.file on servers;
       requests = inr (on.goes.asks, on.goes.requests ∙ ap (asked_all on.goes.asks) ticks.requests);
+      later = plans_from (found_of n.found) (entries_of m) t.holdings.requests.entries (entries_of n) (from_tick c.args.now m.beginnings.holdings.requests t.holdings.requests ticks.requests).alike on.later;
     })
 
 pub returns-clause-kept : goal.returns-clause-kept
@@ -93,7 +95,7 @@ returns-clause-failed c =
     let t = c.tick.new.self in
     let ticks = c.in_ok-tick.ensures.ok in
     kept_fails m c.args.status t c.requires (from_tick c.args.now m.beginnings.holdings.requests t.holdings.requests ticks.requests) ticks.same.blamed c.settle.new.self
-    (moves_trans (record m { beginnings = t }) c.end_lost.new.self c.settle.new.self c.end_lost.ensures.moves c.settle.ensures.moves)
+    (moves_trans (record m { beginnings = t }) c.end_lost.new.self c.settle.new.self c.end_lost.ensures.moves c.settle.ensures.moves (inl c.settle.ensures.none))
 
 pub returns-in_err-tick-clause-failed : goal.returns-in_err-tick-clause-failed
 returns-in_err-tick-clause-failed c =

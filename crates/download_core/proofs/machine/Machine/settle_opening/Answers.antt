@@ -11,7 +11,7 @@ use Rattle.download_core.proofs.machine.Machine.settle_opening.Goals as goal
 pub returns-then-outstanding-gt0-clause-ends : goal.returns-then-outstanding-gt0-clause-ends
 returns-then-outstanding-gt0-clause-ends c =
     let n = c.open_more.new.self in
-    let on = c.open_more.ensures.moves in
+    let on = c.open_more.ensures.moves c.requires.none in
     let count : c.outstanding.result ≡ outstanding_count (entries_of n) = c.outstanding.ensures ∙ ap (λ (r : RequestsState). outstanding_count r.entries) (c.requests.ensures.value ∙ ap (λ (h : HoldingsState). h.requests) c.holdings.ensures) in
     let test = c.if-outstanding-gt0.true in
     opening_runs n (c.open_more.ensures.found ∙ c.requires.none) (for_on c.args.self.now n on c.requires.wanted)
@@ -20,7 +20,7 @@ returns-then-outstanding-gt0-clause-ends c =
 pub returns-else-outstanding-gt0-clause-ends : goal.returns-else-outstanding-gt0-clause-ends
 returns-else-outstanding-gt0-clause-ends c =
     let n = c.open_more.new.self in
-    let on = c.open_more.ensures.moves in
+    let on = c.open_more.ensures.moves c.requires.none in
     let count : c.outstanding.result ≡ outstanding_count (entries_of n) = c.outstanding.ensures ∙ ap (λ (r : RequestsState). outstanding_count r.entries) (c.requests.ensures.value ∙ ap (λ (h : HoldingsState). h.requests) c.holdings.ensures) in
     let test = c.if-outstanding-gt0.false in
     opening_few n (c.open_more.ensures.found ∙ c.requires.none) (for_on c.args.self.now n on c.requires.wanted)

@@ -121,6 +121,9 @@ returns-in-Ok-Done-clause-known c = rested_known c.args.self.now c.take_waiting.
 pub returns-in-Ok-Done-clause-found : goal.returns-in-Ok-Done-clause-found
 returns-in-Ok-Done-clause-found c = found c.args.self.now c.take_waiting.new.self c.args.holding c.requires.known c.take_waiting.ensures.rests c.requires.opening
 
+pub returns-in-Ok-Done-clause-found_asks : goal.returns-in-Ok-Done-clause-found_asks
+returns-in-Ok-Done-clause-found_asks c = rested_requests c.args.self.now c.take_waiting.new.self c.args.holding c.requires.known c.take_waiting.ensures.rests
+
 pub returns-in-Ok-Done-clause-block : goal.returns-in-Ok-Done-clause-block
 returns-in-Ok-Done-clause-block c =
     block_at c.args.self.now c.take_waiting.new.self c.args.holding c.requires.known c.take_waiting.ensures.rests c.requires.opening c.in-Some.opening c.args.place
