@@ -78,12 +78,14 @@ fn schedules_agree(rt: HostRuntime) {
 // Where the first word of these numbers is even the honest node is asked, where it is odd the liar:
 // words of PCG32 by its paper.
 const EVEN: [u64; 4] = [1, 2, 5, 6];
+
 const ODD: [u64; 4] = [0, 3, 4, 7];
 
 // Does a word from this number on draw one of two messages, so that there are so many events?
 fn draws(alloc: Global, start: u64, events: u64) -> bool {
-    let lines =
-        format!(in alloc; "nodes 1 junk;upload 0 Z 1 1 1 131072;random {start} 1;turn 1;drain");
+    let lines = format!(in alloc;
+        "nodes 1 junk;upload 0 Z 1 1 1 131072;random {start} 1;turn 1;drain"
+    );
     let expected = format!(in alloc; "0 upload running\nagree yes\nevents {events}\n");
     match (lines, expected) {
         (Ok(lines), Ok(expected)) => tells(alloc, lines.as_str(), expected.as_str()),
