@@ -189,12 +189,12 @@ fn each_cut_is_blamed(alloc: Global) -> Option<bool> {
     let file = text_of(alloc, SMALLEST, 0).ok()?;
     let cap = cap_of(&encoded)?;
     let length = encoded.shares.first()?.as_slice().len();
-    let mut blamed = 0;
+    let mut blamed: usize = 0;
     for cut in 0..length {
         let mut held = one_each(alloc, &encoded)?;
         held.get_mut(0)?.bytes.truncate(cut);
         let course = course_of(alloc, cap, &file, (0, SMALLEST), &held, None)?;
-        blamed += usize::from(is_blamed_alone(&course));
+        blamed = blamed.saturating_add(usize::from(is_blamed_alone(&course)));
     }
     Some(length == 633 && blamed == length)
 }

@@ -27,7 +27,7 @@ struct Counter {
 
 impl Liar for Counter {
     fn turn(&mut self, heard: &[Sent]) -> Result<Option<(NodeId, Bytes)>, LiarFault> {
-        let count = heard.len() as u8;
+        let count = heard.len().min(255) as u8;
         match (self.says, vec![in self.alloc; count; 1]) {
             (Says::To(node), Ok(body)) => Ok(Some((node, Bytes::from_vec(body)))),
             _ => Err(LiarFault),
