@@ -5,7 +5,9 @@ use std::cell::Cell;
 use std::fs::{File, Metadata, OpenOptions};
 use std::io;
 use std::io::{Read, Write};
-use std::net::{Net, OpenListener, OpenStream, SocketAddr, TcpListener, TcpStream};
+use std::net::{
+    Ipv4Addr, Net, OpenListener, OpenStream, Shutdown, SocketAddr, TcpListener, TcpStream,
+};
 use std::os::fd::{AsRawFd, RawFd};
 use std::rt::{Clock, Files};
 use std::time::Duration;
@@ -22,6 +24,8 @@ pub(crate) enum Odd {
     Stranger,
     // Each call on the server's end fails once so many went well.
     Closes(u64),
+    // The server's end is shut both ways once so many calls on it went well.
+    Ends(u64),
     // The server's end sends bytes that are no frame.
     Garbage,
     // It sends frames of the greatest length that there is.
@@ -135,6 +139,10 @@ impl<'a> Net for OddHost<'a> {
     type Listener = OddListener<'a>;
 
     fn bind(&self, addr: SocketAddr) -> io::Result<OddListener<'a>> {
+        // A server listens at this machine alone, at a port that the system gives.
+        if addr != SocketAddr::from((Ipv4Addr::LOCALHOST, 0)) {
+            return Err(io::Error::from(io::ErrorKind::AddrNotAvailable));
+        }
         let number = self.plan.listeners.get();
         self.plan.listeners.set(number.wrapping_add(1));
         let is_odd = number == 3;
@@ -222,6 +230,11 @@ impl<'a> OddStream<'a> {
         match self.plan.odd {
             Odd::Closes(left) if calls >= left => {
                 Err(io::Error::from(io::ErrorKind::ConnectionReset))
+            }
+            Odd::Ends(left) if calls >= left => {
+                // An end that is shut already stays so.
+                let _ = self.stream.shutdown(Shutdown::Both);
+                Ok(())
             }
             _ => Ok(()),
         }

@@ -8,8 +8,11 @@ use std::{fs, io};
 
 // Sizes of files, and options, of a `put`: also those that are refused, and a file that its cap
 // holds.
-const PUTS: [(usize, &str); 9] = [
+const PUTS: [(usize, &str); 13] = [
     (56, ""),
+    (56, " --k 1 --happy 1 --n 1 --servers 1"),
+    (300, " --k 2 --happy 5 --n 5 --segment 20 --secret abc"),
+    (56, " --servers 256"),
     (56, " --servers 7"),
     (56, " --servers 12 --happy 10"),
     (131_074, ""),
@@ -18,10 +21,10 @@ const PUTS: [(usize, &str); 9] = [
     (56, " --k 4 --n 3"),
     (56, " --servers 0"),
     (55, ""),
+    (0, ""),
 ];
 
-// Whether a file that is put in memory and one that is put over sockets are told alike, and the
-// latter comes back, over sockets and without.
+// Whether a file that is put in memory and one that is put over sockets are told alike.
 fn puts_alike(rt: &HostRuntime, size: usize, options: &str) -> io::Result<bool> {
     let plan = Plan::new(Odd::Nothing);
     begin(rt, size)?;
@@ -39,6 +42,35 @@ fn puts_over_sockets(rt: HostRuntime) {
         assert!(rt; matches!(outcome, Ok(true)), "{size} {options}");
     }
     assert!(rt; remove(&rt).is_ok());
+}
+
+// Makes the folder anew, with a grid some of whose servers take no shares.
+fn begin_with_readers(rt: &HostRuntime) -> io::Result<()> {
+    begin(rt, 56)?;
+    for server in [0u16, 3, 8] {
+        let folder = server_path(rt, server)?;
+        fs::create_dir_all(rt, folder.as_str())?;
+        let mark = format!(in rt.alloc(); "{folder}/readonly")?;
+        fs::write(rt, mark.as_str(), b"")?;
+    }
+    Ok(())
+}
+
+// Whether seven of ten servers take shares, in memory and over sockets.
+fn readers_take_none(rt: &HostRuntime) -> io::Result<bool> {
+    let plan = Plan::new(Odd::Nothing);
+    begin_with_readers(rt)?;
+    let wanted = put(rt, &plan, "")?;
+    begin_with_readers(rt)?;
+    let told = put(rt, &plan, " --net")?;
+    let is_seven = told.out.as_slice().ends_with(b"\nhappiness 7\n");
+    Ok(is_seven && told.equals(&wanted))
+}
+
+#[test]
+fn servers_that_take_no_shares(rt: HostRuntime) {
+    let outcome = readers_take_none(&rt);
+    assert!(rt; matches!(outcome, Ok(true)) && remove(&rt).is_ok());
 }
 
 // Commands on caps, with options.
@@ -63,9 +95,11 @@ fn reads_alike(rt: &HostRuntime, row: &(&str, &str, &str)) -> io::Result<bool> {
     let plan = Plan::new(Odd::Nothing);
     let &(command, cap, options) = row;
     let wanted = of_cap(rt, &plan, (command, cap, options))?;
+    // In memory no socket is made.
+    let is_in_memory = plan.listeners.get() == 0;
     let with_net = format!(in rt.alloc(); "{options} --net")?;
     let told = of_cap(rt, &plan, (command, cap, with_net.as_str()))?;
-    Ok(told.equals(&wanted))
+    Ok(is_in_memory && told.equals(&wanted))
 }
 
 // Whether each command does.
@@ -86,6 +120,9 @@ fn goes_round(rt: &HostRuntime) -> io::Result<bool> {
         .out
         .as_slice()
         .ends_with(b"\nhappiness 10\n");
+    if plan.listeners.get() != 10 {
+        return Ok(false);
+    }
     let file = counted(rt, 131_074)?;
     let told = of_cap(rt, &plan, ("get", CAP_131074, " --net"))?;
     Ok(is_put && told.is(0, file.as_slice(), "") && all_read_alike(rt))

@@ -7,7 +7,7 @@ use std::alloc::AllocError;
 use std::io;
 
 // What is odd, and how happy an upload is then.
-const ODDS: [(Odd, u16); 7] = [
+const ODDS: [(Odd, u16); 8] = [
     (Odd::Nothing, 10),
     (Odd::Stranger, 10),
     (Odd::NoConnection, 9),
@@ -15,6 +15,7 @@ const ODDS: [(Odd, u16); 7] = [
     (Odd::TooLong, 9),
     (Odd::Half, 9),
     (Odd::More, 9),
+    (Odd::Ends(0), 9),
 ];
 
 // The lines of a file that was put with this happiness.
@@ -30,10 +31,12 @@ fn is_happy(rt: &HostRuntime, odd: Odd, happiness: u16) -> io::Result<bool> {
     let got = of_cap(rt, &Plan::new(odd), ("get", CAP_131074, " --net"))?;
     let file = counted(rt, 131_074)?;
     let checked = of_cap(rt, &Plan::new(odd), ("check", CAP_131074, " --net"))?;
+    let last = format!(in rt.alloc(); " recoverable yes happiness {happiness}\n")?;
     Ok(
         told.is(0, lines.as_bytes(), "")
             && got.is(0, file.as_slice(), "")
             && checked.status == 0
+            && checked.out.as_slice().ends_with(last.as_bytes())
             && checked.err.as_slice().is_empty(),
     )
 }
@@ -53,9 +56,9 @@ fn odd_sockets(rt: HostRuntime) {
 const CLOSES: [u64; 12] = [0, 1, 2, 3, 4, 5, 9, 14, 17, 20, 25, 30];
 
 // Whether a `put` of which one socket is closed so is still happy, with nine servers or ten.
-fn outlives_a_close(rt: &HostRuntime, left: u64) -> io::Result<bool> {
+fn outlives_a_close(rt: &HostRuntime, odd: Odd, left: u64) -> io::Result<bool> {
     begin(rt, 131_074)?;
-    let plan = Plan::new(Odd::Closes(left));
+    let plan = Plan::new(odd);
     let told = put(rt, &plan, " --happy 7 --net")?;
     let (nine, ten) = (put_lines(rt, 9)?, put_lines(rt, 10)?);
     let is_whole = plan.calls.get() <= left;
@@ -66,10 +69,36 @@ fn outlives_a_close(rt: &HostRuntime, left: u64) -> io::Result<bool> {
 #[test]
 fn a_socket_is_closed(rt: HostRuntime) {
     for left in CLOSES {
-        let outcome = outlives_a_close(&rt, left);
+        let outcome = outlives_a_close(&rt, Odd::Closes(left), left);
+        assert!(rt; matches!(outcome, Ok(true)), "{left}");
+    }
+    for left in [1, 4, 17] {
+        let outcome = outlives_a_close(&rt, Odd::Ends(left), left);
         assert!(rt; matches!(outcome, Ok(true)), "{left}");
     }
     assert!(rt; remove(&rt).is_ok());
+}
+
+// Whether a `check` tells that the share of the fourth server is lost, whose socket is closed once
+// it told what it holds: its Ask is read and answered by two calls.
+fn tells_a_lost_share(rt: &HostRuntime) -> io::Result<bool> {
+    begin(rt, 131_074)?;
+    let is_put = put(rt, &Plan::new(Odd::Nothing), "")?.status == 0;
+    let plan = Plan::new(Odd::Closes(4));
+    let checked = of_cap(rt, &plan, ("check", CAP_131074, " --net"))?;
+    let Ok(told) = str::from_utf8(checked.out.as_slice()) else {
+        return Ok(false);
+    };
+    let is_lost = told.lines().any(|line| line.starts_with("server-003 ")
+        && line.ends_with(" lost"));
+    let is_told = told.ends_with("\nhealthy no recoverable yes happiness 9\n");
+    Ok(is_put && checked.status == 0 && is_lost && is_told)
+}
+
+#[test]
+fn a_share_is_lost(rt: HostRuntime) {
+    let outcome = tells_a_lost_share(&rt);
+    assert!(rt; matches!(outcome, Ok(true)) && remove(&rt).is_ok());
 }
 
 const SOCKET_FAULT: &str = "grid: 91 SocketFault\n";

@@ -1,9 +1,10 @@
 //! The line on standard error that tells how far a command is.
 
 use crate::host::{Odd, OddHost, Plan};
-use crate::runs::{CAP_131074, Ended, begin, path, remove, run};
+use crate::runs::{CAP_131074, Ended, begin, counted, path, remove, run};
+use grid_commands::grid;
 use std::alloc::AllocError;
-use std::io;
+use std::io::{self, IsTerminal, Write};
 
 // Back to the line's beginning, and the line is cleared.
 const CLEAR: &str = "\r\x1b[K";
@@ -38,21 +39,29 @@ fn cap_line(rt: &HostRuntime, command: &str, cap: &str) -> Result<String, AllocE
     format!(in rt.alloc(); "grid {command} {cap} --grid {root}/grid")
 }
 
-// Whether what was told are lines that begin so, each below 80 columns, the last of them cleared.
-fn are_lines(told: &[u8], beginning: &str) -> bool {
-    let Ok(text) = str::from_utf8(told) else {
-        return false;
-    };
+// How many lines were told that begin so, each below 80 columns, the last of them cleared. `None`
+// where something else was told.
+fn lines_told(told: &[u8], beginning: &str) -> Option<u64> {
+    let text = str::from_utf8(told).ok()?;
     let mut count: u64 = 0;
     for (place, line) in text.split(CLEAR).enumerate() {
         if place != 0 && !line.is_empty() {
             count = count.saturating_add(1);
             if !line.starts_with(beginning) || 80 <= line.len() {
-                return false;
+                return None;
             }
         }
     }
-    text.starts_with(CLEAR) && text.ends_with(CLEAR) && 1 < count
+    if text.starts_with(CLEAR) && text.ends_with(CLEAR) {
+        Some(count)
+    } else {
+        None
+    }
+}
+
+// Whether some were.
+fn are_lines(told: &[u8], beginning: &str) -> bool {
+    lines_told(told, beginning).is_some_and(|count| 1 < count)
 }
 
 // Whether the command tells lines that begin so on a terminal where it takes long, and nothing
@@ -124,5 +133,72 @@ fn clears_before_a_fault(rt: &HostRuntime) -> io::Result<bool> {
 #[test]
 fn a_fault_stands_on_a_cleared_line(rt: HostRuntime) {
     let outcome = clears_before_a_fault(&rt);
+    assert!(rt; matches!(outcome, Ok(true)) && remove(&rt).is_ok());
+}
+
+// Whether a check whose clock goes on by 14 milliseconds at each look tells a line after the first
+// second at the earliest, and ten a second at most.
+fn is_told_seldom(rt: &HostRuntime) -> io::Result<bool> {
+    begin(rt, 131_074)?;
+    let is_put = run_slowly(rt, put_line(rt)?.as_str(), 0, false)?.status == 0;
+    let mut plan = Plan::new(Odd::Nothing);
+    plan.step = 14;
+    let host = OddHost {
+        rt: *rt,
+        plan: &plan,
+    };
+    let told = run(&host, cap_line(rt, "check", CAP_131074)?.as_str(), true)?;
+    let after = plan.clock.get().saturating_sub(1000);
+    let count = lines_told(told.err.as_slice(), "check: ");
+    Ok(is_put && count.is_some_and(|count| 1 < count && count <= 1 + after / 100))
+}
+
+#[test]
+fn lines_are_told_ten_times_a_second_at_most(rt: HostRuntime) {
+    let outcome = is_told_seldom(&rt);
+    assert!(rt; matches!(outcome, Ok(true)) && remove(&rt).is_ok());
+}
+
+// A terminal to which nothing can be written.
+#[derive(Drop)]
+struct DeadTerminal;
+
+impl Write for DeadTerminal {
+    fn write(&mut self, _buf: &[u8]) -> io::Result<usize> {
+        Err(io::Error::from(io::ErrorKind::BrokenPipe))
+    }
+
+    fn flush(&mut self) -> io::Result<()> {
+        Ok(())
+    }
+}
+
+impl IsTerminal for DeadTerminal {
+    fn is_terminal(&self) -> bool {
+        true
+    }
+}
+
+// Whether a `get` that takes long gives the file where its lines cannot be written.
+fn gets_without_lines(rt: &HostRuntime) -> io::Result<bool> {
+    begin(rt, 131_074)?;
+    let is_put = run_slowly(rt, put_line(rt)?.as_str(), 0, false)?.status == 0;
+    let mut plan = Plan::new(Odd::Nothing);
+    plan.step = 1000;
+    let host = OddHost {
+        rt: *rt,
+        plan: &plan,
+    };
+    let line = cap_line(rt, "get", CAP_131074)?;
+    let words: Vec<&str> = line.split(' ').collect(rt.alloc())?;
+    let mut out = Vec::new(rt.alloc());
+    let status = grid(&host, words.as_slice(), &mut out, &mut DeadTerminal);
+    let file = counted(rt, 131_074)?;
+    Ok(is_put && status == 0 && out.as_slice() == file.as_slice())
+}
+
+#[test]
+fn a_fault_of_the_line_is_passed_over(rt: HostRuntime) {
+    let outcome = gets_without_lines(&rt);
     assert!(rt; matches!(outcome, Ok(true)) && remove(&rt).is_ok());
 }
