@@ -1,10 +1,11 @@
 // Hashes side by side, against values that Python's hashlib computed: the first bytes of SHA-256 of
-// all the hashes one after another. Byte q of a text is q mod 251.
+// all the hashes one after another. Beside them the digests of messages that come in pieces. Byte q
+// of a text is q mod 251.
 
 ghost use Rattle.std.specs.Prelude.{◌≡◌, ◌<◌, IfOk, vec_len};
 
 use sha2::{Digest, Sha256};
-use sha2_lanes::double_sha256_of_eight;
+use sha2_lanes::{Sha256Stream, double_sha256_of_eight};
 use std::alloc::{AllocError, Global};
 use std::test::Fail;
 use tagged_hash::{Tag, tagged_pieces};
@@ -95,6 +96,54 @@ fn pieces_have_their_hashes(rt: HostRuntime) -> Result<(), Fail> {
     for &(size, count, len, start) in &rows {
         let digest = pieces_hashed(rt.alloc(), size, count, len)?;
         assert!(rt; &digest[..8] == start.as_slice(), "{size}");
+    }
+    Ok(())
+}
+
+// SHA-256 of a message that comes in pieces of this size.
+fn streamed(message: &[u8], size: usize) -> [u8; 32]
+    requires { 0 < size }
+{
+    let mut stream = Sha256Stream::new();
+    for piece in message.chunks(size) {
+        stream.update(piece);
+    }
+    stream.finish()
+}
+
+// NIST's examples to FIPS 180-4, of one block, of two and of 896 bits, and the empty message of its
+// test vectors.
+#[test]
+fn a_stream_has_the_published_digests(rt: HostRuntime) {
+    let rows = [
+        ("", [0xe3, 0xb0, 0xc4, 0x42, 0x98, 0xfc, 0x1c, 0x14]),
+        ("abc", [0xba, 0x78, 0x16, 0xbf, 0x8f, 0x01, 0xcf, 0xea]),
+        (
+            "abcdbcdecdefdefgefghfghighijhijkijkljklmklmnlmnomnopnopq",
+            [0x24, 0x8d, 0x6a, 0x61, 0xd2, 0x06, 0x38, 0xb8],
+        ),
+        (
+            "abcdefghbcdefghicdefghijdefghijkefghijklfghijklmghijklmn\
+             hijklmnoijklmnopjklmnopqklmnopqrlmnopqrsmnopqrstnopqrstu",
+            [0xcf, 0x5b, 0x16, 0xa7, 0x78, 0xaf, 0x83, 0x80],
+        ),
+    ];
+    for &(message, start) in &rows {
+        let digest = streamed(message.as_bytes(), 5);
+        assert!(rt; &digest[..8] == start.as_slice(), "{message}");
+    }
+}
+
+// Pieces that end anywhere in a group of eight blocks, that fill it, and that hold whole groups.
+#[test]
+fn pieces_of_a_stream_make_one_message(rt: HostRuntime) -> Result<(), Fail> {
+    let text = text_of(rt.alloc(), 5_000)?;
+    for size in [333, 1_100, 5_000] {
+        let digest = streamed(&text, size);
+        assert!(rt;
+            digest[..8] == [0x69, 0xdb, 0xee, 0x89, 0x39, 0x09, 0xfa, 0x17],
+            "{size}"
+        );
     }
     Ok(())
 }

@@ -115,7 +115,7 @@ fn lines(
 }
 
 // Whether `check` of a cap gives this status, and writes this to standard output and to standard
-// error.
+// error, in memory and over sockets.
 fn check_gives(
     rt: &HostRuntime,
     cap: &str,
@@ -124,12 +124,15 @@ fn check_gives(
     err: &str,
 ) -> Result<bool, AllocError> {
     let line = check_line(rt, cap)?;
-    let ended = run(rt, line.as_str())?;
-    Ok(
-        ended.status == status
-            && ended.out.as_slice() == out.as_bytes()
-            && ended.err.as_slice() == err.as_bytes(),
-    )
+    let over_sockets = format!(in rt.alloc(); "{line} --net")?;
+    for line in [line.as_str(), over_sockets.as_str()] {
+        let ended = run(rt, line)?;
+        let is_told = ended.status == status && ended.out.as_slice() == out.as_bytes();
+        if !is_told || ended.err.as_slice() != err.as_bytes() {
+            return Ok(false);
+        }
+    }
+    Ok(true)
 }
 
 // Damage to the shares of some servers, the verdict on them, the last line, and the status.

@@ -1,6 +1,9 @@
-//! SHA-256 (FIPS 180-4) of eight messages of one length, side by side in the lanes of vectors.
+//! SHA-256 (FIPS 180-4), with vectors of eight words.
 //!
-//! The definition is that of the crate `sha2`. No call takes memory.
+//! `double_sha256_of_eight` hashes eight messages of one length side by side. `Sha256Stream` hashes
+//! one message that comes in pieces: it makes the schedules of eight blocks in a row side by side,
+//! and runs their rounds one block after the other. The definition is that of the crate `sha2`. No
+//! call takes memory.
 #![tactic(auto)]
 
 ghost use Rattle.std.specs.Prelude.{◌≡◌, ◌<◌, ◌^◌, ◌++◌, All, length, map};
@@ -10,9 +13,14 @@ use digest::{digests, second};
 use message::hashes;
 
 mod digest;
+mod group;
 mod message;
 mod round;
+mod schedule;
+mod stream;
 mod words;
+
+pub use stream::Sha256Stream;
 
 /// SHA-256, applied twice, of `prefix` with each of eight messages behind it. The messages have
 /// `len` bytes each, and the prefix has fewer than 2^32.
