@@ -9,11 +9,12 @@
 # takes a few minutes, and needs a C compiler `cc` and glibc. No proof speaks of what is seen here: that
 # the programs as they were built tell each such failure.
 #
-# A file of 56 bytes is put, got and checked at 1 of 1 and at 3 of 10. Once as it is; then the first call fails,
-# then the second alone, and so on to a run that makes no such call any more:
+# A file of 56 bytes is put, got and checked at 1 of 1 and at 3 of 10, and one of 3,000 bytes in ten
+# segments at 3 of 10, of which a range is got too. Once as it is; then the first call fails, then the
+# second alone, and so on to a run that makes no such call any more:
 #   memory  malloc, calloc, realloc, reallocarray, memalign, aligned_alloc, posix_memalign: the run ends
 #           with status 7 and the line `grid: 1 OutOfMemory` on standard error, and nothing on standard
-#           output; or exactly as without.
+#           output but, of `get`, a beginning of the file; or exactly as without.
 #   files   open, read, write, rename, mkdir, stat, the reading of folders and their like, which answer
 #           EIO: the run ends with status 7 and `grid: 90 FileFault PATH`; with status 7 alone where the
 #           write to standard output itself failed; or exactly as without. At 1 of 1, `get` may also end
@@ -60,8 +61,10 @@ trap 'exit 2' HUP INT TERM
 cd "$room" || exit 2
 cc -shared -fPIC -O1 -o fault.so "$here/tests/fault.c" || exit 2
 
-i=0
-while [ $i -lt 56 ]; do printf '\000'; i=$((i + 1)); done > file
+# Makes the file, of $1 bytes: numbers, one after another.
+make_file() {
+    awk 'BEGIN { for (i = 0; i < 1000; i++) printf "%d ", i }' | head -c "$1" > file
+}
 
 runs=0
 differed=0
@@ -82,9 +85,16 @@ is_as_without() {
     [ $status = 0 ] && cmp -s out plain.out && cmp -s err plain.err
 }
 
-# Whether the run ended with this status, this one line on standard error and nothing on standard output. $2 is a pattern.
+# Whether nothing was written to standard output, or by `get` a beginning of what it writes without a
+# fault.
+is_beginning() {
+    [ ! -s out ] || { [ "$command" = get ] && head -c "$(wc -c < out)" plain.out | cmp -s - out; }
+}
+
+# Whether the run ended with this status, this one line on standard error and no more than a beginning
+# on standard output. $2 is a pattern.
 is_told() {
-    [ $status = "$1" ] && [ ! -s out ] && [ "$(wc -l < err)" -eq 1 ] && grep -q -x -e "$2" err
+    [ $status = "$1" ] && is_beginning && [ "$(wc -l < err)" -eq 1 ] && grep -q -x -e "$2" err
 }
 
 # Whether a `put` ended well with fewer servers, at least $1: one whose folder failed is silent.
@@ -101,7 +111,7 @@ is_right() {
         files)
             is_told 7 'grid: 90 FileFault ..*' && return 0
             case $(cat mark 2> /dev/null) in
-                *' -1-') [ $status = 7 ] && [ ! -s out ] && [ ! -s err ] ;;
+                *' -1-') [ $status = 7 ] && is_beginning && [ ! -s err ] ;;
                 *'grid/server-'*)
                     is_told 4 'grid: 70 Unhappy reached [0-9]* wanted [0-9]*' || is_less_happy "$2" ;;
                 *'held/server-'*) [ "$2" = "$3" ] && is_told 5 'grid: 71 NotEnoughShares' ;;
@@ -129,20 +139,22 @@ count() {
 }
 
 # Makes each call of kind $1 of a command fail in turn; $2 is `put`, `get` or `check`, $3 shares are
-# needed of $4.
+# needed of $4, and further words are the command's own.
 each() {
     kind=$1 command=$2 needed=$3 total=$4
+    shift 4
     at=1 told=0 wrong=0
     while :; do
         if [ "$command" = put ]; then
             rm -rf grid
-            run "$kind" $at "$program" put file --grid grid --k "$needed" --happy "$needed" --n "$total" --servers "$total"
+            run "$kind" $at "$program" put file --grid grid --k "$needed" --happy "$needed" \
+                --n "$total" --servers "$total" --segment "$segment"
         else
-            run "$kind" $at "$program" "$command" "$cap" --grid held
+            run "$kind" $at "$program" "$command" "$cap" --grid held "$@"
         fi
         if ! is_right "$kind" "$needed" "$total" || { [ "$command" = put ] && ! is_whole; }; then
             wrong=$((wrong + 1))
-            echo "$command $needed of $total: $kind call $at ($(cat mark 2> /dev/null)) ended with status $status: $(head -n 1 err)"
+            echo "$command $needed of $total, $size bytes: $kind call $at ($(cat mark 2> /dev/null)) ended with status $status: $(head -n 1 err)"
         elif ! is_as_without; then
             told=$((told + 1))
         fi
@@ -150,7 +162,7 @@ each() {
         [ -e mark ] || break
         at=$((at + 1))
     done
-    echo "$command $needed of $total, $kind: $((at - 1)) calls failed in turn; $told runs told it, $((at - 1 - told - wrong)) ended as without, $wrong otherwise"
+    echo "$command $needed of $total, $size bytes, $kind: $((at - 1)) calls failed in turn; $told runs told it, $((at - 1 - told - wrong)) ended as without, $wrong otherwise"
     count
 }
 
@@ -170,10 +182,13 @@ each_of_test() {
     count
 }
 
-for numbers in '1 1' '3 10'; do
-    needed=${numbers% *} total=${numbers#* }
+for numbers in '1 1 56 131072' '3 10 56 131072' '3 10 3000 300'; do
+    set -- $numbers
+    needed=$1 total=$2 size=$3 segment=$4
     rm -rf held
-    run none 0 "$program" put file --grid held --k "$needed" --happy "$needed" --n "$total" --servers "$total"
+    make_file "$size"
+    run none 0 "$program" put file --grid held --k "$needed" --happy "$needed" --n "$total" \
+        --servers "$total" --segment "$segment"
     cap=$(head -n 1 out)
     if [ $status != 0 ] || [ -s err ]; then
         echo "put $needed of $total ends with status $status without a fault: $(head -n 1 err)"
@@ -194,6 +209,16 @@ for numbers in '1 1' '3 10'; do
     mv err plain.err
     each memory get "$needed" "$total"
     each files get "$needed" "$total"
+    from=$((size / 3)) to=$((size / 2))
+    run none 0 "$program" get "$cap" --grid held --from $from --to $to
+    if [ $status != 0 ] || [ "$(cat out)" != "$(head -c $to file | tail -c $((to - from)))" ]; then
+        echo "get $needed of $total does not give a range without a fault: status $status"
+        differed=$((differed + 1))
+        continue
+    fi
+    mv out plain.out
+    mv err plain.err
+    each memory get "$needed" "$total" --from $from --to $to
     run none 0 "$program" check "$cap" --grid held
     if [ $status != 0 ] || [ "$(tail -n 1 out)" != "healthy yes recoverable yes happiness $total" ]; then
         echo "check $needed of $total does not end well without a fault: status $status"
