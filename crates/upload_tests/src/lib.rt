@@ -3,6 +3,8 @@
 #![tactic(auto)]
 
 #[cfg(test)]
+mod courses;
+#[cfg(test)]
 mod upload_core_tests;
 #[cfg(test)]
 mod upload_rounds_tests;

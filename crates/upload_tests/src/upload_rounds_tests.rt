@@ -5,9 +5,8 @@ ghost use Rattle.std.specs.Prelude.{◌≡◌, IfSome, length, map, nat_eq};
 ghost use Rattle.std.specs.List.{IsDistinct};
 ghost use Rattle.upload_core.specs.declared.status.ServerInfo.{ServerInfo};
 
-use crate::upload_core_tests::{
-    Conduct, SERVERS, SHARE_LENGTH, answer, begun, servers, share, verify_cap,
-};
+use crate::courses::{Asked, Course};
+use crate::upload_core_tests::{Conduct, SERVERS, SHARE_LENGTH, begun, share, verify_cap};
 use Conduct::{Full, Honest, ReadOnly, Silent};
 use cap_text::{ReadCap, VerifyCap};
 use file_encoding::{Params, encode_all};
@@ -21,7 +20,7 @@ use tagged_hash::share_digest;
 use upload_core::Upload;
 use upload_core::pieces::WholeShares;
 use upload_core::status::{ServerInfo, UploadGoal, UploadStatus};
-use wire::message::{Body, NodeId, ShareId, ShareLength};
+use wire::message::{NodeId, ShareId, ShareLength};
 
 const ONE: [ServerInfo; 1] = [ServerInfo {
     node: 0,
@@ -83,31 +82,6 @@ const TEN: [ServerInfo; 10] = [
     },
 ];
 
-// What a request asks, and of which share; of a Write, from which place on.
-#[derive(Clone, Copy, PartialEq, Eq)]
-enum Asked {
-    Ask,
-    Allocate(u8),
-    Write(u8, u64),
-    Close(u8),
-    Abort(u8),
-    Other,
-}
-
-// A request that was sent: the second, and the server's node.
-type Sent = (u64, NodeId, Asked);
-
-fn asked_by(body: &Body) -> Asked {
-    match body {
-        Body::Ask(_) => Asked::Ask,
-        Body::Allocate(id, _) => Asked::Allocate(id.share),
-        Body::Write(id, offset, _) => Asked::Write(id.share, *offset),
-        Body::Close(id) => Asked::Close(id.share),
-        Body::Abort(id) => Asked::Abort(id.share),
-        _ => Asked::Other,
-    }
-}
-
 // An upload of one share, of one, to these servers.
 fn begun_one(alloc: Global, servers: &[ServerInfo]) -> Option<Upload<WholeShares>>
     requires { IsDistinct nat_eq (map (λ (s : ServerInfo). s.node) servers.now) }
@@ -118,113 +92,6 @@ fn begun_one(alloc: Global, servers: &[ServerInfo]) -> Option<Upload<WholeShares
     let length = ShareLength::new(SHARE_LENGTH as u64)?;
     let goal = UploadGoal::new(cap.to_verify(), digests, length);
     Upload::start(alloc, shares, goal, 1, servers, 5, 0).ok()
-}
-
-// What goes between an upload and its servers: the first answer to the request that is named is
-// lost on its way.
-#[derive(Drop)]
-struct Course<'a> {
-    grid: Vec<Server<MemoryStore>>,
-    conducts: &'a [Conduct],
-    lost: Option<Asked>,
-    sent: Vec<Sent>,
-}
-
-impl<'a> Course<'a> {
-    fn new(alloc: Global, conducts: &'a [Conduct]) -> Option<Course<'a>> {
-        Some(Course {
-            grid: servers(alloc, conducts)?,
-            conducts,
-            lost: None,
-            sent: Vec::new(alloc),
-        })
-    }
-
-    // Is this the request whose answer is lost? A second one is not.
-    fn loses(&mut self, asked: Asked) -> bool {
-        let is_lost = self.lost == Some(asked);
-        if is_lost {
-            self.lost = None;
-        }
-        is_lost
-    }
-
-    // Sends the next request and takes its answer, or lets five seconds pass where there is none.
-    // Gives the second.
-    fn step(&mut self, alloc: Global, upload: &mut Upload<WholeShares>, now: u64) -> Option<u64> {
-        let Some((node, request)) = upload.take_outgoing(alloc).ok()? else {
-            let later = now.saturating_add(5);
-            upload.tick(later).ok()?;
-            return Some(later);
-        };
-        let asked = asked_by(&request.body);
-        self.sent.push((now, node, asked)).ok()?;
-        if let Some(message) = answer(&mut self.grid, self.conducts, node, &request, now) {
-            if !self.loses(asked) {
-                upload.on_message(node, &message, now).ok()?;
-            }
-        }
-        Some(now)
-    }
-
-    // Carries an upload to its end.
-    fn carry(&mut self, alloc: Global, upload: &mut Upload<WholeShares>) -> Option<()> {
-        let mut now: u64 = 0;
-        for _ in 0..400 {
-            now = self.step(alloc, upload, now)?;
-        }
-        Some(())
-    }
-
-    // Does a server keep these bytes under the share's number?
-    fn keeps(&self, cap: &VerifyCap, node: NodeId, number: u8, bytes: &[u8]) -> bool {
-        let id = ShareId {
-            index: *cap.storage_index(),
-            share: number,
-        };
-        match self.grid.get(usize::from(node)) {
-            Some(server) => server.store().closed(&id) == Some(share_digest(bytes)),
-            None => false,
-        }
-    }
-
-    // The requests that were sent to a node, each with its second.
-    fn sent_to(&self, alloc: Global, node: NodeId) -> Option<Vec<(u64, Asked)>> {
-        let mut found = Vec::new(alloc);
-        for (second, to, asked) in &self.sent {
-            if *to == node {
-                found.push((*second, *asked)).ok()?;
-            }
-        }
-        Some(found)
-    }
-
-    // The Allocates, by node and share, in the order in which they were sent.
-    fn allocated(&self, alloc: Global) -> Option<Vec<(NodeId, u8)>> {
-        let mut found = Vec::new(alloc);
-        for (_, to, asked) in &self.sent {
-            if let Asked::Allocate(number) = asked {
-                found.push((*to, *number)).ok()?;
-            }
-        }
-        Some(found)
-    }
-
-    // Are these the requests that were sent to a node?
-    fn has_sent_to(&self, alloc: Global, node: NodeId, expected: &[(u64, Asked)]) -> bool {
-        match self.sent_to(alloc, node) {
-            Some(sent) => sent.as_slice() == expected,
-            None => false,
-        }
-    }
-
-    // Are these the Allocates that were sent?
-    fn has_allocated(&self, alloc: Global, expected: &[(NodeId, u8)]) -> bool {
-        match self.allocated(alloc) {
-            Some(allocated) => allocated.as_slice() == expected,
-            None => false,
-        }
-    }
 }
 
 // A store that keeps one share of the file.

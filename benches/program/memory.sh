@@ -1,0 +1,59 @@
+#!/bin/bash
+# Measures what the built program holds and reads: the peak memory of put, get and check by the
+# file's size, and the time and the bytes read of a get of one byte. Its words: the program (that of
+# this repository if none, which is built first), and the MiB of the file of which one byte is got
+# (1,024 if none; a put of it holds 5.5 times as much).
+set -e
+here=$(cd "$(dirname "$0")" && pwd)
+root=$(cd "$here/../.." && pwd)
+program=${1:-}
+large=${2:-1024}
+if [ -z "$program" ]; then
+    "$root/grid" cap URI:LIT:na > /dev/null
+    program=$root/crates/grid_main/out/grid_main
+fi
+export GLIBC_TUNABLES="glibc.malloc.hugetlb=1${GLIBC_TUNABLES:+:$GLIBC_TUNABLES}"
+work=$(mktemp -d)
+trap 'rm -rf "$work"' EXIT
+cd "$work"
+
+# The peak memory of a command in bytes. Its output goes to the file `out`.
+peak() {
+    python3 -c '
+import resource, subprocess, sys
+subprocess.run(sys.argv[1:], stdout=open("out", "wb"), check=True)
+print(resource.getrusage(resource.RUSAGE_CHILDREN).ru_maxrss * 1024)' "$@"
+}
+
+# Prints a peak beside the size in bytes.
+told() { awk -v name="$1" -v peak="$2" -v size="$3" 'BEGIN {
+    printf "%-28s %7.1f MiB, %5.2f of its bytes\n", name, peak / 1048576, peak / size }'; }
+
+for mib in 16 64; do
+    size=$((mib << 20))
+    head -c $size /dev/urandom > file
+    rm -rf grid
+    told "put of $mib MiB" "$(peak "$program" put file --grid grid)" $size
+    cap=$(head -n 1 out)
+    told "get of $mib MiB" "$(peak "$program" get "$cap" --grid grid)" $size
+    cmp -s out file || { echo "the file that came back is another"; exit 1; }
+    told "check of $mib MiB" "$(peak "$program" check "$cap" --grid grid)" $size
+done
+
+head -c $((large << 20)) /dev/urandom > file
+rm -rf grid
+"$program" put file --grid grid > cap
+cap=$(head -n 1 cap)
+place=$((large << 19))
+TIMEFORMAT='%3U %3S'
+for _ in 1 2 3 4 5 6; do
+    { time "$program" get "$cap" --grid grid --from $place --to $((place + 1)) > out; } 2>> times
+done
+cmp -s out <(tail -c +$((place + 1)) file | head -c 1) || { echo "another byte came back"; exit 1; }
+# The kernel counts what a shell and the commands that it waited for read.
+read_by() { bash -c '"$@" > out; awk "/rchar/ { print \$2 }" /proc/$$/io' read "$@"; }
+with=$(read_by "$program" get "$cap" --grid grid --from $place --to $((place + 1)))
+without=$(read_by "$program" cap "$cap")
+awk 'NR == 1 || $1 + $2 < least { least = $1 + $2 } END {
+    printf "get of one byte: %.0f ms\n", least * 1000 }' times
+echo "get of one byte: $((with - without)) bytes read, beside those of a start of the program"
