@@ -16,7 +16,7 @@ use Rattle.download_source.specs.Source.{IsSource, SourceState, gives_from, new_
 use Rattle.download_segments.specs.Handout.{next_segment}
 use Rattle.download_segments.proofs.TreeLemmas.{grow_none}
 use Rattle.segment_groups.proofs.ListLemmas.{one_there}
-use Rattle.download_file.specs.State.{FileState, IsLive, IsReader, ReaderState, shares, waiting_at, waiting_in, waiting_parts}
+use Rattle.download_file.specs.State.{FileState, IsLive, IsReader, ReaderState, copy, copy_of, copies, waiting_at, waiting_in, waiting_parts}
 use Rattle.download_file.specs.Answers.{HoldsAnswers}
 use Rattle.download_file.specs.Asked.{AsksNoMore}
 use Rattle.download_file.specs.Changes.{IsSameFile, StaysAskedUp, StaysRead}
@@ -30,9 +30,10 @@ use Rattle.download_file.proofs.StateLemmas.{Follows, KeepsAsks, asked_up_stays,
 
 -- ---- the reader
 
-pub begun_new : (g : Geometry) (start first end share : ℕ) (gives : Bool) (taken : List ℕ) (r : ReaderState) → gives ≡ false → r.share ≡ share
-    → r.source ≡ new_source g start first end → r.waiting ≡ [] → IsSource r.source → IsBegun g start first end share gives taken r
-begun_new g start first end share gives taken r not share_is source waiting right = record {
+pub begun_new : (g : Geometry) (start first end server share : ℕ) (gives : Bool) (taken : List ℕ) (r : ReaderState) → gives ≡ false → r.server ≡ server → r.share ≡ share
+    → r.source ≡ new_source g start first end → r.waiting ≡ [] → IsSource r.source → IsBegun g start first end server share gives taken r
+begun_new g start first end server share gives taken r not server_is share_is source waiting right = record {
+  server_is = server_is;
   share_is = share_is;
   waiting = waiting;
   right = right;
@@ -47,12 +48,13 @@ begun_new g start first end share gives taken r not share_is source waiting righ
   none = λ part. subst (λ (s : SourceState). ¬ IsAsked s part) (sym source) (new_asks_none g start first end part);
 }
 
-pub begun_gives : (g : Geometry) (start first end share : ℕ) (gives : Bool) (taken : List ℕ) (old r : ReaderState) → old.share ≡ share
+pub begun_gives : (g : Geometry) (start first end server share : ℕ) (gives : Bool) (taken : List ℕ) (old r : ReaderState) → old.server ≡ server → old.share ≡ share
     → old.source ≡ new_source g start first end → old.waiting ≡ [] → r ≡ record old { source = gives_from old.source taken }
-    → ((part : Part) → IsAsked r.source part ↔ IsAsked old.source part) → IsSource r.source → IsBegun g start first end share gives taken r
-begun_gives g start first end share gives taken old r share_is source waiting is asked right =
+    → ((part : Part) → IsAsked r.source part ↔ IsAsked old.source part) → IsSource r.source → IsBegun g start first end server share gives taken r
+begun_gives g start first end server share gives taken old r server_is share_is source waiting is asked right =
     let now : r.source ≡ gives_from (new_source g start first end) taken = ap (λ (q : ReaderState). q.source) is ∙ ap (λ (s : SourceState). gives_from s taken) source in
     record {
+      server_is = ap (λ (q : ReaderState). q.server) is ∙ server_is;
       share_is = ap (λ (q : ReaderState). q.share) is ∙ share_is;
       waiting = ap (λ (q : ReaderState). q.waiting) is ∙ waiting;
       right = right;
@@ -81,17 +83,17 @@ waiting_pushed (q ∷ qs) x (suc i) e = waiting_pushed qs x i e
 
 -- ---- the file
 
-pub record HasBegun (f : FileState) (share : ℕ) (g : FileState) : Type 0 where
+pub record HasBegun (f : FileState) (server share : ℕ) (g : FileState) : Type 0 where
   pub right : IsFile g
-  pub shares_are : shares g ≡ shares f ++ share ∷ []
+  pub copies_are : copies g ≡ copies f ++ copy server share ∷ []
   pub waiting : (reader : ℕ) → waiting_at g reader ≡ waiting_at f reader
   pub asked : AsksNoMore f g
   pub asked_up : (reader : ℕ) → IsLive f reader → StaysAskedUp f g reader
   pub reads : StaysRead f g
   pub same : IsSameFile f g
 
-module _ (f : FileState) (share next : ℕ) (x : ReaderState) (gives : Bool) (is : IsFile f) (next_is : next_segment f.handout ≡ Some next)
-    (begun : IsBegun f.handout.geometry f.first next f.end share gives f.taken x) (given : f.live ≡ [] → gives ≡ true)
+module _ (f : FileState) (server share next : ℕ) (x : ReaderState) (gives : Bool) (is : IsFile f) (next_is : next_segment f.handout ≡ Some next)
+    (begun : IsBegun f.handout.geometry f.first next f.end server share gives f.taken x) (given : f.live ≡ [] → gives ≡ true)
     (there : share < f.handout.geometry.total) (few : length f.live < f.handout.geometry.needed)
     (unread : (reader : ℕ) (r : ReaderState) → IsLive f reader → IsReader f reader r → r.share ≢ share) where
   abbrev pub begun_file : FileState
@@ -243,11 +245,11 @@ module _ (f : FileState) (share next : ℕ) (x : ReaderState) (gives : Bool) (is
   read_begun entries read = read_stays entries f begun_file refl refl refl (grow_none f.handout.trees) grow is.groups refl (λ p among. among)
       (λ place r at. elim (which place r at) [
         | inl old ↦ read.held place r old
-        | inr new ↦ subst (λ (q : ReaderState). HoldsAnswers entries q.source) new.1 none_held
+        | inr new ↦ subst (λ (q : ReaderState). HoldsAnswers entries q) new.1 none_held
       ])
       read
     where
-      none_held : HoldsAnswers entries x.source
+      none_held : HoldsAnswers entries x
       none_held k low = absurd (let e = ap length begun.held in omega (arith, low, e))
 
   pub same_begun : IsSameFile f begun_file
@@ -261,17 +263,17 @@ module _ (f : FileState) (share next : ℕ) (x : ReaderState) (gives : Bool) (is
     given = given_stays f begun_file refl refl refl (grow_none f.handout.trees) grow is.groups refl;
   }
 
-  pub shares_begun : shares begun_file ≡ shares f ++ share ∷ []
-  shares_begun = map-append (λ (q : ReaderState). q.share) f.readers (x ∷ []) ∙ ap (λ (n : ℕ). shares f ++ n ∷ []) begun.share_is
+  pub copies_begun : copies begun_file ≡ copies f ++ copy server share ∷ []
+  copies_begun = map-append (λ (q : ReaderState). copy_of q) f.readers (x ∷ []) ∙ (λ i. copies f ++ copy (begun.server_is i) (begun.share_is i) ∷ [])
 
   pub waiting_begun : (reader : ℕ) → waiting_at begun_file reader ≡ waiting_at f reader
   waiting_begun reader = waiting_pushed f.readers x reader begun.waiting
 
   -- what holds of the file then
-  pub has_begun : HasBegun f share begun_file
+  pub has_begun : HasBegun f server share begun_file
   has_begun = record {
     right = file_begun;
-    shares_are = shares_begun;
+    copies_are = copies_begun;
     waiting = waiting_begun;
     asked = asks_begun;
     asked_up = asked_up_begun;

@@ -21,14 +21,14 @@ use Rattle.download_segments.specs.Handout.{next_segment}
 use Rattle.download_segments.specs.State.{IsHandout}
 use Rattle.download_segments.proofs.TreeLemmas.{grow_none}
 use Rattle.segment_groups.proofs.ListLemmas.{one_there}
-use Rattle.download_file.specs.State.{FileState, IsLive, IsReader, ReaderState, giver, shares, waiting_at, waiting_in, waiting_parts, without}
-use Rattle.download_file.specs.Answers.{HoldsAnswers}
+use Rattle.download_file.specs.State.{FileState, IsLive, IsReader, ReaderState, copy, copy_of, giver, copies, waiting_at, waiting_in, waiting_parts, without}
+use Rattle.download_file.specs.Answers.{HoldsAnswers, HoldsFor}
 use Rattle.download_file.specs.Asked.{AsksNoMore}
 use Rattle.download_file.specs.Changes.{IsSameFile, OthersWait, StaysAskedUp, StaysGiven, StaysRead}
 use Rattle.download_file.specs.Right.{AreConsecutive, AreLive, IsFile, IsGroup, IsReaderOf, made_end}
 use Rattle.download_file.specs.Steps.{AsksNoTree, CanGive, EndsReader, giving, stopped}
 use Rattle.download_file.proofs.ListLemmas.{All-from_contains, get_cases, get_other, get_set, map_set, set_again, set_cases, set_same, waiting_set}
-use Rattle.download_file.proofs.GrowLemmas.{GoesOn, GrowReaders, goes_same, given_stays, group_stays, read_stays, reader_there}
+use Rattle.download_file.proofs.GrowLemmas.{GoesOn, GrowReaders, goes_same, given_stays, group_stays, holds_as, read_stays, reader_there}
 use Rattle.download_file.proofs.LiveLemmas.{first_least, first_live, first_stays, from_without, length-without, rise_without, something_first}
 use Rattle.download_file.proofs.StateLemmas.{Follows, SameAsks, asked_up_stays, asks_itself, asks_no_more, grows_itself, reader_stays, same_reader}
 use Rattle.download_file.proofs.EndLemmas.{next_left}
@@ -76,7 +76,7 @@ whole f k gives = record {
 -- ---- the reader at a place ends, perhaps after more was asked of it in vain
 
 module _ (f : FileState) (reader : ℕ) (r r1 : ReaderState) (is : IsFile f) (live : IsLive f reader) (at : slice_get f.readers reader ≡ Some r)
-    (share : r1.share ≡ r.share) (only : OnlyAsks r.source r1.source) (right : IsSource r1.source) (tree : giver f ≢ Some reader → AsksNoTree r.source r1.source) where
+    (server : r1.server ≡ r.server) (share : r1.share ≡ r.share) (only : OnlyAsks r.source r1.source) (right : IsSource r1.source) (tree : giver f ≢ Some reader → AsksNoTree r.source r1.source) where
   abbrev pub stopped_file : FileState
   stopped_file = record f { readers = slice_set f.readers reader (stopped r1); live = without reader f.live }
 
@@ -181,7 +181,7 @@ module _ (f : FileState) (reader : ℕ) (r r1 : ReaderState) (is : IsFile f) (li
   pub read_stopped : StaysRead f stopped_file
   read_stopped entries read = read_stays entries f stopped_file refl refl refl (grow_none f.handout.trees) grow_stopped is.groups refl (λ p among. among)
       (λ place q there. elim (set_cases f.readers reader place (stopped r1) q there) [
-        | inl k ↦ subst (λ (x : ReaderState). HoldsAnswers entries x.source) k.1 (subst (HoldsAnswers entries) (sym only) (read.held reader r at))
+        | inl k ↦ subst (λ (x : ReaderState). HoldsAnswers entries x) k.1 (subst (HoldsFor entries r1.server r1.share) (sym only) (holds_as entries r.server r.share r1.server r1.share r.source server share (read.held reader r at)))
         | inr k ↦ read.held place q k.1
       ])
       read
@@ -189,8 +189,8 @@ module _ (f : FileState) (reader : ℕ) (r r1 : ReaderState) (is : IsFile f) (li
   pub given_stopped : StaysGiven f stopped_file
   given_stopped = given_stays f stopped_file refl refl refl (grow_none f.handout.trees) grow_stopped is.groups refl
 
-  pub shares_stopped : shares stopped_file ≡ shares f
-  shares_stopped = map_set (λ (q : ReaderState). q.share) f.readers reader (stopped r1) r at share
+  pub copies_stopped : copies stopped_file ≡ copies f
+  copies_stopped = map_set (λ (q : ReaderState). copy_of q) f.readers reader (stopped r1) r at (λ i. copy (server i) (share i))
 
   pub none_waits : waiting_at stopped_file reader ≡ []
   none_waits = ap waiting_in (get_set f.readers reader (stopped r1) r at)
@@ -310,7 +310,7 @@ module _ (f : FileState) (next : ℕ) (s : ReaderState) (k : Nearly f) (first : 
   pub read_giving : StaysRead f giving_file
   read_giving entries read = read_stays entries f giving_file refl refl refl (grow_none f.handout.trees) grow_giving k.groups refl (λ p among. among)
       (λ place q there. elim (set_cases f.readers next place (giving s f.taken) q there) [
-        | inl e ↦ subst (λ (x : ReaderState). HoldsAnswers entries x.source) e.1 (read.held next s at)
+        | inl e ↦ subst (λ (x : ReaderState). HoldsAnswers entries x) e.1 (read.held next s at)
         | inr e ↦ read.held place q e.1
       ])
       read
@@ -318,8 +318,8 @@ module _ (f : FileState) (next : ℕ) (s : ReaderState) (k : Nearly f) (first : 
   pub given_giving : StaysGiven f giving_file
   given_giving = given_stays f giving_file refl refl refl (grow_none f.handout.trees) grow_giving k.groups refl
 
-  pub shares_giving : shares giving_file ≡ shares f
-  shares_giving = map_set (λ (q : ReaderState). q.share) f.readers next (giving s f.taken) s at refl
+  pub copies_giving : copies giving_file ≡ copies f
+  copies_giving = map_set (λ (q : ReaderState). copy_of q) f.readers next (giving s f.taken) s at refl
 
   pub waiting_giving : (other : ℕ) → waiting_at giving_file other ≡ waiting_at f other
   waiting_giving other = waiting_set f.readers next other (giving s f.taken) s at refl
@@ -344,7 +344,7 @@ asks_two f m g one two reader offset len =
 -- what holds of a file after a reader ended
 pub record HasEnded (f : FileState) (reader : ℕ) (s t : SourceState) (g : FileState) : Type 0 where
   pub right : IsFile g
-  pub same_shares : shares g ≡ shares f
+  pub same_copies : copies g ≡ copies f
   pub none : waiting_at g reader ≡ []
   pub others : OthersWait f reader g
   pub asked : SameAsks s t → AsksNoMore f g
@@ -353,23 +353,23 @@ pub record HasEnded (f : FileState) (reader : ℕ) (s t : SourceState) (g : File
   pub same : IsSameFile f g
 
 module _ (f : FileState) (reader : ℕ) (r r1 : ReaderState) (rs : List ReaderState) (is : IsFile f) (live : IsLive f reader) (at : slice_get f.readers reader ≡ Some r)
-    (share : r1.share ≡ r.share) (only : OnlyAsks r.source r1.source) (right : IsSource r1.source) (tree : giver f ≢ Some reader → AsksNoTree r.source r1.source) where
+    (server : r1.server ≡ r.server) (share : r1.share ≡ r.share) (only : OnlyAsks r.source r1.source) (right : IsSource r1.source) (tree : giver f ≢ Some reader → AsksNoTree r.source r1.source) where
   abbrev pub ended_file : FileState
   ended_file = record f { readers = rs; live = without reader f.live }
 
   abbrev plain : FileState
-  plain = stopped_file f reader r r1 is live at share only right tree
+  plain = stopped_file f reader r r1 is live at server share only right tree
 
   -- where no other gives the ciphertext tree now
   pub ended_plain : rs ≡ slice_set f.readers reader (stopped r1) → (giver f ≢ Some reader) ⊎ (giver plain ≡ None) → HasEnded f reader r.source r1.source ended_file
   ended_plain list why = subst (λ (l : List ReaderState). HasEnded f reader r.source r1.source (record f { readers = l; live = without reader f.live })) (sym list) (record {
-    right = whole plain (nearly f reader r r1 is live at share only right tree) (gives why);
-    same_shares = shares_stopped f reader r r1 is live at share only right tree;
-    none = none_waits f reader r r1 is live at share only right tree;
-    others = others_wait f reader r r1 is live at share only right tree;
-    asked = asks_stopped f reader r r1 is live at share only right tree;
-    asked_up = asked_up_stopped f reader r r1 is live at share only right tree;
-    reads = read_stopped f reader r r1 is live at share only right tree;
+    right = whole plain (nearly f reader r r1 is live at server share only right tree) (gives why);
+    same_copies = copies_stopped f reader r r1 is live at server share only right tree;
+    none = none_waits f reader r r1 is live at server share only right tree;
+    others = others_wait f reader r r1 is live at server share only right tree;
+    asked = asks_stopped f reader r r1 is live at server share only right tree;
+    asked_up = asked_up_stopped f reader r r1 is live at server share only right tree;
+    reads = read_stopped f reader r r1 is live at server share only right tree;
     same = record {
       key = refl;
       ueb = refl;
@@ -377,31 +377,31 @@ module _ (f : FileState) (reader : ℕ) (r r1 : ReaderState) (rs : List ReaderSt
       to = refl;
       first = refl;
       end = refl;
-      given = given_stopped f reader r r1 is live at share only right tree;
+      given = given_stopped f reader r r1 is live at server share only right tree;
     };
   }) where
     gives : (giver f ≢ Some reader) ⊎ (giver plain ≡ None) → AtGiver plain
-    gives (inl other) = gives_still f reader r r1 is live at share only right tree other
+    gives (inl other) = gives_still f reader r r1 is live at server share only right tree other
     gives (inr none) = λ place q now there. absurd (let e : None ≡ Some place = sym none ∙ now in cc)
 
   -- where another does
   pub ended_gives : (next : ℕ) (s : ReaderState) → giver f ≡ Some reader → giver plain ≡ Some next → slice_get f.readers next ≡ Some s
       → rs ≡ slice_set (slice_set f.readers reader (stopped r1)) next (giving s f.taken) → HasEnded f reader r.source r1.source ended_file
   ended_gives next s gave first at_next list =
-      let k = nearly f reader r r1 is live at share only right tree in
+      let k = nearly f reader r r1 is live at server share only right tree in
       let left = next_left f.live reader next first in
       let there : slice_get plain.readers next ≡ Some s = get_other f.readers reader next (stopped r1) left.1 ∙ at_next in
       let later : reader ≤ next = first_least 0 f.live reader next is.live.rise gave left.0 in
       let none : (p : NodePiece) → ¬ IsAsked s.source (CiphertextTree p) = λ p. is.ciphertext.behind reader next s p gave (strictly reader next later left.1) at_next in
       subst (λ (l : List ReaderState). HasEnded f reader r.source r1.source (record f { readers = l; live = without reader f.live })) (sym list) (record {
         right = file_giving plain next s k first there none;
-        same_shares = shares_giving plain next s k first there none ∙ shares_stopped f reader r r1 is live at share only right tree;
-        none = waiting_giving plain next s k first there none reader ∙ none_waits f reader r r1 is live at share only right tree;
-        others = λ other not. waiting_giving plain next s k first there none other ∙ others_wait f reader r r1 is live at share only right tree other not;
-        asked = λ same. asks_two f plain (giving_file plain next s k first there none) (asks_stopped f reader r r1 is live at share only right tree same)
+        same_copies = copies_giving plain next s k first there none ∙ copies_stopped f reader r r1 is live at server share only right tree;
+        none = waiting_giving plain next s k first there none reader ∙ none_waits f reader r r1 is live at server share only right tree;
+        others = λ other not. waiting_giving plain next s k first there none other ∙ others_wait f reader r r1 is live at server share only right tree other not;
+        asked = λ same. asks_two f plain (giving_file plain next s k first there none) (asks_stopped f reader r r1 is live at server share only right tree same)
             (asks_giving plain next s k first there none);
         asked_up = λ other. absurd (other gave);
-        reads = λ entries read. read_giving plain next s k first there none entries (read_stopped f reader r r1 is live at share only right tree entries read);
+        reads = λ entries read. read_giving plain next s k first there none entries (read_stopped f reader r r1 is live at server share only right tree entries read);
         same = record {
           key = refl;
           ueb = refl;
@@ -409,7 +409,7 @@ module _ (f : FileState) (reader : ℕ) (r r1 : ReaderState) (rs : List ReaderSt
           to = refl;
           first = refl;
           end = refl;
-          given = λ entries p g. given_giving plain next s k first there none entries p (given_stopped f reader r r1 is live at share only right tree entries p g);
+          given = λ entries p g. given_giving plain next s k first there none entries p (given_stopped f reader r r1 is live at server share only right tree entries p g);
         };
       })
     where
@@ -455,6 +455,6 @@ ended_itself f reader rs is live ends =
     let r = reader_there f.readers reader (All-contains (λ place. place < length f.readers) f.live reader is.live.there live) in
     let same : slice_set f.readers reader r.0 ≡ f.readers = set_same f.readers reader r.0 r.1 in (
       r.0,
-      has_ended f reader r.0 r.0 rs is live r.1 refl refl (is.readers reader r.0 r.1).source (λ other p asked. asked)
+      has_ended f reader r.0 r.0 rs is live r.1 refl refl refl (is.readers reader r.0 r.1).source (λ other p asked. asked)
           (subst (λ (l : List ReaderState). EndsReader l f.live f.taken reader rs) (sym same) ends),
     )

@@ -16,12 +16,12 @@ use Rattle.download_segments.specs.State.{HandoutState, ProvesSegment}
 use Rattle.download_segments.proofs.DecodingLemmas.{unique}
 use Rattle.segment_groups.specs.State.{GroupState, segments_in}
 use Rattle.download_file.specs.State.{FileState, ReaderState, share_in}
-use Rattle.download_file.specs.Answers.{AnsweredWith, HoldsAnswers, IsMade, IsRead, answer_at, block_in, block_of, blocks_of}
+use Rattle.download_file.specs.Answers.{AnsweredWith, IsMade, IsRead, answer_at, block_in, block_of, blocks_of}
 use Rattle.download_segments.specs.Handout.{next_segment}
 use Rattle.download_file.specs.Right.{AreConsecutive, IsFile, IsGroup, made_end}
 use Rattle.download_file.specs.Steps.{AreOfFile, HasBlock, IsMadeGroup}
 use Rattle.download_file.proofs.ListLemmas.{All-from_contains, first_in, more_in}
-use Rattle.download_file.proofs.GrowLemmas.{answer_is, reader_there}
+use Rattle.download_file.proofs.GrowLemmas.{HasAnswers, answer_is, has_answers, reader_there}
 use Rattle.download_file.proofs.LiveLemmas.{cons_cases, none_in}
 
 -- ---- numbers of segments
@@ -93,7 +93,7 @@ piece_long : (entries : List Request) (xs : List ℕ) (a n k : ℕ) → k < n �
 piece_long entries xs a n k low within bytes answered =
     ap length (piece_at (answer_at entries) xs a n k low within ∙ answer_is entries (get_or xs (a + k) 0) bytes answered)
 
-pub block_long : (entries : List Request) (s : SourceState) (number : ℕ) → IsSource s → IsHeld s number → HoldsAnswers entries s
+pub block_long : (entries : List Request) (s : SourceState) (number : ℕ) → IsSource s → IsHeld s number → HasAnswers entries s
     → length (block_of entries s number) ≡ block_length s.geometry number
 block_long entries s number is held holds =
     let a = block_first s.geometry s.first number in
@@ -116,7 +116,7 @@ blocks_long entries g readers (p ∷ ps) number file each =
     let r = each p (first_in p ps) in
     let one : length (block_in entries number (slice_get readers p)) ≡ block_length g number =
     ap (λ (o : Option ReaderState). length (block_in entries number o)) r.1
-    ∙ block_long entries r.0.source number (file.source p r.0 r.1) r.2 (file.held p r.0 r.1)
+    ∙ block_long entries r.0.source number (file.source p r.0 r.1) r.2 (has_answers entries r.0 (file.held p r.0 r.1))
     ∙ ap (λ (h : Geometry). block_length h number) (file.geometry p r.0 r.1) in
     let rest = blocks_long entries g readers ps number file (λ q among. each q (more_in p q ps among)) in
     length-append (block_in entries number (slice_get readers p)) (blocks_of entries readers number ps)

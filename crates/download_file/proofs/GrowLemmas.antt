@@ -17,8 +17,10 @@ use Rattle.download_segments.specs.declared.piece.Piece.{Piece}
 use Rattle.download_segments.proofs.TreeLemmas.{proved_stays}
 use Rattle.segment_groups.specs.State.{GroupState}
 use Rattle.segment_groups.proofs.ListLemmas.{one_there}
+use Rattle.download_plan.specs.Plan.{length_of}
+use Rattle.download_plan.specs.declared.part.Part.TheVariants.{Data}
 use Rattle.download_file.specs.State.{FileState, ReaderState, numbers_of, share_in}
-use Rattle.download_file.specs.Answers.{AnsweredWith, HoldsAnswers, IsAnswered, IsGivenBy, IsMade, IsRead, KeepsAnswers, answer_at, block_in, block_of, blocks_of, bytes_in, bytes_of}
+use Rattle.download_file.specs.Answers.{AnsweredWith, HoldsAnswers, HoldsFor, IsAnswerOf, IsGivenBy, IsMade, IsRead, KeepsAnswers, answer_at, block_in, block_of, blocks_of, bytes_in, bytes_of}
 use Rattle.download_file.specs.Changes.{IsSameFile, StaysGiven}
 use Rattle.download_file.specs.Laws.{GivenStays, ReadsStay}
 use Rattle.download_file.specs.Right.{IsGroup}
@@ -172,7 +174,7 @@ given_stays f f' key ueb geometry trees grow groups same entries p g =
 -- what the record says of the file stays true where its readers go on and hold answers
 pub read_stays : (entries : List Request) (f f' : FileState) → f'.handout.key ≡ f.handout.key → f'.handout.ueb ≡ f.handout.ueb → f'.handout.geometry ≡ f.handout.geometry → TreesGrow f.handout.trees f'.handout.trees
     → GrowReaders f.readers f'.readers → All (IsGroup f.handout f.readers) f.groups → f'.groups ≡ f.groups
-    → ((p : Piece) → Contains f'.handout.ready p → Contains f.handout.ready p) → ((place : ℕ) (r : ReaderState) → slice_get f'.readers place ≡ Some r → HoldsAnswers entries r.source)
+    → ((p : Piece) → Contains f'.handout.ready p → Contains f.handout.ready p) → ((place : ℕ) (r : ReaderState) → slice_get f'.readers place ≡ Some r → HoldsAnswers entries r)
     → IsRead entries f → IsRead entries f'
 read_stays entries f f' key ueb geometry trees grow groups same ready held read = record {
   held = held;
@@ -199,10 +201,29 @@ map_range f g xs a b same =
 with_stays : (old new : List Request) (place : ℕ) (bytes : List ℕ) → KeepsAnswers old new → AnsweredWith old place bytes → AnsweredWith new place bytes
 with_stays old new place bytes keeps a = record { request = a.request; there = keeps place a.request _ a.there a.answer; answer = a.answer }
 
-answered_stays : (old new : List Request) (place len : ℕ) → KeepsAnswers old new → IsAnswered old place len → IsAnswered new place len
-answered_stays old new place len keeps a = (a.0, with_stays old new place a.0 keeps a.1, a.2)
+answered_stays : (old new : List Request) (server share offset len place : ℕ) → KeepsAnswers old new → IsAnswerOf old server share offset len place → IsAnswerOf new server share offset len place
+answered_stays old new server share offset len place keeps a = record {
+  request = a.request;
+  there = keeps place a.request _ a.there a.answer;
+  of_server = a.of_server;
+  asked = a.asked;
+  bytes = a.bytes;
+  answer = a.answer;
+  long = a.long;
+}
 
-same_block : (old new : List Request) (s : SourceState) (number : ℕ) → KeepsAnswers old new → HoldsAnswers old s
+-- each piece is an answer of its length
+abbrev pub HasAnswers : List Request → SourceState → Type 0
+HasAnswers entries s = (k : ℕ) → k < length s.held
+    → (bytes : List ℕ) × AnsweredWith entries (get_or s.held k 0) bytes × (length bytes ≡ length_of s.geometry s.first s.end (Data k))
+
+pub has_answers : (entries : List Request) (r : ReaderState) → HoldsAnswers entries r → HasAnswers entries r.source
+has_answers entries r holds k low = let a = holds k low in (a.bytes, record { request = a.request; there = a.there; answer = a.answer }, a.long)
+
+pub holds_as : (entries : List Request) (a b c d : ℕ) (s : SourceState) → c ≡ a → d ≡ b → HoldsFor entries a b s → HoldsFor entries c d s
+holds_as entries a b c d s server share holds = subst (λ n. HoldsFor entries n d s) (sym server) (subst (λ n. HoldsFor entries a n s) (sym share) holds)
+
+same_block : (old new : List Request) (s : SourceState) (number : ℕ) → KeepsAnswers old new → HasAnswers old s
     → block_of new s number ≡ block_of old s number
 same_block old new s number keeps held =
     ap (joined_block s.geometry s.first number)
@@ -221,7 +242,7 @@ same_block old new s number keeps held =
 module _ (old new : List Request) (f : FileState) (keeps : KeepsAnswers old new) (read : IsRead old f) where
   one : (number place : ℕ) (o : Option ReaderState) → slice_get f.readers place ≡ o → block_in new number o ≡ block_in old number o
   one number place None at = refl
-  one number place (Some r) at = same_block old new r.source number keeps (read.held place r at)
+  one number place (Some r) at = same_block old new r.source number keeps (has_answers old r (read.held place r at))
 
   made_keeps : (group : GroupState) (number : ℕ) → IsMade old f.handout f.readers group number → IsMade new f.handout f.readers group number
   made_keeps group number made =
@@ -257,7 +278,7 @@ module _ (old new : List Request) (f : FileState) (keeps : KeepsAnswers old new)
 
   pub read_keeps : IsRead new f
   read_keeps = record {
-    held = λ place r at k low. answered_stays old new _ _ keeps (read.held place r at k low);
+    held = λ place r at k low. answered_stays old new _ _ _ _ _ keeps (read.held place r at k low);
     made = λ group number among from before. made_keeps group number (read.made group number among from before);
     ready = λ p among. given_keeps p (read.ready p among);
   }

@@ -29,7 +29,7 @@ use Rattle.download_file.specs.Making.{RefutesReader}
 use Rattle.download_file.specs.Right.{IsFile}
 use Rattle.download_file.specs.Steps.{AreOfFile, AreProved, AreReady, HasBlock, IsWrong}
 use Rattle.download_file.proofs.ListLemmas.{All-from_contains, contains_at, first_in, from_map, get_unmapped, more_in}
-use Rattle.download_file.proofs.GrowLemmas.{reader_there}
+use Rattle.download_file.proofs.GrowLemmas.{has_answers, reader_there}
 use Rattle.download_file.proofs.LiveLemmas.{rise_order}
 use Rattle.download_file.proofs.EvidenceLemmas.{block_long, blocks_long}
 
@@ -80,7 +80,7 @@ module _ (entries : List Request) (f : FileState) (number size : ℕ) (is : IsFi
   its_length place live =
       let r = reader_at place live in
       ap (λ (o : Option ReaderState). length (block_in entries number o)) r.1
-      ∙ block_long entries r.0.source number (is.readers place r.0 r.1).source r.2 (read.held place r.0 r.1)
+      ∙ block_long entries r.0.source number (is.readers place r.0 r.1).source r.2 (has_answers entries r.0 (read.held place r.0 r.1))
       ∙ ap (λ (g : Geometry). block_length g number) (is.readers place r.0 r.1).geometry ∙ sym long
 
   pub all_long : length (blocks_of entries f.readers number f.live) ≡ length f.live * size
@@ -120,7 +120,7 @@ module _ (entries : List Request) (f : FileState) (number size : ℕ) (is : IsFi
         held = own.held;
         tree = tree.0;
         is = tree.1;
-        long = block_long entries wrong.r.source number (is.readers place wrong.r wrong.there).source own.held (read.held place wrong.r wrong.there)
+        long = block_long entries wrong.r.source number (is.readers place wrong.r wrong.there).source own.held (has_answers entries wrong.r (read.held place wrong.r wrong.there))
             ∙ ap (λ (g : Geometry). block_length g number) (is.readers place wrong.r wrong.there).geometry;
         refuted = record {
           leaf = tree.2;

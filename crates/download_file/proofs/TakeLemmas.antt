@@ -6,7 +6,7 @@ use Rattle.std.proofs.lemmas.List.{append-nil, length-append, length-set}
 use Rattle.std.proofs.lemmas.List.Elements.{All-tail, All-weaker}
 use Rattle.request_record.specs.declared.requests.Request.{Request}
 use Rattle.share_layout.specs.Geometry.{Geometry}
-use Rattle.download_plan.specs.Plan.{IsNodePiece, length_of}
+use Rattle.download_plan.specs.Plan.{IsNodePiece, length_of, place_of}
 use Rattle.download_plan.specs.declared.part.NodePiece.{NodePiece}
 use Rattle.download_plan.specs.declared.part.Part.{Part}
 use Rattle.download_plan.specs.declared.part.Part.TheVariants.{ShareHashes, BlockTree, CiphertextTree, Data}
@@ -20,15 +20,16 @@ use Rattle.download_source.proofs.CursorLemmas.{piece_next}
 use Rattle.download_source.proofs.LawLemmas.{first_due}
 use Rattle.download_segments.specs.State.{HandoutState, with_trees}
 use Rattle.segment_groups.proofs.ListLemmas.{one_there}
-use Rattle.download_file.specs.State.{FileState, IsLive, ReaderState, first_place, first_waiting, giver, shares, waiting_at, waiting_in, waiting_parts}
-use Rattle.download_file.specs.Answers.{AnsweredWith, HoldsAnswers, IsAnswered, IsRead}
+use Rattle.download_file.specs.State.{FileState, IsLive, ReaderState, copy, copy_of, giver, copies, waiting_at, waiting_in, waiting_parts}
+use Rattle.download_file.specs.Answers.{AnswersFirst, HoldsAnswers, HoldsFor, IsAnswerOf, IsAnswerTo, IsRead}
+use Rattle.request_record.specs.declared.requests.Asked.TheVariants.{Reading}
 use Rattle.download_file.specs.Asked.{AsksNoMore}
 use Rattle.download_file.specs.Changes.{IsSameFile, OthersWait, StaysAskedUp}
 use Rattle.download_file.specs.Right.{AreLive, GivesTree, IsFile, IsGroup, IsReaderOf}
 use Rattle.download_file.specs.Steps.{IsTaker, KnowsPart, TakesPart, held_with, taken_with}
 use Rattle.download_file.specs.declared.reader.Waiting.{Waiting}
 use Rattle.download_file.proofs.ListLemmas.{get_cases, get_other, get_set, map_set, set_cases, set_same}
-use Rattle.download_file.proofs.GrowLemmas.{GoesOn, GrowReaders, goes_same, given_stays, group_stays, read_stays}
+use Rattle.download_file.proofs.GrowLemmas.{GoesOn, GrowReaders, goes_same, given_stays, group_stays, holds_as, read_stays}
 use Rattle.download_file.proofs.LiveLemmas.{live_giver}
 use Rattle.download_file.proofs.StateLemmas.{Follows, GrowsAsks, KeepsAsks, SameAsks, StillAsks, asked_up_stays, asks_itself, asks_no_more, grows_itself, reader_stays, same_asks, same_reader}
 
@@ -77,22 +78,24 @@ get_behind (x ∷ xs) y zero e = absurd (omega (arith, e))
 get_behind (x ∷ xs) y (suc k) e = get_behind xs y k (omega (arith, e))
 
 -- the answers that are held, with this part
-holds_with : (entries : List Request) (s : SourceState) (part : Part) (place : ℕ) (bytes : List ℕ) → HoldsAnswers entries s → AnsweredWith entries place bytes
-    → ((i : ℕ) → part ≡ Data i → (i ≡ length s.held) × (length bytes ≡ length_of s.geometry s.first s.end (Data i)))
-    → (k : ℕ) → k < length (held_with s.held part place) → IsAnswered entries (get_or (held_with s.held part place) k 0) (length_of s.geometry s.first s.end (Data k))
-holds_with entries s ShareHashes place bytes holds answered datum k low = holds k low
-holds_with entries s (BlockTree p) place bytes holds answered datum k low = holds k low
-holds_with entries s (CiphertextTree p) place bytes holds answered datum k low = holds k low
-holds_with entries s (Data i) place bytes holds answered datum k low =
+holds_with : (entries : List Request) (server share : ℕ) (s : SourceState) (part : Part) (place : ℕ) → HoldsFor entries server share s
+    → ((i : ℕ) → part ≡ Data i → (i ≡ length s.held) × IsAnswerOf entries server share (place_of s.geometry s.first s.end (Data i)) (length_of s.geometry s.first s.end (Data i)) place)
+    → (k : ℕ) → k < length (held_with s.held part place)
+    → IsAnswerOf entries server share (place_of s.geometry s.first s.end (Data k)) (length_of s.geometry s.first s.end (Data k)) (get_or (held_with s.held part place) k 0)
+holds_with entries server share s ShareHashes place holds datum k low = holds k low
+holds_with entries server share s (BlockTree p) place holds datum k low = holds k low
+holds_with entries server share s (CiphertextTree p) place holds datum k low = holds k low
+holds_with entries server share s (Data i) place holds datum k low =
+    let at_place : ℕ → Type 0 = λ n. IsAnswerOf entries server share (place_of s.geometry s.first s.end (Data k)) (length_of s.geometry s.first s.end (Data k)) n in
     elim (cases_lt k (length s.held)) [
-      | inl before ↦ subst (λ (n : ℕ). IsAnswered entries n (length_of s.geometry s.first s.end (Data k))) (sym (get_front s.held (place ∷ []) k before)) (holds k before)
+      | inl before ↦ subst at_place (sym (get_front s.held (place ∷ []) k before)) (holds k before)
       | inr behind ↦
           let long = length-append s.held (place ∷ []) in
           let at : k ≡ length s.held = omega (arith, low, long, behind) in
           let one = datum i refl in
           let same : i ≡ k = one.0 ∙ sym at in
-          subst (λ (n : ℕ). IsAnswered entries n (length_of s.geometry s.first s.end (Data k))) (sym (get_behind s.held place k at))
-          (bytes, answered, (one.1 ∙ ap (λ (n : ℕ). length_of s.geometry s.first s.end (Data n)) same))
+          subst at_place (sym (get_behind s.held place k at))
+          (subst (λ (n : ℕ). IsAnswerOf entries server share (place_of s.geometry s.first s.end (Data n)) (length_of s.geometry s.first s.end (Data n)) place) same one.1)
     ]
 
 -- ---- the file
@@ -100,11 +103,11 @@ holds_with entries s (Data i) place bytes holds answered datum k low =
 pub record HasTaken (f : FileState) (reader : ℕ) (bytes : List ℕ) (g : FileState) : Type 0 where
   pub right : IsFile g
   pub taken_is : waiting_at g reader ≡ drop 1 (waiting_at f reader)
-  pub shares_are : shares g ≡ shares f
+  pub copies_are : copies g ≡ copies f
   pub others : OthersWait f reader g
   pub asked : AsksNoMore f g
   pub asked_up : (other : ℕ) → StaysAskedUp f g other
-  pub reads : (entries : List Request) (place : ℕ) → IsRead entries f → first_waiting f reader ≡ Some place → AnsweredWith entries place bytes → IsRead entries g
+  pub reads : (entries : List Request) → IsRead entries f → AnswersFirst entries f reader bytes → IsRead entries g
   pub same : IsSameFile f g
 
 module _ (f : FileState) (t : FileTreesState) (reader : ℕ) (r r' : ReaderState) (w : Waiting) (ws : List Waiting) (taken' : List ℕ)
@@ -302,24 +305,37 @@ module _ (f : FileState) (t : FileTreesState) (reader : ℕ) (r r' : ReaderState
       in_order = is.in_order;
     }
 
-    holds_taken : (entries : List Request) (bytes : List ℕ) → HoldsAnswers entries r.source → AnsweredWith entries w.place bytes → length bytes ≡ w.wanted.read.length
-        → HoldsAnswers entries r'.source
-    holds_taken entries bytes holds answered long =
-        subst (HoldsAnswers entries) (sym T.source_is)
-        (holds_with entries r.source w.wanted.part w.place bytes holds answered (λ i part.
-        let due : IsDue r.source (Data i) = subst (λ (p : Part). IsDue r.source p) part is_due in (
+    holds_taken : (entries : List Request) (bytes : List ℕ) → HoldsAnswers entries r → IsAnswerTo entries r w bytes → length bytes ≡ w.wanted.read.length
+        → HoldsAnswers entries r'
+    holds_taken entries bytes holds a long =
+        holds_as entries r.server r.share r'.server r'.share r'.source T.server T.share
+        (subst (HoldsFor entries r.server r.share) (sym T.source_is)
+        (holds_with entries r.server r.share r.source w.wanted.part w.place holds (λ i part.
+        let due : IsDue r.source (Data i) = subst (λ (p : Part). IsDue r.source p) part is_due in
+        let place_is : w.wanted.read.place ≡ place_of r.source.geometry r.source.first r.source.end (Data i) = is_read.place ∙ (λ j. place_of r.source.geometry (first_of r.source (part j)) r.source.end (part j)) in
+        let long_is : w.wanted.read.length ≡ length_of r.source.geometry r.source.first r.source.end (Data i) = is_read.length ∙ (λ j. length_of r.source.geometry (first_of r.source (part j)) r.source.end (part j)) in (
           due.next ∙ sym (is.readers reader r at).source.held,
-          (long ∙ is_read.length ∙ (λ j. length_of r.source.geometry (first_of r.source (part j)) r.source.end (part j))),
-        )))
+          record {
+            request = a.request;
+            there = a.there;
+            of_server = a.of_server;
+            asked = a.asked ∙ (λ j. Reading r.share (place_is j) (long_is j));
+            bytes = bytes;
+            answer = a.answer;
+            long = long ∙ long_is;
+          },
+        ))))
 
-    pub read_taken : (entries : List Request) (place : ℕ) (bytes : List ℕ) → IsRead entries f → first_waiting f reader ≡ Some place → AnsweredWith entries place bytes
+    pub read_taken : (entries : List Request) (bytes : List ℕ) → IsRead entries f → AnswersFirst entries f reader bytes
         → length bytes ≡ w.wanted.read.length → IsRead entries taken_file
-    read_taken entries place bytes read first answered long =
-        let same : w.place ≡ place = one_there (Some w.place) w.place place refl (sym (ap (λ (o : Option ReaderState). first_place (waiting_in o)) at ∙ ap first_place waits) ∙ first) in
-        let own : AnsweredWith entries w.place bytes = subst (λ (n : ℕ). AnsweredWith entries n bytes) (sym same) answered in
+    read_taken entries bytes read answered long =
+        let same : answered.r ≡ r = one_there (slice_get f.readers reader) answered.r r answered.there at in
+        let list : answered.first ∷ answered.others ≡ w ∷ ws = sym answered.waits ∙ ap (λ (x : ReaderState). x.waiting) same ∙ waits in
+        let one : answered.first ≡ w = cc in
+        let own : IsAnswerTo entries r w bytes = subst (λ (x : ReaderState). IsAnswerTo entries x w bytes) same (subst (λ (v : Waiting). IsAnswerTo entries answered.r v bytes) one answered.answers) in
         read_stays entries f taken_file refl refl refl T.grow grow_taken is.groups refl (λ p among. among)
         (λ other q there. elim (set_cases f.readers reader other r' q there) [
-          | inl k ↦ subst (λ (x : ReaderState). HoldsAnswers entries x.source) k.1 (holds_taken entries bytes (read.held reader r at) own long)
+          | inl k ↦ subst (λ (x : ReaderState). HoldsAnswers entries x) k.1 (holds_taken entries bytes (read.held reader r at) own long)
           | inr k ↦ read.held other q k.1
         ])
         read
@@ -339,11 +355,11 @@ module _ (f : FileState) (t : FileTreesState) (reader : ℕ) (r r' : ReaderState
     has_taken_by bytes long = record {
       right = file_taken;
       taken_is = ap waiting_in (get_set f.readers reader r' r at) ∙ T.waiting ∙ sym (ap (λ (o : Option ReaderState). drop 1 (waiting_in o)) at);
-      shares_are = map_set (λ (q : ReaderState). q.share) f.readers reader r' r at T.share;
+      copies_are = map_set (λ (q : ReaderState). copy_of q) f.readers reader r' r at (λ i. copy (T.server i) (T.share i));
       others = λ other not. ap waiting_in (get_other f.readers reader other r' not);
       asked = asks_no_more f taken_file keeps_taken still_taken;
       asked_up = λ other. asked_up_stays f taken_file other refl (λ now. now) (grows_taken other);
-      reads = λ entries place read first answered. read_taken entries place bytes read first answered long;
+      reads = λ entries read answered. read_taken entries bytes read answered long;
       same = same_taken;
     }
 

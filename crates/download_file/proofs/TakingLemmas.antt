@@ -41,6 +41,7 @@ module _ (h : HandoutState) (r : ReaderState) (taken : List ℕ) (a b : ℕ) (w 
     grow = grow;
     stays = same_known h.trees.ciphertext h'.trees.ciphertext same;
     known = tt;
+    server = ap (λ (q : ReaderState). q.server) reader;
     share = ap (λ (q : ReaderState). q.share) reader;
     waiting = ap (λ (q : ReaderState). q.waiting) reader;
     source = source;
@@ -49,14 +50,15 @@ module _ (h : HandoutState) (r : ReaderState) (taken : List ℕ) (a b : ℕ) (w 
     taken_is = refl;
   }
 
-  pub took_nodes : (r' : ReaderState) (p : NodePiece) (bytes : List ℕ) → r'.share ≡ r.share → r'.waiting ≡ drop 1 r.waiting
+  pub took_nodes : (r' : ReaderState) (p : NodePiece) (bytes : List ℕ) → r'.server ≡ r.server → r'.share ≡ r.share → r'.waiting ≡ drop 1 r.waiting
       → TakesPiece r.source p bytes r'.source → IsSource r'.source → TakesPart h r taken a b (BlockTree p) w.place h r' taken
-  took_nodes r' p bytes share waiting takes source = record {
+  took_nodes r' p bytes server share waiting takes source = record {
     handout = refl;
     right = is.right;
     grow = grow_none h.trees;
     stays = λ number known. known;
     known = tt;
+    server = server;
     share = share;
     waiting = waiting;
     source = source;
@@ -79,6 +81,7 @@ module _ (h : HandoutState) (r : ReaderState) (taken : List ℕ) (a b : ℕ) (w 
     stays = λ number known. kept_known h.trees.ciphertext h'.trees.ciphertext (nodes_offered nodes bytes) number takes known;
     known = offered_known (nodes_of h.geometry a b p) bytes h.trees.ciphertext h'.trees.ciphertext (subst (λ (n : Nodes). length bytes ≡ 32 * n.count) these long)
         (subst (λ (n : Nodes). Takes h.trees.ciphertext (nodes_offered n bytes) h'.trees.ciphertext) these takes);
+    server = ap (λ (q : ReaderState). q.server) reader;
     share = ap (λ (q : ReaderState). q.share) reader;
     waiting = ap (λ (q : ReaderState). q.waiting) reader;
     source = source;
@@ -96,6 +99,7 @@ module _ (h : HandoutState) (r : ReaderState) (taken : List ℕ) (a b : ℕ) (w 
     grow = grow_none h.trees;
     stays = λ number known. known;
     known = tt;
+    server = ap (λ (q : ReaderState). q.server) reader;
     share = ap (λ (q : ReaderState). q.share) reader;
     waiting = ap (λ (q : ReaderState). q.waiting) reader;
     source = source;

@@ -19,15 +19,15 @@ use Rattle.download_source.proofs.LawLemmas.{lead_append, parts_apart, plans_gro
 use Rattle.download_segments.specs.Handout.{next_segment}
 use Rattle.download_segments.proofs.TreeLemmas.{grow_none}
 use Rattle.segment_groups.proofs.ListLemmas.{one_there}
-use Rattle.download_file.specs.State.{FileState, IsLive, IsReader, ReaderState, giver, placed, shares, waiting_at, waiting_in, waiting_parts}
-use Rattle.download_file.specs.Answers.{HoldsAnswers}
+use Rattle.download_file.specs.State.{FileState, IsLive, IsReader, ReaderState, copy, copy_of, giver, placed, copies, waiting_at, waiting_in, waiting_parts}
+use Rattle.download_file.specs.Answers.{HoldsAnswers, HoldsFor}
 use Rattle.download_file.specs.Asked.{AsksParts, HasAsked, IsAskedUp, IsOneOf, IsPlannedRead}
 use Rattle.download_file.specs.Changes.{IsSameFile, OthersWait, StaysAskedUp, StaysRead}
 use Rattle.download_file.specs.Right.{AreLive, IsFile, IsGroup, IsReaderOf}
 use Rattle.download_file.specs.Steps.{Asks, AsksNoTree}
 use Rattle.download_file.specs.declared.reader.Waiting.{Waiting}
 use Rattle.download_file.proofs.ListLemmas.{All-from_contains, contains_map, first_in, from_map, get_cases, get_other, get_set, map_set, more_in, set_cases}
-use Rattle.download_file.proofs.GrowLemmas.{GoesOn, GrowReaders, goes_same, given_stays, group_stays, read_stays}
+use Rattle.download_file.proofs.GrowLemmas.{GoesOn, GrowReaders, goes_same, given_stays, group_stays, holds_as, read_stays}
 use Rattle.download_file.proofs.LiveLemmas.{cons_cases, none_in}
 use Rattle.download_file.proofs.StateLemmas.{Follows, GrowsAsks, asked_up_stays, ciphertext_back, grows_itself, reader_stays, same_reader, wanted_back}
 
@@ -83,13 +83,13 @@ pub record HasWanted (f : FileState) (reader place last : ℕ) (wanted : List Wa
   pub waits : waiting_at g reader ≡ waiting_at f reader ++ placed place wanted
   pub asked_up : (next : ℕ) → next_segment f.handout ≡ Some next → next ≤ last → last < f.end → IsAskedUp g reader
   pub others_asked_up : (other : ℕ) → StaysAskedUp f g other
-  pub shares_are : shares g ≡ shares f
+  pub copies_are : copies g ≡ copies f
   pub others : OthersWait f reader g
   pub reads : StaysRead f g
   pub same : IsSameFile f g
 
 module _ (f : FileState) (reader : ℕ) (r r' : ReaderState) (gives : Bool) (last place : ℕ) (wanted : List Wanted) (is : IsFile f) (live : IsLive f reader)
-    (at : slice_get f.readers reader ≡ Some r) (share : r'.share ≡ r.share) (only : OnlyAsks r.source r'.source) (right : IsSource r'.source)
+    (at : slice_get f.readers reader ≡ Some r) (server : r'.server ≡ r.server) (share : r'.share ≡ r.share) (only : OnlyAsks r.source r'.source) (right : IsSource r'.source)
     (asks : Asks r.source gives last wanted r'.source) (tree : gives ≡ false → AsksNoTree r.source r'.source)
     (giver_is : (giver f ≡ Some reader → gives ≡ true) × (giver f ≢ Some reader → gives ≡ false))
     (waits : r'.waiting ≡ r.waiting ++ placed place wanted) where
@@ -211,7 +211,7 @@ module _ (f : FileState) (reader : ℕ) (r r' : ReaderState) (gives : Bool) (las
   pub read_asked : StaysRead f asked_file
   read_asked entries read = read_stays entries f asked_file refl refl refl (grow_none f.handout.trees) grow is.groups refl (λ p among. among)
       (λ other q there. elim (set_cases f.readers reader other r' q there) [
-        | inl k ↦ subst (λ (x : ReaderState). HoldsAnswers entries x.source) k.1 (subst (HoldsAnswers entries) (sym only) (read.held reader r at))
+        | inl k ↦ subst (λ (x : ReaderState). HoldsAnswers entries x) k.1 (subst (HoldsFor entries r'.server r'.share) (sym only) (holds_as entries r.server r.share r'.server r'.share r.source server share (read.held reader r at)))
         | inr k ↦ read.held other q k.1
       ])
       read
@@ -227,8 +227,8 @@ module _ (f : FileState) (reader : ℕ) (r r' : ReaderState) (gives : Bool) (las
     given = given_stays f asked_file refl refl refl (grow_none f.handout.trees) grow is.groups refl;
   }
 
-  pub shares_asked : shares asked_file ≡ shares f
-  shares_asked = map_set (λ (q : ReaderState). q.share) f.readers reader r' r at share
+  pub copies_asked : copies asked_file ≡ copies f
+  copies_asked = map_set (λ (q : ReaderState). copy_of q) f.readers reader r' r at (λ i. copy (server i) (share i))
 
   pub waiting_asked : waiting_at asked_file reader ≡ waiting_at f reader ++ placed place wanted
   waiting_asked = ap waiting_in (get_set f.readers reader r' r at) ∙ waits ∙ sym (ap (λ (o : Option ReaderState). waiting_in o ++ placed place wanted) at)
@@ -388,7 +388,7 @@ module _ (f : FileState) (reader : ℕ) (r r' : ReaderState) (gives : Bool) (las
     waits = waiting_asked;
     asked_up = now_up;
     others_asked_up = still_up;
-    shares_are = shares_asked;
+    copies_are = copies_asked;
     others = others_asked;
     reads = read_asked;
     same = same_asked;

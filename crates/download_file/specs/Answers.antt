@@ -1,14 +1,15 @@
 -- What the answers in a record say of a file that is read.
-use Rattle.std.specs.Prelude.{◌≡◌, ℕ, ◌<◌, ◌≤◌, List, [], map, length, Option, Some, None}
+use Rattle.std.specs.Prelude.{◌≡◌, ℕ, ◌<◌, ◌≤◌, List, [], ◌∷◌, map, length, Option, Some, None}
 use Rattle.std.specs.Prelude.{slice_get, slice_index_or, Contains}
 use Rattle.std.specs.List.{flat_map}
 use Rattle.wire.specs.declared.message.Body.{Body}
 use Rattle.wire.specs.declared.message.Body.TheVariants.{Data}
+use Rattle.request_record.specs.declared.requests.Asked.TheVariants.{Reading}
 use Rattle.request_record.specs.declared.requests.Outcome.{Outcome}
 use Rattle.request_record.specs.declared.requests.Outcome.TheVariants.{Answered}
 use Rattle.request_record.specs.declared.requests.Request.{Request}
 use Rattle.proved_parts.specs.Decoding.{DecodesBlocks}
-use Rattle.download_plan.specs.Plan.{length_of}
+use Rattle.download_plan.specs.Plan.{length_of, place_of}
 use Rattle.download_plan.specs.declared.part.Part.TheVariants as parts
 use Rattle.download_source.specs.Blocks.{IsHeld, block_places, joined_block}
 use Rattle.download_source.specs.Source.{SourceState}
@@ -18,6 +19,7 @@ use Rattle.download_segments.specs.State.{HandoutState, ProvesSegment}
 use Rattle.download_segments.specs.declared.piece.Piece.{Piece}
 use Rattle.segment_groups.specs.State.{GroupState}
 use Rattle.download_file.specs.State.{FileState, IsReader, ReaderState}
+use Rattle.download_file.specs.declared.reader.Waiting.{Waiting}
 
 -- the answer to the request at a place is these bytes
 pub record AnsweredWith (entries : List Request) (place : ℕ) (bytes : List ℕ) : Type 0 where
@@ -25,10 +27,36 @@ pub record AnsweredWith (entries : List Request) (place : ℕ) (bytes : List ℕ
   pub there : slice_get entries place ≡ Some request
   pub answer : request.outcome ≡ Answered (Data bytes)
 
--- bytes of this length are
-abbrev pub IsAnswered : List Request → ℕ → ℕ → Type 0
-IsAnswered entries place len =
-    (bytes : List ℕ) × AnsweredWith entries place bytes × (length bytes ≡ len)
+-- The request at a place asked a server for so many bytes of a share from an offset on, and as many
+-- are the answer.
+pub record IsAnswerOf (entries : List Request) (server share offset len place : ℕ) : Type 0 where
+  pub request : Request
+  pub there : slice_get entries place ≡ Some request
+  pub of_server : request.server ≡ server
+  pub asked : request.asked ≡ Reading share offset len
+  pub bytes : List ℕ
+  pub answer : request.outcome ≡ Answered (Data bytes)
+  pub long : length bytes ≡ len
+
+-- The part was asked of the reader's server, as bytes of the reader's share, by the request at its
+-- place, and these bytes are the answer.
+pub record IsAnswerTo (entries : List Request) (r : ReaderState) (w : Waiting) (bytes : List ℕ)
+    : Type 0 where
+  pub request : Request
+  pub there : slice_get entries w.place ≡ Some request
+  pub of_server : request.server ≡ r.server
+  pub asked : request.asked ≡ Reading r.share w.wanted.read.place w.wanted.read.length
+  pub answer : request.outcome ≡ Answered (Data bytes)
+
+-- so it is of the first part that waits of the reader at a place
+pub record AnswersFirst (entries : List Request) (f : FileState) (reader : ℕ) (bytes : List ℕ)
+    : Type 0 where
+  pub r : ReaderState
+  pub there : IsReader f reader r
+  pub first : Waiting
+  pub others : List Waiting
+  pub waits : r.waiting ≡ first ∷ others
+  pub answers : IsAnswerTo entries r first bytes
 
 -- the bytes that are the answer to the request at a place
 abbrev pub bytes_in : Outcome → List ℕ
@@ -56,11 +84,16 @@ abbrev pub blocks_of : List Request → List ReaderState → ℕ → List ℕ �
 blocks_of entries readers number places =
     flat_map (λ place. block_in entries number (slice_get readers place)) places
 
--- each piece of the data that the source holds is an answer of its length
-abbrev pub HoldsAnswers : List Request → SourceState → Type 0
-HoldsAnswers entries s = (k : ℕ) → k < length s.held
-    → IsAnswered entries (slice_index_or s.held k 0)
-    (length_of s.geometry s.first s.end (parts.Data k))
+-- each piece of the data that the source holds was asked of this server, as bytes of this share
+-- where the piece lies, and is an answer of its length
+abbrev pub HoldsFor : List Request → ℕ → ℕ → SourceState → Type 0
+HoldsFor entries server share s = (k : ℕ) → k < length s.held
+    → IsAnswerOf entries server share (place_of s.geometry s.first s.end (parts.Data k))
+    (length_of s.geometry s.first s.end (parts.Data k)) (slice_index_or s.held k 0)
+
+-- what a reader holds its own server sent, of its own share
+abbrev pub HoldsAnswers : List Request → ReaderState → Type 0
+HoldsAnswers entries r = HoldsFor entries r.server r.share r.source
 
 -- the blocks of a segment that the readers of a group hold decode to what is proved
 pub record IsMade (entries : List Request) (h : HandoutState) (readers : List ReaderState)
@@ -93,7 +126,7 @@ pub record IsGivenBy (entries : List Request) (f : FileState) (p : Piece) : Type
 -- The readers hold answers of this record. Each segment of a group was made of them, and so were
 -- the pieces that are ready.
 pub record IsRead (entries : List Request) (f : FileState) : Type 0 where
-  pub held : (place : ℕ) (r : ReaderState) → IsReader f place r → HoldsAnswers entries r.source
+  pub held : (place : ℕ) (r : ReaderState) → IsReader f place r → HoldsAnswers entries r
   pub made : (group : GroupState) (number : ℕ) → Contains f.groups group → group.first ≤ number
       → number < group.end → IsMade entries f.handout f.readers group number
   pub ready : (p : Piece) → Contains f.handout.ready p → IsGivenBy entries f p

@@ -10,9 +10,10 @@ use Rattle.download_segments.specs.State.{HandoutState, starting_handout}
 use Rattle.segment_groups.specs.State.{GroupState}
 use Rattle.download_file.specs.declared.reader.Waiting.{Waiting}
 
--- A share that is read. What waits are the parts that were asked of it and not taken yet, in order,
--- each with the place of the request that asked it.
+-- A share at a server that is read. What waits are the parts that were asked of it and not taken
+-- yet, in order, each with the place of the request that asked it.
 pub record ReaderState : Type 0 where
+  pub server : ℕ
   pub share : ℕ
   pub source : SourceState
   pub waiting : List Waiting
@@ -57,9 +58,21 @@ IsLive f place = Contains f.live place
 abbrev pub giver : FileState → Option ℕ
 giver f = slice_get f.live 0
 
--- the numbers of the shares, in the readers' order
-abbrev pub shares : FileState → List ℕ
-shares f = map (λ r. r.share) f.readers
+-- a copy: a share at a server
+pub record CopyState : Type 0 where
+  pub server : ℕ
+  pub share : ℕ
+
+abbrev pub copy : ℕ → ℕ → CopyState
+copy server share = record { server = server; share = share }
+
+-- the copy that a reader reads
+abbrev pub copy_of : ReaderState → CopyState
+copy_of r = copy r.server r.share
+
+-- the copies, in the readers' order
+abbrev pub copies : FileState → List CopyState
+copies f = map (λ r. copy_of r) f.readers
 
 -- the numbers of the shares of the readers at these places
 abbrev pub share_in : Option ReaderState → ℕ

@@ -74,7 +74,7 @@ pub record AreOfFile (entries : List Request) (g : Geometry) (readers : List Rea
   pub geometry : (place : ℕ) (r : ReaderState) → slice_get readers place ≡ Some r
       → r.source.geometry ≡ g
   pub held : (place : ℕ) (r : ReaderState) → slice_get readers place ≡ Some r
-      → HoldsAnswers entries r.source
+      → HoldsAnswers entries r
 
 -- the last group is of the readers at these places: it was, or such a group is added
 abbrev pub BeginsGroup : List GroupState → Geometry → List ReaderState → List ℕ → ℕ
@@ -129,8 +129,9 @@ pub record CanGive (r : ReaderState) (taken : List ℕ) : Type 0 where
 
 -- a reader of which nothing was asked yet; where it gives the ciphertext tree, it does from these
 -- pieces on
-pub record IsBegun (g : Geometry) (start first end share : ℕ) (gives : Bool) (taken : List ℕ)
+pub record IsBegun (g : Geometry) (start first end server share : ℕ) (gives : Bool) (taken : List ℕ)
     (r : ReaderState) : Type 0 where
+  pub server_is : r.server ≡ server
   pub share_is : r.share ≡ share
   pub waiting : r.waiting ≡ []
   pub right : IsSource r.source
@@ -203,6 +204,7 @@ pub record TakesPart (h : HandoutState) (r : ReaderState) (taken : List ℕ) (a 
   pub stays : (number : ℕ) → is_some (known_at h.trees.ciphertext number) ≡ true
       → is_some (known_at h'.trees.ciphertext number) ≡ true
   pub known : KnowsPart h.geometry a b h'.trees.ciphertext part
+  pub server : r'.server ≡ r.server
   pub share : r'.share ≡ r.share
   pub waiting : r'.waiting ≡ drop 1 r.waiting
   pub source : IsSource r'.source

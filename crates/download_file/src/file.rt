@@ -9,7 +9,7 @@ ghost use Rattle.share_verify.specs.CapBlock.{geometry_by};
 ghost use Rattle.proved_parts.specs.Parts.{IsSegmentBy};
 ghost use Rattle.download_segments.specs.Handout.{TakesPiece};
 ghost use Rattle.download_segments.specs.NoCodeWord.{IsNoCodeWord};
-ghost use Rattle.download_file.specs.Answers.{AnsweredWith, IsRead};
+ghost use Rattle.download_file.specs.Answers.{AnswersFirst, IsRead};
 ghost use Rattle.download_file.specs.Asked.{AsksNoMore, AsksParts, IsAskedUp};
 ghost use Rattle.download_file.specs.Changes.{HandsNothing, IsSameFile, OthersWait, StaysAskedUp};
 ghost use Rattle.download_file.specs.Changes.{StaysRead};
@@ -17,7 +17,7 @@ ghost use Rattle.download_file.specs.Making.{AwaitsRow, CanMakeRow, CanNotGoOn, 
 ghost use Rattle.download_file.specs.Making.{MakesPieces, MakesSegments, RefutesReader};
 ghost use Rattle.download_file.specs.Right.{IsFile, made_end};
 ghost use Rattle.download_file.specs.State.{IsComplete, IsLive, IsReader, ReaderState};
-ghost use Rattle.download_file.specs.State.{first_waiting, giver, new_file, placed, shares};
+ghost use Rattle.download_file.specs.State.{copies, copy, first_waiting, giver, new_file, placed};
 ghost use Rattle.download_file.specs.State.{waiting_at, without};
 ghost use Rattle.download_file.specs.Taking.{IsRefused};
 
@@ -40,6 +40,7 @@ use share_verify::Check;
 use std::alloc::{AllocError, Global};
 use std::marker::Model;
 use ueb::Ueb;
+use wire::message::NodeId;
 
 /// What became of the next segment.
 #[derive(Clone, Copy, PartialEq, Eq)]
@@ -152,15 +153,16 @@ impl File {
         self.live.as_slice()
     }
 
-    /// A share is read from the next segment on. Gives the place of its reader.
-    pub fn begin(&mut self, share: u8) -> Result<usize, AllocError>
+    /// A share at a server is read from the next segment on. Gives the place of its reader.
+    pub fn begin(&mut self, server: NodeId, share: u8) -> Result<usize, AllocError>
         requires more { ¬ IsComplete self.old }
         requires there { share < self.old.handout.geometry.total }
         requires unread { (reader : ℕ) → (r : ReaderState) → IsLive self.old reader
             → IsReader self.old reader r → r.share ≢ share }
         requires few { length self.old.live < self.old.handout.geometry.needed }
         ensures place { IfOk result (λ reader. reader ≡ length self.old.readers) }
-        ensures shares { OnOk result (shares self.new ≡ shares self.old ++ share ∷ []) }
+        ensures copies { OnOk result (copies self.new
+            ≡ copies self.old ++ copy server share ∷ []) }
         ensures live { OnOk result (self.new.live ≡ self.old.live ++ length self.old.readers ∷ []) }
         ensures waiting { (reader : ℕ) → waiting_at self.new reader ≡ waiting_at self.old reader }
         ensures asked { AsksNoMore self.old self.new }
@@ -178,7 +180,8 @@ impl File {
         };
         let reader = self.readers.len();
         let gives = self.live.is_empty();
-        let begun = begin_reader(self.alloc, &self.plan, next, share, gives, &self.taken);
+        let alloc = self.alloc;
+        let begun = begin_reader(alloc, &self.plan, next, server, share, gives, &self.taken);
         self.readers.reserve(1)?;
         self.live.push(reader)?;
         self.readers.push_reserved(begun);
@@ -190,7 +193,7 @@ impl File {
     pub fn end(&mut self, reader: usize)
         requires live { IsLive self.old reader }
         ensures live { self.new.live ≡ without reader self.old.live }
-        ensures shares { shares self.new ≡ shares self.old }
+        ensures copies { copies self.new ≡ copies self.old }
         ensures none { waiting_at self.new reader ≡ [] }
         ensures others { OthersWait self.old reader self.new }
         ensures asked { AsksNoMore self.old self.new }
@@ -220,7 +223,7 @@ impl File {
         ensures others_asked_up { OnOk result ((other : ℕ)
             → StaysAskedUp self.old self.new other) }
         ensures live { OnOk result (self.new.live ≡ self.old.live) }
-        ensures shares { shares self.new ≡ shares self.old }
+        ensures copies { copies self.new ≡ copies self.old }
         ensures others { OthersWait self.old reader self.new }
         ensures reads { StaysRead self.old self.new }
         // Nothing else changes.
@@ -265,13 +268,13 @@ impl File {
             → IsRefused self.old reader bytes.now check }
         ensures unchanged { OnErr result (self.new ≡ self.old) }
         ensures live { self.new.live ≡ self.old.live }
-        ensures shares { shares self.new ≡ shares self.old }
+        ensures copies { copies self.new ≡ copies self.old }
         ensures others { OthersWait self.old reader self.new }
         ensures asked { AsksNoMore self.old self.new }
         ensures asked_up { (other : ℕ) → StaysAskedUp self.old self.new other }
-        ensures reads { (entries : List Request) → (place : ℕ) → IsRead entries self.old
-            → first_waiting self.old reader ≡ Some place → AnsweredWith entries place bytes.now
-            → IsRead entries self.new }
+        // The bytes are what the reader's own server answered to the request that asked it.
+        ensures reads { (entries : List Request) → IsRead entries self.old
+            → AnswersFirst entries self.old reader bytes.now → IsRead entries self.new }
         // Nothing else changes.
         ensures handout { HandsNothing self.old self.new }
         ensures same { IsSameFile self.old self.new }

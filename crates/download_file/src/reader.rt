@@ -22,6 +22,7 @@ use share_verify::Check;
 use std::alloc::{AllocError, Global};
 use std::collections::VecDeque;
 use std::marker::Model;
+use wire::message::NodeId;
 
 /// A part that was asked of a reader and not taken yet.
 #[derive(Clone, Copy, PartialEq, Eq)]
@@ -32,9 +33,10 @@ pub struct Waiting {
     pub wanted: Wanted,
 }
 
-/// A share that is read.
+/// A share at a server that is read.
 #[derive(Drop)]
 pub(crate) struct Reader {
+    server: NodeId,
     share: u8,
     source: Source,
     waiting: VecDeque<Waiting>,
@@ -46,6 +48,7 @@ impl Model for Reader {
     ghost Value = { ReaderState };
 
     ghost view = { λ r. record {
+      server = r.server;
       share = r.share;
       source = r.source;
       waiting = r.waiting.items;
@@ -53,11 +56,12 @@ impl Model for Reader {
 }
 
 impl Reader {
-    /// A reader of the segments from `first` on of a share with this number, in a download by this
-    /// plan. Nothing is asked of it yet.
-    pub(crate) fn new(alloc: Global, plan: &Plan, first: u32, share: u8) -> Reader
+    /// A reader of the segments from `first` on of a share with this number at a server, in a
+    /// download by this plan. Nothing is asked of it yet.
+    pub(crate) fn new(alloc: Global, plan: &Plan, first: u32, server: NodeId, share: u8) -> Reader
         requires from { plan.now.first ≤ first }
         requires before { first < plan.now.end }
+        ensures server { result.server ≡ server }
         ensures share { result.share ≡ share }
         ensures source { result.source
             ≡ new_source plan.now.geometry plan.now.first first plan.now.end }
@@ -65,6 +69,7 @@ impl Reader {
         ensures right { IsSource result.source }
     {
         Reader {
+            server,
             share,
             source: Source::new(alloc, plan, first),
             waiting: VecDeque::new(alloc),
@@ -140,6 +145,7 @@ impl Reader {
         // It is asked for the ciphertext tree only where it gives that.
         ensures none { gives ≡ false → AsksNoTree self.old.source self.new.source }
         ensures only { OnlyAsks self.old.source self.new.source }
+        ensures server { self.new.server ≡ self.old.server }
         ensures share { self.new.share ≡ self.old.share }
         ensures right { IsSource self.new.source }
     {
@@ -174,6 +180,7 @@ impl Reader {
             self.old.source.first self.old.source.end (Part.BlockTree piece.now) }
         ensures taken { OnOk result
             (TakesPiece self.old.source piece.now bytes.now self.new.source) }
+        ensures server { self.new.server ≡ self.old.server }
         ensures share { self.new.share ≡ self.old.share }
         ensures waiting { OnOk result (self.new.waiting ≡ drop 1 self.old.waiting) }
         ensures refused { (check : Check) → result ≡ Err (TreeFault.Check check)
@@ -286,12 +293,13 @@ fn drop_first(waiting: &mut VecDeque<Waiting>)
     let _ = waiting.pop_front();
 }
 
-/// A reader of the segments from `first` on of a share with this number, in a download by this
-/// plan. Where it gives the ciphertext tree, it does from what was taken on.
+/// A reader of the segments from `first` on of a share with this number at a server, in a download
+/// by this plan. Where it gives the ciphertext tree, it does from what was taken on.
 pub(crate) fn begin_reader(
     alloc: Global,
     plan: &Plan,
     first: u32,
+    server: NodeId,
     share: u8,
     gives: bool,
     taken: &[u32; 3],
@@ -300,10 +308,10 @@ pub(crate) fn begin_reader(
     requires before { first < plan.now.end }
     requires pieces { (p : NodePiece) → p.index < cursor_at taken.now p.level
         → IsNodePiece plan.now.geometry plan.now.first plan.now.end p }
-    ensures { IsBegun plan.now.geometry plan.now.first first plan.now.end share gives taken.now
-        result }
+    ensures { IsBegun plan.now.geometry plan.now.first first plan.now.end server share gives
+        taken.now result }
 {
-    let mut reader = Reader::new(alloc, plan, first, share);
+    let mut reader = Reader::new(alloc, plan, first, server, share);
     if !gives {
         return reader;
     }

@@ -17,7 +17,7 @@ then c = record {
   groups = c.self.inside.groups.items;
 }
 
-begun : (c : goal.After-push_reserved) → HasBegun c.args.self.now c.args.share (then c)
+begun : (c : goal.After-push_reserved) → HasBegun c.args.self.now c.args.server c.args.share (then c)
 begun c =
     let f : FileState = record {
       handout = c.self.inside.handout;
@@ -29,17 +29,17 @@ begun c =
       groups = c.self.inside.groups.items;
     } in
     let x : ReaderState = c.begin_reader-begun.result in
-    let k : IsBegun f.handout.geometry f.first c.in-Some.next f.end c.args.share c.is_empty-gives.result f.taken x =
-    subst (λ (g : Geometry). IsBegun g f.first c.in-Some.next f.end c.args.share c.is_empty-gives.result f.taken x) c.self.invariant.1 c.begin_reader-begun.ensures in
+    let k : IsBegun f.handout.geometry f.first c.in-Some.next f.end c.args.server c.args.share c.is_empty-gives.result f.taken x =
+    subst (λ (g : Geometry). IsBegun g f.first c.in-Some.next f.end c.args.server c.args.share c.is_empty-gives.result f.taken x) c.self.invariant.1 c.begin_reader-begun.ensures in
     let given : f.live ≡ [] → c.is_empty-gives.result ≡ true = λ none.
     c.is_empty-gives.ensures ∙ eq-eqb c.self.inside.live.len 0 (c.self.inside.live.ok.0 ∙ ap length none) in
     let readers : c.push_reserved.new.self.items ≡ f.readers ++ x ∷ [] = search rules in
     let live : c.push.new.self.items ≡ f.live ++ length f.readers ∷ [] = c.in_ok-push.ensures.items
     ∙ ap (λ (n : ℕ). f.live ++ n ∷ []) (c.len-reader.ensures ∙ c.self.inside.readers.ok.0) in
-    subst (λ (s : FileState). HasBegun s c.args.share (then c)) c.self.view_is
-    (subst (λ (l : List ReaderState). HasBegun f c.args.share (record f { readers = l; live = c.push.new.self.items })) (sym readers)
-    (subst (λ (l : List ℕ). HasBegun f c.args.share (record f { readers = f.readers ++ x ∷ []; live = l })) (sym live)
-    (has_begun f c.args.share c.in-Some.next x c.is_empty-gives.result c.self.invariant.0 (sym c.in-Some.ensures.value) k given
+    subst (λ (s : FileState). HasBegun s c.args.server c.args.share (then c)) c.self.view_is
+    (subst (λ (l : List ReaderState). HasBegun f c.args.server c.args.share (record f { readers = l; live = c.push.new.self.items })) (sym readers)
+    (subst (λ (l : List ℕ). HasBegun f c.args.server c.args.share (record f { readers = f.readers ++ x ∷ []; live = l })) (sym live)
+    (has_begun f c.args.server c.args.share c.in-Some.next x c.is_empty-gives.result c.self.invariant.0 (sym c.in-Some.ensures.value) k given
     (subst (λ (s : FileState). c.args.share < s.handout.geometry.total) (sym c.self.view_is) c.requires.there)
     (subst (λ (s : FileState). length s.live < s.handout.geometry.needed) (sym c.self.view_is) c.requires.few)
     (subst (λ (s : FileState). (reader : ℕ) (r : ReaderState) → IsLive s reader → IsReader s reader r → r.share ≢ c.args.share) (sym c.self.view_is) c.requires.unread))))

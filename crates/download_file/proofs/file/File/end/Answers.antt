@@ -52,8 +52,8 @@ invariant_of-self c = ((ended c).1.right, c.self.invariant.1)
 pub returns-clause-right : goal.returns-clause-right
 returns-clause-right c = (ended c).1.right
 
-pub returns-clause-shares : goal.returns-clause-shares
-returns-clause-shares c = (ended c).1.same_shares
+pub returns-clause-copies : goal.returns-clause-copies
+returns-clause-copies c = (ended c).1.same_copies
 
 pub returns-clause-none : goal.returns-clause-none
 returns-clause-none c = (ended c).1.none

@@ -4,8 +4,8 @@ use Rattle.request_record.specs.declared.requests.Request.{Request}
 use Rattle.download_trees.specs.declared.error.TreeFault.TheVariants as faults
 use Rattle.download_segments.specs.State.{HandoutState}
 use Rattle.segment_groups.proofs.ListLemmas.{got, one_there}
-use Rattle.download_file.specs.State.{FileState, IsLive, ReaderState, first_waiting}
-use Rattle.download_file.specs.Answers.{AnsweredWith, IsRead}
+use Rattle.download_file.specs.State.{FileState, IsLive, ReaderState}
+use Rattle.download_file.specs.Answers.{AnswersFirst, IsRead}
 use Rattle.download_file.specs.Asked.{AsksNoMore}
 use Rattle.download_file.specs.Changes.{IsSameFile, StaysAskedUp}
 use Rattle.download_file.specs.Right.{IsFile}
@@ -76,8 +76,8 @@ returns-clause-right c = (taken c).right
 pub returns-clause-taken : goal.returns-clause-taken
 returns-clause-taken c = (taken c).taken_is
 
-pub returns-clause-shares : goal.returns-clause-shares
-returns-clause-shares c = (taken c).shares_are
+pub returns-clause-copies : goal.returns-clause-copies
+returns-clause-copies c = (taken c).copies_are
 
 pub returns-clause-others : goal.returns-clause-others
 returns-clause-others c = (taken c).others
@@ -141,8 +141,8 @@ returns-in_err-take_part-clause-asked_up c = subst (λ (g : FileState). (other :
 
 pub returns-in_err-take_part-clause-reads : goal.returns-in_err-take_part-clause-reads
 returns-in_err-take_part-clause-reads c =
-    subst (λ (g : FileState). (entries : List Request) (place : ℕ) → IsRead entries c.args.self.now → first_waiting c.args.self.now c.args.reader ≡ Some place
-    → AnsweredWith entries place c.args.bytes.now → IsRead entries g) (sym (same c)) (λ entries place read first answered. read)
+    subst (λ (g : FileState). (entries : List Request) → IsRead entries c.args.self.now → AnswersFirst entries c.args.self.now c.args.reader c.args.bytes.now
+    → IsRead entries g) (sym (same c)) (λ entries read answered. read)
 
 pub returns-in_err-take_part-clause-refused : goal.returns-in_err-take_part-clause-refused
 returns-in_err-take_part-clause-refused c = λ check is.

@@ -41,7 +41,7 @@ wanted c =
     let gives_no : giver f ≢ Some c.args.reader → c.eq-gives.result ≡ false = λ e. c.eq-gives.ensures ∙ option_is_false c.copied.result c.args.reader (λ k. e (sym first_is ∙ k)) in
     subst (λ (s : FileState). HasWanted s c.args.reader c.args.place c.last_asked-last.result c.in-Ok.wanted.items (asked c)) c.self.view_is
     (has_wanted f c.args.reader r c.ask.new.self c.eq-gives.result c.last_asked-last.result c.args.place c.in-Ok.wanted.items c.self.invariant.0 live at
-    c.ask.ensures.share c.ask.ensures.only c.ask.ensures.right c.in-Ok.ensures.asks c.ask.ensures.none (gives_yes, gives_no) c.in-Ok.ensures.waits)
+    c.ask.ensures.server c.ask.ensures.share c.ask.ensures.only c.ask.ensures.right c.in-Ok.ensures.asks c.ask.ensures.none (gives_yes, gives_no) c.in-Ok.ensures.waits)
 
 pub invariant_of-self : goal.invariant_of-self
 invariant_of-self c = ((wanted c).right, c.self.invariant.1)
@@ -60,8 +60,8 @@ returns-in-Ok-clause-asked_up c = (wanted c).asked_up c.in-Some.next
 pub returns-in-Ok-clause-others_asked_up : goal.returns-in-Ok-clause-others_asked_up
 returns-in-Ok-clause-others_asked_up c = (wanted c).others_asked_up
 
-pub returns-in-Ok-clause-shares : goal.returns-in-Ok-clause-shares
-returns-in-Ok-clause-shares c = (wanted c).shares_are
+pub returns-in-Ok-clause-copies : goal.returns-in-Ok-clause-copies
+returns-in-Ok-clause-copies c = (wanted c).copies_are
 
 pub returns-in-Ok-clause-others : goal.returns-in-Ok-clause-others
 returns-in-Ok-clause-others c = (wanted c).others
@@ -126,14 +126,14 @@ ended c =
     let gives_no : giver f ≢ Some c.args.reader → c.eq-gives.result ≡ false = λ e. c.eq-gives.ensures ∙ option_is_false c.copied.result c.args.reader (λ k. e (sym first_is ∙ k)) in
     subst (λ (s : FileState). HasEnded s c.args.reader r.source c.ask.new.self.source (then c)) c.self.view_is
     (subst (λ (l : List ℕ). HasEnded f c.args.reader r.source c.ask.new.self.source (record f { readers = c.end_reader.new.readers.items; live = l })) (sym c.end_reader.ensures.live)
-    (has_ended f c.args.reader r c.ask.new.self c.end_reader.new.readers.items c.self.invariant.0 live at c.ask.ensures.share c.ask.ensures.only c.ask.ensures.right
+    (has_ended f c.args.reader r c.ask.new.self c.end_reader.new.readers.items c.self.invariant.0 live at c.ask.ensures.server c.ask.ensures.share c.ask.ensures.only c.ask.ensures.right
     (λ other. c.ask.ensures.none (gives_no other)) c.end_reader.ensures.ends))
 
 pub invariant_of-self-in-Err : goal.invariant_of-self-in-Err
 invariant_of-self-in-Err c = ((ended c).right, c.self.invariant.1)
 
-pub returns-in-Err-clause-shares : goal.returns-in-Err-clause-shares
-returns-in-Err-clause-shares c = (ended c).same_shares
+pub returns-in-Err-clause-copies : goal.returns-in-Err-clause-copies
+returns-in-Err-clause-copies c = (ended c).same_copies
 
 pub returns-in-Err-clause-others : goal.returns-in-Err-clause-others
 returns-in-Err-clause-others c = (ended c).others
