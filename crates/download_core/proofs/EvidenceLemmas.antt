@@ -10,6 +10,7 @@ use Rattle.wire.specs.declared.message.Body.TheVariants.{Data}
 use Rattle.request_record.specs.declared.requests.Outcome.TheVariants.{Answered}
 use Rattle.share_beginnings.specs.Reads.{IsAnsweredBy}
 use Rattle.share_beginnings.proofs.Entries.{same_of}
+use Rattle.download_file.specs.Answers.{IsMadeSegment}
 use Rattle.download_file.specs.Right.{made_end}
 use Rattle.download_file.specs.State.{FileState}
 use Rattle.download_core.specs.Evidence.{ProvesMade}
@@ -44,8 +45,9 @@ pub proves_made : (verify : VerifyCapValue) (cap : ReadCapValue) → verify ≡ 
     → (block : List ℕ) (parts : List EvidencePart) → block ≡ text → (file : FileState) → file ≡ f.reading.file → (made : List EvidencePart) → parts ≡ made
     → map (λ (p : EvidencePart). p.number) made ≡ range_with_len file.first (made_end file - file.first)
     → All (λ (p : EvidencePart). IsSegmentBy file.handout.ueb p.number p.segment p.path) made
-    → ProvesMade verify f.reading.file (record { extension_block = block; parts = parts })
-proves_made verify cap is entries f head text answered block parts same file file_is made parts_are all by = record {
+    → All (λ (p : EvidencePart). IsMadeSegment entries file p.number p.segment) made
+    → ProvesMade verify entries f.reading.file (record { extension_block = block; parts = parts })
+proves_made verify cap is entries f head text answered block parts same file file_is made parts_are all by each = record {
   proved = record {
     ueb = subst (λ (v : VerifyCapValue). IsUebFor v block f.reading.file.handout.ueb) (sym is)
         (subst (λ (b : List ℕ). IsUebFor (verify_cap_of cap) b f.reading.file.handout.ueb) (same_text (verify_cap_of cap) entries f.place f.reading.file.handout.ueb head text answered ∙ sym same) head.block);
@@ -54,6 +56,8 @@ proves_made verify cap is entries f head text answered block parts same file fil
   };
   parts = subst (λ (l : List EvidencePart). map (λ (p : EvidencePart). p.number) l ≡ range_with_len f.reading.file.first (made_end f.reading.file - f.reading.file.first)) (sym parts_are)
       (subst (λ (x : FileState). map (λ (p : EvidencePart). p.number) made ≡ range_with_len x.first (made_end x - x.first)) file_is all);
+  made = subst (λ (l : List EvidencePart). All (λ (p : EvidencePart). IsMadeSegment entries f.reading.file p.number p.segment) l) (sym parts_are)
+      (subst (λ (x : FileState). All (λ (p : EvidencePart). IsMadeSegment entries x p.number p.segment) made) file_is each);
 }
 
 -- ---- the whole file
@@ -84,10 +88,10 @@ whole_parts f parts right complete first to all =
     all ∙ ap (λ (n : ℕ). range_with_len n (made_end f - n)) none ∙ ap (range_with_len 0) all_made
 
 pub whole_of : (m : Machine) (e : Option Evidence) → IsFileIfFound m.cap m.from m.to (entries_of m) (found_of m.found) → IsRightIfFound (found_of m.found) → IsComplete m.from m.to m.found → m.from ≡ 0 → m.to ≡ m.cap.size
-    → IsEvidenceOf m.verify (found_of m.found) e → HasAllParts (found_of m.found) e
+    → IsEvidenceOf m.verify (entries_of m) (found_of m.found) e → HasAllParts (found_of m.found) e
 whole_of m e file right complete from to made = by m.found e file right complete made
   where
-    by : (f : Option FoundFile) (e : Option Evidence) → IsFileIfFound m.cap m.from m.to (entries_of m) (found_of f) → IsRightIfFound (found_of f) → IsComplete m.from m.to f → IsEvidenceOf m.verify (found_of f) e → HasAllParts (found_of f) e
+    by : (f : Option FoundFile) (e : Option Evidence) → IsFileIfFound m.cap m.from m.to (entries_of m) (found_of f) → IsRightIfFound (found_of f) → IsComplete m.from m.to f → IsEvidenceOf m.verify (entries_of m) (found_of f) e → HasAllParts (found_of f) e
     by None None file right complete made = tt
     by None (Some e) file right complete made = absurd made
     by (Some f) None file right complete made = absurd made

@@ -18,13 +18,13 @@ use Rattle.download_core.specs.Sending.{Takes}
 use Rattle.download_core.specs.State.{DownloadState, Found, ready, ready_in}
 
 -- the file that was found is the cap's
-abbrev HasFile : DownloadState → Type 0
+abbrev pub HasFile : DownloadState → Type 0
 HasFile d = IsFileIfFound d.cap d.from d.to d.requests.entries d.found
 
-file_of : (d : DownloadState) (f : Found) → d.found ≡ Some f → HasFile d → IsFileOfCap d.cap d.from d.to d.requests.entries f
+pub file_of : (d : DownloadState) (f : Found) → d.found ≡ Some f → HasFile d → IsFileOfCap d.cap d.from d.to d.requests.entries f
 file_of d f there has = subst (IsFileIfFound d.cap d.from d.to d.requests.entries) there has
 
-right_of : (d : DownloadState) (f : Found) → d.found ≡ Some f → IsRight d → IsFile f.file
+pub right_of : (d : DownloadState) (f : Found) → d.found ≡ Some f → IsRight d → IsFile f.file
 right_of d f there right = subst IsRightIfFound there right.made
 
 pub given_are_shown : GivenAreShown

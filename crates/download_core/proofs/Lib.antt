@@ -11,3 +11,5 @@ mod TakenLemmas
 mod BeginLemmas
 mod EvidenceLemmas
 mod NewsLemmas
+mod WholeLemmas
+mod ProvingLemmas

@@ -9,6 +9,8 @@ pub mod Hashed
 pub mod Moves
 pub mod Sending
 pub mod Right
+pub mod Whole
+pub mod Proving
 pub mod Refusals
 -- words of private clauses
 pub mod Steps

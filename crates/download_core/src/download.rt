@@ -9,8 +9,10 @@ ghost use Rattle.download_core.specs.Evidence.{HasAllParts, IsEvidenceOf};
 ghost use Rattle.download_core.specs.Hashed.{GivenAreShown, IsGivenBy};
 ghost use Rattle.download_core.specs.Moves.{Advances, Begins, StopsAt, TakesPiece, TicksOn};
 ghost use Rattle.download_core.specs.Moves.{asked_servers};
+ghost use Rattle.download_core.specs.Proving.{EvidenceIsOfTheGiven};
 ghost use Rattle.download_core.specs.Right.{IsRight};
 ghost use Rattle.download_core.specs.Sending.{Takes, first_to_send};
+ghost use Rattle.download_core.specs.Whole.{TakenFollow, WholeFiles};
 ghost use Rattle.download_core.specs.declared.status.DownloadStatus.TheVariants.{Done, Failed};
 ghost use Rattle.download_core.specs.declared.status.DownloadStatus.TheVariants.{NotEnoughShares};
 ghost use Rattle.download_core.specs.declared.status.DownloadStatus.TheVariants.{Inconsistent};
@@ -182,7 +184,8 @@ impl Download {
     pub fn evidence(&self, alloc: Global) -> Result<Option<Evidence>, AllocError>
         ensures proved { IfOk result (λ evidence. IfSome evidence
             (IsProved (verify_cap_of self.now.cap))) }
-        ensures made { IfOk result (IsEvidenceOf (verify_cap_of self.now.cap) self.now.found) }
+        ensures made { IfOk result (IsEvidenceOf (verify_cap_of self.now.cap)
+            self.now.requests.entries self.now.found) }
         // Where the whole file was made, each segment has its part.
         ensures whole { self.now.status ≡ Done → self.now.from ≡ 0
             → self.now.to ≡ self.now.cap.size → IfOk result (HasAllParts self.now.found) }
@@ -229,4 +232,24 @@ fn has_failed(status: DownloadStatus) -> bool
 /// The law is the contract; the call does nothing.
 pub fn given_are_shown()
     ensures { GivenAreShown }
+{}
+
+/// A law of the definitions: the pieces that a download gave, from the first byte of the cap's file
+/// to its last, are the file of the cap: a ciphertext decrypted, whose segments' hashes have the
+/// root in the cap's extension block. The law is the contract; the call does nothing.
+pub fn whole_files()
+    ensures { WholeFiles }
+{}
+
+/// A law of the definitions: a piece that is taken follows those that were taken before it. So the
+/// pieces of a download that is done, each taken, reach from its first byte to its last. The law is
+/// the contract; the call does nothing.
+pub fn taken_follow()
+    ensures { TakenFollow }
+{}
+
+/// A law of the definitions: each piece that a download gave is a slice of the segment of a part of
+/// its evidence, decrypted. The law is the contract; the call does nothing.
+pub fn evidence_is_of_the_given()
+    ensures { EvidenceIsOfTheGiven }
 {}

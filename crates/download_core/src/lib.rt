@@ -10,4 +10,6 @@ mod download;
 mod machine;
 pub mod status;
 
-pub use download::{Download, given_are_shown};
+pub use download::{
+    Download, evidence_is_of_the_given, given_are_shown, taken_follow, whole_files,
+};

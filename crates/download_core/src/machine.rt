@@ -174,7 +174,8 @@ impl Machine {
         requires verify { self.now.verify ≡ verify_cap_of self.now.cap }
         requires file { IsFileIfFound self.now.cap self.now.from self.now.to (entries_of self.now)
             (found_of self.now.found) }
-        ensures { IfOk result (IsEvidenceOf self.now.verify (found_of self.now.found)) }
+        ensures { IfOk result (IsEvidenceOf self.now.verify (entries_of self.now)
+            (found_of self.now.found)) }
     {
         let Some(found) = &self.found else {
             return Ok(None);

@@ -3,11 +3,12 @@ use Rattle.std.proofs.Common.{◌≡◌, ℕ, zero, suc, ◌+◌, ◌-◌, ◌*�
 use Rattle.std.specs.Prelude.{slice_get, slice_range}
 use Rattle.std.specs.List.{flat_map, range_with_len}
 use Rattle.std.proofs.lemmas.List.{length-append, length-drop, length-map, length-take-le}
-use Rattle.std.proofs.lemmas.List.Elements.{All-contains}
+use Rattle.std.proofs.lemmas.List.Elements.{All-contains, All-weaker}
 use Rattle.request_record.specs.declared.requests.Request.{Request}
 use Rattle.share_layout.specs.Geometry.{Geometry, IsGeometry}
 use Rattle.share_layout.specs.Pieces.{block_length}
 use Rattle.proved_parts.specs.Decoding.{DecodesBlocks}
+use Rattle.proved_parts.specs.declared.evidence.EvidencePart.{EvidencePart}
 use Rattle.download_source.specs.Blocks.{IsHeld, block_end, block_first}
 use Rattle.download_source.specs.Source.{IsSource, SourceState}
 use Rattle.download_source.proofs.LawLemmas.{joined_long}
@@ -16,8 +17,9 @@ use Rattle.download_segments.specs.State.{HandoutState, ProvesSegment}
 use Rattle.download_segments.proofs.DecodingLemmas.{unique}
 use Rattle.segment_groups.specs.State.{GroupState, segments_in}
 use Rattle.download_file.specs.State.{FileState, ReaderState, share_in}
-use Rattle.download_file.specs.Answers.{AnsweredWith, IsMade, IsRead, answer_at, block_in, block_of, blocks_of}
+use Rattle.download_file.specs.Answers.{AnsweredWith, IsMade, IsMadeSegment, IsRead, answer_at, block_in, block_of, blocks_of}
 use Rattle.download_segments.specs.Handout.{next_segment}
+use Rattle.download_file.specs.Parts.{AreMadeAmong, IsMadeAmong}
 use Rattle.download_file.specs.Right.{AreConsecutive, IsFile, IsGroup, made_end}
 use Rattle.download_file.specs.Steps.{AreOfFile, HasBlock, IsMadeGroup}
 use Rattle.download_file.proofs.ListLemmas.{All-from_contains, first_in, more_in}
@@ -142,15 +144,19 @@ module _ (entries : List Request) (h : HandoutState) (readers : List ReaderState
   pub long_enough : length (blocks_of entries readers number group.readers) ≡ h.geometry.needed * block_length h.geometry number
   long_enough = blocks_long entries h.geometry readers group.readers number file reader_of ∙ ap (λ (n : ℕ). n * block_length h.geometry number) as_many
 
-  -- what is decoded again is what was proved
-  pub proves_again : IsGeometry h.geometry → (joined segment : List ℕ) → joined ≡ blocks_of entries readers number group.readers
-      → DecodesBlocks group.decoding.geometry group.decoding.numbers (blocks_in group.decoding.geometry number joined) number segment → ProvesSegment h number segment
-  proves_again valid joined segment same decodes =
+  -- what is decoded again is what was made, and so it is proved
+  pub decodes_again : IsGeometry h.geometry → (joined segment : List ℕ) → joined ≡ blocks_of entries readers number group.readers
+      → DecodesBlocks group.decoding.geometry group.decoding.numbers (blocks_in group.decoding.geometry number joined) number segment → made.segment ≡ segment
+  decodes_again valid joined segment same decodes =
       let one : DecodesBlocks h.geometry group.decoding.numbers (blocks_in h.geometry number (blocks_of entries readers number group.readers)) number segment =
       subst (λ (l : List ℕ). DecodesBlocks h.geometry group.decoding.numbers (blocks_in h.geometry number l) number segment) same
       (subst (λ (g : Geometry). DecodesBlocks g group.decoding.numbers (blocks_in g number joined) number segment) right.geometry decodes) in
       let shares : AreShareNumbers h.geometry group.decoding.numbers = subst (λ (g : Geometry). AreShareNumbers g group.decoding.numbers) right.geometry right.decoding in
-      subst (ProvesSegment h number) (unique h.geometry group.decoding.numbers (blocks_in h.geometry number (blocks_of entries readers number group.readers)) number made.segment segment valid shares made.decodes one) made.proved
+      unique h.geometry group.decoding.numbers (blocks_in h.geometry number (blocks_of entries readers number group.readers)) number made.segment segment valid shares made.decodes one
+
+  pub proves_again : IsGeometry h.geometry → (joined segment : List ℕ) → joined ≡ blocks_of entries readers number group.readers
+      → DecodesBlocks group.decoding.geometry group.decoding.numbers (blocks_in group.decoding.geometry number joined) number segment → ProvesSegment h number segment
+  proves_again valid joined segment same decodes = subst (ProvesSegment h number) (decodes_again valid joined segment same decodes) made.proved
 
 -- ---- all that was made
 
@@ -181,3 +187,14 @@ readers_of entries f is read = record {
   geometry = λ place r at. (is.readers place r at).geometry;
   held = read.held;
 }
+
+-- segments that were made of blocks of the file's groups
+pub made_segments : (entries : List Request) (f : FileState) (h : HandoutState) (readers : List ReaderState) (groups : List GroupState) (parts : List EvidencePart)
+    → h ≡ f.handout → readers ≡ f.readers → groups ≡ f.groups → AreMadeAmong entries h readers groups parts → All (λ (p : EvidencePart). IsMadeSegment entries f p.number p.segment) parts
+made_segments entries f h readers groups parts same_h same_readers same_groups made =
+    let own : AreMadeAmong entries f.handout f.readers f.groups parts =
+    subst (λ (g : List GroupState). AreMadeAmong entries f.handout f.readers g parts) same_groups
+    (subst (λ (r : List ReaderState). AreMadeAmong entries f.handout r groups parts) same_readers
+    (subst (λ (x : HandoutState). AreMadeAmong entries x readers groups parts) same_h made)) in
+    All-weaker (λ (p : EvidencePart). IsMadeAmong entries f.handout f.readers f.groups p.number p.segment) (λ (p : EvidencePart). IsMadeSegment entries f p.number p.segment)
+    (λ p m. record { group = m.group; among = m.among; from = m.from; before = m.before; made = m.made; is = m.is }) parts own

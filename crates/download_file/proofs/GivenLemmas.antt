@@ -12,7 +12,7 @@ use Rattle.download_file.specs.Right.{IsFile, made_end}
 use Rattle.download_file.proofs.EvidenceLemmas.{groups_within, made_within}
 
 -- there is such a segment
-segment_there : (f : FileState) (group : GroupState) (number : ℕ) → IsFile f → Contains f.groups group → number < group.end → number < segment_count f.handout.geometry
+pub segment_there : (f : FileState) (group : GroupState) (number : ℕ) → IsFile f → Contains f.groups group → number < group.end → number < segment_count f.handout.geometry
 segment_there f group number is among before =
     let end = (groups_within f.first (made_end f) f.groups group is.in_order among).0 in
     let upto = made_within f is in

@@ -22,3 +22,5 @@ pub mod RowFileLemmas
 pub mod WholeRowLemmas
 pub mod NewLemmas
 pub mod GivenLemmas
+pub mod TextLemmas
+pub mod WholeLemmas

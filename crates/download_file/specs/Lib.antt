@@ -7,7 +7,9 @@ pub mod Taking
 pub mod Making
 pub mod Changes
 pub mod Hashed
+pub mod Whole
 pub mod Laws
 -- words of private clauses
 pub mod Steps
 pub mod Rows
+pub mod Parts

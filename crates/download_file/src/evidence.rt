@@ -1,11 +1,12 @@
 //! What proves the segments that were made, from the answers in the record.
 
-ghost use Rattle.std.specs.Prelude.{◌≡◌, ◌<◌, ◌++◌, ◌-◌, All, IfOk, OnOk};
+ghost use Rattle.std.specs.Prelude.{◌≡◌, ◌<◌, ◌++◌, ◌-◌, List, All, Contains, IfOk, OnOk};
 ghost use Rattle.std.specs.List.{flat_map};
 ghost use Rattle.share_layout.specs.Geometry.{segment_count};
 ghost use Rattle.proved_parts.specs.Parts.{IsSegmentBy};
-ghost use Rattle.segment_groups.specs.State.{segments_in};
+ghost use Rattle.segment_groups.specs.State.{GroupState, segments_in};
 ghost use Rattle.download_file.specs.Answers.{IsMade};
+ghost use Rattle.download_file.specs.Parts.{AreMadeAmong};
 ghost use Rattle.download_file.specs.Right.{IsGroup};
 ghost use Rattle.download_file.specs.Steps.{AreOfFile, AreSegmentsBy, IsMadeGroup, part_numbers};
 
@@ -30,6 +31,8 @@ pub(crate) fn evidence_of(
     ensures all { IfOk result (λ parts.
         part_numbers parts.items ≡ flat_map segments_in groups.now) }
     ensures by { IfOk result (λ parts. AreSegmentsBy handout.now.ueb parts.items) }
+    ensures made { IfOk result (λ parts. AreMadeAmong requests.now.entries handout.now
+        readers.now groups.now parts.items) }
 {
     let mut parts = Vec::new(alloc);
     for group in groups {
@@ -53,6 +56,9 @@ fn push_parts(
     ensures all { OnOk result (part_numbers parts.new.items
         ≡ part_numbers parts.old.items ++ segments_in group.now) }
     ensures by { OnOk result (AreSegmentsBy handout.now.ueb parts.new.items) }
+    ensures made { OnOk result ((groups : List GroupState) → Contains groups group.now
+        → AreMadeAmong requests.now.entries handout.now readers.now groups parts.old.items
+        → AreMadeAmong requests.now.entries handout.now readers.now groups parts.new.items) }
 {
     for number in group.first()..group.end() {
         let part = part_of(alloc, requests, handout, readers, group, number)?;
@@ -77,6 +83,9 @@ fn part_of(
     ensures number { IfOk result (λ part. part.number ≡ number) }
     ensures by { IfOk result (λ part.
         IsSegmentBy handout.now.ueb part.number part.segment part.path) }
+    // What was made of the blocks is this segment.
+    ensures segment { (m : IsMade requests.now.entries handout.now readers.now group.now number)
+        → IfOk result (λ part. m.segment ≡ part.segment) }
 {
     let size = handout.geometry().block_length(number);
     let joined = join_blocks(alloc, requests, readers, group.places(), number, size)?;

@@ -9,7 +9,7 @@ ghost use Rattle.share_verify.specs.CapBlock.{geometry_by};
 ghost use Rattle.proved_parts.specs.Parts.{IsSegmentBy};
 ghost use Rattle.download_segments.specs.Handout.{TakesPiece};
 ghost use Rattle.download_segments.specs.NoCodeWord.{IsNoCodeWord};
-ghost use Rattle.download_file.specs.Answers.{AnswersFirst, IsRead};
+ghost use Rattle.download_file.specs.Answers.{AnswersFirst, IsMadeSegment, IsRead};
 ghost use Rattle.download_file.specs.Asked.{AsksNoMore, AsksParts, IsAskedUp};
 ghost use Rattle.download_file.specs.Changes.{HandsNothing, IsSameFile, OthersWait, StaysAskedUp};
 ghost use Rattle.download_file.specs.Changes.{StaysRead};
@@ -478,6 +478,9 @@ impl File {
             ≡ range_with_len self.now.first (made_end self.now - self.now.first)) }
         ensures by { IfOk result (λ parts. All (λ (p : EvidencePart).
             IsSegmentBy self.now.handout.ueb p.number p.segment p.path) parts.items) }
+        // Each has the segment that was made.
+        ensures made { IfOk result (λ parts. All (λ (p : EvidencePart).
+            IsMadeSegment requests.now.entries self.now p.number p.segment) parts.items) }
         ensures right { IsFile self.now }
     {
         evidence_of(alloc, requests, &self.handout, &self.readers, &self.groups)

@@ -2,6 +2,7 @@
 
 ghost use Rattle.download_file.specs.Hashed.{GivenAreHashed};
 ghost use Rattle.download_file.specs.Laws.{GivenStays, ReadsStay};
+ghost use Rattle.download_file.specs.Whole.{SegmentsAreMadeOnce, WholeFiles};
 
 /// A law of the definitions: where answers stay, what the record says of the file stays true. The
 /// law is the contract; the call does nothing.
@@ -20,4 +21,17 @@ pub fn given_stays()
 /// contract; the call does nothing.
 pub fn given_are_hashed()
     ensures { GivenAreHashed }
+{}
+
+/// A law of the definitions: what is made of the blocks of a segment is one thing, however often it
+/// is made. The law is the contract; the call does nothing.
+pub fn segments_are_made_once()
+    ensures { SegmentsAreMadeOnce }
+{}
+
+/// A law of the definitions: the pieces that were given of a file, from its first byte to its last,
+/// are a ciphertext decrypted whose segments were made, and whose hashes have the root in the
+/// extension block. The law is the contract; the call does nothing.
+pub fn whole_files()
+    ensures { WholeFiles }
 {}

@@ -1,9 +1,10 @@
-use Rattle.std.proofs.Common.{◌≡◌, ◌∙◌, ◌++◌, ◌∷◌, ◌+◌, ◌-◌, ◌≤◌, [], ℕ, List, ap, subst, sym, arith}
+use Rattle.std.proofs.Common.{◌≡◌, ◌∙◌, ◌++◌, ◌∷◌, ◌+◌, ◌-◌, ◌<◌, ◌≤◌, [], ℕ, List, ap, subst, sym, arith}
 use Rattle.std.specs.List.{range_with_len}
 use Rattle.std.proofs.lemmas.List.{append_assoc, map-append}
 use Rattle.std.proofs.lemmas.List.Elements.{All-push}
 use Rattle.proved_parts.specs.Parts.{IsSegmentBy}
 use Rattle.proved_parts.specs.declared.evidence.EvidencePart.{EvidencePart}
+use Rattle.download_file.specs.Parts.{AreMadeAmong, IsMadeAmong}
 use Rattle.download_file.specs.Steps.{AreSegmentsBy, part_numbers}
 use Rattle.download_file.proofs.EvidenceLemmas.{range_more}
 use Rattle.download_file.proofs.evidence.push_parts.Goals as goal
@@ -36,6 +37,25 @@ loop-number-preserved c =
           ∙ sym (range_more a (n - a)) ∙ ap (range_with_len a) (let e : n - a + 1 ≡ n + 1 - a = omega (arith, from) in e));
       by = subst (AreSegmentsBy c.args.handout.now.ueb) (sym c.in_ok-push.ensures.items)
           (All-push (λ (p : EvidencePart). IsSegmentBy c.args.handout.now.ueb p.number p.segment p.path) old part k.by c.in_ok-part.ensures.by);
+      made = λ groups among those.
+          let entries = c.args.requests.now.entries in
+          let h = c.args.handout.now in
+          let readers = c.args.readers.now in
+          let low = c.end-number-end.ensures in
+          let test = c.loop-number-test.true in
+          let before : n < c.args.group.now.end = omega (arith, low, test) in
+          let m = c.requires.made.made n from before in
+          let own : IsMadeAmong entries h readers groups n part.segment = record {
+            group = c.args.group.now;
+            among = among;
+            from = from;
+            before = before;
+            made = m;
+            is = c.in_ok-part.ensures.segment m;
+          } in
+          subst (AreMadeAmong entries h readers groups) (sym c.in_ok-push.ensures.items)
+          (All-push (λ (p : EvidencePart). IsMadeAmong entries h readers groups p.number p.segment) old part (k.made groups among those)
+          (subst (λ (m : ℕ). IsMadeAmong entries h readers groups m part.segment) (sym c.in_ok-part.ensures.number) own));
     }
 
 pub returns-clause-all : goal.returns-clause-all

@@ -1,5 +1,7 @@
-use Rattle.std.proofs.Common.{◌∙◌, Option, Some, ap, subst, sym}
+use Rattle.std.proofs.Common.{◌∙◌, All, Option, Some, ap, subst, sym}
 use Rattle.request_record.specs.Record.{RequestsState}
+use Rattle.proved_parts.specs.declared.evidence.EvidencePart.{EvidencePart}
+use Rattle.download_file.specs.Answers.{IsMadeSegment}
 use Rattle.share_beginnings.specs.Reads.{IsAnsweredBy}
 use Rattle.share_holdings.specs.State.{HoldingsState}
 use Rattle.download_core.specs.declared.machine.FoundFile.{FoundFile}
@@ -25,5 +27,6 @@ returns c =
     let same = c.requests-requests.ensures.value ∙ ap (λ (x : HoldingsState). x.requests) c.holdings.ensures in
     let answered = subst (λ (r : RequestsState). IsAnsweredBy r.entries f.place c.in-Some-bytes_at.text.now) same c.in-Some-bytes_at.ensures.some in
     let text = c.from_vec-extension_block.ensures ∙ c.in_ok-from_slice.ensures.items in
-    subst (λ (x : Option FoundFile). IsEvidenceOf m.verify (found_of x) (Some (record { extension_block = c.from_vec-extension_block.result; parts = c.from_vec.result }))) (sym c.in-Some.is)
-    (proves_made m.verify m.cap c.requires.verify (entries_of m) f k.head c.in-Some-bytes_at.text.now answered c.from_vec-extension_block.result c.from_vec.result text c.file.result.now c.file.ensures c.in_ok-parts.parts.items c.from_vec.ensures c.in_ok-parts.ensures.all c.in_ok-parts.ensures.by)
+    subst (λ (x : Option FoundFile). IsEvidenceOf m.verify (entries_of m) (found_of x) (Some (record { extension_block = c.from_vec-extension_block.result; parts = c.from_vec.result }))) (sym c.in-Some.is)
+    (proves_made m.verify m.cap c.requires.verify (entries_of m) f k.head c.in-Some-bytes_at.text.now answered c.from_vec-extension_block.result c.from_vec.result text c.file.result.now c.file.ensures c.in_ok-parts.parts.items c.from_vec.ensures c.in_ok-parts.ensures.all c.in_ok-parts.ensures.by
+    (subst (λ (r : RequestsState). All (λ (p : EvidencePart). IsMadeSegment r.entries c.file.result.now p.number p.segment) c.in_ok-parts.parts.items) same c.in_ok-parts.ensures.made))

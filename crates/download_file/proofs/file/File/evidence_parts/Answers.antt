@@ -1,11 +1,12 @@
-use Rattle.std.proofs.Common.{◌≡◌, ◌∙◌, ◌-◌, All, List, IfOk, Result, Ok, Err, ap, subst, sym}
+use Rattle.std.proofs.Common.{refl, ◌≡◌, ◌∙◌, ◌-◌, All, List, IfOk, Result, Ok, Err, ap, subst, sym}
 use Rattle.std.specs.List.{flat_map, range_with_len}
 use Rattle.segment_groups.specs.State.{GroupState, segments_in}
 use Rattle.download_file.specs.State.{FileState, ReaderState}
-use Rattle.download_file.specs.Answers.{IsRead}
+use Rattle.proved_parts.specs.declared.evidence.EvidencePart.{EvidencePart}
+use Rattle.download_file.specs.Answers.{IsMadeSegment, IsRead}
 use Rattle.download_file.specs.Right.{made_end}
 use Rattle.download_file.specs.Steps.{AreOfFile, IsMadeGroup}
-use Rattle.download_file.proofs.EvidenceLemmas.{all_made, all_segments, readers_of}
+use Rattle.download_file.proofs.EvidenceLemmas.{all_made, all_segments, made_segments, readers_of}
 use Rattle.download_file.proofs.file.File.evidence_parts.Goals as goal
 
 pub evidence_of-requires-clause-file : goal.evidence_of-requires-clause-file
@@ -56,3 +57,19 @@ returns-clause-all c =
     ap (flat_map segments_in) c.deref-2.ensures.value ∙ all_segments f.first (made_end f) f.groups c.self.invariant.0.in_order
     ∙ ap (λ (s : FileState). range_with_len s.first (made_end s - s.first)) c.self.view_is in
     on_ok c.evidence_of.result _ _ c.evidence_of.ensures.all (λ parts is. is ∙ all)
+
+pub returns-clause-made : goal.returns-clause-made
+returns-clause-made c =
+    let f : FileState = record {
+      handout = c.self.inside.handout;
+      first = c.self.inside.plan.first;
+      end = c.self.inside.plan.end;
+      taken = c.self.inside.taken;
+      readers = c.self.inside.readers.items;
+      live = c.self.inside.live.items;
+      groups = c.self.inside.groups.items;
+    } in
+    let entries = c.args.requests.now.entries in
+    on_ok c.evidence_of.result _ _ c.evidence_of.ensures.made (λ parts made.
+    subst (λ (s : FileState). All (λ (p : EvidencePart). IsMadeSegment entries s p.number p.segment) parts.items) c.self.view_is
+    (made_segments entries f c.self.inside.handout c.deref.result.now c.deref-2.result.now parts.items refl c.deref.ensures.value c.deref-2.ensures.value made))
