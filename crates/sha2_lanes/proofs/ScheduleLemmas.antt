@@ -1,9 +1,9 @@
 -- The schedules of eight blocks, side by side.
-use Rattle.std.proofs.Common.{◌≡◌, ◌≢◌, ℕ, ◌+◌, ◌-◌, ◌<◌, ◌≤◌, List, [], ◌∷◌, ◌++◌, length, replicate, length-append, get_or, set, take, drop, sym, ap, ext_get_or, ◌∙◌, arith, inl, inr, Bor}
+use Rattle.std.proofs.Common.{◌≡◌, ◌≢◌, ℕ, ◌+◌, ◌-◌, ◌<◌, ◌≤◌, List, [], ◌∷◌, ◌++◌, length, length-append, length-drop, get_or, set, take, drop, sym, ap, ext_get_or, ◌∙◌, arith, inl, inr, Bor}
 use Rattle.std.proofs.lemmas.Bool.{cases_lt}
 use Rattle.std.proofs.lemmas.List.{get_or-set_other, get_or-set_same, get_or_append_left, length-map, map-append, take_all}
-use Rattle.std.proofs.lemmas.List.Elements.{All-append}
-use Rattle.std.proofs.lemmas.Simd.{get_or-replicate, length-chunk, length-replicate}
+use Rattle.std.proofs.lemmas.List.Elements.{All-append, All-drop}
+use Rattle.std.proofs.lemmas.Simd.{length-chunk}
 use Rattle.sha2.specs.Sha256.{add32, next_word, schedule, small_sigma0, small_sigma1}
 use Rattle.sha2.proofs.Schedule256.{length-schedule, slice_index-schedule_first, slice_index-schedule_next}
 use Rattle.sha2_lanes.specs.Lanes.{AreVectors, AreWords, lane, text}
@@ -35,13 +35,17 @@ abbrev pub AreFirst : (ℕ → List ℕ) → List (List ℕ) → ℕ → Type 0
 AreFirst block w t = (j k : ℕ) → j < 8 → k < t → get_or (lane w j) k 0 ≡ get_or (schedule (block j) 48) k 0
 
 -- the words of the blocks, before vectors that are to be overwritten
-pub vectors_begin : (block : ℕ → List ℕ) (f : List (List ℕ)) (n : ℕ) (x : List ℕ) → AreWords block f → length x ≡ 8
-    → AreVectors (16 + n) (f ++ replicate n x)
-vectors_begin block f n x are long = record {
-  count = length-append f (replicate n x) ∙ ap (λ (k : ℕ). k + length (replicate n x)) are.vectors.count ∙ ap (λ (k : ℕ). 16 + k) (length-replicate n x);
-  each = All-append (λ (y : List ℕ). length y ≡ 8) f (replicate n x) are.vectors.each
-      (λ k d below. ap length (get_or-replicate n k x d (omega (arith, length-replicate n x))) ∙ long);
-}
+pub vectors_begin : (block : ℕ → List ℕ) (f w : List (List ℕ)) → AreWords block f → AreVectors 64 w
+    → AreVectors 64 (f ++ drop 16 (drop 0 w))
+vectors_begin block f w are room =
+    let first : length f ≡ 16 = are.vectors.count in
+    let all : length w ≡ 64 = room.count in
+    let rest : length (drop 16 (drop 0 w)) ≡ 48 = omega (arith, length-drop 16 (drop 0 w), length-drop 0 w) in
+    record {
+      count = omega (arith, length-append f (drop 16 (drop 0 w)));
+      each = All-append (λ (y : List ℕ). length y ≡ 8) f (drop 16 (drop 0 w)) are.vectors.each
+          (All-drop (λ (y : List ℕ). length y ≡ 8) 16 (drop 0 w) (All-drop (λ (y : List ℕ). length y ≡ 8) 0 w room.each));
+    }
 
 pub first_begin : (block : ℕ → List ℕ) (f rest : List (List ℕ)) → AreWords block f → AreFirst block (f ++ rest) 16
 first_begin block f rest are j k lane_in below =

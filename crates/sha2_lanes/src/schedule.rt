@@ -41,17 +41,16 @@ fn next_word(all: &[u32x8; 64], t: usize) -> u32x8
     small_sigma1(all[t - 2]) + all[t - 7] + small_sigma0(all[t - 15]) + all[t - 16]
 }
 
-// The schedules of eight blocks in a row: lane `j` is that of block `j`.
-pub(crate) fn schedules(group: &[u8]) -> [u32x8; 64]
-    requires { 512 ≤ length group.now }
-    ensures vectors { AreVectors 64 result }
+// Makes the schedules of eight blocks in a row: lane `j` is that of block `j`.
+pub(crate) fn make_schedules(group: &[u8], all: &mut [u32x8; 64])
+    requires group { 512 ≤ length group.now }
+    requires room { AreVectors 64 all.old }
+    ensures vectors { AreVectors 64 all.new }
     ensures lanes { (j : ℕ) → j < 8
-        → lane result j ≡ schedule (take 64 (drop (j * 64) group.now)) 48 }
+        → lane all.new j ≡ schedule (take 64 (drop (j * 64) group.now)) 48 }
 {
-    let mut all = [u32x8::splat(0); 64];
     all[..16].copy_from_slice(&first_words(group));
     'words: for t in 16..64 {
-        all[t] = next_word(&all, t);
+        all[t] = next_word(all, t);
     }
-    all
 }

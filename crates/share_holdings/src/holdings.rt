@@ -12,9 +12,8 @@ ghost use Rattle.request_record.specs.declared.requests.Request.{Request};
 ghost use Rattle.share_holdings.specs.Moves.{Asks, Begins, Blames, Hears, IsUnasked};
 ghost use Rattle.share_holdings.specs.Moves.{IsAmong, IsSame, RetiresAll, Tells, Ticks, held_by};
 ghost use Rattle.share_holdings.specs.Right.{AreAllHeld, IsReadOf, IsRight};
-ghost use Rattle.share_holdings.specs.Numbers.{is_at, read_count};
-ghost use Rattle.share_holdings.specs.State.{NumberState};
-ghost use Rattle.share_holdings.specs.Table.{IsFree, IsHolding, IsNumber, IsTable, NoneIsFree};
+ghost use Rattle.share_holdings.specs.Numbers.{read_count};
+ghost use Rattle.share_holdings.specs.Table.{IsFree, IsHolding, IsTable, NoneIsFree};
 ghost use Rattle.share_holdings.specs.Table.{Releases, Retires, Suspends, TakesUp};
 ghost use Rattle.share_holdings.specs.declared.holding.Holding.{Holding};
 
@@ -135,15 +134,6 @@ impl Holdings {
         ensures { result ≡ read_count self.now.table.numbers }
     {
         self.table.reading()
-    }
-
-    /// Whether a holding is read.
-    pub fn is_read(&self, holding: usize) -> bool
-        requires { holding < length self.now.table.holdings }
-        ensures { (h : Holding) → (n : NumberState) → IsHolding self.now.table holding h
-            → IsNumber self.now.table h.share n → result ≡ is_at holding n.reading }
-    {
-        self.table.is_read(holding)
     }
 
     /// The next one to read: of the lowest share number of which none is read and one may be

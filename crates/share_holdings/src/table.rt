@@ -1,10 +1,9 @@
 //! The shares at servers that were told, and which of these are left and read.
 
 ghost use Rattle.std.specs.Prelude.{◌≡◌, ◌<◌, ◌++◌, ◌∷◌, [], ℕ, IfNone, IfOk, IfSome, OnErr, OnOk, length};
-ghost use Rattle.std.specs.Prelude.{All, Contains, Some, slice_get, true, false, is_some};
+ghost use Rattle.std.specs.Prelude.{All, Contains, Some, true, false, is_some};
 ghost use Rattle.share_holdings.specs.Choice.{Chooses};
-ghost use Rattle.share_holdings.specs.Numbers.{is_at, no_holding, read_count, with_place};
-ghost use Rattle.share_holdings.specs.State.{NumberState};
+ghost use Rattle.share_holdings.specs.Numbers.{no_holding, read_count, with_place};
 ghost use Rattle.share_holdings.specs.Table.{ChangesNumber, IsFree, IsHolding, IsTable, NoneIsFree};
 ghost use Rattle.share_holdings.specs.Table.{Releases, Retires, Suspends, TakesUp, told_one};
 ghost use Rattle.share_holdings.specs.declared.holding.Holding.{Holding};
@@ -146,16 +145,6 @@ impl Table {
         ensures right { IsTable self.new }
     {
         self.holdings[place].suspended = suspended;
-    }
-
-    /// Whether a holding is read.
-    pub(crate) fn is_read(&self, place: usize) -> bool
-        requires { place < length self.now.holdings }
-        ensures { (h : Holding) → (n : NumberState) → IsHolding self.now place h
-            → slice_get self.now.numbers h.share ≡ Some n → result ≡ is_at place n.reading }
-    {
-        let share = self.holdings[place].share;
-        self.numbers[usize::from(share)].reads(place)
     }
 
     /// The next one to read: of the lowest share number of which none is read and one may be

@@ -12,7 +12,7 @@ loop-j-preserved c =
     let g : List ℕ = c.args.group.now in
     let l = c.loop-j in
     let block : List ℕ = take 64 (drop (l.j * 64) g) in
-    c.compress-next.ensures block (c.schedules-all.ensures.lanes l.j (omega arith))
+    c.compress-next.ensures block (c.make_schedules.ensures.lanes l.j (omega arith))
     ∙ ap (λ (h : List ℕ). compress h block) l.invariant
     ∙ sym (hash_after_next c.args.hash g l.j)
 

@@ -1,16 +1,16 @@
-use Rattle.std.proofs.Common.{◌≡◌, ◌*◌, ℕ, List, take, drop, replicate, refl, arith}
+use Rattle.std.proofs.Common.{◌≡◌, ◌*◌, ℕ, List, take, drop, arith}
 use Rattle.sha2_lanes.specs.Lanes.{AreWords}
 use Rattle.sha2_lanes.proofs.Lanes.{vectors_set}
 use Rattle.sha2_lanes.proofs.ScheduleLemmas.{first_begin, first_more, vectors_begin, whole_schedule}
-use Rattle.sha2_lanes.proofs.schedule.schedules.Goals as goal
+use Rattle.sha2_lanes.proofs.schedule.make_schedules.Goals as goal
 
 pub words-init : goal.words-init
 words-init c =
     let block : ℕ → List ℕ = λ j. take 64 (drop (j * 64) c.args.group.now) in
     let are : AreWords block c.copy_from_slice.new.self = rw c.copy_from_slice.ensures.after c.first_words.ensures in
     record {
-      vectors = vectors_begin block c.copy_from_slice.new.self 48 (replicate 8 0) are refl;
-      words = first_begin block c.copy_from_slice.new.self (replicate 48 (replicate 8 0)) are;
+      vectors = vectors_begin block c.copy_from_slice.new.self c.args.all.now are c.requires.room;
+      words = first_begin block c.copy_from_slice.new.self _ are;
     }
 
 pub words-preserved : goal.words-preserved

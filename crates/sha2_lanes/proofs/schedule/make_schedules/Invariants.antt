@@ -1,7 +1,7 @@
 use Rattle.std.proofs.Common.{◌*◌, take, drop}
 use Rattle.sha2_lanes.specs.Lanes.{AreVectors}
 use Rattle.sha2_lanes.proofs.ScheduleLemmas.{AreFirst}
-use Rattle.sha2_lanes.proofs.schedule.schedules.Given as goal
+use Rattle.sha2_lanes.proofs.schedule.make_schedules.Given as goal
 
 abbrev pub invariant-words : goal.invariant-words
 invariant-words l = record {
