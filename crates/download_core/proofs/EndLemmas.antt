@@ -114,6 +114,13 @@ kept_ends m status fair e = record {
   inconsistent = e.inconsistent;
 }
 
+-- a download runs on only where its file waits
+pub runs_waits : (how : Settled) → status_of how ≡ Running → how ≡ settled.Waits
+runs_waits settled.Complete e = absurd cc
+runs_waits settled.Inconsistent e = absurd cc
+runs_waits settled.Waits e = refl
+runs_waits settled.TooFew e = absurd cc
+
 -- ---- a file is read
 
 module _ (m : Machine) (f : FoundFile) (t : BeginningsState) (r : ReadingState) (is : m.found ≡ Some f) (way : IsUnderWay m) (on : Continues m.beginnings f.reading t r)

@@ -7,6 +7,7 @@ pub mod Evidence
 pub mod Ends
 pub mod Hashed
 pub mod Moves
+pub mod Prompt
 pub mod Sending
 pub mod Right
 pub mod Whole

@@ -1,7 +1,7 @@
 //! A download: bytes of a file by its cap, from servers, only with what proves them.
 
 ghost use Rattle.std.specs.Prelude.{◌≡◌, ◌≢◌, ◌↔◌, ℕ, ◌<◌, ◌≤◌, [], Err, IfOk, IfSome, IsOk, OnErr};
-ghost use Rattle.std.specs.Prelude.{IsTrue, OnOk, is_some, nat_eq};
+ghost use Rattle.std.specs.Prelude.{IsTrue, OnOk, false, is_some, nat_eq, true};
 ghost use Rattle.std.specs.List.{IsDistinct};
 ghost use Rattle.cap_text.specs.Cap.{verify_cap_of};
 ghost use Rattle.proved_parts.specs.Evidence.{IsProved};
@@ -9,6 +9,7 @@ ghost use Rattle.download_core.specs.Evidence.{HasAllParts, IsEvidenceOf};
 ghost use Rattle.download_core.specs.Hashed.{GivenAreShown, IsGivenBy};
 ghost use Rattle.download_core.specs.Moves.{Advances, Begins, StopsAt, TakesPiece, TicksOn};
 ghost use Rattle.download_core.specs.Moves.{asked_servers};
+ghost use Rattle.download_core.specs.Prompt.{HoldsNothingBack};
 ghost use Rattle.download_core.specs.Proving.{EvidenceIsOfTheGiven};
 ghost use Rattle.download_core.specs.Right.{IsRight};
 ghost use Rattle.download_core.specs.Sending.{Takes, first_to_send};
@@ -104,6 +105,8 @@ impl Download {
         // Only an `Err` makes it one that failed.
         ensures ok { OnOk result (self.old.status ≢ Failed → self.new.status ≢ Failed) }
         ensures ended { self.old.status ≢ Running → IsOk result }
+        // What is there is handed out at once, but that eight segments may be awaited.
+        ensures prompt { self.new.status ≡ Running → HoldsNothingBack true self.new }
     {
         match self.machine.answer(self.status, from, message, now) {
             Ok(status) => {
@@ -124,6 +127,8 @@ impl Download {
         ensures stops { OnErr result (StopsAt now self.old self.new) }
         // Only an `Err` makes it one that failed.
         ensures fails_not { OnOk result (self.old.status ≢ Failed → self.new.status ≢ Failed) }
+        // What is there is handed out at once.
+        ensures prompt { self.new.status ≡ Running → HoldsNothingBack false self.new }
     {
         match self.machine.pass(self.status, now) {
             Ok(status) => {

@@ -1,7 +1,7 @@
 //! A download's record, its file, and how it takes what comes.
 
 ghost use Rattle.std.specs.Prelude.{◌≡◌, ◌≢◌, ◌↔◌, ◌⊎◌, ℕ, ◌<◌, List, [], None, IfOk, IsOk, IsTrue};
-ghost use Rattle.std.specs.Prelude.{OnErr, OnOk, length, nat_eq};
+ghost use Rattle.std.specs.Prelude.{OnErr, OnOk, false, length, nat_eq, true};
 ghost use Rattle.std.specs.List.{IsDistinct};
 ghost use Rattle.cap_text.specs.Cap.{verify_cap_of};
 ghost use Rattle.request_record.specs.Asking.{AsksOnce, begun};
@@ -15,6 +15,7 @@ ghost use Rattle.download_core.specs.declared.status.DownloadStatus.TheVariants.
 ghost use Rattle.download_core.specs.Evidence.{IsEvidenceOf};
 ghost use Rattle.download_core.specs.Given.{IsFileIfFound, IsRightIfFound};
 ghost use Rattle.download_core.specs.Moves.{Advances, StopsAt, TakesPiece, TicksOn};
+ghost use Rattle.download_core.specs.Prompt.{IsPromptIfFound};
 ghost use Rattle.download_core.specs.Reads.{AsksOrReads};
 ghost use Rattle.download_core.specs.Sending.{Takes};
 ghost use Rattle.download_core.specs.Steps.{AreOpened, EndsAs, HearsOf, IsFor, IsKept, IsUnderWay};
@@ -118,6 +119,9 @@ impl Machine {
         ensures failed { IsKept self.new Failed }
         ensures ended { status ≢ Running → IsOk result }
         ensures well { status ≢ Failed → IfOk result (λ ended. ended ≢ Failed) }
+        // What is there is handed out at once.
+        ensures prompt { IfOk result (λ ended. ended ≡ Running
+            → IsPromptIfFound true (entries_of self.new) (found_of self.new.found)) }
     {
         let heard = self.beginnings.take_answer(from, message, now);
         if !is_running(status) {
@@ -142,6 +146,9 @@ impl Machine {
         ensures kept { IfOk result (IsKept self.new) }
         ensures failed { IsKept self.new Failed }
         ensures well { status ≢ Failed → IfOk result (λ ended. ended ≢ Failed) }
+        // What is there is handed out at once.
+        ensures prompt { IfOk result (λ ended. ended ≡ Running
+            → IsPromptIfFound false (entries_of self.new) (found_of self.new.found)) }
     {
         self.beginnings.tick(now)?;
         if !is_running(status) {
@@ -279,6 +286,8 @@ impl Machine {
         ensures none { self.old.found ≡ None → self.new.found ≡ None }
         ensures ends { IfOk result (EndsAs self.new) }
         ensures well { IfOk result (λ status. status ≢ Failed) }
+        ensures prompt { IfOk result (λ status. status ≡ Running
+            → IsPromptIfFound patient (entries_of self.new) (found_of self.new.found)) }
     {
         match &mut self.found {
             Some(found) => {

@@ -17,7 +17,7 @@ use Rattle.download_segments.specs.Handout.{next_segment}
 use Rattle.download_segments.specs.State.{IsHandout}
 use Rattle.download_file.specs.State.{FileState, IsComplete, IsLive, IsReader, ReaderState, first_place, giver, waiting_in, waiting_parts}
 use Rattle.download_file.specs.Asked.{IsAskedUp}
-use Rattle.download_file.specs.Making.{CanNotGoOn, SomeWaits}
+use Rattle.download_file.specs.Making.{CanNotGoOn, LacksNext, SomeWaits}
 use Rattle.download_file.specs.Right.{IsFile}
 use Rattle.download_file.specs.Steps.{LacksSome, lacks_block, lacks_hash, lacks_readers}
 use Rattle.download_file.specs.declared.reader.Waiting.{Waiting}
@@ -92,11 +92,19 @@ module _ (f : FileState) (number : ℕ) (is : IsFile f) (next : next_segment f.h
             absurd (omega (arith, passes, same, high))
       ])
 
-  pub cannot : LacksSome f.handout f.readers f.live number → CanNotGoOn f
-  cannot (lacks_readers other) = inr (inl (let few = is.live.few in strictly (length f.live) f.handout.geometry.needed few other))
+  too_few : length f.live ≢ f.handout.geometry.needed → length f.live < f.handout.geometry.needed
+  too_few other = (let few = is.live.few in strictly (length f.live) f.handout.geometry.needed few other)
     where
       strictly : (a b : ℕ) → a ≤ b → a ≢ b → a < b
       strictly a b order not = elim (cases_lt a b) [ inl low ↦ low | inr high ↦ absurd (not (omega (arith, order, high))) ]
+
+  pub lacks_next : LacksSome f.handout f.readers f.live number → LacksNext f
+  lacks_next (lacks_readers other) = record { number = number; next = next; lacks = inl (too_few other) }
+  lacks_next (lacks_hash unknown) = record { number = number; next = next; lacks = inr (inr unknown) }
+  lacks_next (lacks_block k) = record { number = number; next = next; lacks = inr (inl (record { reader = k.place; live = k.among; r = k.r; there = k.there; lacks = k.not })) }
+
+  pub cannot : LacksSome f.handout f.readers f.live number → CanNotGoOn f
+  cannot (lacks_readers other) = inr (inl (too_few other))
   cannot (lacks_block k) = inr (inr (λ up.
       some_waits k.place k.r k.among k.there (λ none. k.not (ready_then k.place k.r k.among k.there (up k.place k.among) none))))
   cannot (lacks_hash unknown) = elim (cases_lt (length f.live) f.handout.geometry.needed) [

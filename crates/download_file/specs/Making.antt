@@ -1,11 +1,11 @@
 -- What becomes of the next segment of a file.
 use Rattle.std.specs.Prelude.{◌≡◌, ◌⊎◌, ℕ, zero, suc, ◌+◌, ◌*◌, ◌<◌, ◌≤◌, List, [], Contains}
-use Rattle.std.specs.Prelude.{Some, length, slice_get, slice_index_or}
+use Rattle.std.specs.Prelude.{Bool, true, Some, None, length, slice_get, slice_index_or}
 use Rattle.request_record.specs.declared.requests.Request.{Request}
 use Rattle.share_layout.specs.Geometry.{Geometry}
 use Rattle.share_layout.specs.Pieces.{block_length}
 use Rattle.merkle.specs.Partial.{PartialState}
-use Rattle.download_trees.specs.Trees.{RefutesBlock}
+use Rattle.download_trees.specs.Trees.{RefutesBlock, known_leaf}
 use Rattle.proved_parts.specs.Decoding.{DecodesBlocks}
 use Rattle.download_source.specs.Blocks.{IsHeld, IsReady}
 use Rattle.download_source.specs.Taking.{IsProved}
@@ -56,6 +56,27 @@ pub record AwaitsRow (f : FileState) : Type 0 where
   pub next : next_segment f.handout ≡ Some number
   pub wanted : IsRowWanted f.handout number
   pub awaits : AwaitsBlock f.readers f.live (number + 7)
+
+-- a reader that is read has not its block of a segment, or does not know the hash of that block
+pub record LacksBlock (f : FileState) (number : ℕ) : Type 0 where
+  pub reader : ℕ
+  pub live : IsLive f reader
+  pub r : ReaderState
+  pub there : IsReader f reader r
+  pub lacks : ¬ IsReady r.source number
+
+-- A next segment is wanted, and not all that it is made of is there: fewer shares are read than are
+-- needed, or a reader lacks its block, or the hash of the segment is not known.
+pub record LacksNext (f : FileState) : Type 0 where
+  pub number : ℕ
+  pub next : next_segment f.handout ≡ Some number
+  pub lacks : (length f.live < f.handout.geometry.needed) ⊎ LacksBlock f number
+      ⊎ (known_leaf f.handout.trees.ciphertext number ≡ None)
+
+-- It must wait: the next segment lacks something. Where it is patient, eight segments may be on
+-- their way instead.
+abbrev pub MustWait : Bool → FileState → Type 0
+MustWait patient f = LacksNext f ⊎ ((patient ≡ true) × AwaitsRow f)
 
 -- the block of the next segment, of the answers that a reader holds, is not the one whose hash the
 -- reader's block tree tells

@@ -1,6 +1,6 @@
 //! The file of a download whose extension block is accepted.
 
-ghost use Rattle.std.specs.Prelude.{◌≡◌, ◌≢◌, ℕ, ◌+◌, ◌-◌, ◌<◌, ◌≤◌, ◌++◌, ◌∷◌, ◌↔◌, [], List};
+ghost use Rattle.std.specs.Prelude.{◌≡◌, ◌≢◌, ◌⊎◌, ℕ, ◌+◌, ◌-◌, ◌<◌, ◌≤◌, ◌++◌, ◌∷◌, ◌↔◌, [], List};
 ghost use Rattle.std.specs.Prelude.{All, Err, IfOk, IsSome, IsTrue, Ok, OnErr};
 ghost use Rattle.std.specs.Prelude.{OnOk, Some, drop, false, length, map, true};
 ghost use Rattle.std.specs.List.{range_with_len};
@@ -13,8 +13,9 @@ ghost use Rattle.download_file.specs.Answers.{AnswersFirst, IsMadeSegment, IsRea
 ghost use Rattle.download_file.specs.Asked.{AsksNoMore, AsksParts, IsAskedUp};
 ghost use Rattle.download_file.specs.Changes.{HandsNothing, IsSameFile, OthersWait, StaysAskedUp};
 ghost use Rattle.download_file.specs.Changes.{StaysRead};
-ghost use Rattle.download_file.specs.Making.{AwaitsRow, CanMakeRow, CanNotGoOn, MakesNext};
-ghost use Rattle.download_file.specs.Making.{MakesPieces, MakesSegments, RefutesReader};
+ghost use Rattle.download_file.specs.Making.{AwaitsRow, CanMakeRow, CanNotGoOn, LacksNext};
+ghost use Rattle.download_file.specs.Making.{MakesNext, MakesPieces, MakesSegments, MustWait};
+ghost use Rattle.download_file.specs.Making.{RefutesReader};
 ghost use Rattle.download_file.specs.Right.{IsFile, made_end};
 ghost use Rattle.download_file.specs.State.{IsComplete, IsLive, IsReader, ReaderState};
 ghost use Rattle.download_file.specs.State.{copies, copy, first_waiting, giver, new_file, placed};
@@ -312,6 +313,9 @@ impl File {
         ensures inconsistent { result ≡ Ok Made.Inconsistent
             → IsNoCodeWord self.old.handout.ueb }
         ensures waits { result ≡ Ok Made.Waits → CanNotGoOn self.old }
+        // What is there is made at once.
+        ensures prompt { result ≡ Ok Made.Waits
+            → IsComplete self.old ⊎ MustWait patient self.old }
         // Only where it is ready is anything handed out.
         ensures same_handout { result ≢ Ok Made.Ready → self.new.handout ≡ self.old.handout }
         ensures asked_up { result ≢ Ok Made.Ready → (reader : ℕ)
@@ -343,6 +347,7 @@ impl File {
         ensures inconsistent { result ≡ Ok Made.Inconsistent
             → IsNoCodeWord self.old.handout.ueb }
         ensures waits { result ≡ Ok Made.Waits → CanNotGoOn self.old }
+        ensures prompt { result ≡ Ok Made.Waits → IsComplete self.old ⊎ LacksNext self.old }
         // Only where it is ready is anything handed out.
         ensures same_handout { result ≢ Ok Made.Ready → self.new.handout ≡ self.old.handout }
         ensures asked_up { result ≢ Ok Made.Ready → (reader : ℕ)

@@ -1,12 +1,15 @@
 -- What is known where nothing more is made.
-use Rattle.std.proofs.Common.{◌≡◌, ℕ, ◌<◌, ◌≤◌, ◌⊎◌, inl, inr, List, Contains, length, sym, ap, subst, ◌∙◌, arith}
+use Rattle.std.proofs.Common.{◌≡◌, ℕ, ◌<◌, ◌≤◌, ◌⊎◌, inl, inr, Bool, List, Contains, length, sym, ap, subst, ◌∙◌, arith}
 use Rattle.std.specs.Prelude.{slice_get}
 use Rattle.share_holdings.specs.Table.{NoneIsFree}
 use Rattle.share_beginnings.specs.State.{BeginningsState}
 use Rattle.download_segments.specs.State.{HandoutState}
-use Rattle.download_file.specs.Asked.{IsAskedUp}
-use Rattle.download_file.specs.Making.{CanNotGoOn, SomeWaits}
-use Rattle.download_file.specs.State.{IsComplete, IsLive, ReaderState, first_place, waiting_in}
+use Rattle.download_segments.specs.Handout.{next_segment}
+use Rattle.download_file.specs.Asked.{AreAskedUp, IsAskedUp}
+use Rattle.download_file.specs.Making.{CanNotGoOn, MustWait, SomeWaits}
+use Rattle.download_file.specs.State.{FileState, IsComplete, IsLive, ReaderState, first_place, waiting_in}
+use Rattle.download_reading.specs.Prompt.{IsPrompt}
+use Rattle.download_reading.specs.Reading.{AreReading}
 use Rattle.download_reading.specs.State.{ReadingState}
 use Rattle.download_reading.specs.Steps.{IsStill, IsStuck, left_count, work}
 
@@ -43,3 +46,22 @@ module _ (a b d : BeginningsState) (x y z : ReadingState) (enough : (x.file.hand
   stuck (inl complete) = absurd (more complete)
   stuck (inr (inl lt)) = few lt enough
   stuck (inr (inr waits)) = inr (moved (waits asked))
+
+-- all that is wanted stays asked where nothing is handed out, and the readers are the same
+pub asked_still : (f g : FileState) → g.handout ≡ f.handout → g.live ≡ f.live → g.readers ≡ f.readers → AreAskedUp f → AreAskedUp g
+asked_still f g handout lives readers asked reader live =
+    let k = asked reader (subst (λ (l : List ℕ). Contains l reader) lives live) in
+    record {
+      own = λ r number part at next. k.own r number part (sym (ap (λ (rs : List ReaderState). slice_get rs reader) readers) ∙ at) (sym (ap next_segment handout) ∙ next);
+      ciphertext = λ r number part gives at next. k.ciphertext r number part (sym (ap (λ (l : List ℕ). slice_get l 0) lives) ∙ gives)
+          (sym (ap (λ (rs : List ReaderState). slice_get rs reader) readers) ∙ at) (sym (ap next_segment handout) ∙ next);
+    }
+
+pub prompt_now : (patient : Bool) (s : BeginningsState) (r : ReadingState) → AreReading s r → MustWait patient r.file → AreAskedUp r.file → IsPrompt patient s.holdings.requests.entries r.file
+prompt_now patient s r reading waits asked = record {
+  waits = waits;
+  asked = asked;
+  out = λ reader place live first.
+      let k = reading.linked.live reader live in
+      reading.awaits.first reader place k.held (record { live = live; holding = k.holding; of = k.of; is = k.is; left = k.left }) (λ e. cc) first;
+}

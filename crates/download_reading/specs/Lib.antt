@@ -1,6 +1,7 @@
 -- what public contracts rest on
 pub mod State
 pub mod Reading
+pub mod Prompt
 pub mod Steps
 pub mod Laws
 pub mod Causes

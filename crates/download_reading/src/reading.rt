@@ -21,10 +21,11 @@ ghost use Rattle.download_file.specs.Answers.{IsRead};
 ghost use Rattle.download_file.specs.Right.{made_end};
 ghost use Rattle.download_file.specs.Asked.{AreAskedUp, IsAskedUp};
 ghost use Rattle.download_file.specs.Changes.{IsSameFile, StaysAskedUp};
-ghost use Rattle.download_file.specs.Making.{CanNotGoOn};
+ghost use Rattle.download_file.specs.Making.{CanNotGoOn, MustWait};
 ghost use Rattle.download_file.specs.State.{IsComplete, IsLive, first_waiting, new_file};
 ghost use Rattle.download_file.specs.State.{waiting_at};
 ghost use Rattle.download_reading.specs.Causes.{HasCause, IsBlameOf, IsBlockFault, IsPartFault};
+ghost use Rattle.download_reading.specs.Prompt.{IsPrompt};
 ghost use Rattle.download_reading.specs.Reading.{AreAwaited, AreKept, AreLinked, AreReading};
 ghost use Rattle.download_reading.specs.Reading.{AreReadingBut, IsGone, IsReadNow};
 ghost use Rattle.download_reading.specs.State.{ReadingState};
@@ -195,6 +196,9 @@ impl Reading {
             → IsNoCodeWord self.new.file.handout.ueb }
         ensures waits { result ≡ Ok Settled.Waits
             → 0 < outstanding_count beginnings.new.holdings.requests.entries }
+        // What is there is made at once.
+        ensures prompt { result ≡ Ok Settled.Waits
+            → IsPrompt patient beginnings.new.holdings.requests.entries self.new.file }
         // Nothing is waited for, and too few shares are left.
         ensures too_few { result ≡ Ok Settled.TooFew → IsAtEnd beginnings.new self.new }
     {
@@ -221,6 +225,8 @@ impl Reading {
         ensures more { (made : Made) → result ≡ Ok made → made ≢ Made.Ready
             → ¬ IsComplete self.new.file }
         ensures stuck { result ≡ Ok Made.Waits → IsStuck beginnings.new self.new }
+        ensures must { result ≡ Ok Made.Waits → MustWait patient self.new.file }
+        ensures asked_up { result ≡ Ok Made.Waits → AreAskedUp self.new.file }
         ensures ready { result ≡ Ok Made.Ready
             → work beginnings.new self.new < work beginnings.old self.old }
         ensures wrong { (reader : ℕ) → result ≡ Ok (Made.Wrong reader)
@@ -331,6 +337,8 @@ impl Reading {
         ensures inconsistent { result ≡ Ok Made.Inconsistent
             → IsNoCodeWord self.old.file.handout.ueb }
         ensures waits { result ≡ Ok Made.Waits → CanNotGoOn self.old.file }
+        ensures must { result ≡ Ok Made.Waits
+            → IsComplete self.old.file ⊎ MustWait patient self.old.file }
         ensures still { result ≡ Ok Made.Waits
             → IsStill beginnings.old self.old beginnings.new self.new }
         ensures handout { (made : Made) → result ≡ Ok made → made ≢ Made.Ready

@@ -113,3 +113,6 @@ returns-clause-failed c =
     let e = c.take_answer-heard.ensures in
     kept_fails m c.args.status t c.requires (from_message c.args.from c.args.message c.args.now m.beginnings.holdings.requests t.holdings.requests e.requests) e.same.blamed c.settle.new.self
     (moves_trans (record m { beginnings = t }) c.take_in.new.self c.settle.new.self c.take_in.ensures.moves c.settle.ensures.moves (inl c.settle.ensures.none))
+
+pub returns-then-not-is_running-clause-prompt : goal.returns-then-not-is_running-clause-prompt
+returns-then-not-is_running-clause-prompt c = λ run. absurd (true≢false (sym (c.is_running.ensures.1 run) ∙ c.if-not-is_running.true))

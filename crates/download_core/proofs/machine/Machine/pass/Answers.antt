@@ -104,3 +104,6 @@ returns-in_err-tick-clause-failed c =
     let e : t ≡ m.beginnings = c.in_err-tick.ensures.err in
     kept_fails m c.args.status t c.requires (from_same (entries_of m) t.holdings.requests.entries (ap (λ (x : BeginningsState). x.holdings.requests.entries) e)) (ap (λ (x : BeginningsState). x.holdings.blamed) e)
     (record m { beginnings = t }) (moves_none (record m { beginnings = t }))
+
+pub returns-then-not-is_running-clause-prompt : goal.returns-then-not-is_running-clause-prompt
+returns-then-not-is_running-clause-prompt c = λ run. absurd (true≢false (sym (c.is_running.ensures.1 run) ∙ c.if-not-is_running.true))

@@ -1,12 +1,15 @@
-use Rattle.std.proofs.Common.{◌∙◌, Ok, Some, ap, subst, sym}
+use Rattle.std.proofs.Common.{◌∙◌, Ok, Option, Some, ap, subst, sym}
 use Rattle.cap_text.specs.Cap.{verify_cap_of}
 use Rattle.share_beginnings.specs.Causes.{AddsBlames}
 use Rattle.download_core.specs.Causes.{IsCause}
-use Rattle.download_core.specs.Steps.{EndsAs, found_of}
+use Rattle.download_core.specs.Prompt.{IsPromptIfFound}
+use Rattle.download_core.specs.Steps.{EndsAs, entries_of, found_of}
+use Rattle.download_core.specs.declared.machine.FoundFile.{FoundFile}
 use Rattle.download_core.proofs.FairLemmas.{made_fair}
 use Rattle.download_core.proofs.machine.Machine.settle.Goals.{After-settle}
-use Rattle.download_core.proofs.EndLemmas.{settled_ends}
+use Rattle.download_core.proofs.EndLemmas.{runs_waits, settled_ends}
 use Rattle.download_core.proofs.Going.{moves_read}
+use Rattle.download_core.proofs.Results.{if_any}
 use Rattle.download_core.proofs.machine.Machine.settle.Goals as goal
 
 -- each blame has its cause
@@ -29,3 +32,12 @@ returns-in_ok-settled-in-Some-clause-ends c =
     subst (EndsAs (record m { beginnings = c.settle.new.beginnings; found = Some (record c.in-Some.found { reading = c.settle.new.self }) })) (sym c.status_by.ensures.status)
     (settled_ends m c.in-Some.found c.settle.new.beginnings c.settle.new.self c.in-Some.is c.requires c.settle.ensures.continues (caused (goal.at.returns-in_ok-settled-in-Some-clause-ends c).After-settle) k.ensures.reading k.settled
     (λ e. k.ensures.complete.0 e) (λ e. c.settle.ensures.inconsistent (k.was ∙ ap Ok e)) (λ e. c.settle.ensures.waits (k.was ∙ ap Ok e)) (λ e. c.settle.ensures.too_few (k.was ∙ ap Ok e)))
+
+pub returns-in_ok-settled-in-Some-clause-prompt : goal.returns-in_ok-settled-in-Some-clause-prompt
+returns-in_ok-settled-in-Some-clause-prompt c = λ runs.
+    let k = c.in_ok-settled-in-Some in
+    c.settle.ensures.prompt (k.was ∙ ap Ok (runs_waits k.settled (sym c.status_by.ensures.status ∙ runs)))
+
+pub returns-in-None-clause-prompt : goal.returns-in-None-clause-prompt
+returns-in-None-clause-prompt c =
+    if_any c.settle_opening.result _ (λ status runs. subst (λ (f : Option FoundFile). IsPromptIfFound c.args.patient (entries_of c.settle_opening.new.self) (found_of f)) (sym c.settle_opening.ensures.none) tt)

@@ -3,7 +3,7 @@ use Rattle.std.specs.declared.alloc.AllocError.{AllocError}
 use Rattle.std.proofs.lemmas.Bool.{false≢true}
 use Rattle.download_segments.specs.NoCodeWord.{IsNoCodeWord}
 use Rattle.download_segments.specs.State.{HandoutState}
-use Rattle.download_file.proofs.PatienceLemmas.{makes_back, refutes_back, row_waits, stops_back}
+use Rattle.download_file.proofs.PatienceLemmas.{awaits_back, makes_back, prompt_back, refutes_back, row_waits, stops_back}
 use Rattle.download_file.proofs.RowFileLemmas.{same_two}
 use Rattle.download_file.proofs.file.File.make.Goals as goal
 
@@ -16,6 +16,12 @@ returns-then-awaits_row-clause-waits c = λ _.
     let none = not_made c.make_row.result c.in_ok-make_row.field-0 c.in_ok-make_row.was c.if-branch.false in
     stops_back c.args.self.now c.make_row.new.self (k.same_handout none) k.live k.readers (k.asked_up none)
     (inr (inr (λ _. row_waits c.make_row.new.self (c.awaits_row.ensures.awaits c.if-awaits_row.true))))
+
+pub returns-then-awaits_row-clause-prompt : goal.returns-then-awaits_row-clause-prompt
+returns-then-awaits_row-clause-prompt c = λ _.
+    let k = c.make_row.ensures in
+    let none = not_made c.make_row.result c.in_ok-make_row.field-0 c.in_ok-make_row.was c.if-branch.false in
+    inr (inr (c.if-patient.true, awaits_back c.args.self.now c.make_row.new.self (k.same_handout none) k.live k.readers (c.awaits_row.ensures.awaits c.if-awaits_row.true)))
 
 pub returns-clause-ready : goal.returns-clause-ready
 returns-clause-ready c = λ ok.
@@ -39,6 +45,12 @@ returns-clause-waits c = λ is.
     let k = c.make_row.ensures in
     let none = not_made c.make_row.result c.in_ok-make_row.field-0 c.in_ok-make_row.was c.if-branch.false in
     stops_back c.args.self.now c.make_row.new.self (k.same_handout none) k.live k.readers (k.asked_up none) (c.make_next.ensures.waits is)
+
+pub returns-clause-prompt : goal.returns-clause-prompt
+returns-clause-prompt c = λ is.
+    let k = c.make_row.ensures in
+    let none = not_made c.make_row.result c.in_ok-make_row.field-0 c.in_ok-make_row.was c.if-branch.false in
+    prompt_back c.args.self.now c.make_row.new.self (k.same_handout none) k.live k.readers c.args.patient (c.make_next.ensures.prompt is)
 
 pub returns-clause-same_handout : goal.returns-clause-same_handout
 returns-clause-same_handout c = λ not.

@@ -1,4 +1,4 @@
-use Rattle.std.proofs.Common.{◌≡◌, ◌∙◌, ◌*◌, ◌<◌, ℕ, All, List, Ok, Some, ap, inl, subst, sym, length, refl, true}
+use Rattle.std.proofs.Common.{◌≡◌, ◌⊎◌, ◌∙◌, ◌*◌, ◌<◌, ℕ, All, List, Ok, Some, ap, inl, inr, subst, sym, length, refl, true}
 use Rattle.std.proofs.lemmas.Bool.{true≢false}
 use Rattle.std.proofs.lemmas.List.Elements.{All-contains}
 use Rattle.share_layout.specs.Geometry.{Geometry}
@@ -11,15 +11,15 @@ use Rattle.download_segments.specs.State.{HandoutState}
 use Rattle.download_segments.proofs.HandoutLemmas.{next_within}
 use Rattle.segment_groups.specs.Making.{RefutesBlocks}
 use Rattle.segment_groups.specs.State.{GroupState}
-use Rattle.download_file.specs.State.{FileState, ReaderState, numbers_of}
+use Rattle.download_file.specs.State.{FileState, IsComplete, ReaderState, numbers_of}
 use Rattle.download_file.specs.Answers.{IsRead, blocks_of}
 use Rattle.download_file.specs.Changes.{IsSameFile}
-use Rattle.download_file.specs.Making.{CanNotGoOn, RefutesReader}
+use Rattle.download_file.specs.Making.{CanNotGoOn, LacksNext, RefutesReader}
 use Rattle.download_file.specs.Right.{IsFile, IsGroup}
 use Rattle.download_file.specs.Steps.{AreProved, AreReady, BeginsGroup, HasAll, HasBlock, IsWrong, LacksSome}
 use Rattle.download_file.proofs.GrowLemmas.{same_itself}
 use Rattle.download_file.proofs.ListLemmas.{contains_at}
-use Rattle.download_file.proofs.WaitLemmas.{cannot, complete}
+use Rattle.download_file.proofs.WaitLemmas.{cannot, complete, lacks_next}
 use Rattle.download_file.proofs.MakeLemmas.{all_long, is_no_code_word, live_blocks, live_numbers, refutes_reader}
 use Rattle.download_file.proofs.SegmentLemmas.{HasGroups, HasLast, HasMade, has_groups, has_last, has_made}
 use Rattle.download_file.proofs.file.File.make_next.Goals as goal
@@ -43,6 +43,26 @@ returns-then-not-has_all-clause-waits c = λ _.
     subst (λ (l : List ℕ). LacksSome f.handout f.readers l number) c.deref-2.ensures.value
     (subst (λ (rs : List ReaderState). LacksSome f.handout rs c.deref-2.result.now number) c.deref.ensures.value (c.has_all.ensures.no c.if-not-has_all.true)) in
     subst CanNotGoOn c.self.view_is (cannot f number is next lacks)
+
+pub returns-then-not-has_all-clause-prompt : goal.returns-then-not-has_all-clause-prompt
+returns-then-not-has_all-clause-prompt c = λ _.
+    let entries = c.args.requests.now.entries in
+    let f : FileState = record {
+      handout = c.self.inside.handout;
+      first = c.self.inside.plan.first;
+      end = c.self.inside.plan.end;
+      taken = c.self.inside.taken;
+      readers = c.self.inside.readers.items;
+      live = c.self.inside.live.items;
+      groups = c.self.inside.groups.items;
+    } in
+    let is : IsFile f = c.self.invariant.0 in
+    let number : ℕ = c.in-Some.number in
+    let next : next_segment f.handout ≡ Some number = sym c.in-Some.ensures.value in
+    let lacks : LacksSome f.handout f.readers f.live number =
+    subst (λ (l : List ℕ). LacksSome f.handout f.readers l number) c.deref-2.ensures.value
+    (subst (λ (rs : List ReaderState). LacksSome f.handout rs c.deref-2.result.now number) c.deref.ensures.value (c.has_all.ensures.no c.if-not-has_all.true)) in
+    subst (λ (s : FileState). IsComplete s ⊎ LacksNext s) c.self.view_is (inr (lacks_next f number is next lacks))
 
 pub join_blocks-requires : goal.join_blocks-requires
 join_blocks-requires c =
@@ -541,6 +561,19 @@ returns-in_default-clause-waits c = λ _.
       groups = c.self.inside.groups.items;
     } in
     subst CanNotGoOn c.self.view_is (inl (complete f c.next.ensures.right (sym c.next.ensures.value ∙ c.in_default.is)))
+
+pub returns-in_default-clause-prompt : goal.returns-in_default-clause-prompt
+returns-in_default-clause-prompt c = λ _.
+    let f : FileState = record {
+      handout = c.self.inside.handout;
+      first = c.self.inside.plan.first;
+      end = c.self.inside.plan.end;
+      taken = c.self.inside.taken;
+      readers = c.self.inside.readers.items;
+      live = c.self.inside.live.items;
+      groups = c.self.inside.groups.items;
+    } in
+    subst (λ (s : FileState). IsComplete s ⊎ LacksNext s) c.self.view_is (inl (complete f c.next.ensures.right (sym c.next.ensures.value ∙ c.in_default.is)))
 
 -- ---- no group is begun
 

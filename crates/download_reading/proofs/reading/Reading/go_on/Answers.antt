@@ -5,14 +5,15 @@ use Rattle.share_beginnings.proofs.Caused.{adds_as, adds_none}
 use Rattle.download_reading.specs.Causes.{IsBlockFault}
 use Rattle.download_reading.proofs.Causes.{alike_of, block_moved}
 use Rattle.download_reading.proofs.Ended.{file_trans}
-use Rattle.std.proofs.Common.{◌≡◌, ◌∙◌, ◌<◌, sym, subst, ap}
+use Rattle.std.proofs.Common.{◌≡◌, ◌∙◌, ◌<◌, inl, inr, sym, subst, ap}
 use Rattle.share_holdings.specs.State.{TableState}
 use Rattle.download_segments.specs.NoCodeWord.{IsNoCodeWord}
 use Rattle.download_segments.specs.State.{HandoutState}
 use Rattle.download_file.specs.declared.file.Made.TheVariants as made_as
+use Rattle.download_file.proofs.PatienceLemmas.{must_back}
 use Rattle.download_reading.specs.Steps.{work}
 use Rattle.download_reading.proofs.Ended.{continues_trans}
-use Rattle.download_reading.proofs.Gone.{same_work, stuck}
+use Rattle.download_reading.proofs.Gone.{asked_still, same_work, stuck}
 use Rattle.download_reading.proofs.reading.Reading.go_on.Goals as goal
 
 pub returns-in_err-ask_all-clause-continues : goal.returns-in_err-ask_all-clause-continues
@@ -42,6 +43,22 @@ returns-clause-stuck c e =
     stuck c.begin_more.new.beginnings c.ask_all.new.beginnings c.make.new.beginnings c.begin_more.new.self c.ask_all.new.self c.make.new.self b.enough a.table a.live a.handout a.asked_up
     (λ complete. c.requires.more (sym (ap (λ (h : HandoutState). h.reached) start) ∙ complete ∙ ap (λ (h : HandoutState). h.to) start))
     (m.still e) (m.handout made_as.Waits e (λ f. cc)) (m.waits e)
+
+pub returns-clause-must : goal.returns-clause-must
+returns-clause-must c e =
+    let m = c.make.ensures in
+    let start : c.ask_all.new.self.file.handout ≡ c.args.self.now.file.handout = c.in_ok-ask_all.ensures.handout ∙ c.in_ok-begin_more.ensures.handout in
+    let still = m.still e in
+    elim (m.must e) [
+      | inl complete ↦ absurd (c.requires.more (sym (ap (λ (h : HandoutState). h.reached) start) ∙ complete ∙ ap (λ (h : HandoutState). h.to) start))
+      | inr k ↦ must_back c.make.new.self.file c.ask_all.new.self.file (sym (m.handout made_as.Waits e (λ f. cc))) (sym still.live) (sym still.readers) c.args.patient k
+    ]
+
+pub returns-clause-asked_up : goal.returns-clause-asked_up
+returns-clause-asked_up c e =
+    let m = c.make.ensures in
+    let still = m.still e in
+    asked_still c.ask_all.new.self.file c.make.new.self.file (m.handout made_as.Waits e (λ f. cc)) still.live still.readers c.in_ok-ask_all.ensures.asked_up
 
 pub returns-clause-ready : goal.returns-clause-ready
 returns-clause-ready c e =

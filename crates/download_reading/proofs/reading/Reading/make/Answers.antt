@@ -1,7 +1,7 @@
 use Rattle.share_beginnings.proofs.Caused.{adds_none}
 use Rattle.download_reading.specs.Causes.{IsBlockFault}
 use Rattle.download_reading.proofs.Causes.{made_causes}
-use Rattle.std.proofs.Common.{◌≡◌, ◌∙◌, ℕ, ◌<◌, List, Contains, Ok, Err, Some, refl, sym, subst, ap}
+use Rattle.std.proofs.Common.{◌≡◌, ◌⊎◌, ◌∙◌, ℕ, ◌<◌, List, Contains, Ok, Err, Some, refl, sym, subst, ap}
 use Rattle.std.specs.Prelude.{Result}
 use Rattle.std.specs.declared.alloc.AllocError.{AllocError}
 use Rattle.share_holdings.specs.State.{HoldingsState}
@@ -11,8 +11,8 @@ use Rattle.download_segments.specs.NoCodeWord.{IsNoCodeWord}
 use Rattle.download_file.specs.Answers.{IsRead}
 use Rattle.download_file.specs.Asked.{AreAskedUp}
 use Rattle.download_file.specs.Changes.{StaysAskedUp}
-use Rattle.download_file.specs.Making.{CanNotGoOn, RefutesReader}
-use Rattle.download_file.specs.State.{FileState}
+use Rattle.download_file.specs.Making.{CanNotGoOn, MustWait, RefutesReader}
+use Rattle.download_file.specs.State.{FileState, IsComplete}
 use Rattle.download_file.specs.declared.file.Made.{Made}
 use Rattle.download_file.specs.declared.file.Made.TheVariants as made_as
 use Rattle.download_reading.specs.Reading.{AreReading}
@@ -110,6 +110,7 @@ returns-in_default c =
       causes = adds_none (IsBlockFault bs.holdings.requests.entries c.args.self.now.file) bs.holdings.blamed bs.holdings.blamed refl;
       inconsistent = λ e. subst (λ (x : ReadingState). IsNoCodeWord x.file.handout.ueb) c.self.view_is (k.inconsistent (c.in_ok-made.was ∙ e));
       waits = λ e. subst (λ (x : ReadingState). CanNotGoOn x.file) c.self.view_is (k.waits (c.in_ok-made.was ∙ e));
+      must = λ e. subst (λ (x : ReadingState). IsComplete x.file ⊎ MustWait c.args.patient x.file) c.self.view_is (k.prompt (c.in_ok-made.was ∙ e));
       still = λ e. record {
         same = refl;
         live = k.live ∙ ap (λ (x : ReadingState). x.file.live) c.self.view_is;
@@ -136,6 +137,7 @@ returns-in-Ready c =
       causes = adds_none (IsBlockFault bs.holdings.requests.entries c.args.self.now.file) bs.holdings.blamed bs.holdings.blamed refl;
       inconsistent = λ e. subst (λ (x : ReadingState). IsNoCodeWord x.file.handout.ueb) c.self.view_is (k.inconsistent (c.in_ok-made.was ∙ e));
       waits = λ e. subst (λ (x : ReadingState). CanNotGoOn x.file) c.self.view_is (k.waits (c.in_ok-made.was ∙ e));
+      must = λ e. subst (λ (x : ReadingState). IsComplete x.file ⊎ MustWait c.args.patient x.file) c.self.view_is (k.prompt (c.in_ok-made.was ∙ e));
       still = λ e. record {
         same = refl;
         live = k.live ∙ ap (λ (x : ReadingState). x.file.live) c.self.view_is;
@@ -151,6 +153,9 @@ returns-in_ok-blame-in-Wrong-clause-inconsistent c e = absurd (not_wrong (made_a
 
 pub returns-in_ok-blame-in-Wrong-clause-waits : goal.returns-in_ok-blame-in-Wrong-clause-waits
 returns-in_ok-blame-in-Wrong-clause-waits c e = absurd (not_wrong (made_as.Wrong c.in-Wrong.reader) c.in-Wrong.reader made_as.Waits refl e (λ f. cc))
+
+pub returns-in_ok-blame-in-Wrong-clause-must : goal.returns-in_ok-blame-in-Wrong-clause-must
+returns-in_ok-blame-in-Wrong-clause-must c e = absurd (not_wrong (made_as.Wrong c.in-Wrong.reader) c.in-Wrong.reader made_as.Waits refl e (λ f. cc))
 
 pub returns-in_ok-blame-in-Wrong-clause-still : goal.returns-in_ok-blame-in-Wrong-clause-still
 returns-in_ok-blame-in-Wrong-clause-still c e = absurd (not_wrong (made_as.Wrong c.in-Wrong.reader) c.in-Wrong.reader made_as.Waits refl e (λ f. cc))

@@ -10,6 +10,7 @@ use Rattle.download_reading.specs.State.{ReadingState}
 use Rattle.download_reading.specs.declared.reading.Settled.{Settled}
 use Rattle.download_reading.specs.declared.reading.Settled.TheVariants.{Complete, Inconsistent, Waits, TooFew}
 use Rattle.download_reading.proofs.Ended.{continues_none, continues_trans}
+use Rattle.download_reading.proofs.Gone.{prompt_now}
 use Rattle.download_reading.proofs.reading.Reading.settle.Goals as goal
 
 same_settled : (a b : Settled) → ◌≡◌ {A = Result Settled AllocError} (Ok a) (Ok b) → a ≡ b
@@ -74,6 +75,11 @@ returns-in-Waits-clause-inconsistent c e = absurd (other_than c.why_not.result I
 
 pub returns-in-Waits-clause-waits : goal.returns-in-Waits-clause-waits
 returns-in-Waits-clause-waits c e = c.why_not.ensures.waits (same_settled c.why_not.result Waits e)
+
+pub returns-in-Waits-clause-prompt : goal.returns-in-Waits-clause-prompt
+returns-in-Waits-clause-prompt c e =
+    let waits = c.in_ok-go_on.was ∙ ap Ok c.in-Waits.is in
+    prompt_now c.args.patient c.go_on.new.beginnings c.go_on.new.self c.in_ok-go_on.ensures.reading (c.go_on.ensures.must waits) (c.go_on.ensures.asked_up waits)
 
 pub returns-in-Waits-clause-too_few : goal.returns-in-Waits-clause-too_few
 returns-in-Waits-clause-too_few c e = c.why_not.ensures.too_few (same_settled c.why_not.result TooFew e)
