@@ -10,6 +10,7 @@ use Rattle.request_record.specs.Asking.{after_message}
 use Rattle.wire.specs.declared.message.Message.{Message}
 use Rattle.share_opening.specs.declared.opening.Opening.{Opening}
 use Rattle.share_holdings.specs.Moves.{Brings, HearsAt}
+use Rattle.share_holdings.specs.State.{TableState}
 use Rattle.share_holdings.specs.Table.{IsHolding}
 use Rattle.share_holdings.specs.declared.holding.Holding.{Holding}
 use Rattle.share_holdings.specs.declared.holdings.Heard.{Heard}
@@ -19,7 +20,7 @@ use Rattle.share_holdings.proofs.Records.{AskedAlike}
 use Rattle.share_holdings.proofs.Telling.{append_front}
 use Rattle.share_beginnings.specs.Known.{AreBegun, IsNextAt}
 use Rattle.share_beginnings.specs.Moves.{BringsBytes, HearsNews, IsNewsOf, WaitsAt}
-use Rattle.share_beginnings.specs.Opening.{IsOut}
+use Rattle.share_beginnings.specs.Opening.{IsOut, IsTaken}
 use Rattle.share_beginnings.specs.Reads.{IsAnsweredBy, IsOutAt, IsReadAt}
 use Rattle.share_beginnings.specs.State.{BeginningsState, IsBegun, unbegun}
 use Rattle.share_beginnings.specs.declared.begun.Begun.{Begun}
@@ -239,6 +240,26 @@ module _ (s u : BeginningsState) (r : ReadingState) (from : ℕ) (m : Message) (
           let ys : at ≡ y = cc in
           f ∙ ap (λ p. heard.Bytes p y) (sym xs) ∙ ap (heard.Bytes holding) (sym ys)
 
+  -- bytes take no share away
+  pub bytes_live : (holding at : ℕ) → told ≡ news.Bytes holding at → (q : ℕ) → IsLive r.file q → IsReadNow u r q
+  bytes_live holding at e q live = by (counts_at from m s.holdings.requests) (subst (HearsAt _ m s.holdings u.holdings) (bytes_told holding at e) hears.hears.heard)
+    where
+      now : u.holdings.table ≡ s.holdings.table → IsReadNow u r q
+      now same =
+          let k = reading.linked.live q live in
+          record {
+            holding = k.holding;
+            of = k.of;
+            held = k.held;
+            is = subst (λ (t : TableState). IsHolding t k.holding k.held) (sym same) k.is;
+            left = k.left;
+            taken = subst (λ (t : TableState). IsTaken t k.holding k.held) (sym same) k.taken;
+          }
+
+      by : (o : Option ℕ) → HearsAt o m s.holdings u.holdings (heard.Bytes holding at) → IsReadNow u r q
+      by None h = (let two : heard.Bytes holding at ≡ heard.Nothing = h.0 in absurd cc)
+      by (Some k) h = now h.4
+
   waits_told : (holding at : ℕ) → told ≡ news.Beginning holding at → WaitsAt u holding at
   waits_told holding at e = by what hears.tells
     where
@@ -284,3 +305,9 @@ module _ (s u : BeginningsState) (r : ReadingState) (from : ℕ) (m : Message) (
 
 pub heard_left : (u : BeginningsState) (r q : ReadingState) (told : News) → HasHeard u r told → AreLinked u q → q.holdings ≡ r.holdings → ((but : Option ℕ) → AreAwaited but u r → AreAwaited but u q) → (t : News) → told ≡ t → IsHeard u q t
 heard_left u r q told k linked same awaits t e = heard_all k.before u r k.from k.message k.now told k.reading k.hears k.known k.bytes q linked same awaits t e
+
+pub heard_bytes : (u : BeginningsState) (r : ReadingState) (told : News) → HasHeard u r told → (holding at : ℕ) → told ≡ news.Bytes holding at → AreLinked u r
+heard_bytes u r told k holding at e = record {
+  kept = heard_kept k.before u r k.from k.message k.now told k.reading k.hears k.known k.bytes;
+  live = bytes_live k.before u r k.from k.message k.now told k.reading k.hears k.known k.bytes holding at e;
+}

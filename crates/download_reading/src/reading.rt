@@ -157,7 +157,7 @@ impl Reading {
         ensures causes { AddsBlames (HasCause cap.now beginnings.old.holdings.requests.entries
             self.old.file) beginnings.old.holdings.blamed beginnings.new.holdings.blamed }
     {
-        self.end_gone(beginnings);
+        self.follow(beginnings, news);
         match news {
             News::Nothing | News::Gone(_) => Ok(()),
             News::Beginning(holding, place) => {
@@ -474,6 +474,23 @@ impl Reading {
         beginnings.blame(self.holdings[reader], check)?;
         self.end_gone(beginnings);
         Ok(())
+    }
+
+    // The reader of a share that a message took away is read no more. Bytes take none away, so no
+    // reader is looked at where they come.
+    fn follow(&mut self, beginnings: &Beginnings, news: News)
+        requires heard { HasHeard beginnings.now self.old news }
+        ensures linked { AreLinked beginnings.now self.new }
+        ensures continues { Continues beginnings.now self.old beginnings.now self.new }
+        ensures awaits { (but : Option ℕ) → AreAwaited but beginnings.now self.old
+            → AreAwaited but beginnings.now self.new }
+        ensures holdings { self.new.holdings ≡ self.old.holdings }
+        ensures handout { self.new.file.handout ≡ self.old.file.handout }
+    {
+        match news {
+            News::Bytes(_, _) => {}
+            _ => self.end_gone(beginnings),
+        }
     }
 
     // The readers of shares that are not left any more are read no more.

@@ -5,43 +5,33 @@ use Rattle.download_reading.proofs.Causes.{began_causes, heard_causes, took_caus
 use Rattle.std.proofs.Common.{inl, inr}
 use Rattle.share_beginnings.specs.declared.beginnings.News.TheVariants as news
 use Rattle.download_reading.proofs.Ended.{continues_trans}
-use Rattle.download_reading.proofs.Heard.{heard_kept, heard_left, heard_live}
+use Rattle.download_reading.proofs.Heard.{heard_left}
 use Rattle.download_reading.proofs.reading.Reading.hear.Goals as goal
-
-pub end_gone-requires-clause-kept : goal.end_gone-requires-clause-kept
-end_gone-requires-clause-kept c =
-    let k = c.requires.heard in
-    heard_kept k.before c.args.beginnings.now c.args.self.now k.from k.message k.now c.args.news k.reading k.hears k.known k.bytes
-
-pub end_gone-requires-clause-live : goal.end_gone-requires-clause-live
-end_gone-requires-clause-live c =
-    let k = c.requires.heard in
-    heard_live k.before c.args.beginnings.now c.args.self.now k.from k.message k.now c.args.news k.reading k.hears k.known k.bytes
 
 pub compare-requires-clause-told : goal.compare-requires-clause-told
 compare-requires-clause-told c =
-    let e = c.end_gone.ensures in
-    (heard_left c.args.beginnings.now c.args.self.now c.end_gone.new.self c.args.news c.requires.heard e.linked e.holdings e.awaits (news.Beginning c.in-Beginning.holding c.in-Beginning.place) c.in-Beginning.is).0
+    let e = c.follow.ensures in
+    (heard_left c.args.beginnings.now c.args.self.now c.follow.new.self c.args.news c.requires.heard e.linked e.holdings e.awaits (news.Beginning c.in-Beginning.holding c.in-Beginning.place) c.in-Beginning.is).0
 
 pub compare-requires-clause-waits : goal.compare-requires-clause-waits
 compare-requires-clause-waits c =
-    let e = c.end_gone.ensures in
-    (heard_left c.args.beginnings.now c.args.self.now c.end_gone.new.self c.args.news c.requires.heard e.linked e.holdings e.awaits (news.Beginning c.in-Beginning.holding c.in-Beginning.place) c.in-Beginning.is).1
+    let e = c.follow.ensures in
+    (heard_left c.args.beginnings.now c.args.self.now c.follow.new.self c.args.news c.requires.heard e.linked e.holdings e.awaits (news.Beginning c.in-Beginning.holding c.in-Beginning.place) c.in-Beginning.is).1
 
 pub compare-requires-clause-answered : goal.compare-requires-clause-answered
 compare-requires-clause-answered c =
-    let e = c.end_gone.ensures in
-    (heard_left c.args.beginnings.now c.args.self.now c.end_gone.new.self c.args.news c.requires.heard e.linked e.holdings e.awaits (news.Beginning c.in-Beginning.holding c.in-Beginning.place) c.in-Beginning.is).2
+    let e = c.follow.ensures in
+    (heard_left c.args.beginnings.now c.args.self.now c.follow.new.self c.args.news c.requires.heard e.linked e.holdings e.awaits (news.Beginning c.in-Beginning.holding c.in-Beginning.place) c.in-Beginning.is).2
 
 pub take_of-requires-in-Bytes : goal.take_of-requires-in-Bytes
 take_of-requires-in-Bytes c =
-    let e = c.end_gone.ensures in
-    record { told = heard_left c.args.beginnings.now c.args.self.now c.end_gone.new.self c.args.news c.requires.heard e.linked e.holdings e.awaits (news.Bytes c.in-Bytes.holding c.in-Bytes.field-1) c.in-Bytes.is }
+    let e = c.follow.ensures in
+    record { told = heard_left c.args.beginnings.now c.args.self.now c.follow.new.self c.args.news c.requires.heard e.linked e.holdings e.awaits (news.Bytes c.in-Bytes.holding c.in-Bytes.field-1) c.in-Bytes.is }
 
 pub returns-in-Nothing-clause-reading : goal.returns-in-Nothing-clause-reading
 returns-in-Nothing-clause-reading c =
-    let e = c.end_gone.ensures in
-    let left = heard_left c.args.beginnings.now c.args.self.now c.end_gone.new.self c.args.news c.requires.heard e.linked e.holdings e.awaits in
+    let e = c.follow.ensures in
+    let left = heard_left c.args.beginnings.now c.args.self.now c.follow.new.self c.args.news c.requires.heard e.linked e.holdings e.awaits in
     elim c.in-Nothing.is [
       | inl none ↦ left news.Nothing none
       | inr gone ↦ left (news.Gone gone.0) gone.1
@@ -49,21 +39,21 @@ returns-in-Nothing-clause-reading c =
 
 pub returns-in_err-compare-in-Beginning-clause-continues : goal.returns-in_err-compare-in-Beginning-clause-continues
 returns-in_err-compare-in-Beginning-clause-continues c =
-    continues_trans c.args.beginnings.now c.args.beginnings.now c.compare.new.beginnings c.args.self.now c.end_gone.new.self c.compare.new.self c.end_gone.ensures.continues c.compare.ensures.continues
+    continues_trans c.args.beginnings.now c.args.beginnings.now c.compare.new.beginnings c.args.self.now c.follow.new.self c.compare.new.self c.follow.ensures.continues c.compare.ensures.continues
 
 pub returns-in_ok-compare-in-Beginning-clause-continues : goal.returns-in_ok-compare-in-Beginning-clause-continues
 returns-in_ok-compare-in-Beginning-clause-continues c =
     continues_trans c.args.beginnings.now c.compare.new.beginnings c.take_of.new.beginnings c.args.self.now c.compare.new.self c.take_of.new.self
-    (continues_trans c.args.beginnings.now c.args.beginnings.now c.compare.new.beginnings c.args.self.now c.end_gone.new.self c.compare.new.self c.end_gone.ensures.continues c.compare.ensures.continues)
+    (continues_trans c.args.beginnings.now c.args.beginnings.now c.compare.new.beginnings c.args.self.now c.follow.new.self c.compare.new.self c.follow.ensures.continues c.compare.ensures.continues)
     c.take_of.ensures.continues
 
 pub returns-in-Bytes-clause-continues : goal.returns-in-Bytes-clause-continues
 returns-in-Bytes-clause-continues c =
-    continues_trans c.args.beginnings.now c.args.beginnings.now c.take_of-in-Bytes.new.beginnings c.args.self.now c.end_gone.new.self c.take_of-in-Bytes.new.self c.end_gone.ensures.continues c.take_of-in-Bytes.ensures.continues
+    continues_trans c.args.beginnings.now c.args.beginnings.now c.take_of-in-Bytes.new.beginnings c.args.self.now c.follow.new.self c.take_of-in-Bytes.new.self c.follow.ensures.continues c.take_of-in-Bytes.ensures.continues
 
 pub returns-in_err-compare-in-Beginning-clause-causes : goal.returns-in_err-compare-in-Beginning-clause-causes
 returns-in_err-compare-in-Beginning-clause-causes c =
-    began_causes c.args.cap.now c.args.beginnings.now c.compare.new.beginnings c.args.self.now c.end_gone.new.self c.end_gone.ensures.handout c.compare.ensures.causes
+    began_causes c.args.cap.now c.args.beginnings.now c.compare.new.beginnings c.args.self.now c.follow.new.self c.follow.ensures.handout c.compare.ensures.causes
 
 pub returns-in-Nothing-clause-causes : goal.returns-in-Nothing-clause-causes
 returns-in-Nothing-clause-causes c =
@@ -73,10 +63,10 @@ returns-in-Nothing-clause-causes c =
 pub returns-in_ok-compare-in-Beginning-clause-causes : goal.returns-in_ok-compare-in-Beginning-clause-causes
 returns-in_ok-compare-in-Beginning-clause-causes c =
     heard_causes c.args.cap.now c.args.beginnings.now c.compare.new.beginnings c.take_of.new.beginnings c.args.self.now c.compare.new.self c.take_of.new.self
-    (continues_trans c.args.beginnings.now c.args.beginnings.now c.compare.new.beginnings c.args.self.now c.end_gone.new.self c.compare.new.self c.end_gone.ensures.continues c.compare.ensures.continues)
+    (continues_trans c.args.beginnings.now c.args.beginnings.now c.compare.new.beginnings c.args.self.now c.follow.new.self c.compare.new.self c.follow.ensures.continues c.compare.ensures.continues)
     c.take_of.ensures.continues c.compare.ensures.requests
-    (began_causes c.args.cap.now c.args.beginnings.now c.compare.new.beginnings c.args.self.now c.end_gone.new.self c.end_gone.ensures.handout c.compare.ensures.causes) c.take_of.ensures.causes
+    (began_causes c.args.cap.now c.args.beginnings.now c.compare.new.beginnings c.args.self.now c.follow.new.self c.follow.ensures.handout c.compare.ensures.causes) c.take_of.ensures.causes
 
 pub returns-in-Bytes-clause-causes : goal.returns-in-Bytes-clause-causes
 returns-in-Bytes-clause-causes c =
-    took_causes c.args.cap.now c.args.beginnings.now c.args.beginnings.now c.take_of-in-Bytes.new.beginnings c.args.self.now c.end_gone.new.self c.end_gone.ensures.continues refl c.take_of-in-Bytes.ensures.causes
+    took_causes c.args.cap.now c.args.beginnings.now c.args.beginnings.now c.take_of-in-Bytes.new.beginnings c.args.self.now c.follow.new.self c.follow.ensures.continues refl c.take_of-in-Bytes.ensures.causes
