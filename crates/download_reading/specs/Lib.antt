@@ -2,5 +2,5 @@
 pub mod State
 pub mod Reading
 pub mod Steps
-pub mod Laws
 pub mod Causes
+pub mod Laws
