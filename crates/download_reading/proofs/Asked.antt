@@ -26,7 +26,7 @@ use Rattle.download_file.specs.Asked.{AsksParts, HasAsked, IsOneOf, IsPlannedRea
 use Rattle.download_file.specs.Changes.{StaysRead}
 use Rattle.download_file.specs.Laws.{ReadsStay}
 use Rattle.download_file.specs.Right.{IsFile}
-use Rattle.download_file.specs.State.{FileState, IsLive, ReaderState, shares}
+use Rattle.download_file.specs.State.{CopyState, FileState, IsLive, ReaderState, copies, copy_of}
 use Rattle.download_reading.specs.Reading.{AreKept, AreLinked, IsOf, IsOfReader, IsReadNow, IsReaderOf}
 use Rattle.download_reading.specs.State.{ReadingState}
 use Rattle.download_reading.specs.Steps as steps
@@ -106,7 +106,7 @@ module _ (s : BeginningsState) (r : ReadingState) (f : FileState) (reader holdin
   pub parts_unasked : All (λ (w : Wanted). IsUnasked s.holdings holding w.read.place w.read.length) wanted
   parts_unasked k d lt = part_unasked (slice_index_or wanted k d) (asks.planned k d lt) (λ offset len asked. asks.fresh offset len asked k d lt)
 
-  module _ (t : BeginningsState) (done : steps.AsksParts holding wanted s t) (grows : Grows s t) (right : IsFile f) (law : ReadsStay) (stays : StaysRead r.file f) (lives : f.live ≡ r.file.live) (shared : shares f ≡ shares r.file)
+  module _ (t : BeginningsState) (done : steps.AsksParts holding wanted s t) (grows : Grows s t) (right : IsFile f) (law : ReadsStay) (stays : StaysRead r.file f) (lives : f.live ≡ r.file.live) (shared : copies f ≡ copies r.file)
       (geometry : f.handout.geometry ≡ r.file.handout.geometry) where
     abbrev pub asked_state : ReadingState
     asked_state = record r { file = f }
@@ -125,8 +125,8 @@ module _ (s : BeginningsState) (r : ReadingState) (f : FileState) (reader holdin
       linked = (
           let e = before.kept.linked in
           let a = ap length shared in
-          let c = length-map f.readers (λ (x : ReaderState). x.share) in
-          let d = length-map r.file.readers (λ (x : ReaderState). x.share) in
+          let c = length-map f.readers (λ (x : ReaderState). copy_of x) in
+          let d = length-map r.file.readers (λ (x : ReaderState). copy_of x) in
           omega (arith, e, a, c, d));
       forth = λ q x is. (
           let k = before.kept.forth q x is in
@@ -136,7 +136,7 @@ module _ (s : BeginningsState) (r : ReadingState) (f : FileState) (reader holdin
             begun = k.begun;
             there = ap (λ (l : List Begun). slice_get l x) done.begun ∙ k.there;
             of_reader = k.of_reader;
-            share = ap (λ (l : List ℕ). slice_get l q) shared ∙ k.share;
+            reads = ap (λ (l : List CopyState). slice_get l q) shared ∙ k.reads;
           });
       back = λ x q b there e. before.kept.back x q b (begun_back x b there) e;
       alive = λ x q g b held there e left. subst (λ (l : List ℕ). Contains l q) (sym lives) (before.kept.alive x q g b (held_back x g held) (begun_back x b there) e left);

@@ -24,7 +24,7 @@ use Rattle.download_file.specs.Answers.{IsRead}
 use Rattle.download_file.specs.Asked.{AsksNoMore}
 use Rattle.download_file.specs.Changes.{StaysRead}
 use Rattle.download_file.specs.Right.{IsFile}
-use Rattle.download_file.specs.State.{FileState, IsLive, ReaderState, shares}
+use Rattle.download_file.specs.State.{CopyState, FileState, IsLive, ReaderState, copies, copy, copy_of}
 use Rattle.download_reading.specs.Reading.{AreKept, AreLinked, IsOf, IsOfReader, IsReaderOf}
 use Rattle.download_reading.specs.State.{ReadingState}
 
@@ -66,7 +66,7 @@ taken_now holding t u h is free k =
 -- ---- all of them
 
 module _ (s t : BeginningsState) (r : ReadingState) (f : FileState) (holding : ℕ) (h : Holding) (before : AreLinked s r) (is : IsHolding s.holdings.table holding h) (free : IsFree s.holdings.table h)
-    (reader : ℕ) (place : reader ≡ length r.file.readers) (shared : shares f ≡ shares r.file ++ h.share ∷ []) (lives : f.live ≡ r.file.live ++ length r.file.readers ∷ [])
+    (reader : ℕ) (place : reader ≡ length r.file.readers) (shared : copies f ≡ copies r.file ++ copy h.server h.share ∷ []) (lives : f.live ≡ r.file.live ++ length r.file.readers ∷ [])
     (asked : AsksNoMore r.file f) (stays : StaysRead r.file f) (right : IsFile f) (geometry : f.handout.geometry ≡ r.file.handout.geometry) (known : AreBegun t) (reads : moves.IsReaderOf holding reader s t) where
   abbrev pub next : ReadingState
   next = record { file = f; holdings = r.holdings ++ holding ∷ [] }
@@ -110,9 +110,9 @@ module _ (s t : BeginningsState) (r : ReadingState) (f : FileState) (holding : �
     total = ap length reads.takes.3.numbers ∙ length-set s.holdings.table.numbers reads.takes.0.share _ ∙ before.kept.total ∙ ap (λ (g : Geometry). g.total) (sym geometry);
     linked = (
         let a = length-append r.holdings (holding ∷ []) in
-        let b = ap length shared ∙ length-append (shares r.file) (h.share ∷ []) in
-        let c = length-map f.readers (λ (x : ReaderState). x.share) in
-        let d = length-map r.file.readers (λ (x : ReaderState). x.share) in
+        let b = ap length shared ∙ length-append (copies r.file) (copy h.server h.share ∷ []) in
+        let c = length-map f.readers (λ (x : ReaderState). copy_of x) in
+        let d = length-map r.file.readers (λ (x : ReaderState). copy_of x) in
         let e = before.kept.linked in
         omega (arith, a, b, c, d, e));
     forth = λ q x of. forth q x (pushed r.holdings holding x q of);
@@ -132,10 +132,10 @@ module _ (s t : BeginningsState) (r : ReadingState) (f : FileState) (holding : �
             there = ap (λ (l : List Begun). slice_get l x) reads.is ∙ get_other s.begun holding x (record reads.begun { reader = Some reader })
                 (λ e. no_reader k.begun q (subst (λ p. IsBegun s p k.begun) e k.there) k.of_reader) ∙ k.there;
             of_reader = k.of_reader;
-            share = ap (λ (l : List ℕ). slice_get l q) shared ∙ get_push (shares r.file) h.share q (slice_get_within (shares r.file) q k.held.share k.share) ∙ k.share;
+            reads = ap (λ (l : List CopyState). slice_get l q) shared ∙ get_push (copies r.file) (copy h.server h.share) q (slice_get_within (copies r.file) q (copy k.held.server k.held.share) k.reads) ∙ k.reads;
           }
       forth q x (inr new) =
-          let d = length-map r.file.readers (λ (y : ReaderState). y.share) in
+          let d = length-map r.file.readers (λ (y : ReaderState). copy_of y) in
           let e = before.kept.linked in
           record {
             held = h;
@@ -144,7 +144,7 @@ module _ (s t : BeginningsState) (r : ReadingState) (f : FileState) (holding : �
             there = subst (λ p. IsBegun t p (record reads.begun { reader = Some reader })) new.1
                 (ap (λ (l : List Begun). slice_get l holding) reads.is ∙ get_set s.begun holding (record reads.begun { reader = Some reader }) reads.begun reads.there);
             of_reader = ap Some (sym (new.0 ∙ linked_len));
-            share = ap (λ (l : List ℕ). slice_get l q) shared ∙ ap (slice_get (shares r.file ++ h.share ∷ [])) (new.0 ∙ e ∙ sym d) ∙ get_last (shares r.file) h.share;
+            reads = ap (λ (l : List CopyState). slice_get l q) shared ∙ ap (slice_get (copies r.file ++ copy h.server h.share ∷ [])) (new.0 ∙ e ∙ sym d) ∙ get_last (copies r.file) (copy h.server h.share);
           }
 
       back : (x q : ℕ) (b : Begun) → b.reader ≡ Some q → ((x ≡ holding) × (b.reader ≡ Some reader)) ⊎ ((x ≡ holding → ⊥) × IsBegun s x b) → IsOf next q x

@@ -1,5 +1,5 @@
 -- Why shares are blamed.
-use Rattle.std.proofs.Common.{◌≡◌, ℕ, inl, inr, List, ◌∷◌, Some, None, sym, ap, subst, ◌∙◌}
+use Rattle.std.proofs.Common.{◌≡◌, ℕ, inl, inr, List, [], ◌∷◌, Some, None, refl, sym, ap, subst, ◌∙◌}
 use Rattle.std.specs.Prelude.{Option, option_map, slice_get, Contains}
 use Rattle.std.proofs.lemmas.Option.{slice_get-map}
 use Rattle.placement.proofs.Members.{Contains-head}
@@ -16,15 +16,19 @@ use Rattle.share_beginnings.proofs.Caused.{adds_as, adds_trans}
 use Rattle.share_beginnings.specs.Reads.{IsAnsweredBy}
 use Rattle.share_beginnings.specs.State.{BeginningsState}
 use Rattle.share_beginnings.proofs.Entries.{same_of}
+use Rattle.download_plan.specs.Plan.{length_of, place_of}
+use Rattle.download_plan.specs.declared.part.Part.TheVariants.{Data}
+use Rattle.download_file.specs.Answers.{AnswersFirst}
 use Rattle.download_file.specs.Changes.{IsSameFile}
 use Rattle.download_file.specs.Making.{RefutesReader}
-use Rattle.download_file.specs.State.{FileState, IsLive, ReaderState, first_place, first_waiting, shares, waiting_at, waiting_in}
+use Rattle.download_file.specs.State.{CopyState, FileState, IsLive, ReaderState, copies, copy, copy_of, first_place, first_waiting, waiting_at, waiting_in}
 use Rattle.download_file.specs.Taking.{IsRefused}
 use Rattle.download_file.specs.declared.reader.Waiting.{Waiting}
 use Rattle.cap_text.specs.Cap.{VerifyCapValue}
 use Rattle.share_beginnings.specs.Causes.{IsBeginningFault}
 use Rattle.download_segments.specs.State.{HandoutState}
 use Rattle.download_reading.specs.Causes.{HasCause, IsBlameOf, IsBlockFault, IsFileAlike, IsPartFault}
+use Rattle.download_reading.specs.Laws.{BlocksAreAnswered}
 use Rattle.download_reading.specs.Reading.{AreReadingBut}
 use Rattle.download_reading.specs.State.{ReadingState}
 use Rattle.download_reading.specs.Steps.{Continues}
@@ -57,7 +61,7 @@ part_moved es ns f g b stays same k = record {
   live = k.live;
   bytes = k.bytes;
   refused = k.refused;
-  share = k.share;
+  reads = k.reads;
   request = k.request;
   there = stays k.refused.first.place k.request k.there (ap is_outstanding k.answer);
   of_server = k.of_server;
@@ -74,8 +78,8 @@ block_moved es ns f g b stays same k = record {
   keeps = λ place q body there answer. stays place q (k.keeps place q body there answer) (ap is_outstanding answer);
   read = k.read;
   reader = k.reader;
-  share = k.share;
   refuted = k.refuted;
+  reads = k.reads;
   check = k.check;
 }
 
@@ -86,11 +90,55 @@ waits_first f reader place bytes check k e =
     let one : Some k.first.place ≡ Some place = sym (ap first_place same) ∙ e in
     (subst (λ (l : List Waiting). Contains l k.first) (sym same) (Contains-head k.first k.others), cc)
 
--- the number of the share that a reader reads
-number_of : (f : FileState) (reader share : ℕ) (r : ReaderState) → slice_get f.readers reader ≡ Some r → slice_get (shares f) reader ≡ Some share → r.share ≡ share
-number_of f reader share r there is =
-    let at : slice_get (shares f) reader ≡ Some r.share = slice_get-map (λ (y : ReaderState). y.share) f.readers reader ∙ ap (λ o. option_map (λ (y : ReaderState). y.share) o) there in
-    same_of (slice_get (shares f) reader) r.share share at is
+-- the copy that a reader reads
+copy_at : (f : FileState) (reader server share : ℕ) (r : ReaderState) → slice_get f.readers reader ≡ Some r → slice_get (copies f) reader ≡ Some (copy server share) → copy_of r ≡ copy server share
+copy_at f reader server share r there is =
+    let at : slice_get (copies f) reader ≡ Some (copy_of r) = slice_get-map (λ (y : ReaderState). copy_of y) f.readers reader ∙ ap (λ o. option_map (λ (y : ReaderState). copy_of y) o) there in
+    same_of (slice_get (copies f) reader) (copy_of r) (copy server share) at is
+
+-- ---- the answer to the first part
+
+record WaitsFirst (f : FileState) (reader place : ℕ) : Type 0 where
+  pub r : ReaderState
+  pub there : slice_get f.readers reader ≡ Some r
+  pub first : Waiting
+  pub others : List Waiting
+  pub waits : r.waiting ≡ first ∷ others
+  pub at : first.place ≡ place
+
+first_of : (f : FileState) (reader place : ℕ) (o : Option ReaderState) (ws : List Waiting) → slice_get f.readers reader ≡ o → waiting_in o ≡ ws → first_place ws ≡ Some place → WaitsFirst f reader place
+first_of f reader place o [] there same e = absurd cc
+first_of f reader place None (w ∷ ws) there same e = absurd cc
+first_of f reader place (Some r) (w ∷ ws) there same e = record { r = r; there = there; first = w; others = ws; waits = same; at = cc }
+
+-- the bytes are what the reader's own server answered
+pub answers_first : (but : Option ℕ) (s : BeginningsState) (r : ReadingState) (reader place : ℕ) (bytes : List ℕ) → AreReadingBut but s r → IsLive r.file reader → first_waiting r.file reader ≡ Some place
+    → IsAnsweredBy s.holdings.requests.entries place bytes → AnswersFirst s.holdings.requests.entries r.file reader bytes
+answers_first but s r reader place bytes reading live first answered =
+    let w = first_of r.file reader place (slice_get r.file.readers reader) (waiting_at r.file reader) refl refl first in
+    let now = reading.linked.live reader live in
+    let own = reading.linked.kept.forth reader now.holding now.of in
+    let held : own.held ≡ now.held = same_of (slice_get s.holdings.table.holdings now.holding) own.held now.held own.is now.is in
+    let one : copy_of w.r ≡ copy own.held.server own.held.share = copy_at r.file reader own.held.server own.held.share w.r w.there own.reads in
+    let same : waiting_at r.file reader ≡ w.first ∷ w.others = ap waiting_in w.there ∙ w.waits in
+    let a = (reading.awaits.asked reader now.held w.first (record { live = live; holding = now.holding; of = now.of; is = now.is; left = now.left })
+    (subst (λ (l : List Waiting). Contains l w.first) (sym same) (Contains-head w.first w.others))).read in
+    let request : a.request ≡ answered.request = same_of (slice_get s.holdings.requests.entries place) a.request answered.request (ap (slice_get s.holdings.requests.entries) (sym w.at) ∙ a.there) answered.there in
+    record {
+      r = w.r;
+      there = w.there;
+      first = w.first;
+      others = w.others;
+      waits = w.waits;
+      answers = record {
+        request = a.request;
+        there = a.there;
+        of_server = a.of_server ∙ ap (λ (h : Holding). h.server) (sym held) ∙ ap (λ (c : CopyState). c.server) (sym one);
+        asked = a.asked ∙ ap (λ (h : Holding). Reading h.share w.first.wanted.read.place w.first.wanted.read.length) (sym held)
+            ∙ ap (λ (c : CopyState). Reading c.share w.first.wanted.read.place w.first.wanted.read.length) (sym one);
+        answer = ap (λ (q : Request). q.outcome) request ∙ answered.answer;
+      };
+    }
 
 -- the part that a reader waited for is refused
 pub part_fault : (but : Option ℕ) (s : BeginningsState) (r : ReadingState) (reader place : ℕ) (check : Check) (bytes : List ℕ) (b : Blame) → AreReadingBut but s r → IsLive r.file reader → first_waiting r.file reader ≡ Some place
@@ -113,7 +161,7 @@ part_fault but s r reader place check bytes b reading live first answered refuse
       live = live;
       bytes = bytes;
       refused = k;
-      share = number_of r.file reader own.held.share k.r k.there own.share ∙ ap (λ (h : Holding). h.share) own_held ∙ sym blame.of_share;
+      reads = copy_at r.file reader own.held.server own.held.share k.r k.there own.reads ∙ ap (λ (h : Holding). copy h.server h.share) own_held ∙ (λ i. copy (sym blame.of_server i) (sym blame.of_share i));
       request = a.request;
       there = a.there;
       of_server = a.of_server ∙ ap (λ (h : Holding). h.server) held ∙ sym blame.of_server;
@@ -134,9 +182,24 @@ block_fault but s r reader b reading refuted blame =
       keeps = λ place q body there answer. there;
       read = reading.linked.kept.answers;
       reader = reader;
-      share = f.share ∙ ap (λ (h : Holding). Some h.share) held ∙ ap Some (sym blame.of_share);
       refuted = refuted;
+      reads = copy_at r.file reader f.held.server f.held.share refuted.r refuted.there f.reads ∙ ap (λ (h : Holding). copy h.server h.share) held ∙ (λ i. copy (sym blame.of_server i) (sym blame.of_share i));
       check = blame.check_is;
+    }
+
+-- what is held of it was answered by the blamed server
+pub block_answered : BlocksAreAnswered
+block_answered entries f b k i low =
+    let s = k.refuted.r.source in
+    let a = k.read.held k.reader k.refuted.r k.refuted.there i low in
+    record {
+      request = a.request;
+      there = k.keeps _ a.request _ a.there a.answer;
+      of_server = a.of_server ∙ ap (λ (c : CopyState). c.server) k.reads;
+      asked = a.asked ∙ ap (λ (c : CopyState). Reading c.share (place_of s.geometry s.first s.end (Data i)) (length_of s.geometry s.first s.end (Data i))) k.reads;
+      bytes = a.bytes;
+      answer = a.answer;
+      long = a.long;
     }
 
 stays_same : (s t : BeginningsState) → t.holdings.requests ≡ s.holdings.requests → StaysTo t.holdings.requests.entries s.holdings.requests.entries

@@ -23,7 +23,7 @@ use Rattle.download_file.specs.Asked.{AsksNoMore, IsOneOf, IsPlannedRead}
 use Rattle.download_file.specs.Changes.{IsSameFile, StaysRead}
 use Rattle.download_source.specs.declared.wanted.Wanted.{Wanted}
 use Rattle.download_file.specs.Right.{IsFile}
-use Rattle.download_file.specs.State.{FileState, IsLive, ReaderState, shares, without}
+use Rattle.download_file.specs.State.{CopyState, FileState, IsLive, ReaderState, copies, copy_of, without}
 use Rattle.download_file.proofs.GrowLemmas.{same_itself}
 use Rattle.download_reading.specs.Reading.{AreKept, AreLinked, IsGone, IsOf, IsOfReader, IsReadNow}
 use Rattle.download_reading.specs.State.{ReadingState}
@@ -86,7 +86,7 @@ continues_trans s t u r q p f g = record {
       (λ place n share offset len there le asked. planned_alike r.file q.file offset len f.same (g.reads place n share offset len there le asked));
 }
 
-module _ (s : BeginningsState) (r : ReadingState) (f : FileState) (reader : ℕ) (before : AreKept s r) (gone : IsGone s r reader) (lives : f.live ≡ without reader r.file.live) (shared : shares f ≡ shares r.file)
+module _ (s : BeginningsState) (r : ReadingState) (f : FileState) (reader : ℕ) (before : AreKept s r) (gone : IsGone s r reader) (lives : f.live ≡ without reader r.file.live) (shared : copies f ≡ copies r.file)
     (asked : AsksNoMore r.file f) (stays : StaysRead r.file f) (right : IsFile f) (geometry : f.handout.geometry ≡ r.file.handout.geometry) where
   abbrev pub ended : ReadingState
   ended = record r { file = f }
@@ -99,12 +99,12 @@ module _ (s : BeginningsState) (r : ReadingState) (f : FileState) (reader : ℕ)
     linked = (
         let e = before.linked in
         let a = ap length shared in
-        let c = length-map f.readers (λ (x : ReaderState). x.share) in
-        let d = length-map r.file.readers (λ (x : ReaderState). x.share) in
+        let c = length-map f.readers (λ (x : ReaderState). copy_of x) in
+        let d = length-map r.file.readers (λ (x : ReaderState). copy_of x) in
         omega (arith, e, a, c, d));
     forth = λ q x is. (
         let k = before.forth q x is in
-        record { held = k.held; is = k.is; begun = k.begun; there = k.there; of_reader = k.of_reader; share = ap (λ (l : List ℕ). slice_get l q) shared ∙ k.share });
+        record { held = k.held; is = k.is; begun = k.begun; there = k.there; of_reader = k.of_reader; reads = ap (λ (l : List CopyState). slice_get l q) shared ∙ k.reads });
     back = before.back;
     alive = λ x q h b is there e left.
         subst (λ (l : List ℕ). Contains l q) (sym lives) (without_keeps reader q r.file.live (before.alive x q h b is there e left)

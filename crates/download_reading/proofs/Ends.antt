@@ -14,7 +14,7 @@ use Rattle.share_beginnings.specs.Reads.{IsOutAt}
 use Rattle.share_beginnings.specs.State.{BeginningsState}
 use Rattle.share_beginnings.proofs.Entries.{same_of}
 use Rattle.download_file.specs.Making.{SomeWaits}
-use Rattle.download_file.specs.State.{ReaderState, numbers_of, share_in}
+use Rattle.download_file.specs.State.{CopyState, ReaderState, copy, copy_of, numbers_of, share_in}
 use Rattle.download_file.proofs.ListLemmas.{contains_map, get_unmapped}
 use Rattle.download_reading.specs.Reading.{AreReading}
 use Rattle.download_reading.specs.State.{ReadingState}
@@ -59,8 +59,8 @@ module _ (s : BeginningsState) (r : ReadingState) (reading : AreReading s r) (ta
             let own = table.places h.share p _ number (table.reading h.share p _ number reads) in
             let same : f.held ≡ own.0 = same_of (slice_get s.holdings.table.holdings p) f.held own.0 f.is own.1 in
             let live = reading.linked.kept.alive p k.0 f.held f.begun f.is f.there f.of_reader (ap (λ (x : Holding). x.left) same ∙ own.3) in
-            let at = get_unmapped (λ (x : ReaderState). x.share) r.file.readers k.0 f.held.share f.share in
-            let share : share_in (slice_get r.file.readers k.0) ≡ h.share = ap share_in at.1 ∙ at.2 ∙ ap (λ (x : Holding). x.share) same ∙ own.2 in
+            let at = get_unmapped (λ (x : ReaderState). copy_of x) r.file.readers k.0 (copy f.held.server f.held.share) f.reads in
+            let share : share_in (slice_get r.file.readers k.0) ≡ h.share = ap share_in at.1 ∙ ap (λ (x : CopyState). x.share) at.2 ∙ ap (λ (x : Holding). x.share) same ∙ own.2 in
             subst (Contains (numbers_of r.file.readers r.file.live)) share (contains_map (λ x. share_in (slice_get r.file.readers x)) r.file.live k.0 live)
 
         by_number : (o : Option ℕ) → (slice_index_or s.holdings.table.numbers h.share no_holding).reading ≡ o → h.suspended ≡ false → Contains (numbers_of r.file.readers r.file.live) h.share

@@ -31,7 +31,7 @@ use Rattle.download_reading.proofs.Follows.{Follows, KeepsReaders, WasHeld, foll
 use Rattle.download_file.specs.Answers.{IsRead}
 use Rattle.download_file.specs.Asked.{AsksNoMore}
 use Rattle.download_file.specs.Right.{IsFile}
-use Rattle.download_file.specs.State.{FileState, IsLive, ReaderState, shares}
+use Rattle.download_file.specs.State.{CopyState, FileState, IsLive, ReaderState, copies, copy, copy_of}
 use Rattle.download_reading.specs.Reading.{AreKept, AreLinked, IsGone, IsOfReader, IsReadNow}
 use Rattle.download_reading.specs.State.{ReadingState}
 
@@ -68,7 +68,7 @@ module _ (s t : BeginningsState) (r : ReadingState) (before : AreLinked s r) (kn
           begun = b.0;
           there = b.1;
           of_reader = b.2 ∙ k.of_reader;
-          share = k.share ∙ ap Some (sym g.3);
+          reads = k.reads ∙ (λ i. Some (copy (sym g.2 i) (sym g.3 i)));
         });
     back = λ x q c there e. (let b = begun_back x q c there e in before.kept.back x q b.0 b.1 (sym b.2 ∙ e));
     alive = λ x q g c is there e left. (
@@ -117,7 +117,7 @@ module _ (s t : BeginningsState) (r : ReadingState) (before : AreLinked s r) (kn
 
 -- ---- the file goes on
 
-module _ (s : BeginningsState) (r : ReadingState) (f : FileState) (before : AreLinked s r) (lives : f.live ≡ r.file.live) (shared : shares f ≡ shares r.file) (asked : AsksNoMore r.file f)
+module _ (s : BeginningsState) (r : ReadingState) (f : FileState) (before : AreLinked s r) (lives : f.live ≡ r.file.live) (shared : copies f ≡ copies r.file) (asked : AsksNoMore r.file f)
     (answers : IsRead s.holdings.requests.entries f) (right : IsFile f) (geometry : f.handout.geometry ≡ r.file.handout.geometry) where
   abbrev pub goes_on_with : ReadingState
   goes_on_with = record r { file = f }
@@ -131,12 +131,12 @@ module _ (s : BeginningsState) (r : ReadingState) (f : FileState) (before : AreL
       linked = (
           let e = before.kept.linked in
           let a = ap length shared in
-          let c = length-map f.readers (λ (x : ReaderState). x.share) in
-          let d = length-map r.file.readers (λ (x : ReaderState). x.share) in
+          let c = length-map f.readers (λ (x : ReaderState). copy_of x) in
+          let d = length-map r.file.readers (λ (x : ReaderState). copy_of x) in
           omega (arith, e, a, c, d));
       forth = λ q x of. (
           let k = before.kept.forth q x of in
-          record { held = k.held; is = k.is; begun = k.begun; there = k.there; of_reader = k.of_reader; share = ap (λ (l : List ℕ). slice_get l q) shared ∙ k.share });
+          record { held = k.held; is = k.is; begun = k.begun; there = k.there; of_reader = k.of_reader; reads = ap (λ (l : List CopyState). slice_get l q) shared ∙ k.reads });
       back = before.kept.back;
       alive = λ x q g b is there e left. subst (λ (l : List ℕ). Contains l q) (sym lives) (before.kept.alive x q g b is there e left);
       reads = λ x i offset len g b is there left read. more b offset len (before.kept.reads x i offset len g b is there left read);
@@ -186,7 +186,7 @@ module _ (s t : BeginningsState) (r : ReadingState) (holding : ℕ) (check : Che
 module _ (s : BeginningsState) (r : ReadingState) (f : FileState) (before : AreLinked s r) (lives : f.live ≡ r.file.live) (readers : f.readers ≡ r.file.readers) (asked : AsksNoMore r.file f)
     (answers : IsRead s.holdings.requests.entries f) (right : IsFile f) (same : IsSameFile r.file f) where
   pub made_reading : AreLinked s (record r { file = f })
-  made_reading = file_goes s r f before lives (ap (λ (l : List ReaderState). map (λ (x : ReaderState). x.share) l) readers) asked answers right same.geometry
+  made_reading = file_goes s r f before lives (ap (λ (l : List ReaderState). map (λ (x : ReaderState). copy_of x) l) readers) asked answers right same.geometry
 
   pub made_continues : AddsPieces r.file.handout f.handout → Continues s r s (record r { file = f })
   made_continues pieces = record { goes = goes_none s s refl refl; same = same; pieces = pieces; answers = λ a. answers; reads = asks_none r.file s s refl }

@@ -33,7 +33,7 @@ sent_reading s outgoing known r k = record {
       linked = k.linked.kept.linked;
       forth = λ q x of. (
           let f = k.linked.kept.forth q x of in
-          record { held = f.held; is = f.is; begun = f.begun; there = f.there; of_reader = f.of_reader; share = f.share });
+          record { held = f.held; is = f.is; begun = f.begun; there = f.there; of_reader = f.of_reader; reads = f.reads });
       back = k.linked.kept.back;
       alive = k.linked.kept.alive;
       reads = k.linked.kept.reads;

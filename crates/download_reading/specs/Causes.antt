@@ -15,7 +15,7 @@ use Rattle.share_beginnings.specs.State.{BeginningsState}
 use Rattle.download_file.specs.Answers.{IsRead, KeepsAnswers}
 use Rattle.download_file.specs.Making.{RefutesReader}
 use Rattle.download_file.specs.Right.{IsFile}
-use Rattle.download_file.specs.State.{FileState, IsLive, shares}
+use Rattle.download_file.specs.State.{FileState, IsLive, copy, copy_of}
 use Rattle.download_file.specs.Taking.{IsRefused}
 use Rattle.download_reading.specs.Reading.{IsOf}
 use Rattle.download_reading.specs.State.{ReadingState}
@@ -29,8 +29,9 @@ pub record IsFileAlike (f g : FileState) : Type 0 where
   pub first : g.first ≡ f.first
   pub end : g.end ≡ f.end
 
--- A reader of this file, which is read, reads the blamed share. The blamed server was asked for the
--- part of that share that waits first of the reader, and the bytes that it answered are refused.
+-- A reader of this file, which is read, reads the blamed share at the blamed server. That server
+-- was asked for the part of that share that waits first of the reader, and the bytes that it
+-- answered are refused.
 pub record IsPartFault (entries : List Request) (f : FileState) (b : Blame) : Type 0 where
   pub file : FileState
   pub right : IsFile file
@@ -39,7 +40,7 @@ pub record IsPartFault (entries : List Request) (f : FileState) (b : Blame) : Ty
   pub live : IsLive file reader
   pub bytes : List ℕ
   pub refused : IsRefused file reader bytes b.check
-  pub share : refused.r.share ≡ b.share
+  pub reads : copy_of refused.r ≡ copy b.server b.share
   pub request : Request
   pub there : slice_get entries refused.first.place ≡ Some request
   pub of_server : request.server ≡ b.server
@@ -47,8 +48,8 @@ pub record IsPartFault (entries : List Request) (f : FileState) (b : Blame) : Ty
       refused.first.wanted.read.length
   pub answer : request.outcome ≡ Answered (Data bytes)
 
--- The block of the next segment that the share's reader holds is not the one that its block tree
--- tells.
+-- A reader of this file reads the blamed share at the blamed server. The block of the next segment
+-- that it holds, of what that server answered, is not the one that the share's block tree tells.
 pub record IsBlockFault (entries : List Request) (f : FileState) (b : Blame) : Type 0 where
   pub file : FileState
   pub right : IsFile file
@@ -57,8 +58,8 @@ pub record IsBlockFault (entries : List Request) (f : FileState) (b : Blame) : T
   pub keeps : KeepsAnswers answered entries
   pub read : IsRead answered file
   pub reader : ℕ
-  pub share : slice_get (shares file) reader ≡ Some b.share
   pub refuted : RefutesReader answered file reader
+  pub reads : copy_of refuted.r ≡ copy b.server b.share
   pub check : b.check ≡ checks.Data
 
 -- why a message brings a share to be blamed

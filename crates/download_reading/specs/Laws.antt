@@ -1,7 +1,12 @@
 -- Laws of files that are read.
 use Rattle.std.specs.Prelude.{ℕ, List}
+use Rattle.request_record.specs.declared.requests.Request.{Request}
+use Rattle.share_holdings.specs.declared.holding.Blame.{Blame}
 use Rattle.share_beginnings.specs.Known.{AreBegun}
 use Rattle.share_beginnings.specs.State.{BeginningsState}
+use Rattle.download_file.specs.Answers.{HoldsFor}
+use Rattle.download_file.specs.State.{FileState}
+use Rattle.download_reading.specs.Causes.{IsBlockFault}
 use Rattle.download_reading.specs.Reading.{AreReading}
 use Rattle.download_reading.specs.State.{ReadingState}
 
@@ -18,3 +23,10 @@ abbrev pub SendingStays : Type 0
 SendingStays = (s : BeginningsState) (outgoing : List ℕ) → AreBegun s
     → AreBegun (with_outgoing outgoing s)
     × ((r : ReadingState) → AreReading s r → AreReading (with_outgoing outgoing s) r)
+
+-- a law: where a share is blamed for a block, all that the reader of the block holds is what the
+-- blamed server answered of the blamed share
+abbrev pub BlocksAreAnswered : Type 0
+BlocksAreAnswered = (entries : List Request) (f : FileState) (b : Blame)
+    → (fault : IsBlockFault entries f b)
+    → HoldsFor entries b.server b.share fault.refuted.r.source

@@ -3,5 +3,5 @@ pub mod State
 pub mod Reading
 pub mod Prompt
 pub mod Steps
-pub mod Laws
 pub mod Causes
+pub mod Laws

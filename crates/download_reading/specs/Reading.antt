@@ -13,7 +13,7 @@ use Rattle.share_beginnings.specs.declared.begun.Begun.{Begun}
 use Rattle.download_file.specs.Answers.{IsRead}
 use Rattle.download_file.specs.Asked.{HasAsked}
 use Rattle.download_file.specs.Right.{IsFile}
-use Rattle.download_file.specs.State.{FileState, IsLive, first_waiting, shares, waiting_at}
+use Rattle.download_file.specs.State.{FileState, IsLive, copies, copy, first_waiting, waiting_at}
 use Rattle.download_file.specs.declared.reader.Waiting.{Waiting}
 use Rattle.download_reading.specs.State.{ReadingState}
 
@@ -21,14 +21,14 @@ use Rattle.download_reading.specs.State.{ReadingState}
 abbrev pub IsOf : ReadingState → ℕ → ℕ → Type 0
 IsOf r reader holding = slice_get r.holdings reader ≡ Some holding
 
--- the holding knows its reader, which reads its share
+-- the holding knows its reader, which reads its share at its server
 pub record IsReaderOf (s : BeginningsState) (r : ReadingState) (reader holding : ℕ) : Type 0 where
   pub held : Holding
   pub is : IsHolding s.holdings.table holding held
   pub begun : Begun
   pub there : IsBegun s holding begun
   pub of_reader : begun.reader ≡ Some reader
-  pub share : slice_get (shares r.file) reader ≡ Some held.share
+  pub reads : slice_get (copies r.file) reader ≡ Some (copy held.server held.share)
 
 -- the share that a live reader reads is left, and is the one of its number that is read
 pub record IsReadNow (s : BeginningsState) (r : ReadingState) (reader : ℕ) : Type 0 where

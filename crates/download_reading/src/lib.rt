@@ -7,5 +7,5 @@ mod ending;
 mod laws;
 mod reading;
 
-pub use laws::sending_stays;
+pub use laws::{blocks_are_answered, sending_stays};
 pub use reading::{Reading, Settled};

@@ -275,9 +275,9 @@ impl Reading {
         ensures held { OnOk result (beginnings.new.holdings.table.holdings
             ≡ beginnings.old.holdings.table.holdings) }
     {
-        let share = beginnings.holdings().holdings()[holding].share;
+        let held = beginnings.holdings().holdings()[holding];
         self.asked_up = false;
-        let reader = self.file.begin(share)?;
+        let reader = self.file.begin(held.server, held.share)?;
         self.holdings.push(holding)?;
         beginnings.begin_reader(holding, reader);
         Ok(())

@@ -86,7 +86,7 @@ returns-clause-reading c =
     (λ done.
     let asks = subst (λ (l : List Wanted). steps.AsksParts c.index.result.now l bs t) c.deref.ensures.value done in
     record {
-      linked = asked_reading bs r f c.args.reader c.index.result.now c.in_ok-wanted.wanted.items reading live of k.asks t asks c.ask_parts.ensures.grows k.right reads_keep k.reads k.live k.shares k.same.geometry;
+      linked = asked_reading bs r f c.args.reader c.index.result.now c.in_ok-wanted.wanted.items reading live of k.asks t asks c.ask_parts.ensures.grows k.right reads_keep k.reads k.live k.copies k.same.geometry;
       awaits = asked_awaits bs t r f c.args.reader c.index.result.now c.in_ok-wanted.wanted.items before.awaits of asks c.ask_parts.ensures.goes k.live
           (subst (λ n. waiting_at f c.args.reader ≡ waiting_at r.file c.args.reader ++ placed n c.in_ok-wanted.wanted.items) place k.waits) k.others;
       busy = busy_file None t r q refl (busy_goes bs t r before.busy asks.table asks.begun c.ask_parts.ensures.goes);

@@ -9,7 +9,7 @@ use Rattle.share_beginnings.specs.State.{BeginningsState}
 use Rattle.share_beginnings.proofs.Entries.{same_of}
 use Rattle.share_beginnings.proofs.Opened.{goes_none}
 use Rattle.download_file.specs.Answers.{IsRead}
-use Rattle.download_file.specs.State.{ReaderState, shares}
+use Rattle.download_file.specs.State.{CopyState, ReaderState, copies, copy, copy_of}
 use Rattle.download_reading.specs.Reading.{AreLinked, AreReading}
 use Rattle.download_reading.specs.State.{ReadingState}
 use Rattle.download_reading.specs.Steps.{Continues}
@@ -23,9 +23,12 @@ abbrev nobody : Holding
 nobody = record { server = 0; share = 0; left = false; suspended = false }
 
 -- the holding that is read in the code
+held_is : (bs : BeginningsState) (hs : HoldingsState) (list : List Holding) (holding : ℕ) (h : Holding) → hs ≡ bs.holdings → list ≡ hs.table.holdings → IsHolding bs.holdings.table holding h → get_or list holding nobody ≡ h
+held_is bs hs list holding h e f is =
+    ap (λ (l : List Holding). get_or l holding nobody) (f ∙ ap (λ (x : HoldingsState). x.table.holdings) e) ∙ get_or_from_slice_get bs.holdings.table.holdings holding h nobody is
+
 share_of : (bs : BeginningsState) (hs : HoldingsState) (list : List Holding) (holding : ℕ) (h : Holding) → hs ≡ bs.holdings → list ≡ hs.table.holdings → IsHolding bs.holdings.table holding h → (get_or list holding nobody).share ≡ h.share
-share_of bs hs list holding h e f is =
-    ap (λ (l : List Holding). (get_or l holding nobody).share) (f ∙ ap (λ (x : HoldingsState). x.table.holdings) e) ∙ ap (λ (x : Holding). x.share) (get_or_from_slice_get bs.holdings.table.holdings holding h nobody is)
+share_of bs hs list holding h e f is = ap (λ (x : Holding). x.share) (held_is bs hs list holding h e f is)
 
 pub begin-requires-clause-there : goal.begin-requires-clause-there
 begin-requires-clause-there c =
@@ -46,8 +49,9 @@ begin-requires-clause-unread c reader x alive is same =
     let now = reading.live reader alive in
     let k = reading.kept.forth reader now.holding now.of in
     let held : k.held ≡ now.held = same_of (slice_get bs.holdings.table.holdings now.holding) k.held now.held k.is now.is in
-    let at : slice_get (shares r.file) reader ≡ Some x.share = slice_get-map (λ (y : ReaderState). y.share) r.file.readers reader ∙ ap (λ o. option_map (λ (y : ReaderState). y.share) o) is in
-    let one : k.held.share ≡ x.share = same_of (slice_get (shares r.file) reader) k.held.share x.share k.share at in
+    let at : slice_get (copies r.file) reader ≡ Some (copy_of x) = slice_get-map (λ (y : ReaderState). copy_of y) r.file.readers reader ∙ ap (λ o. option_map (λ (y : ReaderState). copy_of y) o) is in
+    let two : copy k.held.server k.held.share ≡ copy_of x = same_of (slice_get (copies r.file) reader) (copy k.held.server k.held.share) (copy_of x) k.reads at in
+    let one : k.held.share ≡ x.share = ap (λ (y : CopyState). y.share) two in
     free_not_taken bs.holdings.table now.holding now.held h c.requires.free.2
     (sym (share_of bs c.holdings.result.now c.holdings-2.result.now c.args.holding h c.holdings.ensures c.holdings-2.ensures.value c.requires.free.1) ∙ sym same ∙ sym one ∙ ap (λ (y : Holding). y.share) held) now.taken
 
@@ -86,11 +90,11 @@ returns-clause-reading c =
     let h = c.requires.free.0 in
     let k = c.in_ok-reader.ensures in
     let is = c.begin_reader.ensures.reader in
-    let share = share_of bs c.holdings.result.now c.holdings-2.result.now c.args.holding h c.holdings.ensures c.holdings-2.ensures.value c.requires.free.1 in
+    let held = held_is bs c.holdings.result.now c.holdings-2.result.now c.args.holding h c.holdings.ensures c.holdings-2.ensures.value c.requires.free.1 in
     subst (λ (l : List ℕ). AreReading t (record { file = c.begin.new.self; holdings = l })) (sym c.in_ok-push.ensures.items)
     (record {
       linked = begun_reading bs t r c.begin.new.self c.args.holding h before.linked c.requires.free.1 c.requires.free.2 c.in_ok-reader.reader k.place
-          (k.shares ∙ ap (λ n. shares r.file ++ n ∷ []) share) k.live k.asked k.reads k.right k.same.geometry c.begin_reader.ensures.known is;
+          (k.copies ∙ ap (λ (x : Holding). copies r.file ++ copy x.server x.share ∷ []) held) k.live k.asked k.reads k.right k.same.geometry c.begin_reader.ensures.known is;
       awaits = begun_awaits bs t r c.begin.new.self c.args.holding before.linked before.awaits (ap (λ (x : HoldingsState). x.requests) is.holdings) is.takes.2 k.live k.waiting;
       busy = busy_begun bs t r (record { file = c.begin.new.self; holdings = r.holdings ++ c.args.holding ∷ [] }) c.args.holding c.in_ok-reader.reader before.busy is (k.place ∙ sym before.linked.kept.linked) refl;
     })

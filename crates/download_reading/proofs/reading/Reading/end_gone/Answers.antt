@@ -28,8 +28,8 @@ loop-reader-preserved c =
     let q : ReadingState = record { file = c.end.new.self; holdings = c.self.inside.holdings.items } in
     let more : Continues bs r bs q = record { goes = goes_none bs bs refl refl; same = k.same; pieces = adds_none r.file.handout c.end.new.self.handout k.handout; answers = λ a. k.reads bs.holdings.requests.entries a; reads = asks_none r.file bs bs refl } in
     record {
-      kept = ended_kept bs r c.end.new.self c.in-Some.reader kept gone k.live k.shares k.asked k.reads k.right k.same.geometry;
-      live = still_live bs r c.end.new.self c.in-Some.reader kept gone k.live k.shares k.asked k.reads k.right k.same.geometry live;
+      kept = ended_kept bs r c.end.new.self c.in-Some.reader kept gone k.live k.copies k.asked k.reads k.right k.same.geometry;
+      live = still_live bs r c.end.new.self c.in-Some.reader kept gone k.live k.copies k.asked k.reads k.right k.same.geometry live;
       continues = continues_trans bs bs bs c.args.self.now c.loop-reader.self q c.loop-reader.invariant.continues (subst (λ (x : ReadingState). Continues bs x bs q) c.self.view_is more);
       awaits = λ but a.
           ended_awaits but bs r c.end.new.self c.in-Some.reader

@@ -2,7 +2,7 @@ use Rattle.share_beginnings.proofs.Caused.{adds_as, adds_none}
 use Rattle.std.specs.Prelude.{Err}
 use Rattle.download_file.specs.Taking.{IsRefused}
 use Rattle.download_reading.specs.Causes.{IsBlameOf, IsPartFault}
-use Rattle.download_reading.proofs.Causes.{part_fault}
+use Rattle.download_reading.proofs.Causes.{answers_first, part_fault}
 use Rattle.std.proofs.Common.{◌≡◌, ◌∙◌, ℕ, List, [], Contains, Some, None, refl, sym, subst, ap}
 use Rattle.std.proofs.lemmas.List.{append-nil}
 use Rattle.request_record.specs.Record.{RequestsState}
@@ -12,8 +12,8 @@ use Rattle.share_beginnings.specs.State.{BeginningsState}
 use Rattle.share_beginnings.proofs.Entries.{same_of}
 use Rattle.share_beginnings.proofs.Opened.{goes_none}
 use Rattle.download_segments.specs.State.{HandoutState}
-use Rattle.download_file.specs.Answers.{AnsweredWith}
-use Rattle.download_file.specs.State.{FileState, first_waiting}
+use Rattle.download_file.specs.Answers.{AnswersFirst}
+use Rattle.download_file.specs.State.{FileState, IsLive, first_waiting}
 use Rattle.download_reading.specs.Reading.{AreReadingBut}
 use Rattle.download_reading.specs.State.{ReadingState}
 use Rattle.download_reading.specs.Steps.{Continues}
@@ -26,11 +26,10 @@ use Rattle.download_reading.proofs.reading.Reading.take_one.Goals as goal
 answered_by : (bs : BeginningsState) (hs : HoldingsState) (rs : RequestsState) (place : ℕ) (bytes : List ℕ) → hs ≡ bs.holdings → rs ≡ hs.requests → IsAnsweredBy rs.entries place bytes → IsAnsweredBy bs.holdings.requests.entries place bytes
 answered_by bs hs rs place bytes e f a = subst (λ (q : RequestsState). IsAnsweredBy q.entries place bytes) (f ∙ ap (λ (x : HoldingsState). x.requests) e) a
 
--- the bytes stand in the record
-answered : (bs : BeginningsState) (hs : HoldingsState) (rs : RequestsState) (place : ℕ) (bytes : List ℕ) → hs ≡ bs.holdings → rs ≡ hs.requests → IsAnsweredBy rs.entries place bytes → AnsweredWith bs.holdings.requests.entries place bytes
-answered bs hs rs place bytes e f a =
-    let b : IsAnsweredBy bs.holdings.requests.entries place bytes = subst (λ (q : RequestsState). IsAnsweredBy q.entries place bytes) (f ∙ ap (λ (x : HoldingsState). x.requests) e) a in
-    record { request = b.request; there = b.there; answer = b.answer }
+-- the bytes are what the reader's own server answered
+answers : (bs : BeginningsState) (r : ReadingState) (reader place : ℕ) (hs : HoldingsState) (rs : RequestsState) (bytes : List ℕ) → AreReadingBut (Some reader) bs r → IsLive r.file reader → first_waiting r.file reader ≡ Some place
+    → hs ≡ bs.holdings → rs ≡ hs.requests → IsAnsweredBy rs.entries place bytes → AnswersFirst bs.holdings.requests.entries r.file reader bytes
+answers bs r reader place hs rs bytes reading live waits e f a = answers_first (Some reader) bs r reader place bytes reading live waits (answered_by bs hs rs place bytes e f a)
 
 pub returns-in_default-clause-continues : goal.returns-in_default-clause-continues
 returns-in_default-clause-continues c = continues_none c.args.beginnings.now c.args.self.now
@@ -57,10 +56,11 @@ returns-in-Ok-clause-next c e =
     let q : ReadingState = record { file = c.take.new.self; holdings = c.self.inside.holdings.items } in
     let before : AreReadingBut (Some c.args.reader) bs r = subst (AreReadingBut (Some c.args.reader) bs) (sym c.self.view_is) c.requires.reading in
     let waits : first_waiting r.file c.args.reader ≡ Some c.args.place = subst (λ (x : ReadingState). first_waiting x.file c.args.reader ≡ Some c.args.place) (sym c.self.view_is) c.requires.waits in
+    let live : IsLive r.file c.args.reader = subst (λ (x : ReadingState). IsLive x.file c.args.reader) (sym c.self.view_is) c.requires.live in
     record {
-      linked = file_goes bs r c.take.new.self before.linked c.in-Ok.ensures.live c.in-Ok.ensures.shares c.in-Ok.ensures.asked
-          (c.in-Ok.ensures.reads bs.holdings.requests.entries c.args.place before.linked.kept.answers waits
-          (answered bs c.holdings.result.now c.requests.result.now c.args.place c.in-Some.bytes.now c.holdings.ensures c.requests.ensures.value c.in-Some.ensures.some))
+      linked = file_goes bs r c.take.new.self before.linked c.in-Ok.ensures.live c.in-Ok.ensures.copies c.in-Ok.ensures.asked
+          (c.in-Ok.ensures.reads bs.holdings.requests.entries before.linked.kept.answers
+          (answers bs r c.args.reader c.args.place c.holdings.result.now c.requests.result.now c.in-Some.bytes.now before live waits c.holdings.ensures c.requests.ensures.value c.in-Some.ensures.some))
           c.in-Ok.ensures.right c.in-Ok.ensures.same.geometry;
       awaits = taken_awaits bs r c.take.new.self c.args.reader before.awaits c.in-Ok.ensures.live c.in-Ok.ensures.others c.in-Ok.ensures.taken;
       busy = busy_file None bs r q refl before.busy;
@@ -71,13 +71,15 @@ returns-in-Ok-clause-continues c =
     let bs = c.args.beginnings.now in
     let r : ReadingState = record { file = c.self.inside.file; holdings = c.self.inside.holdings.items } in
     let waits : first_waiting r.file c.args.reader ≡ Some c.args.place = subst (λ (x : ReadingState). first_waiting x.file c.args.reader ≡ Some c.args.place) (sym c.self.view_is) c.requires.waits in
+    let before : AreReadingBut (Some c.args.reader) bs r = subst (AreReadingBut (Some c.args.reader) bs) (sym c.self.view_is) c.requires.reading in
+    let live : IsLive r.file c.args.reader = subst (λ (x : ReadingState). IsLive x.file c.args.reader) (sym c.self.view_is) c.requires.live in
     subst (λ (x : ReadingState). Continues bs x bs (record { file = c.take.new.self; holdings = c.self.inside.holdings.items })) c.self.view_is
     (record {
       goes = goes_none bs bs refl refl;
       same = c.in-Ok.ensures.same;
       pieces = record { handed = ap (λ (h : HandoutState). h.handed) c.in-Ok.ensures.handout.handout; more = []; ready = ap (λ (h : HandoutState). h.ready) c.in-Ok.ensures.handout.handout ∙ sym (append-nil c.self.inside.file.handout.ready) };
-      answers = λ a. c.in-Ok.ensures.reads bs.holdings.requests.entries c.args.place a waits
-          (answered bs c.holdings.result.now c.requests.result.now c.args.place c.in-Some.bytes.now c.holdings.ensures c.requests.ensures.value c.in-Some.ensures.some);
+      answers = λ a. c.in-Ok.ensures.reads bs.holdings.requests.entries a
+          (answers bs r c.args.reader c.args.place c.holdings.result.now c.requests.result.now c.in-Some.bytes.now before live waits c.holdings.ensures c.requests.ensures.value c.in-Some.ensures.some);
       reads = asks_none r.file bs bs refl;
     })
 
