@@ -1,8 +1,8 @@
 -- The pieces that were given of a file, from its first byte to its last, are the file.
-use Rattle.std.proofs.Common.{◌≡◌, ℕ, zero, ◌+◌, ◌-◌, ◌*◌, ◌<◌, ◌≤◌, inl, inr, All, Contains, List, [], ◌∷◌, ◌++◌, length, take, drop, min, get_or, Some, ap, sym, subst, ◌∙◌, arith}
+use Rattle.std.proofs.Common.{◌≡◌, ℕ, ◌+◌, ◌-◌, ◌*◌, ◌<◌, ◌≤◌, inl, inr, All, Contains, List, [], ◌∷◌, ◌++◌, length, take, drop, get_or, Some, ap, sym, subst, ◌∙◌, arith}
 use Rattle.std.proofs.lemmas.Bool.{cases_lt}
 use Rattle.std.proofs.lemmas.Grind.{div_ceil_times}
-use Rattle.std.proofs.lemmas.List.{get_or-map, length-map, length-take-le, take_all}
+use Rattle.std.proofs.lemmas.List.{get_or-map, length-map, take_all}
 use Rattle.std.proofs.lemmas.List.Elements.{All-contains, All-head, All-tail}
 use Rattle.std.proofs.lemmas.Nat.{same_from_place}
 use Rattle.aes_ctr.specs.CounterMode.{xored_from}
@@ -30,7 +30,7 @@ use Rattle.download_file.specs.State.{FileState}
 use Rattle.download_file.specs.Answers.{IsGivenBy, IsMade, IsMadeSegment, blocks_of}
 use Rattle.download_file.specs.Right as right
 use Rattle.download_file.specs.Right.{IsFile, IsGroup, made_end}
-use Rattle.download_file.specs.Whole.{IsCiphertextOf, IsWholeFile, SegmentsAreMadeOnce, WholeFiles, joined}
+use Rattle.download_file.specs.Whole.{SegmentsAreMadeOnce, WholeFiles, joined}
 use Rattle.download_file.proofs.EvidenceLemmas.{groups_within}
 use Rattle.download_file.proofs.GivenLemmas.{segment_there}
 use Rattle.download_file.proofs.LiveLemmas.{cons_cases, none_in}
