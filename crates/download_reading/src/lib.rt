@@ -6,6 +6,7 @@ mod asking;
 mod ending;
 mod laws;
 mod reading;
+mod taking;
 
 pub use laws::{blocks_are_answered, sending_stays};
 pub use reading::{Reading, Settled};

@@ -1,15 +1,13 @@
 //! The readers of a file, and the holdings whose shares they read.
 
 ghost use Rattle.std.specs.Prelude.{◌≡◌, ◌≢◌, ◌⊎◌, ◌↔◌, ℕ, ◌+◌, ◌<◌, ◌≤◌, ◌-◌, All};
-ghost use Rattle.std.specs.Prelude.{IfNone, IfOk, IfSome, List, OnErr, OnOk, Ok, Option, Some};
-ghost use Rattle.std.specs.Prelude.{None, drop, false, length, map, true};
+ghost use Rattle.std.specs.Prelude.{IfOk, OnOk, Ok, Option, Some};
+ghost use Rattle.std.specs.Prelude.{false, length, map, true};
 ghost use Rattle.request_record.specs.Record.{outstanding_count};
-ghost use Rattle.share_beginnings.specs.Moves.{WaitsAt};
-ghost use Rattle.share_beginnings.specs.Reads.{IsAnsweredBy};
 ghost use Rattle.share_verify.specs.CapBlock.{geometry_by};
 ghost use Rattle.share_holdings.specs.Table.{IsFree, IsHolding, NoneIsFree};
 ghost use Rattle.share_holdings.specs.declared.holding.Holding.{Holding};
-ghost use Rattle.share_beginnings.specs.Causes.{AddsBlames, IsBeginningFault};
+ghost use Rattle.share_beginnings.specs.Causes.{AddsBlames};
 ghost use Rattle.share_beginnings.specs.Known.{AreBegun};
 ghost use Rattle.share_beginnings.specs.Opening.{AreCompared};
 ghost use Rattle.share_beginnings.specs.State.{BeginningsState};
@@ -22,24 +20,21 @@ ghost use Rattle.download_file.specs.Right.{made_end};
 ghost use Rattle.download_file.specs.Asked.{AreAskedUp, IsAskedUp};
 ghost use Rattle.download_file.specs.Changes.{IsSameFile, StaysAskedUp};
 ghost use Rattle.download_file.specs.Making.{CanNotGoOn, MustWait};
-ghost use Rattle.download_file.specs.State.{IsComplete, IsLive, first_waiting, new_file};
-ghost use Rattle.download_file.specs.State.{waiting_at};
-ghost use Rattle.download_reading.specs.Causes.{HasCause, IsBlameOf, IsBlockFault, IsPartFault};
+ghost use Rattle.download_file.specs.State.{IsComplete, IsLive, new_file};
+ghost use Rattle.download_reading.specs.Causes.{HasCause, IsBlockFault};
 ghost use Rattle.download_reading.specs.Prompt.{IsPrompt};
-ghost use Rattle.download_reading.specs.Reading.{AreAwaited, AreKept, AreLinked, AreReading};
-ghost use Rattle.download_reading.specs.Reading.{AreReadingBut, IsGone, IsReadNow};
+ghost use Rattle.download_reading.specs.Reading.{AreReading};
 ghost use Rattle.download_reading.specs.State.{ReadingState};
 ghost use Rattle.download_reading.specs.Steps.{Continues, HasHeard, HasTicked, IsAtEnd};
-ghost use Rattle.download_reading.specs.Steps.{IsStill, IsStuck, IsTold, left_count, work};
+ghost use Rattle.download_reading.specs.Steps.{IsStill, IsStuck, work};
 
 use crate::asking::ask_parts;
 use crate::ending::why_not;
 use cap_text::VerifyCap;
 use download_file::{File, Made};
 use download_segments::Piece;
-use download_trees::TreeFault;
 use proved_parts::EvidencePart;
-use share_beginnings::{Beginnings, News, bytes_at};
+use share_beginnings::{Beginnings, News};
 use share_layout::Geometry;
 use share_verify::Check;
 use std::alloc::{AllocError, Global};
@@ -62,11 +57,11 @@ pub enum Settled {
 /// A file whose extension block is accepted, and the shares at servers that are read of it.
 #[derive(Drop)]
 pub struct Reading {
-    file: File,
+    pub(crate) file: File,
     // The holding that each reader of the file reads.
-    holdings: Vec<usize>,
+    pub(crate) holdings: Vec<usize>,
     // Whether each reader that is read was asked for all that is wanted for the next segment.
-    asked_up: bool,
+    pub(crate) asked_up: bool,
 }
 
 impl Model for Reading {
@@ -355,185 +350,5 @@ impl Reading {
             _ => {}
         }
         Ok(made)
-    }
-
-    // The next bytes of the beginning of a share came. Its header is compared.
-    fn compare(
-        &mut self,
-        beginnings: &mut Beginnings,
-        cap: &VerifyCap,
-        holding: usize,
-        place: usize,
-    ) -> Result<(), AllocError>
-        requires told { IsTold (Some holding) beginnings.old self.old holding }
-        requires waits { WaitsAt beginnings.old holding place }
-        requires answered { (bytes : List ℕ)
-            × IsAnsweredBy beginnings.old.holdings.requests.entries place bytes }
-        ensures told { OnOk result (IsTold None beginnings.new self.new holding) }
-        ensures continues { Continues beginnings.old self.old beginnings.new self.new }
-        ensures requests { beginnings.new.holdings.requests ≡ beginnings.old.holdings.requests }
-        ensures causes { AddsBlames (IsBeginningFault cap.now self.old.file.handout.geometry
-            beginnings.old.holdings.requests.entries) beginnings.old.holdings.blamed
-            beginnings.new.holdings.blamed }
-    {
-        beginnings.compare(cap, self.file.geometry(), holding, place)?;
-        self.end_gone(beginnings);
-        Ok(())
-    }
-
-    // Takes what the reader of this holding, where it has one that is read, may take.
-    fn take_of(&mut self, beginnings: &mut Beginnings, holding: usize) -> Result<(), AllocError>
-        requires told { IsTold None beginnings.old self.old holding }
-        ensures reading { OnOk result (AreReading beginnings.new self.new) }
-        ensures continues { Continues beginnings.old self.old beginnings.new self.new }
-        ensures requests { beginnings.new.holdings.requests ≡ beginnings.old.holdings.requests }
-        ensures causes { AddsBlames (IsPartFault beginnings.old.holdings.requests.entries
-            self.old.file) beginnings.old.holdings.blamed beginnings.new.holdings.blamed }
-    {
-        let Some(reader) = beginnings.begun()[holding].reader else {
-            return Ok(());
-        };
-        if beginnings.holdings().holdings()[holding].left {
-            self.take(beginnings, reader)?;
-        }
-        Ok(())
-    }
-
-    // Takes the answers of the reader of a holding's share, one after another, as far as they are
-    // there. A share of which one is refused is blamed.
-    fn take(&mut self, beginnings: &mut Beginnings, reader: usize) -> Result<(), AllocError>
-        requires reading { AreReadingBut (Some reader) beginnings.old self.old }
-        requires live { IsLive self.old.file reader }
-        ensures reading { OnOk result (AreReading beginnings.new self.new) }
-        ensures continues { Continues beginnings.old self.old beginnings.new self.new }
-        ensures requests { beginnings.new.holdings.requests ≡ beginnings.old.holdings.requests }
-        ensures causes { AddsBlames (IsPartFault beginnings.old.holdings.requests.entries
-            self.old.file) beginnings.old.holdings.blamed beginnings.new.holdings.blamed }
-    {
-        while let Some(place) = self.file.first_waiting(reader) {
-            if !self.take_one(beginnings, reader, place)? {
-                return Ok(());
-            }
-        }
-        Ok(())
-    }
-
-    // Takes the answer to the request at this place, which is the first that waits of a reader.
-    // `false` where it is not there, or refused.
-    fn take_one(
-        &mut self,
-        beginnings: &mut Beginnings,
-        reader: usize,
-        place: usize,
-    ) -> Result<bool, AllocError>
-        requires reading { AreReadingBut (Some reader) beginnings.old self.old }
-        requires live { IsLive self.old.file reader }
-        requires waits { first_waiting self.old.file reader ≡ Some place }
-        ensures next { result ≡ Ok true
-            → AreReadingBut (Some reader) beginnings.new self.new }
-        ensures last { result ≡ Ok false → AreReading beginnings.new self.new }
-        ensures continues { Continues beginnings.old self.old beginnings.new self.new }
-        ensures requests { beginnings.new.holdings.requests ≡ beginnings.old.holdings.requests }
-        ensures causes { AddsBlames (IsPartFault beginnings.old.holdings.requests.entries
-            self.old.file) beginnings.old.holdings.blamed beginnings.new.holdings.blamed }
-        ensures live { result ≡ Ok true → IsLive self.new.file reader }
-        ensures taken { result ≡ Ok true → waiting_at self.new.file reader
-            ≡ drop 1 (waiting_at self.old.file reader) }
-    {
-        let Some(bytes) = bytes_at(beginnings.holdings().requests(), place) else {
-            return Ok(false);
-        };
-        match self.file.take(reader, bytes) {
-            Ok(()) => Ok(true),
-            Err(TreeFault::OutOfMemory) => Err(AllocError),
-            Err(TreeFault::Check(check)) => {
-                self.blame(beginnings, reader, check)?;
-                Ok(false)
-            }
-        }
-    }
-
-    // The share that a reader reads failed a check: it is read no more.
-    fn blame(
-        &mut self,
-        beginnings: &mut Beginnings,
-        reader: usize,
-        check: Check,
-    ) -> Result<(), AllocError>
-        requires reading { AreReadingBut (Some reader) beginnings.old self.old }
-        requires live { IsLive self.old.file reader }
-        ensures reading { OnOk result (AreReading beginnings.new self.new) }
-        ensures continues { Continues beginnings.old self.old beginnings.new self.new }
-        ensures requests { beginnings.new.holdings.requests ≡ beginnings.old.holdings.requests }
-        ensures adds { AddsBlames (IsBlameOf beginnings.old self.old reader check)
-            beginnings.old.holdings.blamed beginnings.new.holdings.blamed }
-        ensures handout { self.new.file.handout ≡ self.old.file.handout }
-        ensures fewer { OnOk result (left_count beginnings.new.holdings.table.holdings
-            < left_count beginnings.old.holdings.table.holdings) }
-    {
-        beginnings.blame(self.holdings[reader], check)?;
-        self.end_gone(beginnings);
-        Ok(())
-    }
-
-    // The reader of a share that a message took away is read no more. Bytes take none away, so no
-    // reader is looked at where they come.
-    fn follow(&mut self, beginnings: &Beginnings, news: News)
-        requires heard { HasHeard beginnings.now self.old news }
-        ensures linked { AreLinked beginnings.now self.new }
-        ensures continues { Continues beginnings.now self.old beginnings.now self.new }
-        ensures awaits { (but : Option ℕ) → AreAwaited but beginnings.now self.old
-            → AreAwaited but beginnings.now self.new }
-        ensures holdings { self.new.holdings ≡ self.old.holdings }
-        ensures handout { self.new.file.handout ≡ self.old.file.handout }
-    {
-        match news {
-            News::Bytes(_, _) => {}
-            _ => self.end_gone(beginnings),
-        }
-    }
-
-    // The readers of shares that are not left any more are read no more.
-    fn end_gone(&mut self, beginnings: &Beginnings)
-        requires kept { AreKept beginnings.now self.old }
-        requires live { (reader : ℕ) → IsLive self.old.file reader
-            → IsReadNow beginnings.now self.old reader ⊎ IsGone beginnings.now self.old reader }
-        ensures linked { AreLinked beginnings.now self.new }
-        ensures continues { Continues beginnings.now self.old beginnings.now self.new }
-        ensures awaits { (but : Option ℕ) → AreAwaited but beginnings.now self.old
-            → AreAwaited but beginnings.now self.new }
-        ensures holdings { self.new.holdings ≡ self.old.holdings }
-        ensures handout { self.new.file.handout ≡ self.old.file.handout }
-    {
-        while let Some(reader) = self.first_gone(beginnings) {
-            self.asked_up = false;
-            self.file.end(reader);
-        }
-    }
-
-    // The first reader that is read of which the share is not left any more.
-    fn first_gone(&self, beginnings: &Beginnings) -> Option<usize>
-        requires kept { AreKept beginnings.now self.now }
-        ensures live { IfSome result (IsLive self.now.file) }
-        ensures gone { IfSome result (IsGone beginnings.now self.now) }
-        ensures none { IfNone result ((reader : ℕ) → IsLive self.now.file reader
-            → IsGone beginnings.now self.now reader → ⊥) }
-    {
-        for reader in self.file.live() {
-            if self.is_gone(beginnings, *reader) {
-                return Some(*reader);
-            }
-        }
-        None
-    }
-
-    // Whether the share that a reader reads is not left any more.
-    fn is_gone(&self, beginnings: &Beginnings, reader: usize) -> bool
-        requires kept { AreKept beginnings.now self.now }
-        requires live { IsLive self.now.file reader }
-        ensures gone { result ≡ true → IsGone beginnings.now self.now reader }
-        ensures left { result ≡ false → IsGone beginnings.now self.now reader → ⊥ }
-    {
-        !beginnings.holdings().holdings()[self.holdings[reader]].left
     }
 }
