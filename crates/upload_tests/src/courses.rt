@@ -25,7 +25,7 @@ pub(crate) enum Asked {
 // A request that was sent: the second, and the server's node.
 pub(crate) type Sent = (u64, NodeId, Asked);
 
-fn asked_by(body: &Body) -> Asked {
+pub(crate) fn asked_by(body: &Body) -> Asked {
     match body {
         Body::Ask(_) => Asked::Ask,
         Body::Allocate(id, _) => Asked::Allocate(id.share),

@@ -5,7 +5,7 @@ ghost use Rattle.std.specs.Prelude.{◌≡◌, IfSome, length, map, nat_eq};
 ghost use Rattle.std.specs.List.{IsDistinct};
 ghost use Rattle.upload_core.specs.declared.status.ServerInfo.{ServerInfo};
 
-use crate::courses::{Asked, Course};
+use crate::courses::{Asked, Course, asked_by};
 use crate::upload_core_tests::{Conduct, SERVERS, SHARE_LENGTH, begun, share, verify_cap};
 use Conduct::{Full, Honest, ReadOnly, Silent};
 use cap_text::{ReadCap, VerifyCap};
