@@ -10,9 +10,8 @@ use Rattle.download_file.specs.Whole.{IsWholeFile, joined}
 use Rattle.download_file.proofs.WholeLemmas as file_whole
 use Rattle.download_core.specs.Hashed.{IsGivenBy}
 use Rattle.download_core.specs.Moves.{found_handed}
-use Rattle.download_core.specs.Right.{IsRight}
 use Rattle.download_core.specs.State.{DownloadState, Found, handed, handed_in, ready, ready_in}
-use Rattle.download_core.specs.Whole.{IsWholeFileOf, TakenFollow, WholeFiles}
+use Rattle.download_core.specs.Whole.{TakenFollow, WholeFiles}
 use Rattle.download_core.proofs.HashedLemmas.{file_of, right_of}
 
 -- there is a first piece

@@ -1,5 +1,5 @@
 -- Evidence of a download is of the bytes that it gave.
-use Rattle.std.specs.Prelude.{List, Contains, Some}
+use Rattle.std.specs.Prelude.{Contains, Some}
 use Rattle.cap_text.specs.Cap.{ReadCapValue, verify_cap_of}
 use Rattle.ueb.specs.Shape.{Contents}
 use Rattle.proved_parts.specs.Evidence.{IsProvedBy}
