@@ -2,7 +2,7 @@
 
 ghost use Rattle.std.specs.Prelude.{◌≡◌, ◌≢◌, ◌⊎◌, ◌↔◌, ℕ, ◌+◌, ◌<◌, ◌≤◌, ◌-◌, All};
 ghost use Rattle.std.specs.Prelude.{IfOk, OnOk, Ok, Option, Some};
-ghost use Rattle.std.specs.Prelude.{false, length, map, true};
+ghost use Rattle.std.specs.Prelude.{false, length, true};
 ghost use Rattle.request_record.specs.Record.{outstanding_count};
 ghost use Rattle.share_verify.specs.CapBlock.{geometry_by};
 ghost use Rattle.share_holdings.specs.Table.{IsFree, IsHolding, NoneIsFree};
@@ -11,12 +11,8 @@ ghost use Rattle.share_beginnings.specs.Causes.{AddsBlames};
 ghost use Rattle.share_beginnings.specs.Known.{AreBegun};
 ghost use Rattle.share_beginnings.specs.Opening.{AreCompared};
 ghost use Rattle.share_beginnings.specs.State.{BeginningsState};
-ghost use Rattle.std.specs.List.{range_with_len};
-ghost use Rattle.proved_parts.specs.Parts.{IsSegmentBy};
 ghost use Rattle.download_segments.specs.Handout.{TakesPiece};
 ghost use Rattle.download_segments.specs.NoCodeWord.{IsNoCodeWord};
-ghost use Rattle.download_file.specs.Answers.{IsRead};
-ghost use Rattle.download_file.specs.Right.{made_end};
 ghost use Rattle.download_file.specs.Asked.{AreAskedUp, IsAskedUp};
 ghost use Rattle.download_file.specs.Changes.{IsSameFile, StaysAskedUp};
 ghost use Rattle.download_file.specs.Making.{CanNotGoOn, MustWait};
@@ -33,7 +29,6 @@ use crate::ending::why_not;
 use cap_text::VerifyCap;
 use download_file::{File, Made};
 use download_segments::Piece;
-use proved_parts::EvidencePart;
 use share_beginnings::{Beginnings, News};
 use share_layout::Geometry;
 use share_verify::Check;
@@ -118,22 +113,6 @@ impl Reading {
         ensures same { IsSameFile self.old.file self.new.file }
     {
         self.file.take_piece()
-    }
-
-    /// What proves the segments that were made, one after another: a part for each.
-    pub fn evidence_parts(
-        &self,
-        alloc: Global,
-        beginnings: &Beginnings,
-    ) -> Result<Vec<EvidencePart>, AllocError>
-        requires reads { IsRead beginnings.now.holdings.requests.entries self.now.file }
-        ensures all { IfOk result (λ parts. map (λ (p : EvidencePart). p.number) parts.items
-            ≡ range_with_len self.now.file.first (made_end self.now.file - self.now.file.first)) }
-        ensures by { IfOk result (λ parts. All (λ (p : EvidencePart).
-            IsSegmentBy self.now.file.handout.ueb p.number p.segment p.path) parts.items) }
-    {
-        let requests = beginnings.holdings().requests();
-        self.file.evidence_parts(alloc, requests)
     }
 
     /// A message brought this. What was read is taken, and a share that fails a check is blamed.
