@@ -244,8 +244,8 @@ module _ (s u : BeginningsState) (r : ReadingState) (from : ℕ) (m : Message) (
   pub bytes_live : (holding at : ℕ) → told ≡ news.Bytes holding at → (q : ℕ) → IsLive r.file q → IsReadNow u r q
   bytes_live holding at e q live = by (counts_at from m s.holdings.requests) (subst (HearsAt _ m s.holdings u.holdings) (bytes_told holding at e) hears.hears.heard)
     where
-      now : u.holdings.table ≡ s.holdings.table → IsReadNow u r q
-      now same =
+      stays : u.holdings.table ≡ s.holdings.table → IsReadNow u r q
+      stays same =
           let k = reading.linked.live q live in
           record {
             holding = k.holding;
@@ -258,7 +258,7 @@ module _ (s u : BeginningsState) (r : ReadingState) (from : ℕ) (m : Message) (
 
       by : (o : Option ℕ) → HearsAt o m s.holdings u.holdings (heard.Bytes holding at) → IsReadNow u r q
       by None h = (let two : heard.Bytes holding at ≡ heard.Nothing = h.0 in absurd cc)
-      by (Some k) h = now h.4
+      by (Some k) h = stays h.4
 
   waits_told : (holding at : ℕ) → told ≡ news.Beginning holding at → WaitsAt u holding at
   waits_told holding at e = by what hears.tells

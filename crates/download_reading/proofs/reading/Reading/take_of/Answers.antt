@@ -15,7 +15,7 @@ use Rattle.download_reading.specs.Steps.{IsTold}
 use Rattle.download_reading.proofs.Awaited.{awaits_last}
 use Rattle.download_reading.proofs.Ended.{continues_none}
 use Rattle.download_reading.proofs.Started.{held_at}
-use Rattle.download_reading.proofs.taking.Reading.take_of.Goals as goal
+use Rattle.download_reading.proofs.reading.Reading.take_of.Goals as goal
 
 -- what stands at the holding
 reader_same : (bs : BeginningsState) (list : List Begun) (holding : ℕ) (o : Option ℕ) (b d : Begun) → list ≡ bs.begun → IsBegun bs holding b → (get_or list holding d).reader ≡ o → b.reader ≡ o

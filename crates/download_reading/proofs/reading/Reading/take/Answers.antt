@@ -7,7 +7,7 @@ use Rattle.download_file.specs.declared.reader.Waiting.{Waiting}
 use Rattle.download_reading.specs.State.{ReadingState}
 use Rattle.download_reading.proofs.Awaited.{awaits_last}
 use Rattle.download_reading.proofs.Ended.{continues_none, continues_trans}
-use Rattle.download_reading.proofs.taking.Reading.take.Goals as goal
+use Rattle.download_reading.proofs.reading.Reading.take.Goals as goal
 
 pub loop-place-init : goal.loop-place-init
 loop-place-init c = record { reading = c.requires.reading; live = c.requires.live; requests = refl; causes = adds_none (IsPartFault c.args.beginnings.now.holdings.requests.entries c.args.self.now.file) c.args.beginnings.now.holdings.blamed c.args.beginnings.now.holdings.blamed refl; continues = continues_none c.args.beginnings.now c.args.self.now }

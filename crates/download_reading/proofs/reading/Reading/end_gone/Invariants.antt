@@ -2,7 +2,7 @@ use Rattle.std.proofs.Common.{◌≡◌, length, ℕ, ◌⊎◌, Option}
 use Rattle.download_file.specs.State.{IsLive}
 use Rattle.download_reading.specs.Reading.{AreAwaited, AreKept, IsGone, IsReadNow}
 use Rattle.download_reading.specs.Steps.{Continues}
-use Rattle.download_reading.proofs.taking.Reading.end_gone.Given as goal
+use Rattle.download_reading.proofs.reading.Reading.end_gone.Given as goal
 
 abbrev pub invariant-loop-reader : goal.invariant-loop-reader
 invariant-loop-reader l = record {

@@ -3,7 +3,7 @@ use Rattle.std.proofs.lemmas.List.{take_all}
 use Rattle.download_reading.specs.State.{ReadingState}
 use Rattle.download_reading.specs.Reading.{IsGone}
 use Rattle.download_reading.proofs.Ended.{none_more}
-use Rattle.download_reading.proofs.taking.Reading.first_gone.Goals as goal
+use Rattle.download_reading.proofs.reading.Reading.first_gone.Goals as goal
 
 pub loop-reader-preserved : goal.loop-reader-preserved
 loop-reader-preserved c =

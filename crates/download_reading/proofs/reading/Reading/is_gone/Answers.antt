@@ -11,7 +11,7 @@ use Rattle.download_file.specs.State.{IsLive}
 use Rattle.download_reading.specs.Reading.{AreKept, IsGone}
 use Rattle.download_reading.specs.State.{ReadingState}
 use Rattle.download_reading.proofs.Ended.{OwnHolding, own_holding}
-use Rattle.download_reading.proofs.taking.Reading.is_gone.Goals as goal
+use Rattle.download_reading.proofs.reading.Reading.is_gone.Goals as goal
 
 abbrev nobody : Holding
 nobody = record { server = 0; share = 0; left = false; suspended = false }

@@ -21,7 +21,7 @@ use Rattle.download_reading.proofs.Awaited.{awaits_last, taken_awaits, unanswere
 use Rattle.download_reading.proofs.Busy.{busy_file}
 use Rattle.download_reading.proofs.Ended.{asks_none, continues_none}
 use Rattle.download_reading.proofs.Fallen.{file_goes}
-use Rattle.download_reading.proofs.taking.Reading.take_one.Goals as goal
+use Rattle.download_reading.proofs.reading.Reading.take_one.Goals as goal
 
 answered_by : (bs : BeginningsState) (hs : HoldingsState) (rs : RequestsState) (place : ℕ) (bytes : List ℕ) → hs ≡ bs.holdings → rs ≡ hs.requests → IsAnsweredBy rs.entries place bytes → IsAnsweredBy bs.holdings.requests.entries place bytes
 answered_by bs hs rs place bytes e f a = subst (λ (q : RequestsState). IsAnsweredBy q.entries place bytes) (f ∙ ap (λ (x : HoldingsState). x.requests) e) a

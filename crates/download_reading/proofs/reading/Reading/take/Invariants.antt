@@ -4,7 +4,7 @@ use Rattle.download_reading.specs.Reading.{AreReadingBut}
 use Rattle.share_beginnings.specs.Causes.{AddsBlames}
 use Rattle.download_reading.specs.Causes.{IsPartFault}
 use Rattle.download_reading.specs.Steps.{Continues}
-use Rattle.download_reading.proofs.taking.Reading.take.Given as goal
+use Rattle.download_reading.proofs.reading.Reading.take.Given as goal
 
 abbrev pub invariant-loop-place : goal.invariant-loop-place
 invariant-loop-place l = record {

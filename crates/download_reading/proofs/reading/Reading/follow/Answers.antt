@@ -1,7 +1,7 @@
 use Rattle.share_beginnings.specs.declared.beginnings.News.TheVariants as news
 use Rattle.download_reading.proofs.Ended.{continues_none}
 use Rattle.download_reading.proofs.Heard.{heard_bytes, heard_kept, heard_live}
-use Rattle.download_reading.proofs.taking.Reading.follow.Goals as goal
+use Rattle.download_reading.proofs.reading.Reading.follow.Goals as goal
 
 pub end_gone-requires-clause-kept : goal.end_gone-requires-clause-kept
 end_gone-requires-clause-kept c =

@@ -15,7 +15,7 @@ use Rattle.download_reading.proofs.Ended.{OwnHolding, continues_none, continues_
 use Rattle.download_reading.proofs.Blamed.{OwnBlamed, blamed_awaits, busy_blamed, fewer_left, own_blamed}
 use Rattle.download_reading.proofs.Busy.{busy_file}
 use Rattle.download_reading.proofs.Fallen.{blamed_continues, blamed_kept, blamed_live}
-use Rattle.download_reading.proofs.taking.Reading.blame.Goals as goal
+use Rattle.download_reading.proofs.reading.Reading.blame.Goals as goal
 
 -- the reader's holding is there
 there : (bs : BeginningsState) (now r : ReadingState) (reader holding : ℕ) → r ≡ now → AreLinked bs now → IsLive now.file reader → holding ≡ get_or r.holdings reader holding → holding < length bs.holdings.table.holdings

@@ -7,7 +7,7 @@ use Rattle.download_file.specs.Answers.{IsRead}
 use Rattle.download_reading.specs.Steps.{Continues}
 use Rattle.download_reading.proofs.Compared.{awaited, compared_kept, compared_live, compared_told}
 use Rattle.download_reading.proofs.Ended.{adds_none, asks_none, continues_trans, file_none}
-use Rattle.download_reading.proofs.taking.Reading.compare.Goals as goal
+use Rattle.download_reading.proofs.reading.Reading.compare.Goals as goal
 
 pub compare-requires-clause-awaits : goal.compare-requires-clause-awaits
 compare-requires-clause-awaits c = awaited c.args.beginnings.now c.args.holding c.args.place c.requires.told.linked.kept.known c.requires.waits

@@ -6,7 +6,7 @@ use Rattle.download_reading.specs.State.{ReadingState}
 use Rattle.download_reading.specs.Steps.{Continues}
 use Rattle.download_reading.proofs.Awaited.{ended_awaits}
 use Rattle.download_reading.proofs.Ended.{adds_none, all_live, asks_none, continues_none, continues_trans, ended_kept, fewer, still_live}
-use Rattle.download_reading.proofs.taking.Reading.end_gone.Goals as goal
+use Rattle.download_reading.proofs.reading.Reading.end_gone.Goals as goal
 
 pub loop-reader-init : goal.loop-reader-init
 loop-reader-init c = record { kept = c.requires.kept; live = c.requires.live; continues = continues_none c.args.beginnings.now c.args.self.now; awaits = λ but a. a; holdings = refl; handout = refl }

@@ -1,6 +1,6 @@
 use Rattle.std.proofs.Common.{Contains, take, ℕ}
 use Rattle.download_reading.specs.Reading.{IsGone}
-use Rattle.download_reading.proofs.taking.Reading.first_gone.Given as goal
+use Rattle.download_reading.proofs.reading.Reading.first_gone.Given as goal
 
 -- none of those before this one is gone
 abbrev pub invariant-loop-reader : goal.invariant-loop-reader
