@@ -1,32 +1,29 @@
 -- The holdings stay right as the record goes on.
-use Rattle.std.proofs.Common.{◌≡◌, ℕ, zero, suc, ◌+◌, ◌-◌, ◌<◌, ◌≤◌, ◌⊎◌, inl, inr, Bool, true, false, cond, List, [], ◌∷◌, ◌++◌, Contains, length, map, max, Option, Some, None, refl, sym, ap, subst, ◌∙◌, arith, true≢false}
+use Rattle.std.proofs.Common.{◌≡◌, ℕ, ◌+◌, ◌-◌, ◌<◌, ◌≤◌, ◌⊎◌, inl, inr, Bool, true, false, List, [], ◌∷◌, ◌++◌, length, Option, Some, None, refl, sym, ap, subst, ◌∙◌, arith, true≢false}
 use Rattle.std.specs.Prelude.{slice_get, slice_index_or, slice_set}
 use Rattle.std.proofs.lemmas.Bool.{cases_eq, cases_lt}
-use Rattle.std.proofs.lemmas.List.{length-append, length-map, length-set}
+use Rattle.std.proofs.lemmas.List.{length-append, length-set}
 use Rattle.std.proofs.lemmas.Option.{slice_get-get_or, slice_get_within}
-use Rattle.placement.proofs.Members.{Contains-cons, Contains-head}
-use Rattle.wire.specs.declared.message.Body.{Body}
-use Rattle.wire.specs.declared.message.Body.TheVariants.{Have, NoShare}
+use Rattle.wire.specs.declared.message.Body.TheVariants.{NoShare}
 use Rattle.wire.specs.declared.message.Message.{Message}
-use Rattle.request_record.specs.declared.requests.Asked.{Asked}
-use Rattle.request_record.specs.declared.requests.Asked.TheVariants.{Holdings, Reading}
+use Rattle.request_record.specs.declared.requests.Asked.TheVariants.{Reading}
 use Rattle.request_record.specs.declared.requests.Outcome.{Outcome}
 use Rattle.request_record.specs.declared.requests.Outcome.TheVariants.{Answered, Lost, Outstanding}
 use Rattle.request_record.specs.declared.requests.Request.{Request}
-use Rattle.request_record.specs.Record.{RequestsState, answered_in, asked_more, at, counted_at, counts_at, first_request, is_lost_at, is_outstanding, is_resent_at, places_from, resent_one, ticked_one, with_outcome}
-use Rattle.request_record.specs.Asking.{AreApart, AsksOnce, after_message, after_tick, lost_by_tick}
-use Rattle.request_record.proofs.AskingLaws.{once_answered, once_asked, once_ticked}
-use Rattle.request_record.proofs.RecordLaws.{counts_is, get_last, get_push}
+use Rattle.request_record.specs.Record.{RequestsState, answered_in, asked_more, at, counted_at, counts_at, first_request, is_outstanding, with_outcome}
+use Rattle.request_record.specs.Asking.{AreApart, AsksOnce, after_message}
+use Rattle.request_record.proofs.AskingLaws.{once_answered, once_asked}
+use Rattle.request_record.proofs.RecordLaws.{get_last, get_push}
 use Rattle.share_verify.specs.declared.check.Check.{Check}
 use Rattle.share_holdings.specs.Moves.{Asks, Blames, IsUnasked}
 use Rattle.share_holdings.specs.Left.{IsBlamed, IsGone, IsLeft, IsOffered}
 use Rattle.share_holdings.specs.State.{HoldingsState, TableState}
 use Rattle.share_holdings.specs.Table.{IsHolding, Releases, Retires, Suspends, TakesUp}
-use Rattle.share_holdings.specs.Right.{IsOwned, IsReadOf, IsRight}
+use Rattle.share_holdings.specs.Right.{IsOwned, IsRight}
 use Rattle.share_holdings.specs.declared.holding.Blame.{Blame}
 use Rattle.share_holdings.specs.declared.holding.Holding.{Holding}
 use Rattle.share_holdings.proofs.Lists.{get_other, get_set, set_cases}
-use Rattle.share_holdings.proofs.Records.{AskedAlike, StaysTo, WasAsked, alike_message, alike_tick, stays_message, stays_tick}
+use Rattle.share_holdings.proofs.Records.{AskedAlike, StaysTo, alike_message, stays_message}
 
 -- ---- what was answered stays
 

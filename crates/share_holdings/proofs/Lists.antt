@@ -1,8 +1,8 @@
 -- What stands at a place of a list, and what a list contains.
-use Rattle.std.proofs.Common.{◌≡◌, ◌≢◌, ℕ, zero, suc, ◌+◌, ◌<◌, ◌⊎◌, inl, inr, Bool, true, false, cond, not, List, [], ◌∷◌, ◌++◌, Contains, length, set, filter, Option, Some, None, refl, sym, ap, subst, ◌∙◌, arith, true≢false, eqb, nat_eq}
+use Rattle.std.proofs.Common.{◌≡◌, ℕ, zero, suc, ◌<◌, ◌⊎◌, inl, inr, Bool, true, false, cond, not, List, [], ◌∷◌, Contains, length, Some, None, refl, sym, ap, ◌∙◌, arith, true≢false}
 use Rattle.std.specs.Prelude.{◌==◌, slice_get, slice_index_or, slice_set}
 use Rattle.std.proofs.lemmas.Bool.{eq-eqb, eqb-true}
-use Rattle.std.proofs.lemmas.Option.{slice_get-get_or, slice_get_within}
+use Rattle.std.proofs.lemmas.Option.{slice_get-get_or}
 use Rattle.placement.proofs.Members.{Contains-filter, from_filter}
 use Rattle.request_record.specs.Record.{without}
 use Rattle.share_holdings.specs.Numbers.{released}

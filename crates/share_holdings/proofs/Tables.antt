@@ -1,5 +1,5 @@
 -- What holds of a table after each change.
-use Rattle.std.proofs.Common.{◌≡◌, ◌≢◌, ℕ, zero, suc, ◌+◌, ◌<◌, ◌≤◌, ◌⊎◌, inl, inr, Bool, true, false, cond, List, [], ◌∷◌, ◌++◌, All, Contains, length, set, take, Option, Some, None, refl, sym, ap, subst, ◌∙◌, arith, true≢false}
+use Rattle.std.proofs.Common.{◌≡◌, ℕ, ◌+◌, ◌<◌, ◌≤◌, ◌⊎◌, inl, inr, Bool, true, false, cond, List, [], ◌∷◌, ◌++◌, All, Contains, length, take, Option, Some, None, refl, sym, ap, subst, ◌∙◌, arith, true≢false}
 use mir.Val.{bool_byte}
 use Rattle.std.specs.Prelude.{◌==◌, slice_get, slice_index_or, slice_set, is_some}
 use Rattle.std.proofs.lemmas.Bool.{cases_eq, cases_lt, eq-eqb}
@@ -299,13 +299,6 @@ tells_by t server share index hs n m right lt h f g k =
       changes = record { number = n; is = there; numbers = same };
       count = ap read_count same ∙ count_same t.numbers share n (with_place (length t.holdings) n) there refl;
     }
-
--- the one of a number that is read is among the holdings
-pub reading_inside : (t : TableState) (i place : ℕ) (n : NumberState) → IsTable t → i < length t.numbers → n ≡ slice_index_or t.numbers i n → n.reading ≡ Some place → place < length t.holdings
-reading_inside t i place n right lt e r =
-    let there : IsNumber t i n = got t.numbers i n lt e in
-    let k = right.places i place n there (right.reading i place n there r) in
-    slice_get_within t.holdings place k.0 k.1
 
 -- ---- choosing
 

@@ -1,34 +1,33 @@
 -- The holdings after a server told which shares it holds.
-use Rattle.std.proofs.Common.{◌≡◌, ◌≢◌, ℕ, zero, suc, ◌+◌, ◌-◌, ◌<◌, ◌≤◌, ◌⊎◌, inl, inr, Bool, true, false, cond, ◌&&◌, List, [], ◌∷◌, ◌++◌, Contains, length, map, filter, take, drop, Option, Some, None, refl, sym, ap, subst, ◌∙◌, arith, true≢false}
-use Rattle.std.specs.Prelude.{slice_get, slice_index_or, slice_set, nat_le, nat_lt, IsTrue}
-use Rattle.std.proofs.lemmas.Bool.{and_parts, cases_eq, cases_lt, le-ltb, leb-true, lt-ltb, ltb-true}
+use Rattle.std.proofs.Common.{◌≡◌, ℕ, zero, suc, ◌+◌, ◌-◌, ◌<◌, ◌≤◌, ◌⊎◌, inl, inr, Bool, true, false, cond, ◌&&◌, List, [], ◌∷◌, ◌++◌, length, map, filter, take, Some, refl, sym, ap, subst, ◌∙◌, arith, true≢false}
+use Rattle.std.specs.Prelude.{slice_get, slice_index_or, nat_le, nat_lt, IsTrue}
+use Rattle.std.proofs.lemmas.Bool.{and_parts, cases_lt, le-ltb, leb-true, lt-ltb, ltb-true}
 use Rattle.std.proofs.lemmas.List.Elements.{filter-append}
-use Rattle.std.proofs.lemmas.List.{append_assoc, append-nil, length-append, length-set, map-append, take_all, take_more}
+use Rattle.std.proofs.lemmas.List.{append_assoc, append-nil, length-set, take_more}
 use Rattle.std.proofs.lemmas.Option.{get_or_from_slice_get, slice_get-get_or, slice_get_within}
 use Rattle.wire.specs.declared.message.Body.{Body}
-use Rattle.wire.specs.declared.message.Body.TheVariants.{Have, NoShare}
+use Rattle.wire.specs.declared.message.Body.TheVariants.{Have}
 use Rattle.wire.specs.declared.message.HeldShare.{HeldShare}
 use Rattle.wire.specs.declared.message.Message.{Message}
-use Rattle.wire.specs.Held.{AreRising, rises_from}
+use Rattle.wire.specs.Held.{rises_from}
 use Rattle.request_record.specs.declared.requests.Asked.{Asked}
 use Rattle.request_record.specs.declared.requests.Asked.TheVariants.{Holdings, Reading}
 use Rattle.request_record.specs.declared.requests.Outcome.TheVariants.{Answered}
 use Rattle.request_record.specs.declared.requests.Request.{Request}
 use Rattle.request_record.specs.Record.{RequestsState, counts_at, is_outstanding, with_outcome}
-use Rattle.request_record.specs.Asking.{AreApart, AsksOnce, after_message}
+use Rattle.request_record.specs.Asking.{AreApart, after_message}
 use Rattle.request_record.proofs.AskingLaws.{once_answered}
 use Rattle.request_record.proofs.RecordLaws.{counts_is}
-use Rattle.share_holdings.specs.Left.{IsBlamed, IsGone, IsLeft, IsOffered}
+use Rattle.share_holdings.specs.Left.{IsBlamed, IsGone, IsOffered}
 use Rattle.share_holdings.specs.State.{HoldingsState, NumberState, TableState}
-use Rattle.share_holdings.specs.Table.{ChangesNumber, IsHolding, IsNumber, told, told_one}
+use Rattle.share_holdings.specs.Table.{ChangesNumber, IsHolding, told, told_one}
 use Rattle.share_holdings.specs.Moves.{Tells, TellsHeld, held_by}
 use Rattle.share_holdings.specs.Numbers.{with_place}
-use Rattle.share_holdings.specs.Right.{IsOwned, IsReadOf, IsRight}
-use Rattle.share_holdings.specs.declared.holding.Blame.{Blame}
+use Rattle.share_holdings.specs.Right.{IsRight}
 use Rattle.share_holdings.specs.declared.holding.Holding.{Holding}
-use Rattle.share_holdings.proofs.Goes.{alike_forth, answered_at, gone_message, gone_stays, message_goes, offered_stays, only_owner}
-use Rattle.share_holdings.proofs.Lists.{get_other, get_set, set_cases}
-use Rattle.share_holdings.proofs.Records.{AskedAlike, StaysTo, alike_message, stays_message}
+use Rattle.share_holdings.proofs.Goes.{alike_forth, answered_at, gone_message, gone_stays, message_goes, offered_stays}
+use Rattle.share_holdings.proofs.Lists.{set_cases}
+use Rattle.share_holdings.proofs.Records.{alike_message, stays_message}
 
 -- ---- what stands in the joined list
 

@@ -1,6 +1,6 @@
 -- The holdings after a tick.
 use Rattle.std.proofs.Common.{◌≡◌, ℕ, zero, suc, ◌+◌, ◌-◌, ◌<◌, ◌≤◌, ◌⊎◌, inl, inr, Bool, true, false, cond, List, [], ◌∷◌, ◌++◌, All, Contains, length, map, max, take, Option, Some, None, refl, sym, ap, subst, ◌∙◌, arith, true≢false}
-use Rattle.std.specs.Prelude.{slice_get, slice_index_or, slice_set}
+use Rattle.std.specs.Prelude.{slice_get, slice_index_or}
 use Rattle.std.proofs.lemmas.Bool.{cases_eq, cases_lt}
 use Rattle.std.proofs.lemmas.List.{length-map, length-set, take_more}
 use Rattle.std.proofs.lemmas.List.Elements.{Contains-append_left, Contains-push, Contains-push_cases}
@@ -11,19 +11,19 @@ use Rattle.request_record.specs.declared.requests.Outcome.{Outcome}
 use Rattle.request_record.specs.declared.requests.Outcome.TheVariants.{Answered, Lost}
 use Rattle.wire.specs.declared.message.Body.TheVariants.{NoShare}
 use Rattle.request_record.specs.declared.requests.Request.{Request}
-use Rattle.request_record.specs.Record.{RequestsState, is_lost_at, is_outstanding, is_resent_at, places_from, resent_one, ticked_one, with_outcome}
-use Rattle.request_record.specs.Asking.{AsksOnce, after_tick, lost_by_tick}
+use Rattle.request_record.specs.Record.{RequestsState, is_lost_at, is_resent_at, places_from, resent_one, ticked_one, with_outcome}
+use Rattle.request_record.specs.Asking.{after_tick, lost_by_tick}
 use Rattle.request_record.proofs.AskingLaws.{once_ticked}
-use Rattle.share_holdings.specs.Left.{IsBlamed, IsGone, IsLeft, IsOffered}
-use Rattle.share_holdings.specs.Moves.{IsAfter, IsAmong, RetiresAll, StaysRead}
-use Rattle.share_holdings.specs.Numbers.{is_at, released, without_place}
+use Rattle.share_holdings.specs.Left.{IsBlamed, IsGone, IsLeft}
+use Rattle.share_holdings.specs.Moves.{IsAmong, RetiresAll}
+use Rattle.share_holdings.specs.Numbers.{released, without_place}
 use Rattle.share_holdings.specs.State.{HoldingsState, NumberState, TableState}
-use Rattle.share_holdings.specs.Table.{IsHolding, IsNumber, Retires}
-use Rattle.share_holdings.specs.Right.{IsOwned, IsReadOf, IsRight}
+use Rattle.share_holdings.specs.Table.{IsHolding, Retires}
+use Rattle.share_holdings.specs.Right.{IsRight}
 use Rattle.share_holdings.specs.declared.holding.Holding.{Holding}
 use Rattle.share_holdings.proofs.Goes.{GoesAlike, HaveSamePairs, gone_stays, only_owner, right_goes}
-use Rattle.share_holdings.proofs.Lists.{get_other, get_set, released_at, released_else, set_cases}
-use Rattle.share_holdings.proofs.Records.{AskedAlike, StaysTo, alike_tick, stays_tick}
+use Rattle.share_holdings.proofs.Lists.{released_at, released_else, set_cases}
+use Rattle.share_holdings.proofs.Records.{alike_tick, stays_tick}
 
 -- ---- which requests a tick finds lost
 

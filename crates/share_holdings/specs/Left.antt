@@ -1,6 +1,5 @@
 -- Which shares servers told they hold, and which of these are left.
-use Rattle.std.specs.Prelude.{◌≡◌, ◌⊎◌, ℕ, ◌<◌, Bool, List, Option, Some, length, slice_get, Contains}
-use Rattle.share_verify.specs.declared.check.Check.{Check}
+use Rattle.std.specs.Prelude.{◌≡◌, ◌⊎◌, ℕ, ◌<◌, Bool, List, Some, length, slice_get, Contains}
 use Rattle.wire.specs.declared.message.Body.TheVariants.{Have, NoShare}
 use Rattle.wire.specs.declared.message.HeldShare.{HeldShare}
 use Rattle.request_record.specs.declared.requests.Asked.TheVariants.{Holdings, Reading}

@@ -1,5 +1,5 @@
 -- What the calls on the shares that servers hold do.
-use Rattle.std.specs.Prelude.{◌≡◌, ◌≢◌, ◌⊎◌, true, false, ℕ, ◌-◌, ◌<◌, ◌≤◌, Bool, List, []}
+use Rattle.std.specs.Prelude.{◌≡◌, ◌≢◌, ◌⊎◌, true, false, ℕ, ◌-◌, ◌<◌, ◌≤◌, List, []}
 use Rattle.std.specs.Prelude.{take, ◌∷◌, ◌++◌, Option, Some, None}
 use Rattle.std.specs.Prelude.{length, slice_get, All, Contains}
 use Rattle.share_verify.specs.declared.check.Check.{Check}
@@ -16,7 +16,6 @@ use Rattle.request_record.specs.Record.{RequestsState, asked_more, counts_at}
 use Rattle.share_holdings.specs.Numbers.{no_holding}
 use Rattle.share_holdings.specs.State.{HoldingsState, NumberState, TableState}
 use Rattle.share_holdings.specs.Table.{IsHolding, IsNumber, Retires, told}
-use Rattle.share_holdings.specs.declared.holding.Blame.{Blame}
 use Rattle.share_holdings.specs.declared.holding.Holding.{Holding}
 use Rattle.share_holdings.specs.declared.holdings.Heard.{Heard}
 use Rattle.share_holdings.specs.declared.holdings.Heard.TheVariants as heard

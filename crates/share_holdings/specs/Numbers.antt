@@ -1,5 +1,5 @@
 -- What the calls on one share number do.
-use Rattle.std.specs.Prelude.{◌==◌, ℕ, Bool, true, false, List, [], ◌∷◌, ◌++◌, Option, Some}
+use Rattle.std.specs.Prelude.{◌==◌, ℕ, Bool, false, List, [], ◌∷◌, ◌++◌, Option, Some}
 use Rattle.std.specs.Prelude.{None, is_some, count_by, if◌then◌else◌}
 use Rattle.request_record.specs.Record.{without}
 use Rattle.share_holdings.specs.State.{NumberState}

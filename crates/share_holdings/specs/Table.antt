@@ -1,9 +1,9 @@
 -- The holdings, and for each share number those that are left.
 use Rattle.std.specs.Prelude.{◌≡◌, ℕ, ◌<◌, Bool, true, false, List}
-use Rattle.std.specs.Prelude.{Option, Some, None, length, map, filter, nat_lt, slice_get, slice_set}
+use Rattle.std.specs.Prelude.{Some, None, length, map, filter, nat_lt, slice_get, slice_set}
 use Rattle.std.specs.Prelude.{Contains}
 use Rattle.wire.specs.declared.message.HeldShare.{HeldShare}
-use Rattle.share_holdings.specs.Numbers.{released, taken_up, with_place, without_place}
+use Rattle.share_holdings.specs.Numbers.{released, taken_up, without_place}
 use Rattle.share_holdings.specs.State.{NumberState, TableState}
 use Rattle.share_holdings.specs.declared.holding.Holding.{Holding}
 

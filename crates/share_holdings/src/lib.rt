@@ -4,6 +4,7 @@
 
 pub mod holding;
 pub mod holdings;
+mod loads;
 mod numbers;
 mod table;
 

@@ -42,13 +42,6 @@ impl Number {
         self.left.as_slice()
     }
 
-    /// The place of the one that is read.
-    pub(crate) fn reading(&self) -> Option<usize>
-        ensures { result ≡ self.now.reading }
-    {
-        self.reading
-    }
-
     /// Whether one is read.
     pub(crate) fn is_read(&self) -> bool
         ensures { result ≡ is_some self.now.reading }

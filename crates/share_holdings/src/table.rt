@@ -9,6 +9,7 @@ ghost use Rattle.share_holdings.specs.Table.{Releases, Retires, Suspends, TakesU
 ghost use Rattle.share_holdings.specs.declared.holding.Holding.{Holding};
 
 use crate::holding::Holding;
+use crate::loads::Loads;
 use crate::numbers::Number;
 use std::alloc::{AllocError, Global};
 use std::marker::Model;
@@ -22,6 +23,7 @@ pub(crate) struct Table {
     numbers: Vec<Number>,
     // Of how many numbers a holding is read.
     reading: usize,
+    loads: Loads,
 }
 
 impl Model for Table {
@@ -55,6 +57,7 @@ impl Table {
             holdings: Vec::new(alloc),
             numbers,
             reading: 0,
+            loads: Loads::new(alloc),
         })
     }
 
@@ -92,6 +95,7 @@ impl Table {
     {
         let place = self.holdings.len();
         self.holdings.reserve(1)?;
+        self.loads.join(server)?;
         self.numbers[usize::from(share)].add(place)?;
         self.holdings.push_reserved(Holding {
             server,
@@ -111,7 +115,9 @@ impl Table {
         let holding = &mut self.holdings[place];
         holding.left = false;
         let number = &mut self.numbers[usize::from(holding.share)];
-        self.reading -= usize::from(number.reads(place));
+        let ended = usize::from(number.reads(place));
+        self.reading -= ended;
+        self.loads.fall(holding.server, ended);
         number.remove(place);
     }
 
@@ -121,9 +127,10 @@ impl Table {
         ensures takes { TakesUp place self.old self.new }
         ensures right { IsTable self.new }
     {
-        let share = self.holdings[place].share;
-        self.numbers[usize::from(share)].take_up(place);
+        let holding = self.holdings[place];
+        self.numbers[usize::from(holding.share)].take_up(place);
         self.reading += 1;
+        self.loads.rise(holding.server);
     }
 
     /// A holding is not read any more, and may be read again.
@@ -132,9 +139,11 @@ impl Table {
         ensures releases { Releases place self.old self.new }
         ensures right { IsTable self.new }
     {
-        let share = self.holdings[place].share;
-        let number = &mut self.numbers[usize::from(share)];
-        self.reading -= usize::from(number.reads(place));
+        let holding = self.holdings[place];
+        let number = &mut self.numbers[usize::from(holding.share)];
+        let ended = usize::from(number.reads(place));
+        self.reading -= ended;
+        self.loads.fall(holding.server, ended);
         number.release(place);
     }
 
@@ -176,7 +185,7 @@ impl Table {
         for place in places {
             let holding = &self.holdings[*place];
             if !holding.suspended {
-                let load = self.load(holding.server);
+                let load = self.loads.at(holding.server);
                 if chosen.is_none() || load < least {
                     least = load;
                     chosen = Some(*place);
@@ -184,18 +193,5 @@ impl Table {
             }
         }
         chosen
-    }
-
-    // How many are read at a server.
-    fn load(&self, server: NodeId) -> usize {
-        let mut load: usize = 0;
-        for number in &self.numbers {
-            if let Some(place) = number.reading() {
-                if self.holdings[place].server == server {
-                    load = load.saturating_add(1);
-                }
-            }
-        }
-        load
     }
 }

@@ -1,5 +1,4 @@
-use Rattle.std.proofs.Common.{rules, ◌≡◌, ℕ, ◌+◌, ◌<◌, ◌≤◌, length, sym, subst, ap, ◌∙◌}
-use Rattle.std.specs.Prelude.{slice_index_or}
+use Rattle.std.proofs.Common.{rules, ℕ, ◌+◌, ◌<◌, ◌≤◌, length, sym, subst}
 use Rattle.share_holdings.specs.Moves.{Tells}
 use Rattle.share_holdings.specs.State.{TableState}
 use Rattle.share_holdings.proofs.Telling.{tells_by, tells_not}

@@ -1,9 +1,6 @@
-use Rattle.std.proofs.Common.{rules, ◌≡◌, ℕ, ◌<◌, ◌++◌, ◌∷◌, [], length, List, IfNone, refl, sym, subst, ap, ◌∙◌}
-use Rattle.request_record.specs.Record.{RequestsState}
-use Rattle.share_holdings.specs.Moves.{Asks, Blames, IsUnasked}
-use Rattle.share_holdings.specs.Right.{IsRight}
+use Rattle.std.proofs.Common.{ℕ, ◌<◌, ◌++◌, ◌∷◌, [], length, List, sym, subst, ap, ◌∙◌}
+use Rattle.share_holdings.specs.Moves.{Asks, IsUnasked}
 use Rattle.share_holdings.specs.State.{HoldingsState}
-use Rattle.share_holdings.specs.Table.{NoneIsFree}
 use Rattle.share_holdings.proofs.Goes.{AsksNow, asked_by}
 use Rattle.share_holdings.proofs.holdings.Holdings.ask.Goals as goal
 

@@ -1,9 +1,6 @@
-use Rattle.std.proofs.Common.{rules, ◌≡◌, ℕ, ◌<◌, ◌++◌, ◌∷◌, [], length, List, IfNone, refl, sym, subst, ap, ◌∙◌}
-use Rattle.request_record.specs.Record.{RequestsState}
-use Rattle.share_holdings.specs.Moves.{Asks, Blames, IsUnasked}
-use Rattle.share_holdings.specs.Right.{IsRight}
+use Rattle.std.proofs.Common.{◌<◌, length, sym, subst}
+use Rattle.share_holdings.specs.Moves.{Blames}
 use Rattle.share_holdings.specs.State.{HoldingsState}
-use Rattle.share_holdings.specs.Table.{NoneIsFree}
 use Rattle.share_holdings.proofs.Goes.{BlamesNow, blamed_by}
 use Rattle.share_holdings.proofs.holdings.Holdings.blame.Goals as goal
 

@@ -1,9 +1,3 @@
-use Rattle.std.proofs.Common.{rules, ◌≡◌, ℕ, ◌<◌, ◌++◌, ◌∷◌, [], length, List, IfNone, refl, sym, subst, ap, ◌∙◌}
-use Rattle.request_record.specs.Record.{RequestsState}
-use Rattle.share_holdings.specs.Moves.{Asks, Blames, IsUnasked}
-use Rattle.share_holdings.specs.Right.{IsRight}
-use Rattle.share_holdings.specs.State.{HoldingsState}
-use Rattle.share_holdings.specs.Table.{NoneIsFree}
 use Rattle.share_holdings.proofs.Goes.{right_released}
 use Rattle.share_holdings.proofs.holdings.Holdings.release.Goals as goal
 

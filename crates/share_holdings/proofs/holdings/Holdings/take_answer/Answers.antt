@@ -1,15 +1,13 @@
-use Rattle.std.proofs.Common.{rules, ◌≡◌, ℕ, ◌+◌, ◌-◌, ◌<◌, ◌≤◌, Option, Some, None, Bool, true, false, length, List, refl, sym, subst, ap, ◌∙◌, arith}
+use Rattle.std.proofs.Common.{rules, ◌≡◌, ℕ, ◌-◌, ◌<◌, ◌≤◌, Option, Some, None, length, List, refl, sym, subst, ◌∙◌, arith}
 use Rattle.std.specs.Prelude.{slice_get, slice_index_or}
 use Rattle.std.proofs.lemmas.Option.{slice_get_within}
 use Rattle.wire.specs.declared.message.Body.TheVariants.{NoShare}
 use Rattle.wire.specs.declared.message.HeldShare.{HeldShare}
 use Rattle.request_record.specs.declared.requests.Outcome.TheVariants.{Answered}
-use Rattle.request_record.specs.Asking.{after_message}
-use Rattle.request_record.specs.Record.{RequestsState, counts_at}
-use Rattle.share_holdings.specs.Moves.{Brings, Hears, HearsAt, TellsHeld, held_by}
+use Rattle.request_record.specs.Record.{RequestsState}
+use Rattle.share_holdings.specs.Moves.{Hears, HearsAt, TellsHeld, held_by}
 use Rattle.share_holdings.specs.Right.{IsRight}
 use Rattle.share_holdings.specs.State.{HoldingsState}
-use Rattle.share_holdings.specs.declared.holdings.Heard.{Heard}
 use Rattle.share_holdings.specs.declared.holdings.Heard.TheVariants as heard
 use Rattle.share_holdings.proofs.Goes.{right_gone, right_message}
 use Rattle.share_holdings.proofs.Lists.{got}

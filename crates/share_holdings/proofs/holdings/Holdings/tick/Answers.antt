@@ -1,5 +1,5 @@
-use Rattle.std.proofs.Common.{rules, ◌≡◌, ℕ, ◌+◌, ◌<◌, All, length, List, refl, sym, subst, ap, ◌∙◌}
-use Rattle.request_record.specs.Asking.{after_tick, lost_by_tick}
+use Rattle.std.proofs.Common.{ℕ, ◌+◌, ◌<◌, All, length, List, refl, sym, subst, ◌∙◌}
+use Rattle.request_record.specs.Asking.{lost_by_tick}
 use Rattle.request_record.specs.Record.{RequestsState}
 use Rattle.share_holdings.specs.Moves.{IsAmong, RetiresAll, Ticks}
 use Rattle.share_holdings.specs.Right.{IsRight}

@@ -1,7 +1,6 @@
-use Rattle.std.proofs.Common.{rules, ◌≡◌, ℕ, ◌+◌, ◌<◌, ◌≤◌, length, Some, None, true, false, is_some, Option, IfSome, refl, sym, subst, ap, ◌∙◌, arith, All}
-use Rattle.std.specs.Prelude.{slice_get, slice_index_or}
-use Rattle.share_holdings.specs.Choice.{Chooses, NoneIsFreeBefore}
-use Rattle.share_holdings.specs.State.{NumberState, TableState}
+use Rattle.std.proofs.Common.{rules, ◌≡◌, ℕ, ◌<◌, ◌≤◌, length, Some, None, true, false, is_some, Option, IfSome, refl, sym, subst, ◌∙◌, arith, All}
+use Rattle.std.specs.Prelude.{slice_index_or}
+use Rattle.share_holdings.specs.Choice.{Chooses}
 use Rattle.share_holdings.specs.Table.{IsFree, IsHolding, IsNumber, IsTable}
 use Rattle.share_holdings.specs.declared.holding.Holding.{Holding}
 use Rattle.share_holdings.proofs.Lists.{got}

@@ -1,4 +1,3 @@
-use Rattle.std.proofs.Common.{rules}
 use Rattle.share_holdings.proofs.Tables.{empty_right}
 use Rattle.share_holdings.proofs.table.Table.new.Goals as goal
 

@@ -1,9 +1,8 @@
 use mir.Val.{bool_byte}
-use Rattle.std.proofs.Common.{rules, ◌≡◌, ℕ, ◌+◌, ◌<◌, ◌≤◌, length, Some, List, Bool, false, refl, sym, subst, ap, ◌∙◌, arith}
-use Rattle.std.specs.Prelude.{slice_get, slice_set}
+use Rattle.std.proofs.Common.{◌<◌, length, false, refl, sym, subst, ap, ◌∙◌, arith}
+use Rattle.std.specs.Prelude.{slice_set}
 use Rattle.share_holdings.specs.State.{TableState}
-use Rattle.share_holdings.specs.Table.{IsHolding, IsTable, Releases, Retires, Suspends, TakesUp}
-use Rattle.share_holdings.specs.declared.holding.Holding.{Holding}
+use Rattle.share_holdings.specs.Table.{Retires}
 use Rattle.share_holdings.proofs.Tables.{count_bound, count_by_index, retired_by, retires_by}
 use Rattle.share_holdings.proofs.table.Table.retire.Goals as goal
 
@@ -11,13 +10,13 @@ pub overflow_sub-self : goal.overflow_sub-self
 overflow_sub-self c =
     let lt : c.args.place < length c.self.inside.holdings.items = subst (λ (t : TableState). c.args.place < length t.holdings) (sym c.self.view_is) c.requires in
     let k = count_bound (record { holdings = c.self.inside.holdings.items; numbers = c.self.inside.numbers.items }) c.args.place c.from.result _ _ c.self.invariant.0 lt c.index_mut-holding.ensures.value c.from.ensures c.index_mut-number.ensures.value in
-    rw (c.from-2.ensures, c.reads.ensures, c.self.invariant.1) k
+    rw (c.from-ended.ensures, c.reads.ensures, c.self.invariant.1) k
 
 pub invariant_of-self : goal.invariant_of-self
 invariant_of-self c =
     let lt : c.args.place < length c.self.inside.holdings.items = subst (λ (t : TableState). c.args.place < length t.holdings) (sym c.self.view_is) c.requires in
     let k = count_by_index (record { holdings = c.self.inside.holdings.items; numbers = c.self.inside.numbers.items }) c.args.place c.from.result _ _ c.remove.new.self c.self.invariant.0 lt c.index_mut-holding.ensures.value c.from.ensures c.index_mut-number.ensures.value (rw c.remove.ensures refl) in
-    let b = c.from-2.ensures ∙ ap bool_byte c.reads.ensures in
+    let b = c.from-ended.ensures ∙ ap bool_byte c.reads.ensures in
     let v = c.self.invariant.1 in
     (retired_by (record { holdings = c.self.inside.holdings.items; numbers = c.self.inside.numbers.items }) c.args.place c.from.result _ _ c.remove.new.self c.self.invariant.0 lt c.index_mut-holding.ensures.value c.from.ensures c.index_mut-number.ensures.value c.remove.ensures, omega (arith, k, b, v))
 

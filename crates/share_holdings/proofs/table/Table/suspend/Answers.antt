@@ -1,9 +1,7 @@
-use mir.Val.{bool_byte}
-use Rattle.std.proofs.Common.{rules, ◌≡◌, ℕ, ◌+◌, ◌<◌, ◌≤◌, length, Some, List, Bool, false, refl, sym, subst, ap, ◌∙◌, arith}
-use Rattle.std.specs.Prelude.{slice_get, slice_set}
+use Rattle.std.proofs.Common.{◌<◌, length, sym, subst}
+use Rattle.std.specs.Prelude.{slice_set}
 use Rattle.share_holdings.specs.State.{TableState}
-use Rattle.share_holdings.specs.Table.{IsHolding, IsTable, Releases, Retires, Suspends, TakesUp}
-use Rattle.share_holdings.specs.declared.holding.Holding.{Holding}
+use Rattle.share_holdings.specs.Table.{Suspends}
 use Rattle.share_holdings.proofs.Tables.{suspended_by, suspends_by}
 use Rattle.share_holdings.proofs.table.Table.suspend.Goals as goal
 

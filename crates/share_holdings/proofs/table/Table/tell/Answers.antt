@@ -1,10 +1,8 @@
-use mir.Val.{bool_byte}
-use Rattle.std.proofs.Common.{rules, ◌≡◌, ℕ, ◌+◌, ◌<◌, ◌≤◌, length, Some, List, [], ◌∷◌, ◌++◌, Bool, false, refl, sym, subst, ap, ◌∙◌, arith}
-use Rattle.std.specs.Prelude.{slice_get, slice_set}
+use Rattle.std.proofs.Common.{rules, ◌≡◌, ℕ, ◌<◌, length, List, [], ◌∷◌, ◌++◌, sym, subst, ap, ◌∙◌}
+use Rattle.std.specs.Prelude.{slice_set}
 use Rattle.share_holdings.specs.State.{TableState}
-use Rattle.share_holdings.specs.Table.{ChangesNumber, IsHolding, IsTable, Releases, Retires, Suspends, TakesUp, told_one}
+use Rattle.share_holdings.specs.Table.{ChangesNumber, told_one}
 use Rattle.share_holdings.specs.declared.holding.Holding.{Holding}
-use Rattle.share_holdings.specs.State.{NumberState}
 use Rattle.share_holdings.specs.Numbers.{with_place}
 use Rattle.share_holdings.proofs.Tables.{TellsAt, tells_by}
 use Rattle.share_holdings.proofs.table.Table.tell.Goals as goal
