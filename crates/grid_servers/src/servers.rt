@@ -157,18 +157,11 @@ where
     let folder = format!(in alloc; "{grid}/{name}")?;
     match FolderStore::open(rt, folder.as_str()) {
         Ok(store) => {
-            let readonly = is_readonly(rt, folder.as_str())?;
+            let readonly = store.is_readonly();
             let server = Server::start(alloc, store, CAPACITY, readonly);
             Ok(Some(Node::new(server, link)))
         }
         Err(StoreError::StoreFault) => Ok(None),
         Err(StoreError::OutOfMemory) => Err(Fault::OutOfMemory),
     }
-}
-
-// A server whose folder has a file `readonly` takes no further shares.
-fn is_readonly<R: Files + AllocGlobal>(rt: &R, folder: &str) -> Result<bool, Fault> {
-    let path = format!(in rt.alloc(); "{folder}/readonly")?;
-    let found = if_there(fs::metadata(rt, path.as_str()))?;
-    Ok(found.is_some_and(|file| file.is_file()))
 }

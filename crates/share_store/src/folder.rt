@@ -14,17 +14,16 @@ ghost use Rattle.share_store.specs.Folder.{folder_calls};
 
 use crate::error::StoreError;
 use crate::files::{read_at, rename_whole, write_at};
-use crate::names::{ClosedName, closed_path, open_path};
+use crate::listing::{Listing, list_folder};
+use crate::names::{closed_path, open_path};
 use crate::shelf::{Place, place_of};
 use crate::store::Store;
-use crate::table::{KeptShare, held_under, keep_lower, total};
+use crate::table::{KeptShare, held_under, total};
 use std::alloc::Global;
 use std::collections::BTreeMap;
 use std::collections::btree_map::Entry;
-use std::fs::DirEntry;
 use std::marker::Model;
 use std::rt::Files;
-use std::{fs, io};
 use wire::message::{Digest, HeldList, ReadData, ReadLength, ShareId, StorageIndex};
 
 /// A store over the files of a folder. Its table of the closed shares is read once, when it is
@@ -38,6 +37,16 @@ pub struct FolderStore<R> {
     opened: BTreeMap<Place, u64>,
     closed_bytes: u64,
     failures: u64,
+    readonly: bool,
+    // The file that was read last: a share is read part by part.
+    recent: Option<RecentFile>,
+}
+
+// A closed share's file.
+#[derive(Drop)]
+struct RecentFile {
+    place: Place,
+    path: String,
 }
 
 impl<R> Model for FolderStore<R> {
@@ -69,7 +78,7 @@ impl<R: Files + AllocGlobal + Clone + Drop> FolderStore<R> {
         ensures { IfOk result (λ s. (s.folder ≡ folder.now) × (s.opened ≡ []) × (s.failures ≡ 0)) }
     {
         let alloc = rt.alloc();
-        let closed = read_folder(rt, folder)?;
+        let Listing { closed, readonly } = list_folder(rt, folder)?;
         Ok(FolderStore {
             rt: rt.clone()?,
             folder: String::from_str(alloc, folder)?,
@@ -77,52 +86,15 @@ impl<R: Files + AllocGlobal + Clone + Drop> FolderStore<R> {
             closed,
             opened: BTreeMap::new(alloc),
             failures: 0,
+            readonly,
+            recent: None,
         })
     }
-}
 
-// The closed shares of a folder, by the names of its files.
-fn read_folder<R: Files + AllocGlobal + Clone + Drop>(
-    rt: &R,
-    folder: &str,
-) -> Result<BTreeMap<Place, KeptShare>, StoreError> {
-    fs::create_dir_all(rt, folder)?;
-    let mut closed = BTreeMap::new(rt.alloc());
-    for entry in fs::read_dir(rt, folder)? {
-        match entry {
-            Ok(entry) => keep_entry(rt.alloc(), &mut closed, &entry)?,
-            Err(error) if error.kind() == io::ErrorKind::InvalidFilename => {}
-            Err(error) => return Err(StoreError::from(error)),
-        }
-    }
-    Ok(closed)
-}
-
-// Puts the share of a file into the table, if it is a closed share's.
-fn keep_entry<R: Files>(
-    alloc: Global,
-    closed: &mut BTreeMap<Place, KeptShare>,
-    entry: &DirEntry<R>,
-) -> Result<(), StoreError> {
-    let Some(name) = ClosedName::read(entry.file_name().as_bytes()) else {
-        return Ok(());
-    };
-    let Some(length) = regular_length(entry)? else {
-        return Ok(());
-    };
-    let digest = name.digest;
-    keep_lower(alloc, closed, &name.place, &KeptShare { length, digest })
-}
-
-// The length of a regular file; `None` for what else has a name, or is gone meanwhile.
-fn regular_length<R: Files>(entry: &DirEntry<R>) -> Result<Option<u64>, StoreError> {
-    match entry.metadata() {
-        Ok(file) if file.is_file() => Ok(Some(file.len())),
-        Ok(_) => Ok(None),
-        Err(error) => match StoreError::from(error) {
-            StoreError::OutOfMemory => Err(StoreError::OutOfMemory),
-            StoreError::StoreFault => Ok(None),
-        },
+    /// Whether the folder had a file `readonly` when it was opened: its server takes no further
+    /// shares.
+    pub fn is_readonly(&self) -> bool {
+        self.readonly
     }
 }
 
@@ -262,14 +234,15 @@ impl<R: Files + AllocGlobal + Drop> FolderStore<R> {
     }
 
     fn read_kept(
-        &self,
+        &mut self,
         alloc: Global,
         id: &ShareId,
         offset: u64,
         count: ReadLength,
     ) -> Result<ReadData, StoreError>
-        ensures { IfOk result
-            (λ bytes. length bytes ≡ min count (kept_length id.now self.now - offset)) }
+        ensures same { self.new ≡ self.old }
+        ensures long { IfOk result
+            (λ bytes. length bytes ≡ min count (kept_length id.now self.old - offset)) }
     {
         let place = place_of(id);
         let left = bytes_left(kept_length(&self.closed, &place), offset, count);
@@ -278,24 +251,39 @@ impl<R: Files + AllocGlobal + Drop> FolderStore<R> {
 
     // So many bytes of a closed share's file.
     fn read_part(
-        &self,
+        &mut self,
         alloc: Global,
         place: &Place,
         offset: u64,
         count: u32,
     ) -> Result<ReadData, StoreError>
         requires { count ≤ most_data }
-        ensures { IfOk result (λ bytes. length bytes ≡ count) }
+        ensures same { self.new ≡ self.old }
+        ensures long { IfOk result (λ bytes. length bytes ≡ count) }
     {
         if count == 0 {
             return Ok(ReadData::from_vec(Vec::new(alloc)).unwrap());
         }
+        let file = match self.recent.take() {
+            Some(file) if file.place == *place => file,
+            _ => self.file_of(place)?,
+        };
+        let bytes = read_at(&self.rt, alloc, file.path.as_str(), offset, count)?;
+        self.recent = Some(file);
+        Ok(bytes)
+    }
+
+    // A closed share's file.
+    fn file_of(&self, place: &Place) -> Result<RecentFile, StoreError> {
         let Some(share) = self.closed.get(place) else {
             return Err(StoreError::StoreFault);
         };
         let folder = self.folder.as_str();
         let path = closed_path(self.rt.alloc(), folder, place, &share.digest)?;
-        read_at(&self.rt, alloc, path.as_str(), offset, count)
+        Ok(RecentFile {
+            place: *place,
+            path,
+        })
     }
 }
 

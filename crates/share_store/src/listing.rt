@@ -1,0 +1,103 @@
+//! What a server's folder holds when its store is opened.
+
+use crate::error::StoreError;
+use crate::names::ClosedName;
+use crate::shelf::Place;
+use crate::table::{KeptShare, keep_lower};
+use std::alloc::Global;
+use std::collections::BTreeMap;
+use std::fs::{DirEntry, Metadata, ReadDir};
+use std::rt::Files;
+use std::{fs, io};
+
+// The name of the file by which a server takes no further shares.
+const READONLY: &str = "readonly";
+
+/// The closed shares of a folder, by the names of its files, and whether it has a file `readonly`.
+#[derive(Drop)]
+pub(crate) struct Listing {
+    pub(crate) closed: BTreeMap<Place, KeptShare>,
+    pub(crate) readonly: bool,
+}
+
+/// What a folder holds, which is made where it is not there.
+pub(crate) fn list_folder<R: Files + AllocGlobal + Clone + Drop>(
+    rt: &R,
+    folder: &str,
+) -> Result<Listing, StoreError> {
+    let mut listing = Listing {
+        closed: BTreeMap::new(rt.alloc()),
+        readonly: false,
+    };
+    for entry in read_or_make(rt, folder)? {
+        match entry {
+            Ok(entry) => take_entry(rt, &mut listing, &entry)?,
+            Err(error) if error.kind() == io::ErrorKind::InvalidFilename => {}
+            Err(error) => return Err(StoreError::from(error)),
+        }
+    }
+    Ok(listing)
+}
+
+// The entries of a folder, which is made where it is not there.
+fn read_or_make<R: Files + AllocGlobal + Clone + Drop>(
+    rt: &R,
+    folder: &str,
+) -> io::Result<ReadDir<R>> {
+    match fs::read_dir(rt, folder) {
+        Err(error) if error.kind() == io::ErrorKind::NotFound => {
+            fs::create_dir_all(rt, folder)?;
+            fs::read_dir(rt, folder)
+        }
+        entries => entries,
+    }
+}
+
+// Takes note of a file, if it is a closed share's or is named `readonly`.
+fn take_entry<R: Files + AllocGlobal>(
+    rt: &R,
+    listing: &mut Listing,
+    entry: &DirEntry<R>,
+) -> Result<(), StoreError> {
+    let name = entry.file_name();
+    if name == READONLY {
+        listing.readonly = is_file(fs::metadata(rt, entry.path()))?;
+        return Ok(());
+    }
+    let Some(name) = ClosedName::read(name.as_bytes()) else {
+        return Ok(());
+    };
+    let Some(length) = regular_length(entry)? else {
+        return Ok(());
+    };
+    let digest = name.digest;
+    keep_lower(
+        rt.alloc(),
+        &mut listing.closed,
+        &name.place,
+        &KeptShare { length, digest },
+    )
+}
+
+// Whether a regular file was found; what cannot be asked is none.
+fn is_file(outcome: io::Result<Metadata>) -> Result<bool, StoreError> {
+    match outcome {
+        Ok(found) => Ok(found.is_file()),
+        Err(error) => match StoreError::from(error) {
+            StoreError::OutOfMemory => Err(StoreError::OutOfMemory),
+            StoreError::StoreFault => Ok(false),
+        },
+    }
+}
+
+// The length of a regular file; `None` for what else has a name, or is gone meanwhile.
+fn regular_length<R: Files>(entry: &DirEntry<R>) -> Result<Option<u64>, StoreError> {
+    match entry.metadata() {
+        Ok(file) if file.is_file() => Ok(Some(file.len())),
+        Ok(_) => Ok(None),
+        Err(error) => match StoreError::from(error) {
+            StoreError::OutOfMemory => Err(StoreError::OutOfMemory),
+            StoreError::StoreFault => Ok(None),
+        },
+    }
+}
