@@ -15,7 +15,7 @@ use Rattle.request_record.specs.declared.requests.Asked.TheVariants.{Holdings, A
 use Rattle.request_record.specs.declared.requests.Outcome.{Outcome}
 use Rattle.request_record.specs.declared.requests.Outcome.TheVariants.{Unawaited, Outstanding, Answered, Lost}
 use Rattle.request_record.specs.declared.requests.Request.{Request}
-use Rattle.request_record.specs.Record.{RequestsState, IsRecord, IsIndexed, AreSettled, fits, is_outstanding, with_outcome, first_outcome, first_request, asked_more, asked_all, awaits_at, counts_at, without, without_lost, passed, age_of, is_lost_at, is_resent_at, is_lost_in, resent_one, ticked_one, places_from, resent_places, lost_places, IsSentFew, is_current, is_current_in, outstanding_count}
+use Rattle.request_record.specs.Record.{RequestsState, IsRecord, IsIndexed, AreSettled, AreInOrder, fits, is_outstanding, with_outcome, first_outcome, first_request, asked_more, asked_all, awaits_at, counts_at, without, without_lost, passed, age_of, is_lost_at, is_resent_at, is_lost_in, resent_one, ticked_one, places_from, resent_places, lost_places, IsSentFew, is_current, is_current_in, outstanding_count}
 use Rattle.request_record.specs.Asking.{asks_of, begun, fresh}
 
 -- ---- lists
@@ -55,7 +55,7 @@ not_true : (b : Bool) → not b ≡ true → b ≡ true → ⊥
 not_true true e h = cc
 not_true false e h = cc
 
-both : (a b : Bool) → (a && b) ≡ true → (a ≡ true) × (b ≡ true)
+pub both : (a b : Bool) → (a && b) ≡ true → (a ≡ true) × (b ≡ true)
 both true b e = (refl, e)
 both false b e = absurd cc
 
@@ -101,10 +101,13 @@ settled_push place entries r s = record {
   settled = All-same IsQuiet (take place (entries ++ r ∷ [])) (take place entries) (take-append-le place entries (r ∷ []) s.within) s.settled;
 }
 
-pub asked_indexed : (n more place : ℕ) (entries : List Request) (r : Request) → IsIndexed n place entries → more ≡ cond (is_outstanding r.outcome) 1 0 → IsIndexed (n + more) place (entries ++ r ∷ [])
-asked_indexed n more place entries r i e = record {
+pub asked_indexed : (n more place sent : ℕ) (entries : List Request) (r : Request) (outgoing new : List ℕ) → IsIndexed n place sent entries outgoing → more ≡ cond (is_outstanding r.outcome) 1 0
+    → AreInOrder sent (entries ++ r ∷ []) new → IsIndexed (n + more) place sent (entries ++ r ∷ []) new
+asked_indexed n more place sent entries r outgoing new i e order = record {
   counts = omega (arith, count_push entries r, i.counts, e);
   before = settled_push place entries r i.before;
+  within = omega (arith, i.within, length-append entries (r ∷ []));
+  order = order;
 }
 
 -- one more is asked behind all others
@@ -181,10 +184,13 @@ settled_set from place entries r quiet s = record {
   ];
 }
 
-pub answered_indexed : (n from place : ℕ) (entries : List Request) (a : Awaits entries place) (body : Body) → place < length entries → IsIndexed (n + 1) from entries → IsIndexed n from (settled entries place a body)
-answered_indexed n from place entries a body lt i = record {
+pub answered_indexed : (n from place sent : ℕ) (entries : List Request) (a : Awaits entries place) (body : Body) (outgoing new : List ℕ) → place < length entries → IsIndexed (n + 1) from sent entries outgoing
+    → AreInOrder sent (settled entries place a body) new → IsIndexed n from sent (settled entries place a body) new
+answered_indexed n from place sent entries a body outgoing new lt i order = record {
   counts = omega (arith, count_settled entries place a body lt, i.counts);
   before = settled_set from place entries (with_outcome a.request (Answered body)) refl i.before;
+  within = omega (arith, i.within, length-set entries place (with_outcome a.request (Answered body)));
+  order = order;
 }
 
 -- ---- ticks

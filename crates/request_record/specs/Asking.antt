@@ -5,10 +5,12 @@ use Rattle.wire.specs.declared.message.Body.{Body}
 use Rattle.wire.specs.declared.message.Body.TheVariants.{Ask, Allocate, Write, Close, Abort, Read}
 use Rattle.wire.specs.declared.message.Message.{Message}
 use Rattle.request_record.specs.declared.requests.Asked.{Asked}
-use Rattle.request_record.specs.declared.requests.Asked.TheVariants.{Holdings, Allocation, Writing, Closing}
+use Rattle.request_record.specs.declared.requests.Asked.TheVariants.{Holdings, Allocation}
+use Rattle.request_record.specs.declared.requests.Asked.TheVariants.{Writing, Closing}
 use Rattle.request_record.specs.declared.requests.Asked.TheVariants.{Reading, Aborting}
 use Rattle.request_record.specs.declared.requests.Request.{Request}
-use Rattle.request_record.specs.Record.{RequestsState, asked_all, at, counted, lost_places, outstanding_count}
+use Rattle.request_record.specs.Record.{RequestsState, asked_all, at, counted, lost_places}
+use Rattle.request_record.specs.Record.{outstanding_count}
 use Rattle.request_record.specs.Record.{ticked}
 
 -- the record of an operation that asked nothing yet

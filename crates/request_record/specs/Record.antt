@@ -9,10 +9,12 @@ use Rattle.wire.specs.declared.message.Body.TheVariants.{WrongOffset, Closed, No
 use Rattle.wire.specs.declared.message.Body.TheVariants.{NoShare}
 use Rattle.wire.specs.declared.message.Message.{Message}
 use Rattle.request_record.specs.declared.requests.Asked.{Asked}
-use Rattle.request_record.specs.declared.requests.Asked.TheVariants.{Holdings, Allocation, Writing, Closing}
+use Rattle.request_record.specs.declared.requests.Asked.TheVariants.{Holdings, Allocation}
+use Rattle.request_record.specs.declared.requests.Asked.TheVariants.{Writing, Closing}
 use Rattle.request_record.specs.declared.requests.Asked.TheVariants.{Reading, Aborting}
 use Rattle.request_record.specs.declared.requests.Outcome.{Outcome}
-use Rattle.request_record.specs.declared.requests.Outcome.TheVariants.{Unawaited, Outstanding, Answered, Lost}
+use Rattle.request_record.specs.declared.requests.Outcome.TheVariants.{Unawaited, Outstanding}
+use Rattle.request_record.specs.declared.requests.Outcome.TheVariants.{Answered, Lost}
 use Rattle.request_record.specs.declared.requests.Request.{Request}
 use Rattle.request_record.specs.Limits.{mark_seconds, most_marks, patience}
 
@@ -265,7 +267,32 @@ pub record AreSettled (place : ℕ) (entries : List Request) : Type 0 where
   pub within : place ≤ length entries
   pub settled : All (λ (r : Request). is_outstanding r.outcome ≡ false) (take place entries)
 
--- what is kept beside the record: how many requests wait, and a place before which none does
-pub record IsIndexed (outstanding settled : ℕ) (entries : List Request) : Type 0 where
+-- was it sent again, after its first sending? Only such a sending uses up a mark.
+abbrev pub was_sent_again : Request → Bool
+was_sent_again r = nat_lt 0 r.marks
+
+abbrev pub was_sent_again_in : Option Request → Bool
+was_sent_again_in None = false
+was_sent_again_in (Some r) = was_sent_again r
+
+-- the place behind the last first sending, once the request at this place is sent: it stays where
+-- this is no first sending
+abbrev pub sent_to : Option Request → ℕ → ℕ → ℕ
+sent_to request place sent = if was_sent_again_in request then sent else place + 1
+
+-- Of the requests to send, those not sent before come in the order of their places, the first of
+-- them not before this place.
+abbrev pub AreInOrder : ℕ → List Request → List ℕ → Type 0
+AreInOrder sent entries [] = Unit {0}
+AreInOrder sent entries (place ∷ places) =
+    (was_sent_again_in (slice_get entries place) ≡ false → sent ≤ place)
+    × AreInOrder (sent_to (slice_get entries place) place sent) entries places
+
+-- what is kept beside the record: how many requests wait, a place before which none does, and one
+-- before which only those sent again are to send
+pub record IsIndexed
+    (outstanding settled sent : ℕ) (entries : List Request) (outgoing : List ℕ) : Type 0 where
   pub counts : outstanding ≡ outstanding_count entries
   pub before : AreSettled settled entries
+  pub within : sent ≤ length entries
+  pub order : AreInOrder sent entries outgoing

@@ -3,8 +3,11 @@
 
 ghost use Rattle.std.specs.Prelude.{◌≡◌, ◌≤◌, ◌<◌, ◌^◌, ◌+◌, ◌++◌, length, map, take, drop};
 ghost use Rattle.std.specs.Prelude.{slice_get, slice_set, Some, vec_len, All, IfOk};
-ghost use Rattle.request_record.specs.Record.{with_outcome, is_lost_at, is_resent_at, is_lost_in, ticked_one};
-ghost use Rattle.request_record.specs.Record.{places_from, without, without_lost, IsSentFew, AreSettled};
+ghost use Rattle.request_record.specs.Record.{with_outcome, is_lost_at, is_resent_at, is_lost_in};
+ghost use Rattle.request_record.specs.Record.{ticked_one};
+ghost use Rattle.request_record.specs.Record.{places_from, without, without_lost, IsSentFew};
+ghost use Rattle.request_record.specs.Record.{AreSettled};
+ghost use Rattle.request_record.specs.Record.{was_sent_again_in, sent_to, AreInOrder};
 ghost use Rattle.request_record.specs.declared.requests.Request.{Request};
 
 use crate::requests::{Outcome, Request};
@@ -94,8 +97,47 @@ fn is_lost_in(entries: &[Request], place: usize, now: u64) -> bool
     }
 }
 
+/// Was the request at this place sent again?
+fn was_sent_again_in(entries: &[Request], place: usize) -> bool
+    ensures { result ≡ was_sent_again_in (slice_get entries.now place) }
+{
+    match entries.get(place) {
+        Some(request) => request.was_sent_again(),
+        None => false,
+    }
+}
+
+/// The place before which only requests that were sent again are to send, once the request at this
+/// place is sent.
+pub(crate) fn sent_to(entries: &[Request], place: usize, sent: usize) -> usize
+    requires { place < length entries.now }
+    ensures { result ≡ sent_to (slice_get entries.now place) place sent }
+{
+    if was_sent_again_in(entries, place) {
+        sent
+    } else {
+        place + 1
+    }
+}
+
+/// A place is not to be sent any more. What is to send is looked through only where the place may
+/// stand there.
+pub(crate) fn unqueue(
+    outgoing: &mut VecDeque<usize>,
+    entries: &[Request],
+    sent: usize,
+    place: usize,
+)
+    requires { AreInOrder sent entries.now outgoing.old.items }
+    ensures { outgoing.new.items ≡ without place outgoing.old.items }
+{
+    if sent <= place || was_sent_again_in(entries, place) {
+        drop_place(outgoing, place);
+    }
+}
+
 /// A place is not to be sent any more.
-pub(crate) fn drop_place(outgoing: &mut VecDeque<usize>, place: usize)
+fn drop_place(outgoing: &mut VecDeque<usize>, place: usize)
     ensures { outgoing.new.items ≡ without place outgoing.old.items }
 {
     outgoing.retain(|p| !(*p == place));

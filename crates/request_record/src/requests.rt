@@ -3,16 +3,20 @@
 ghost use Rattle.std.specs.Prelude.{◌≡◌, ◌≤◌, ◌<◌, ◌^◌, ◌+◌, ◌++◌, ◌↔◌, [], List, length, map};
 ghost use Rattle.std.specs.Prelude.{take, drop, max, slice_get, slice_set, Some, vec_len, All};
 ghost use Rattle.std.specs.Prelude.{IfOk, IfSome, IfNone, IsTrue, OnOk, OnErr};
-ghost use Rattle.request_record.specs.Record.{is_outstanding, with_outcome, fits, first_request, awaits};
-ghost use Rattle.request_record.specs.Record.{counts_at, counted, at, asked_more, age_of, passed, is_lost_at};
-ghost use Rattle.request_record.specs.Record.{is_resent_at, is_lost_in, ticked_one, places_from, without};
+ghost use Rattle.request_record.specs.Record.{is_outstanding, with_outcome, fits, first_request};
+ghost use Rattle.request_record.specs.Record.{awaits};
+ghost use Rattle.request_record.specs.Record.{counts_at, counted, at, asked_more, age_of, passed};
+ghost use Rattle.request_record.specs.Record.{is_lost_at};
+ghost use Rattle.request_record.specs.Record.{is_resent_at, is_lost_in, ticked_one, places_from};
+ghost use Rattle.request_record.specs.Record.{without};
 ghost use Rattle.request_record.specs.Record.{without_lost, ticked, TakesNext, IsSentFew, IsRecord};
-ghost use Rattle.request_record.specs.Record.{AreSettled, outstanding_count};
-ghost use Rattle.request_record.specs.Asking.{fresh, begun, after_message, after_tick, lost_by_tick, HasWork};
+ghost use Rattle.request_record.specs.Record.{AreSettled, outstanding_count, was_sent_again};
+ghost use Rattle.request_record.specs.Asking.{fresh, begun, after_message, after_tick};
+ghost use Rattle.request_record.specs.Asking.{lost_by_tick, HasWork};
 ghost use Rattle.request_record.specs.Asking.{Spells, IsWriting, message_at};
 ghost use Rattle.request_record.specs.declared.requests.Request.{Request};
 
-use crate::places::{Due, drop_lost, drop_place, find_due, first_waiting, settle, tick_from};
+use crate::places::{Due, drop_lost, find_due, first_waiting, sent_to, settle, tick_from, unqueue};
 use std::alloc::{AllocError, Global};
 use std::collections::VecDeque;
 use std::marker::Model;
@@ -179,6 +183,13 @@ impl Request {
         self.is_outstanding() && age < PATIENCE && self.marks < passed(age)
     }
 
+    /// Was it sent again, after its first sending?
+    pub(crate) fn was_sent_again(&self) -> bool
+        ensures { result ≡ was_sent_again self.now }
+    {
+        0 < self.marks
+    }
+
     /// Takes note of a tick at this second.
     pub(crate) fn tick(&mut self, now: u64)
         requires { IsSentFew self.old }
@@ -195,8 +206,9 @@ impl Request {
 
 /// The record of one operation: what it asked in order, and which requests are still to be sent.
 ///
-/// A message costs what is outstanding or to send, and a tick what was asked since the first
-/// request that still waits: neither grows with all that was asked.
+/// A message costs nothing more than its own request, but where its request was sent again or was
+/// not yet sent: then what is to send. A tick costs what was asked since the first request that
+/// still waits, and what is to send. Neither grows with all that was asked.
 #[derive(Drop)]
 pub struct Requests {
     session: u64,
@@ -207,6 +219,8 @@ pub struct Requests {
     outstanding: usize,
     /// No request before this place waits for its answer.
     settled: usize,
+    /// Before this place only requests that were sent again are to send.
+    sent: usize,
 }
 
 impl Model for Requests {
@@ -229,7 +243,7 @@ impl Model for Requests {
           outgoing = r.outgoing.items;
           clock = r.clock;
         })
-        × IsIndexed r.outstanding r.settled r.entries.items };
+        × IsIndexed r.outstanding r.settled r.sent r.entries.items r.outgoing.items };
 }
 
 impl Requests {
@@ -244,6 +258,7 @@ impl Requests {
             clock: now,
             outstanding: 0,
             settled: 0,
+            sent: 0,
         }
     }
 
@@ -332,8 +347,13 @@ impl Requests {
             self.pass(now);
             return None;
         };
+        unqueue(
+            &mut self.outgoing,
+            self.entries.as_slice(),
+            self.sent,
+            place,
+        );
         settle(&mut self.entries, place, Outcome::Answered(message.body));
-        drop_place(&mut self.outgoing, place);
         self.outstanding -= 1;
         self.clock = self.clock.max(now);
         Some(place)
@@ -405,7 +425,9 @@ impl Requests {
     pub fn take_next(&mut self) -> Option<usize>
         ensures { TakesNext self.old result self.new }
     {
-        self.outgoing.pop_front()
+        let place = self.outgoing.pop_front()?;
+        self.sent = sent_to(self.entries.as_slice(), place, self.sent);
+        Some(place)
     }
 
     /// How many requests are to send.

@@ -3,6 +3,7 @@ use mir.Val.{bool_byte}
 use Rattle.request_record.specs.declared.requests.Request.{Request}
 use Rattle.request_record.specs.Record.{RequestsState, first_request, is_outstanding}
 use Rattle.request_record.proofs.RecordLaws.{asked_right, asked_indexed}
+use Rattle.request_record.proofs.QueueLaws.{asked_order}
 use Rattle.request_record.proofs.requests.Requests.ask.Goals as goal
 
 -- a `bool` as a number
@@ -20,5 +21,5 @@ invariant_of-self-2 c =
     let byte : c.from.result ≡ cond (is_outstanding request.outcome) 1 0 = rw (c.from.ensures, c.is_outstanding.ensures, c.new-request.ensures) (byte_of (is_outstanding request.outcome)) in
     rw (all, places) (
       asked_right c.args.server c.args.asked state c.self.invariant.0,
-      asked_indexed c.self.inside.outstanding c.from.result c.self.inside.settled entries request c.self.invariant.1 byte,
+      asked_indexed c.self.inside.outstanding c.from.result c.self.inside.settled c.self.inside.sent entries request state.outgoing (state.outgoing ++ length entries ∷ []) c.self.invariant.1 byte (asked_order c.self.inside.sent entries request state.outgoing c.self.invariant.1.within c.self.invariant.0.there c.self.invariant.1.order),
     )

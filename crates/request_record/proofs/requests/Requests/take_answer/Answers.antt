@@ -1,7 +1,9 @@
 use Rattle.std.proofs.Common.{◌≡◌, ◌+◌, ◌-◌, ◌<◌, List, Some, length, sym, ap, subst, ◌∙◌, arith}
+use Rattle.request_record.specs.declared.requests.Outcome.TheVariants.{Answered}
 use Rattle.request_record.specs.declared.requests.Request.{Request}
-use Rattle.request_record.specs.Record.{RequestsState, IsIndexed, counts_at}
+use Rattle.request_record.specs.Record.{RequestsState, IsIndexed, counts_at, without}
 use Rattle.request_record.proofs.RecordLaws.{Awaits, settled, counts_is, count_settled, answered_right, answered_indexed}
+use Rattle.request_record.proofs.QueueLaws.{answered_order}
 use Rattle.request_record.proofs.requests.Requests.take_answer.Goals as goal
 
 pub overflow_sub-self : goal.overflow_sub-self
@@ -20,7 +22,8 @@ invariant_of-self c =
     let a : Awaits entries c.in-Some.place = counts_is c.args.from c.args.message state c.in-Some.place found in
     let there : c.in-Some.place < length entries = subst (λ (s : RequestsState). c.in-Some.place < length s.entries) (sym c.self.view_is) c.in-Some.ensures.there in
     let new : c.settle.new.entries.items ≡ settled entries c.in-Some.place a c.args.message.body = c.settle.ensures a.request a.there in
-    let fewer : c.self.inside.outstanding ≡ c.self.inside.outstanding - 1 + 1 = omega (arith, count_settled entries c.in-Some.place a c.args.message.body there, c.self.invariant.1.counts) in (
-      answered_right state c.in-Some.place a c.args.message.body there c.self.invariant.0 _ new c.drop_place.ensures,
-      rw new (answered_indexed (c.self.inside.outstanding - 1) c.self.inside.settled c.in-Some.place entries a c.args.message.body there (subst (λ k. IsIndexed k c.self.inside.settled entries) fewer c.self.invariant.1)),
+    let fewer : c.self.inside.outstanding ≡ c.self.inside.outstanding - 1 + 1 = omega (arith, count_settled entries c.in-Some.place a c.args.message.body there, c.self.invariant.1.counts) in
+    let order = answered_order c.self.inside.sent c.in-Some.place entries a.request (Answered c.args.message.body) state.outgoing a.there c.self.invariant.1.order in (
+      answered_right state c.in-Some.place a c.args.message.body there c.self.invariant.0 _ new c.unqueue.ensures,
+      rw (new, c.unqueue.ensures) (answered_indexed (c.self.inside.outstanding - 1) c.self.inside.settled c.in-Some.place c.self.inside.sent entries a c.args.message.body state.outgoing (without c.in-Some.place state.outgoing) there (subst (λ k. IsIndexed k c.self.inside.settled c.self.inside.sent entries state.outgoing) fewer c.self.invariant.1) order),
     )

@@ -1,9 +1,10 @@
-use Rattle.std.proofs.Common.{◌≡◌, ◌-◌, ◌++◌, List, ℕ, length, map, take, drop, sym, ap, subst, ◌∙◌, arith}
+use Rattle.std.proofs.Common.{◌≡◌, ◌-◌, ◌≤◌, ◌++◌, List, ℕ, length, map, take, drop, sym, ap, subst, ◌∙◌, arith}
 use Rattle.std.proofs.lemmas.List.{length-map}
 use Rattle.request_record.specs.declared.requests.Request.{Request}
 use Rattle.request_record.specs.Record.{RequestsState, AreSettled, is_lost_at, is_resent_at, lost_places, places_from, resent_places, ticked_one, without_lost, outstanding_count, ticked}
 use Rattle.request_record.specs.Asking.{after_tick, lost_by_tick}
 use Rattle.request_record.proofs.RecordLaws.{count_ticked, lent_whole, lost_behind, resent_behind, rest_whole, ticked_behind, ticked_right}
+use Rattle.request_record.proofs.QueueLaws.{ticked_order}
 use Rattle.request_record.proofs.requests.Requests.tick.Goals as goal
 
 pub overflow_sub-self : goal.overflow_sub-self
@@ -27,9 +28,10 @@ invariant_of-self-2 c =
     let all : c.append.new.self.items ≡ c.self.inside.outgoing.items ++ resent_places now entries = c.in_ok-append.ensures.items ∙ ap (λ (xs : List ℕ). c.self.inside.outgoing.items ++ xs) resent in
     let places : c.drop_lost.new.outgoing.items ≡ without_lost now entries (c.self.inside.outgoing.items ++ resent_places now entries) = c.drop_lost.ensures ∙ ap (λ (es : List Request). without_lost now es c.append.new.self.items) c.as_slice-2.ensures.value ∙ ap (without_lost now entries) all in
     let fewer : outstanding_count (map (ticked_one now) entries) ≡ c.self.inside.outstanding - c.len.result = omega (arith, c.len.ensures, ap length lost, c.in_ok-due.due.lost.ok.0, count_ticked now 0 entries, c.self.invariant.1.counts) in
-    let before : AreSettled c.first_waiting-self-inside.result (map (ticked_one now) entries) = subst (AreSettled c.first_waiting-self-inside.result) (c.as_slice-3.ensures.value ∙ whole ∙ new) c.first_waiting-self-inside.ensures in (
+    let before : AreSettled c.first_waiting-self-inside.result (map (ticked_one now) entries) = subst (AreSettled c.first_waiting-self-inside.result) (c.as_slice-3.ensures.value ∙ whole ∙ new) c.first_waiting-self-inside.ensures in
+    let within : c.self.inside.sent ≤ length (map (ticked_one now) entries) = omega (arith, c.self.invariant.1.within, length-map entries (ticked_one now)) in (
       ticked_right now state c.self.invariant.0 _ (whole ∙ new) places,
-      rw (whole, new) (record { counts = sym fewer; before = before }),
+      rw (whole, new, places) (record { counts = sym fewer; before = before; within = within; order = ticked_order now c.self.inside.sent entries c.self.inside.outgoing.items c.self.invariant.1.order }),
     )
 
 pub returns-clause-lost : goal.returns-clause-lost
