@@ -1,5 +1,5 @@
 -- One row of nodes, whose parents are told one after another.
-use Rattle.std.proofs.Common.{◌≡◌, ◌≢◌, ◌⊎◌, ℕ, suc, ◌+◌, ◌-◌, ◌*◌, ◌/◌, ◌^◌, ◌<◌, ◌≤◌, List, [], ◌∷◌, ◌++◌, length, Some, inl, inr, slice_get, slice_index_or, ap, sym, subst, ◌∙◌, arith}
+use Rattle.std.proofs.Common.{◌≡◌, ◌≢◌, ◌⊎◌, ℕ, suc, ◌+◌, ◌-◌, ◌*◌, ◌/◌, ◌%◌, ◌^◌, ◌<◌, ◌≤◌, List, [], ◌∷◌, ◌++◌, length, Some, inl, inr, slice_get, slice_index_or, ap, sym, subst, ◌∙◌, arith}
 use Rattle.std.proofs.Math.Nat.{div-lt_iff_lt-mul, pow-suc}
 use Rattle.std.proofs.lemmas.Bool.{cases_eq, cases_lt}
 use Rattle.std.proofs.lemmas.List.{get_or_append_left, length-append}
@@ -92,6 +92,44 @@ module _ (leaf_count : ℕ) (padding first : Known) (offers : List (ℕ × List 
     ];
     later = s.later;
   }
+
+  -- a right child whose left sibling stands just before it: the node above the two is told
+  module _ (some : 0 < row) (placed : 0 < i) (odd : slice_index_or added (i - 1) 0 % 2 ≡ 1)
+      (next : slice_index_or added i 0 ≡ slice_index_or added (i - 1) 0 + 1) where
+    abbrev left : ℕ
+    left = slice_index_or added (i - 1) 0
+
+    left_in_row : (slice_index_or added i 0 + 1) / 2 ^ row ≡ 1 → (left + 1) / 2 ^ row ≡ 1
+    left_in_row one =
+        row_is (left + 1) row (omega (arith, next, odd, twice row some, row_begins (slice_index_or added i 0 + 1) row one))
+        (omega (arith, next, row_ends (slice_index_or added i 0 + 1) row one))
+
+    same_parent : parent left ≡ parent (slice_index_or added i 0)
+    same_parent = omega (arith, next, odd)
+
+    told_beside : IsTold padding told left → IsTold padding told (slice_index_or added i 0)
+    told_beside t = record {
+      left = t.left;
+      right = t.right;
+      knows_left = subst (λ (p : ℕ). known_by padding told (2 * p + 1) ≡ Some t.left) same_parent t.knows_left;
+      knows_right = subst (λ (p : ℕ). known_by padding told (2 * p + 2) ≡ Some t.right) same_parent t.knows_right;
+      told_parent = subst (λ (p : ℕ). told p ≡ Some (node_hash t.left t.right)) same_parent t.told_parent;
+    }
+
+    pub row_follows : IsRow leaf_count padding first offers row listed (i + 1) told added
+    row_follows = record {
+      long = s.long;
+      under = s.under;
+      taken = s.taken;
+      done = s.done;
+      joined = λ k below one. elim (cases_eq k i) [
+        | inl here ↦
+            let in_row : (slice_index_or added i 0 + 1) / 2 ^ row ≡ 1 = ap (λ (n : ℕ). (slice_index_or added n 0 + 1) / 2 ^ row) (sym here) ∙ one in
+            subst (λ (n : ℕ). IsTold padding told (slice_index_or added n 0)) (sym here) (told_beside (s.joined (i - 1) (omega (arith, placed)) (left_in_row in_row)))
+        | inr before ↦ s.joined k (omega arith) one
+      ];
+      later = s.later;
+    }
 
   -- a node of this row
   module _ (below : i < listed) (some : 0 < row) (number : ℕ) (is : number ≡ slice_index_or added i 0) (one : (number + 1) / 2 ^ row ≡ 1) where

@@ -1,7 +1,7 @@
 //! How nodes that are offered are taken into what was told of a tree.
 
-ghost use Rattle.std.specs.Prelude.{◌≡◌, ◌≢◌, ◌^◌, ◌+◌, ◌-◌, ◌*◌, ◌<◌, ◌≤◌, ◌⊎◌, ℕ, List, [], None};
-ghost use Rattle.std.specs.Prelude.{Some, Err};
+ghost use Rattle.std.specs.Prelude.{◌≡◌, ◌≢◌, ◌^◌, ◌+◌, ◌-◌, ◌*◌, ◌%◌, ◌<◌, ◌≤◌, ◌⊎◌, ℕ, List, []};
+ghost use Rattle.std.specs.Prelude.{IsTrue, None, Some, Err, length, slice_index_or};
 ghost use Rattle.std.specs.Prelude.{is_some, nat_eq, OnOk};
 ghost use Rattle.std.specs.HashMap.{get};
 ghost use Rattle.merkle.specs.Partial.{IsExtended, Known, known_by, padding, parent};
@@ -54,7 +54,7 @@ pub(crate) fn take(
         let listed = added.len();
         for i in 0..listed {
             let number = added[i];
-            if (number + 1) >> row == 1 {
+            if (number + 1) >> row == 1 && !follows_sibling(added, i) {
                 join(nodes, leaf_count, number, added)?;
             }
         }
@@ -62,6 +62,21 @@ pub(crate) fn take(
     }
     keep_padding(nodes, leaf_count, added)?;
     Ok(())
+}
+
+// Whether the number at a place of a list is a right child's, and its left sibling's stands just
+// before it: the node above the two was added with the left one.
+fn follows_sibling(numbers: &[u32], place: usize) -> bool
+    requires inside { place < length numbers.now }
+    ensures { IsTrue result → (0 < place)
+        × (slice_index_or numbers.now (place - 1) 0 % 2 ≡ 1)
+        × (slice_index_or numbers.now place 0 ≡ slice_index_or numbers.now (place - 1) 0 + 1) }
+{
+    if place == 0 {
+        return false;
+    }
+    let before = numbers[place - 1];
+    before % 2 == 1 && before.checked_add(1) == Some(numbers[place])
 }
 
 // Adds the node above another, which is the hash of its two children.

@@ -1,4 +1,4 @@
-use Rattle.std.proofs.Common.{◌≡◌, ◌+◌, ◌-◌, ◌/◌, ◌^◌, ◌<◌, ◌≤◌, ℕ, List, [], length, inl, inr, Some, Err, get_or, slice_get, slice_index_or, rules, nat_eq, ap, refl, subst, sym, ◌∙◌, arith}
+use Rattle.std.proofs.Common.{◌≡◌, ◌+◌, ◌-◌, ◌/◌, ◌%◌, ◌^◌, ◌<◌, ◌≤◌, ℕ, List, [], length, inl, inr, Some, Err, get_or, slice_get, slice_index_or, rules, nat_eq, ap, refl, subst, sym, ◌∙◌, arith}
 use Rattle.std.proofs.Math.Nat.{pow-le-pow_right}
 use Rattle.std.proofs.lemmas.Bool.{cases_eq}
 use Rattle.std.proofs.lemmas.Option.{get_or_from_slice_get, slice_get-get_or, slice_get_read, slice_get_within, some_pair_parts}
@@ -12,9 +12,9 @@ use Rattle.merkle.specs.declared.error.OfferError.TheVariants.{NotConsistent}
 use Rattle.merkle.proofs.HeightLemmas.{height_low}
 use Rattle.merkle.proofs.NodesLemmas.{next_power}
 use Rattle.merkle.proofs.PartialLemmas.{IsUnderway, adds_keeps, refused_offer, underway_more, all_kept, all_taken, grown_more, underway-begins}
-use Rattle.merkle.proofs.RowLemmas.{number_inside, number_some, row_done, row_joins, row_refused, row_skips}
+use Rattle.merkle.proofs.RowLemmas.{number_inside, number_some, row_done, row_follows, row_joins, row_refused, row_skips}
 use Rattle.merkle.proofs.taking.take.Goals as goal
-use Rattle.merkle.proofs.taking.take.Goals.{then-number-row-eq1+in_ok-join, else-number-row-eq1}
+use Rattle.merkle.proofs.taking.take.Goals.{else-number-row-eq1, else-number-row-eq1-via-else-number-row-eq1, else-number-row-eq1-via-then-number-row-eq1+else-not-follows_sibling, then-number-row-eq1+then-not-follows_sibling+in_ok-join}
 
 -- the number at a place of a list
 number_at : (items : List ℕ) (i number : ℕ) → i < length items → number ≡ get_or items i number → slice_index_or items i 0 ≡ number
@@ -147,14 +147,23 @@ pub loop-i-preserved : goal.loop-i-preserved
 loop-i-preserved c =
     let at = number_at c.loop-i.added.items c.loop-i.i c.index-number.result.now (omega (arith, c.loop-i.invariant.long)) c.index-number.ensures in
     elim c.if-number-row-eq1.branch [
-      | then-number-row-eq1+in_ok-join w ↦
+      | then-number-row-eq1+then-not-follows_sibling+in_ok-join w ↦
           let joins : Joins (padding c.args.leaf_count) (get nat_eq c.loop-i.nodes) c.index-number.result.now (get nat_eq w.join.new.nodes) = search rules in
           rw (w.nodes-is, w.added-is)
           (row_joins _ _ _ _ _ _ _ _ _ c.loop-i.invariant c.loop-i-test.true (omega arith) c.index-number.result.now (sym at)
           w.if-number-row-eq1.true _ _ joins w.join.ensures.grows)
       | else-number-row-eq1 w ↦
           rw (w.nodes-is, w.added-is)
-          (row_skips _ _ _ _ _ _ _ _ _ c.loop-i.invariant (λ one. w.if-number-row-eq1.false (ap (λ (k : ℕ). (k + 1) / 2 ^ c.loop-row.row) (sym at) ∙ one)))
+          (elim w.else-number-row-eq1.branch [
+            | else-number-row-eq1-via-then-number-row-eq1+else-not-follows_sibling v ↦
+                let f = v.follows_sibling.ensures (search rules) in
+                let same = v.deref.ensures.value in
+                row_follows _ _ _ _ _ _ _ _ _ c.loop-i.invariant (omega arith) f.0
+                (subst (λ (l : List ℕ). slice_index_or l (c.loop-i.i - 1) 0 % 2 ≡ 1) same f.1)
+                (subst (λ (l : List ℕ). slice_index_or l c.loop-i.i 0 ≡ slice_index_or l (c.loop-i.i - 1) 0 + 1) same f.2)
+            | else-number-row-eq1-via-else-number-row-eq1 v ↦
+                row_skips _ _ _ _ _ _ _ _ _ c.loop-i.invariant (λ one. v.if-number-row-eq1.false (ap (λ (k : ℕ). (k + 1) / 2 ^ c.loop-row.row) (sym at) ∙ one))
+          ])
     ]
 
 pub loop-row-preserved : goal.loop-row-preserved
