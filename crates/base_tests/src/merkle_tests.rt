@@ -243,8 +243,8 @@ fn tells_the_nodes(partial: &Partial, tree: &Tree, set: u32) -> bool {
         || partial.node(number) == Some(*hash))
 }
 
-// Whether each set of at most four nodes of the tree of so many leaves is answered right, with right
-// hashes and with one wrong one.
+// Whether each set of at most four nodes of the tree of so many leaves is answered right, with
+// right hashes and with one wrong one.
 fn all_offers_are_right(alloc: Global, leaves: usize) -> bool {
     if leaves == 0 || leaves > 8 {
         return false;
@@ -309,8 +309,8 @@ fn a_path_is_known_alone(rt: HostRuntime) {
     assert!(rt; leads_far(rt.alloc()));
 }
 
-// Whether a partial tree of five leaves needs these nodes of a leaf, before and after its sibling is
-// known.
+// Whether a partial tree of five leaves needs these nodes of a leaf, before and after its sibling
+// is known.
 fn needs_less(alloc: Global) -> bool {
     let Ok(tree) = Tree::build(alloc, &LEAVES) else {
         return false;

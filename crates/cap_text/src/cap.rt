@@ -80,8 +80,8 @@ impl ReadCap {
     ghost use Rattle.cap_text.specs.Cap.{AreParameters, IsReadCap, verify_cap_of};
     ghost use Rattle.cap_text.specs.CapText.{AreFields, read_cap_of};
 
-    /// The cap with these fields: of `total` shares any `needed` give the file of `size` bytes back.
-    /// `BadParameters` where not 1 <= needed <= total <= 256, or the size is not 56 to 2^40.
+    /// The cap with these fields: of `total` shares any `needed` give the file of `size` bytes
+    /// back. `BadParameters` where not 1 <= needed <= total <= 256, or the size is not 56 to 2^40.
     pub fn new(
         key: [u8; 16],
         ueb_hash: [u8; 32],

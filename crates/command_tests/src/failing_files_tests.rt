@@ -320,8 +320,8 @@ fn puts_again(rt: &HostRuntime) -> bool {
     put_gives(rt, ONES, 0, ZEROS_PUT, "") && has_share(rt, CLOSED, true)
 }
 
-// Whether `put` may end so: a fault of its file or of its server leaves no closed share, and nothing
-// in the way of a second try.
+// Whether `put` may end so: a fault of its file or of its server leaves no closed share, and
+// nothing in the way of a second try.
 fn is_put_ending(rt: &HostRuntime, ending: Ending) -> bool {
     match ending {
         Ending::Whole => has_share(rt, CLOSED, true),

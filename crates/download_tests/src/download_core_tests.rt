@@ -63,8 +63,8 @@ const TWO: Shape = Shape {
     servers: 10,
 };
 
-// Three segments, of 131,073, 131,073 and one byte. A read of blocks has 32,768 bytes at most, and a
-// block 43,691: so the second read ends the first block, and not the second.
+// Three segments, of 131,073, 131,073 and one byte. A read of blocks has 32,768 bytes at most, and
+// a block 43,691: so the second read ends the first block, and not the second.
 const THREE: Shape = Shape {
     size: 262_147,
     needed: 3,

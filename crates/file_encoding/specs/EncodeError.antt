@@ -1,7 +1,8 @@
 -- The number of each refusal.
 use Rattle.std.specs.Prelude.{ℕ}
 use Rattle.file_encoding.specs.declared.error.EncodeError.{EncodeError}
-use Rattle.file_encoding.specs.declared.error.EncodeError.TheVariants.{OutOfMemory, BadParameters, TooLarge, TooManySegments}
+use Rattle.file_encoding.specs.declared.error.EncodeError.TheVariants.{OutOfMemory, BadParameters}
+use Rattle.file_encoding.specs.declared.error.EncodeError.TheVariants.{TooLarge, TooManySegments}
 
 abbrev pub refusal_number : EncodeError → ℕ
 refusal_number OutOfMemory = 1

@@ -8,7 +8,9 @@ use Rattle.share_layout.specs.Geometry.{Geometry, geometry_of}
 use Rattle.share_verify.specs.CapBlock.{IsUebFor, geometry_by}
 use Rattle.proved_parts.specs.FileOf.{segment_hashes}
 use Rattle.share_verify.specs.Verify.{IsSound, IsSoundShare}
-use Rattle.file_encoding.specs.Encoding.{Parameters, ciphertext_encoding, encoding_of, extension_block_contents, sections_of, share_leaves, share_of}
+use Rattle.file_encoding.specs.Encoding.{Parameters, ciphertext_encoding, encoding_of}
+use Rattle.file_encoding.specs.Encoding.{extension_block_contents, sections_of, share_leaves}
+use Rattle.file_encoding.specs.Encoding.{share_of}
 use Rattle.share_layout.specs.Pieces.{segments_of}
 
 -- a law: each share of a ciphertext's encoding is sound for the encoding's verify cap and its own

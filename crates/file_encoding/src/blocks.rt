@@ -1,6 +1,7 @@
 // The segments of a text, and their hashes.
 
-ghost use Rattle.std.specs.Prelude.{◌≡◌, ◌≤◌, ◌<◌, ◌+◌, ◌-◌, ◌*◌, ◌/◌, ◌%◌, ◌^◌, ◌++◌, ℕ, List, length, take, drop, map, IfOk, OnOk, slice_index};
+ghost use Rattle.std.specs.Prelude.{◌≡◌, ◌≤◌, ◌<◌, ◌+◌, ◌-◌, ◌*◌, ◌/◌, ◌%◌, ◌^◌, ◌++◌, ℕ, List};
+ghost use Rattle.std.specs.Prelude.{length, take, drop, map, IfOk, OnOk, slice_index};
 ghost use Rattle.tagged_hash.specs.TaggedHash.{tagged_hash};
 ghost use Rattle.tagged_hash.specs.declared.tag.Tag.TheVariants.{Block, CiphertextSegment};
 ghost use Rattle.zfec_code.specs.ShareValue.{share_block};

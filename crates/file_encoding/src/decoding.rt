@@ -1,6 +1,7 @@
 // Segments, decoded from the blocks of as many shares as are needed.
 
-ghost use Rattle.std.specs.Prelude.{◌≡◌, ◌<◌, ◌++◌, ◌*◌, ◌^◌, ℕ, List, All, [], length, map, IfOk, IfErr, IsErrOf, OnOk, IsTrue, ◌↔◌, ◌⊎◌};
+ghost use Rattle.std.specs.Prelude.{◌≡◌, ◌<◌, ◌++◌, ◌*◌, ◌^◌, ℕ, List, All, [], length, map, IfOk};
+ghost use Rattle.std.specs.Prelude.{IfErr, IsErrOf, OnOk, IsTrue, ◌↔◌, ◌⊎◌};
 ghost use Rattle.tagged_hash.specs.TaggedHash.{tagged_hash};
 ghost use Rattle.tagged_hash.specs.declared.tag.Tag.TheVariants.{CiphertextSegment};
 ghost use Rattle.share_layout.specs.Geometry.{segment_count};

@@ -1,6 +1,7 @@
 // Files, encoded whole.
 
-ghost use Rattle.std.specs.Prelude.{◌≡◌, ◌≤◌, ◌<◌, ◌+◌, ◌*◌, ◌^◌, ◌%◌, ◌++◌, ℕ, List, [], length, map, IfOk, IfErr, IsErrOf, IsOk, IsOkUnless, ◌⊎◌};
+ghost use Rattle.std.specs.Prelude.{◌≡◌, ◌≤◌, ◌<◌, ◌+◌, ◌*◌, ◌^◌, ◌%◌, ◌++◌, ℕ, List, [], length};
+ghost use Rattle.std.specs.Prelude.{map, IfOk, IfErr, IsErrOf, IsOk, IsOkUnless, ◌⊎◌};
 ghost use Rattle.std.specs.List.{range_with_len};
 ghost use Rattle.aes_ctr.specs.CounterMode.{xored};
 ghost use Rattle.cap_text.specs.declared.cap.Cap.TheVariants.{Chk, Lit};
@@ -11,7 +12,8 @@ ghost use Rattle.ueb.specs.Limits.{max_file_size, max_length, min_file_size};
 ghost use Rattle.ueb.specs.Block.{ueb_text};
 ghost use Rattle.share_layout.specs.Geometry.{geometry_of, segment_count};
 ghost use Rattle.share_verify.specs.Pieces.{block_hashes};
-ghost use Rattle.file_encoding.specs.Encoding.{ciphertext_encoding, encoding_of, padded_segment, share_hashes};
+ghost use Rattle.file_encoding.specs.Encoding.{ciphertext_encoding, encoding_of, padded_segment};
+ghost use Rattle.file_encoding.specs.Encoding.{share_hashes};
 ghost use Rattle.proved_parts.specs.FileOf.{segment_hashes};
 ghost use Rattle.share_layout.specs.Pieces.{segments_of};
 ghost use Rattle.file_encoding.specs.BegunFiles.{AreBegun, IsBegun};

@@ -1,11 +1,13 @@
 // Files, read back from shares.
 
-ghost use Rattle.std.specs.Prelude.{◌≡◌, ◌<◌, ◌⊎◌, ℕ, List, [], All, length, map, slice_index, slice_index_or, false, IfOk, IfErr, IsErrAnd, IsErrOf, IsTrue};
+ghost use Rattle.std.specs.Prelude.{◌≡◌, ◌<◌, ◌⊎◌, ℕ, List, [], All, length, map, slice_index};
+ghost use Rattle.std.specs.Prelude.{slice_index_or, false, IfOk, IfErr, IsErrAnd, IsErrOf, IsTrue};
 ghost use Rattle.cap_text.specs.Cap.{verify_cap_of};
 ghost use Rattle.share_layout.specs.Places.{LocatesUeb};
 ghost use Rattle.share_layout.specs.Share.{IsShare, Sections};
 ghost use Rattle.file_encoding.specs.LowestShares.{HaveBlocks, TakesAt};
-ghost use Rattle.file_encoding.specs.Reading.{AreInconsistent, GivesCiphertext, IsReadFrom, LacksShares};
+ghost use Rattle.file_encoding.specs.Reading.{AreInconsistent, GivesCiphertext, IsReadFrom};
+ghost use Rattle.file_encoding.specs.Reading.{LacksShares};
 ghost use Rattle.file_encoding.specs.ReadError.{read_refusal_number};
 
 use crate::decoding::decode_all;

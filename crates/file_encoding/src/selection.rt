@@ -1,6 +1,7 @@
 // Which shares a reader takes: of the lowest numbers that pass every check, the first string each.
 
-ghost use Rattle.std.specs.Prelude.{◌≡◌, ◌≤◌, ◌<◌, ◌+◌, ℕ, List, length, map, IfOk, OnOk, IfSome, IsNone, IsTrue, ◌↔◌};
+ghost use Rattle.std.specs.Prelude.{◌≡◌, ◌≤◌, ◌<◌, ◌+◌, ℕ, List, length, map, IfOk, OnOk, IfSome};
+ghost use Rattle.std.specs.Prelude.{IsNone, IsTrue, ◌↔◌};
 ghost use Rattle.share_verify.specs.Verify.{IsSoundShare};
 ghost use Rattle.file_encoding.specs.Reading.{IsFirstSound, IsSoundAt, NoneSound};
 ghost use Rattle.file_encoding.specs.LowestShares.{AreLowestAt};

@@ -1,7 +1,8 @@
 // The shares of a file: each is begun with what needs no other share, and finished when the root
 // over all of them is known.
 
-ghost use Rattle.std.specs.Prelude.{◌≡◌, ◌≤◌, ◌<◌, ◌+◌, ◌-◌, ◌*◌, ◌/◌, ◌%◌, ◌^◌, ◌++◌, ℕ, List, [], length, map, IfOk, OnOk, replicate, All};
+ghost use Rattle.std.specs.Prelude.{◌≡◌, ◌≤◌, ◌<◌, ◌+◌, ◌-◌, ◌*◌, ◌/◌, ◌%◌, ◌^◌, ◌++◌, ℕ, List, []};
+ghost use Rattle.std.specs.Prelude.{length, map, IfOk, OnOk, replicate, All};
 ghost use Rattle.std.specs.List.{range_with_len};
 ghost use Rattle.merkle.specs.Tree.{height, needed_numbers, tree_nodes, tree_root};
 ghost use Rattle.tagged_hash.specs.TaggedHash.{tagged_hash};
@@ -11,7 +12,8 @@ ghost use Rattle.share_layout.specs.Geometry.{block_size, segment_count, tree_si
 ghost use Rattle.share_layout.specs.Layout.{header_size, layout_of, places_of};
 ghost use Rattle.share_verify.specs.Pieces.{block_hashes, joined};
 ghost use Rattle.file_encoding.specs.BegunFiles.{AreBegun};
-ghost use Rattle.file_encoding.specs.Blocks.{FitTogether, draft_of, finished, numbered, padded_block, padded_blocks};
+ghost use Rattle.file_encoding.specs.Blocks.{FitTogether, draft_of, finished, numbered};
+ghost use Rattle.file_encoding.specs.Blocks.{padded_block, padded_blocks};
 
 use crate::blocks::Segments;
 use crate::draft::{Begun, Draft};

@@ -1,5 +1,5 @@
-//! The tests of whole files and of what proves parts of them: what no contract says, values from outside, and calls on
-//! their happy paths.
+//! The tests of whole files and of what proves parts of them: what no contract says, values from
+//! outside, and calls on their happy paths.
 #![tactic(auto)]
 
 #[cfg(test)]

@@ -2,8 +2,8 @@
 //!
 //! `grid` takes the words of the command line and two writers, and gives the exit status. A `put`
 //! is an upload, a `get` a download, and a `check` a check, which `local_grid` carries on, and what
-//! is told stands in `grid_rules`; `world` is a script that `grid_scripts` runs. What stands here is
-//! which words there are.
+//! is told stands in `grid_rules`; `world` is a script that `grid_scripts` runs. What stands here
+//! is which words there are.
 #![tactic(auto)]
 
 mod check;

@@ -93,8 +93,8 @@ impl Fault {
     }
 
     /// The exit status: 3 for refused input, 4 for an unhappy upload, 5 for too few shares, 6 for
-    /// inconsistent ones, and 7 for memory, a file, a folder or a socket, for too many turns, and for
-    /// a world that was stopped.
+    /// inconsistent ones, and 7 for memory, a file, a folder or a socket, for too many turns, and
+    /// for a world that was stopped.
     pub fn status(&self) -> u8
         ensures { result ≡ fault_status self.now }
     {

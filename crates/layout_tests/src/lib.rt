@@ -1,5 +1,5 @@
-//! The tests of shares, in both layouts: what no contract says, values from outside, and calls on their
-//! happy paths.
+//! The tests of shares, in both layouts: what no contract says, values from outside, and calls on
+//! their happy paths.
 #![tactic(auto)]
 
 #[cfg(test)]

@@ -111,8 +111,8 @@ fn places_of_a_lying_long_header_do_not_wrap(rt: HostRuntime) {
     assert!(rt; has_fault(&bytes, LayoutError::BadOffset));
 }
 
-// Share 3 of 56 bytes, spelled in the second layout: all places are 32 bytes further, and the length
-// of the extension block has eight bytes.
+// Share 3 of 56 bytes, spelled in the second layout: all places are 32 bytes further, and the
+// length of the extension block has eight bytes.
 fn spelled_long(alloc: Global) -> Option<Vec<u8>> {
     let share = share_three(alloc)?;
     let mut long = Vec::from_slice(alloc, &[0, 0, 0, 2]).ok()?;

@@ -1,6 +1,7 @@
 // Two hash inputs with one hash, from two pieces of evidence that differ.
 
-ghost use Rattle.std.specs.Prelude.{◌≡◌, ◌≢◌, ℕ, ◌<◌, ◌/◌, ◌++◌, List, All, Contains, IfOk, OnOk, IfSome, IsNone, IsTrue, ◌↔◌};
+ghost use Rattle.std.specs.Prelude.{◌≡◌, ◌≢◌, ℕ, ◌<◌, ◌/◌, ◌++◌, List, All, Contains, IfOk, OnOk};
+ghost use Rattle.std.specs.Prelude.{IfSome, IsNone, IsTrue, ◌↔◌};
 ghost use Rattle.tagged_hash.specs.Clash.{IsClash};
 ghost use Rattle.tagged_hash.specs.TaggedHash.{double_sha256, netstring, tagged_hash, tagged_input};
 ghost use Rattle.cap_text.specs.Cap.{VerifyCapValue};

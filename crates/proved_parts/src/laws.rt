@@ -1,6 +1,7 @@
 // Laws of the definitions. Each law is a contract; the calls do nothing.
 
-ghost use Rattle.proved_parts.specs.Laws.{BlocksSayOneThing, FilesOfCapsHaveParts, OwnPartsAreWithin};
+ghost use Rattle.proved_parts.specs.Laws.{BlocksSayOneThing, FilesOfCapsHaveParts};
+ghost use Rattle.proved_parts.specs.Laws.{OwnPartsAreWithin};
 ghost use Rattle.proved_parts.specs.Laws.{PartsAgree, PartsAreOfTheFile};
 
 /// A law: the extension block of a cap's file says one thing.

@@ -39,7 +39,7 @@ const PATIENCE: u64 = 600;
 /// | `Allocate` | the share is closed | `Already` |
 /// | `Allocate` | the client's own bucket, of that length | `Granted`; touched |
 /// | `Allocate` | any other bucket of the share | `Busy` |
-/// | `Allocate` | the server takes no shares, has 1,024 buckets, or no room for the length | `Full` |
+/// | `Allocate` | the server takes no shares, has 1,024 buckets, or too little room | `Full` |
 /// | `Allocate` | else | `Granted`; an empty bucket |
 /// | `Write` | the share is closed | `Already` |
 /// | `Write` | no bucket of the client's own | `NoShare` |

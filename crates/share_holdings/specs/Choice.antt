@@ -13,4 +13,5 @@ Chooses t places (Some place) = Contains places place
 
 -- no holding of a number before this one may be read now
 abbrev pub NoneIsFreeBefore : TableState → ℕ → Type 0
-NoneIsFreeBefore t end = (place : ℕ) (h : Holding) → IsHolding t place h → IsFree t h → h.share < end → ⊥
+NoneIsFreeBefore t end = (place : ℕ) (h : Holding) → IsHolding t place h → IsFree t h
+    → h.share < end → ⊥

@@ -21,7 +21,8 @@ use Rattle.share_holdings.specs.declared.holdings.Heard.{Heard}
 use Rattle.share_holdings.specs.declared.holdings.Heard.TheVariants as heard
 
 -- each server is asked which shares it holds, and no share is known
-pub record Begins (total : ℕ) (servers : List ℕ) (session now : ℕ) (s : HoldingsState) : Type 0 where
+pub record Begins (total : ℕ) (servers : List ℕ) (session now : ℕ) (s : HoldingsState)
+    : Type 0 where
   pub requests : s.requests ≡ begun servers session now
   pub servers_are : s.servers ≡ length servers
   pub holdings : s.table.holdings ≡ []

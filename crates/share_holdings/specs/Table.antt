@@ -48,8 +48,8 @@ abbrev pub NoneIsFree : TableState → Type 0
 NoneIsFree t = (place : ℕ) (h : Holding) → IsHolding t place h → IsFree t h → ⊥
 
 -- one holding is changed so
-pub record ChangesHolding (place : ℕ) (change : Holding → Holding) (old new : TableState) (h : Holding)
-    : Type 0 where
+pub record ChangesHolding (place : ℕ) (change : Holding → Holding) (old new : TableState)
+    (h : Holding) : Type 0 where
   pub is : IsHolding old place h
   pub holdings : new.holdings ≡ slice_set old.holdings place (change h)
 

@@ -1,6 +1,7 @@
 //! The shares that servers hold, with the record of what was asked of each.
 
-ghost use Rattle.std.specs.Prelude.{◌≡◌, ◌<◌, ◌++◌, ◌∷◌, [], ℕ, IfNone, IfOk, IfSome, OnErr, OnOk, length, nat_eq};
+ghost use Rattle.std.specs.Prelude.{◌≡◌, ◌<◌, ◌++◌, ◌∷◌, [], ℕ, IfNone, IfOk, IfSome, OnErr, OnOk};
+ghost use Rattle.std.specs.Prelude.{length, nat_eq};
 ghost use Rattle.std.specs.Prelude.{All, IsTrue, ◌+◌, ◌↔◌};
 ghost use Rattle.wire.specs.declared.message.Body.TheVariants.{NoShare};
 ghost use Rattle.std.specs.List.{IsDistinct};
@@ -212,8 +213,8 @@ impl Holdings {
         Ok(())
     }
 
-    /// Takes a message from a server over, at a second, and says what it brings. On an `Err` some of
-    /// the shares that it tells are not among the holdings.
+    /// Takes a message from a server over, at a second, and says what it brings. On an `Err` some
+    /// of the shares that it tells are not among the holdings.
     pub fn take_answer(
         &mut self,
         from: NodeId,

@@ -1,6 +1,7 @@
 //! The shares at servers that were told, and which of these are left and read.
 
-ghost use Rattle.std.specs.Prelude.{◌≡◌, ◌<◌, ◌++◌, ◌∷◌, [], ℕ, IfNone, IfOk, IfSome, OnErr, OnOk, length};
+ghost use Rattle.std.specs.Prelude.{◌≡◌, ◌<◌, ◌++◌, ◌∷◌, [], ℕ, IfNone, IfOk, IfSome, OnErr, OnOk};
+ghost use Rattle.std.specs.Prelude.{length};
 ghost use Rattle.std.specs.Prelude.{All, Contains, Some, true, false, is_some};
 ghost use Rattle.share_holdings.specs.Choice.{Chooses};
 ghost use Rattle.share_holdings.specs.Numbers.{no_holding, read_count, with_place};

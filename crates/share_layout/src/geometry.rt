@@ -66,17 +66,18 @@ impl Geometry {
     ghost use Rattle.share_layout.specs.Layout.{header_numbers};
     ghost use Rattle.share_layout.specs.Pieces.{block_length, segment_length};
 
-    /// The geometry of a file of `size` bytes, of which `needed` of `total` shares are needed, with segments
-    /// of at most `max` bytes, or of the least multiple of `needed` from there on.
+    /// The geometry of a file of `size` bytes, of which `needed` of `total` shares are needed, with
+    /// segments of at most `max` bytes, or of the least multiple of `needed` from there on.
     ///
-    /// Otherwise the first fault in this order: `BadParameters` (size 0, not 1 <= needed <= total <= 256, or
-    /// `max` not 1 to `ueb::MAX_SEGMENT_SIZE`), `TooLarge`, `TooManySegments`.
+    /// Otherwise the first fault in this order: `BadParameters` (size 0, not 1 <= needed <= total
+    /// <= 256, or `max` not 1 to `ueb::MAX_SEGMENT_SIZE`), `TooLarge`, `TooManySegments`.
     pub fn of(size: u64, needed: u16, total: u16, max: u32) -> Result<Geometry, LayoutError>
         ensures given { IfOk result (λ g. g ≡ geometry_of size needed total max) }
         ensures parameters { IfOk result (λ _. HasGeometry size needed total max) }
         ensures valid { IfOk result IsGeometry }
         // What has a geometry is given it.
-        ensures complete { HasGeometry size needed total max → result ≡ Ok (geometry_of size needed total max) }
+        ensures complete { HasGeometry size needed total max
+            → result ≡ Ok (geometry_of size needed total max) }
         // When each refusal comes.
         ensures refused { (error : LayoutError)
             → (result ≡ Err error) ↔ IsGeometryFault size needed total max error }

@@ -23,8 +23,8 @@ fn regular_length<R: Files>(rt: &R, path: &str) -> Result<Option<u64>, StoreErro
 }
 
 /// Writes bytes into a file from a position on. At position 0 the file is made, or emptied first.
-/// Further on it is a fault if the file has fewer bytes than that: another program, which writes the
-/// same share, took it away or began it anew.
+/// Further on it is a fault if the file has fewer bytes than that: another program, which writes
+/// the same share, took it away or began it anew.
 pub(crate) fn write_at<R: Files>(
     rt: &R,
     path: &str,
@@ -49,8 +49,8 @@ fn write_from<F: Seek + Write>(file: &mut F, position: u64, bytes: &[u8]) -> io:
     file.write_all(bytes)
 }
 
-/// Renames a file of so many bytes. It is a fault if it has more or fewer, as after another program's
-/// writes.
+/// Renames a file of so many bytes. It is a fault if it has more or fewer, as after another
+/// program's writes.
 pub(crate) fn rename_whole<R: Files>(
     rt: &R,
     from: &str,

@@ -9,7 +9,8 @@ use std::marker::Model;
 
 /// What a reader knows of a file before it has the file's extension block: the numbers in its cap.
 ///
-/// Its ranges are `1 <= needed <= total <= 256`, and a size from `MIN_FILE_SIZE` to `MAX_FILE_SIZE`.
+/// Its ranges are `1 <= needed <= total <= 256`, and a size from `MIN_FILE_SIZE` to
+/// `MAX_FILE_SIZE`.
 #[derive(Clone, Copy, Debug, PartialEq, Eq)]
 pub struct Expect {
     /// How many shares give the file back.

@@ -161,8 +161,8 @@ AcknowledgedKeep w =
     (file secret : List ℕ) (p : UploadParameters) (pair : Pair)
     → IsAcknowledgement w file secret p pair → KeepsShare w file secret p pair
 
--- No place of a cap's file has two bytes in what downloads were handed: running, ended or forgotten,
--- and whoever made the cap.
+-- No place of a cap's file has two bytes in what downloads were handed: running, ended or
+-- forgotten, and whoever made the cap.
 abbrev pub DownloadsAgree : WorldState → Type 0
 DownloadsAgree w = (cap : ReadCapValue) (place a b : ℕ) → IsGiven w cap place a
     → IsGiven w cap place b → a ≡ b

@@ -3,9 +3,9 @@
 //! A world is honest nodes, each with a server and with operations of its own, and liars, of which
 //! nothing is assumed. An event is one step of one of them. Whatever events come in which order
 //! (`specs/Headline`): an upload that answers Happy names distinct servers with distinct shares,
-//! each acknowledged by a message with the share's digest. And where no two hash inputs of the world
-//! clash, every honest one of these servers keeps exactly its share ever after, downloads of one cap
-//! agree, and they agree with the file of each upload that answered Happy with that cap.
+//! each acknowledged by a message with the share's digest. And where no two hash inputs of the
+//! world clash, every honest one of these servers keeps exactly its share ever after, downloads of
+//! one cap agree, and they agree with the file of each upload that answered Happy with that cap.
 #![tactic(auto)]
 
 pub mod event;

@@ -159,7 +159,8 @@ fn are_all_without_clash(alloc: Global) -> Option<bool> {
 }
 
 // Beside those downloads a node uploads a file of zeros, and two others download it: how many pairs
-// the upload names, whether the downloads handed out zeros, and whether their evidence has no clash.
+// the upload names, whether the downloads handed out zeros, and whether their evidence has no
+// clash.
 fn honest_beside(alloc: Global) -> Option<(usize, bool, bool)> {
     let file = NoCodeWord::new(alloc, 7)?;
     let mut run = Run::new(alloc, &file, &PAIRS)?;

@@ -24,7 +24,8 @@ struct Keeper {
 }
 
 impl Keeper {
-    // The keeper of a share at a node, which answers the downloads that it is one of two servers of.
+    // The keeper of a share at a node, which answers the downloads that it is one of two servers
+    // of.
     fn new(
         alloc: Global,
         file: &NoCodeWord,

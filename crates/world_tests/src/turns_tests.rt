@@ -1,5 +1,5 @@
-//! What comes of a liar's turn: it is handed all that came to it, and what it says is sent under its
-//! own name.
+//! What comes of a liar's turn: it is handed all that came to it, and what it says is sent under
+//! its own name.
 
 use crate::honest::upload;
 use proved_parts::Bytes;

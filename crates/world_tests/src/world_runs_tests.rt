@@ -141,7 +141,8 @@ fn given_by(world: &World, number: usize) -> Option<(usize, usize)> {
     Some((pieces.len(), count))
 }
 
-// An upload, and then two downloads at once, of all of the file and of a part: what they handed out.
+// An upload, and then two downloads at once, of all of the file and of a part: what they handed
+// out.
 fn handed_out(alloc: Global) -> Option<[Option<(usize, usize)>; 3]> {
     let events = upload_events(alloc)?;
     let mut world = World::new(alloc, 3, Vec::new(alloc)).ok()?;

@@ -1,7 +1,9 @@
 -- The number of each refusal.
 use Rattle.std.specs.Prelude.{ℕ}
 use Rattle.zfec_code.specs.declared.CodeError.{CodeError}
-use Rattle.zfec_code.specs.declared.CodeError.TheVariants.{OutOfMemory, BadParameters, RepeatedShare, ShareOutOfRange, LengthMismatch}
+use Rattle.zfec_code.specs.declared.CodeError.TheVariants.{OutOfMemory, BadParameters}
+use Rattle.zfec_code.specs.declared.CodeError.TheVariants.{RepeatedShare, ShareOutOfRange}
+use Rattle.zfec_code.specs.declared.CodeError.TheVariants.{LengthMismatch}
 
 abbrev pub refusal_number : CodeError → ℕ
 refusal_number OutOfMemory = 1

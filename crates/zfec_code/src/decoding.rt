@@ -1,7 +1,9 @@
 //! Decoding: the primary blocks from any k shares. The coefficients depend on the shares' numbers
 //! alone, so they are computed once for all segments.
 
-ghost use Rattle.std.specs.Prelude.{◌≡◌, ℕ, ◌+◌, ◌*◌, ◌<◌, ◌≤◌, List, [], length, slice_index, slice_index_or, map, All, IfOk, OnOk, EachIndex, IsTrue, ◌↔◌, MatchBool, Contains};
+ghost use Rattle.std.specs.Prelude.{◌≡◌, ℕ, ◌+◌, ◌*◌, ◌<◌, ◌≤◌, List, [], length, slice_index};
+ghost use Rattle.std.specs.Prelude.{slice_index_or, map, All, IfOk, OnOk, EachIndex, IsTrue, ◌↔◌};
+ghost use Rattle.std.specs.Prelude.{MatchBool, Contains};
 ghost use Rattle.gf256.specs.Field.{point_of};
 ghost use Rattle.zfec_code.specs.Shares.{AreSharesOf, HaveLengths, evaluate};
 ghost use Rattle.zfec_code.specs.Rows.{AreDistinct};

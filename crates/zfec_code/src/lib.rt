@@ -5,11 +5,14 @@
 //! is its value at point i. So share i below k is primary block i.
 #![tactic(auto)]
 
-ghost use Rattle.std.specs.Prelude.{◌≡◌, ◌≢◌, ℕ, ◌*◌, ◌<◌, ◌≤◌, List, length, map, All, IfOk, IfErr, OnOk, OnErr, IsErrOf, ◌⊎◌};
-ghost use Rattle.zfec_code.specs.Shares.{IsShareOf, Parameters, AreParameters, HaveLengths, AreSharesOf};
+ghost use Rattle.std.specs.Prelude.{◌≡◌, ◌≢◌, ℕ, ◌*◌, ◌<◌, ◌≤◌, List, length, map, All, IfOk};
+ghost use Rattle.std.specs.Prelude.{IfErr, OnOk, OnErr, IsErrOf, ◌⊎◌};
+ghost use Rattle.zfec_code.specs.Shares.{IsShareOf, Parameters, AreParameters, HaveLengths};
+ghost use Rattle.zfec_code.specs.Shares.{AreSharesOf};
 ghost use Rattle.zfec_code.specs.declared.CodeError.TheVariants.{OutOfMemory};
 ghost use Rattle.zfec_code.specs.CodeError.{refusal_number};
-ghost use Rattle.zfec_code.specs.Laws.{FormulaGivesShares, PrimariesAreUnique, ShareValuesAreUnique};
+ghost use Rattle.zfec_code.specs.Laws.{FormulaGivesShares, PrimariesAreUnique};
+ghost use Rattle.zfec_code.specs.Laws.{ShareValuesAreUnique};
 ghost use Rattle.zfec_code.specs.Rows.{AreDistinct, primary_points};
 ghost use Rattle.zfec_code.specs.Tables.{IsTable};
 

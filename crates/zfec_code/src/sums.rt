@@ -1,7 +1,8 @@
 //! Sums of blocks: each byte is the sum of the blocks' bytes at its place, each times its block's
 //! coefficient.
 
-ghost use Rattle.std.specs.Prelude.{◌≡◌, ℕ, ◌+◌, ◌*◌, ◌<◌, ◌≤◌, List, [], length, slice_index, slice_index_or, EachIndex, map};
+ghost use Rattle.std.specs.Prelude.{◌≡◌, ℕ, ◌+◌, ◌*◌, ◌<◌, ◌≤◌, List, [], length, slice_index};
+ghost use Rattle.std.specs.Prelude.{slice_index_or, EachIndex, map};
 ghost use Rattle.std.specs.List.{slice_range};
 ghost use Rattle.zfec_code.specs.Rows.{weighted_sum};
 
