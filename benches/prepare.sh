@@ -2,9 +2,10 @@
 #
 #     prepare LIBRARIES
 #
-# It makes a folder for one run, with the crates of the repository that these libraries are or stand on
-# and, as the crate `bench` over these libraries, the benchmark's sources, which end in .txt so that they
-# are no part of the crates here. It goes to that crate, and the folder is removed at the end.
+# It makes a folder for one run, with the crates of the repository that these libraries are or stand
+# on and, as the crate `bench` over these libraries, the benchmark's sources, which end in .txt so
+# that they are no part of the crates here. It goes to that crate, and the folder is removed at the
+# end.
 prepare() {
     libraries=$1
     root=$(cd "$here/../.." && pwd)

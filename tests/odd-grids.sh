@@ -4,9 +4,10 @@
 #
 #     tests/odd-grids.sh
 #
-# Run by hand: the program is built first where it is not. It needs `mkfifo` and `truncate`, and a file
-# system that keeps sparse files of a tebibyte. Each line that begins with `differs` tells what was
-# otherwise than it has to be; the last line counts them, and the status is 0 where there are none.
+# Run by hand: the program is built first where it is not. It needs `mkfifo` and `truncate`, and a
+# file system that keeps sparse files of a tebibyte. Each line that begins with `differs` tells what
+# was otherwise than it has to be; the last line counts them, and the status is 0 where there are
+# none.
 
 here=$(cd "$(dirname "$0")/.." && pwd) || exit 2
 grid=$here/grid

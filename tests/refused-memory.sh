@@ -4,31 +4,31 @@
 #
 #     tests/refused-memory.sh [PROGRAM]
 #
-# PROGRAM is the built program. Without it that of this repository is taken, and first built where it is
-# missing or older than a source; so are the tests of all crates. Run by hand: once they are built it
-# takes a few minutes, and needs a C compiler `cc` and glibc. No proof speaks of what is seen here: that
-# the programs as they were built tell each such failure.
+# PROGRAM is the built program. Without it that of this repository is taken, and first built where
+# it is missing or older than a source; so are the tests of all crates. Run by hand: once they are
+# built it takes a few minutes, and needs a C compiler `cc` and glibc. No proof speaks of what is
+# seen here: that the programs as they were built tell each such failure.
 #
 # A file of 56 bytes is put, got and checked at 1 of 1 and at 3 of 10, and one of 3,000 bytes in ten
-# segments at 3 of 10, of which a range is got too. Once as it is; then the first call fails, then the
-# second alone, and so on to a run that makes no such call any more:
-#   memory  malloc, calloc, realloc, reallocarray, memalign, aligned_alloc, posix_memalign: the run ends
-#           with status 7 and the line `grid: 1 OutOfMemory` on standard error, and nothing on standard
-#           output but, of `get`, a beginning of the file; or exactly as without.
-#   files   open, read, write, rename, mkdir, stat, the reading of folders and their like, which answer
-#           EIO: the run ends with status 7 and `grid: 90 FileFault PATH`; with status 7 alone where the
-#           write to standard output itself failed; or exactly as without. At 1 of 1, `get` may also end
-#           with status 5 and `grid: 71 NotEnoughShares` where the call was on a server's folder: what a
-#           server does not give counts as not there.
-# After each `put` a file under a closed name is, byte by byte, the share that stands there without a
-# fault.
+# segments at 3 of 10, of which a range is got too. Once as it is; then the first call fails, then
+# the second alone, and so on to a run that makes no such call any more:
+#   memory  malloc, calloc, realloc, reallocarray, memalign, aligned_alloc, posix_memalign: the run
+#           ends with status 7 and the line `grid: 1 OutOfMemory` on standard error, and nothing on
+#           standard output but, of `get`, a beginning of the file; or exactly as without.
+#   files   open, read, write, rename, mkdir, stat, the reading of folders and their like, which
+#           answer EIO: the run ends with status 7 and `grid: 90 FileFault PATH`; with status 7
+#           alone where the write to standard output itself failed; or exactly as without. At 1 of
+#           1, `get` may also end with status 5 and `grid: 71 NotEnoughShares` where the call was on
+#           a server's folder: what a server does not give counts as not there.
+# After each `put` a file under a closed name is, byte by byte, the share that stands there without
+# a fault.
 #
-# Each test whose name begins with `refused_memory_` is run alone in the same way, with one allocation
-# after another refused. Such a test passes where the calls that it makes tell that memory is out, or
-# answer as they do without; a run that fails counts.
+# Each test whose name begins with `refused_memory_` is run alone in the same way, with one
+# allocation after another refused. Such a test passes where the calls that it makes tell that
+# memory is out, or answer as they do without; a run that fails counts.
 #
-# The last line counts the runs and those that differed. The status is 0 where none did, else 1; 2 where
-# nothing could be run.
+# The last line counts the runs and those that differed. The status is 0 where none did, else 1; 2
+# where nothing could be run.
 
 here=$(cd "$(dirname "$0")/.." && pwd) || exit 2
 program=${1:-$here/crates/grid_main/out/grid_main}
@@ -85,14 +85,14 @@ is_as_without() {
     [ $status = 0 ] && cmp -s out plain.out && cmp -s err plain.err
 }
 
-# Whether nothing was written to standard output, or by `get` a beginning of what it writes without a
-# fault.
+# Whether nothing was written to standard output, or by `get` a beginning of what it writes without
+# a fault.
 is_beginning() {
     [ ! -s out ] || { [ "$command" = get ] && head -c "$(wc -c < out)" plain.out | cmp -s - out; }
 }
 
-# Whether the run ended with this status, this one line on standard error and no more than a beginning
-# on standard output. $2 is a pattern.
+# Whether the run ended with this status, this one line on standard error and no more than a
+# beginning on standard output. $2 is a pattern.
 is_told() {
     [ $status = "$1" ] && is_beginning && [ "$(wc -l < err)" -eq 1 ] && grep -q -x -e "$2" err
 }
@@ -103,7 +103,8 @@ is_less_happy() {
         && [ "$(sed -n '2s/^happiness \([0-9]*\)$/\1/p' out)" -ge "$1" ]
 }
 
-# Whether the run ended as it may, where a call of kind $1 failed; $2 is the number of shares needed, $3 that of shares in all.
+# Whether the run ended as it may, where a call of kind $1 failed; $2 is the number of shares
+# needed, $3 that of shares in all.
 is_right() {
     is_as_without && return 0
     case $1 in
@@ -130,8 +131,8 @@ is_whole() {
     done < names
 }
 
-# Counts the runs of a command or a test of which call after call failed: up to call $at, which no run
-# made any more, of which $wrong runs ended otherwise than they may.
+# Counts the runs of a command or a test of which call after call failed: up to call $at, which no
+# run made any more, of which $wrong runs ended otherwise than they may.
 count() {
     runs=$((runs + at - 1))
     differed=$((differed + wrong))

@@ -1,5 +1,6 @@
 #!/bin/sh
-# Proves and runs the benchmark of the field and the erasure code, in a folder of its own; words go to rt run, as --cpu x86-64-v3.
+# Proves and runs the benchmark of the field and the erasure code, in a folder of its own; words go
+# to rt run, as --cpu x86-64-v3.
 set -e
 here=$(cd "$(dirname "$0")" && pwd)
 . "$here/../prepare.sh"

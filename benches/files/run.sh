@@ -1,6 +1,6 @@
 #!/bin/sh
-# Proves and runs the benchmark of whole files, in a folder of its own. It is built and run as `grid`
-# builds and runs its program: for the processor of this machine, and with huge pages.
+# Proves and runs the benchmark of whole files, in a folder of its own. It is built and run as
+# `grid` builds and runs its program: for the processor of this machine, and with huge pages.
 set -e
 here=$(cd "$(dirname "$0")" && pwd)
 . "$here/../prepare.sh"

@@ -1,5 +1,6 @@
 #!/bin/sh
-# Proves and runs the benchmark of the placement, and its twin in C, in a folder of their own. The sources end in .txt, so that they are no part of the crates.
+# Proves and runs the benchmark of the placement, and its twin in C, in a folder of their own. The
+# sources end in .txt, so that they are no part of the crates.
 set -e
 here=$(cd "$(dirname "$0")" && pwd)
 work=$(mktemp -d)

@@ -1,10 +1,10 @@
 #!/bin/bash
-# Times the built program by processor time (user and system of its process), in turn with two bases:
-# SHA-256 of the kit over as many bytes as have to be hashed, built as the program is, and `sha256sum`
-# of the file. The best of six runs of each counts. After the file come files of 1 MiB in 256 shares
-# at 256 servers, of which one and 256 are needed. Its words: the file's size in MiB (16 if none),
-# the program (that of this repository if none, which is built first), and the processor that the
-# program was built for (this machine's if none).
+# Times the built program by processor time (user and system of its process), in turn with two
+# bases: SHA-256 of the kit over as many bytes as have to be hashed, built as the program is, and
+# `sha256sum` of the file. The best of six runs of each counts. After the file come files of 1 MiB
+# in 256 shares at 256 servers, of which one and 256 are needed. Its words: the file's size in MiB
+# (16 if none), the program (that of this repository if none, which is built first), and the
+# processor that the program was built for (this machine's if none).
 set -e
 here=$(cd "$(dirname "$0")" && pwd)
 . "$here/../prepare.sh"
