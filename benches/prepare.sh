@@ -11,7 +11,7 @@ prepare() {
     root=$(cd "$here/../.." && pwd)
     work=$(mktemp -d)
     trap 'rm -rf "$work"' EXIT
-    for name in $(crates_below $libraries); do
+    for name in $("$root/tools/crates-below" $libraries); do
         mkdir -p "$work/crates/$name"
         (cd "$root/crates/$name" && tar cf - --exclude=./out .) | tar xf - -C "$work/crates/$name"
         grep "^$name:" "$root/crates.txt" >> "$work/crates.txt"
@@ -23,19 +23,4 @@ prepare() {
     done
     (cd "$work" && git init -q .)
     cd "$work/crates/bench"
-}
-
-# The crates of the repository that these libraries are or stand on.
-crates_below() {
-    awk -F: -v libraries="$*" '
-        function visit(crate,    i, count, below) {
-            if (!(crate in deps) || crate in seen) return
-            seen[crate] = 1
-            count = split(deps[crate], below, " ")
-            for (i = 1; i <= count; i++) visit(below[i])
-            print crate
-        }
-        !/^#/ && NF > 1 { deps[$1] = $2 }
-        END { count = split(libraries, all, " "); for (i = 1; i <= count; i++) visit(all[i]) }' \
-        "$root/crates.txt"
 }

@@ -4,10 +4,10 @@
 #
 #     tests/refused-memory.sh [PROGRAM]
 #
-# PROGRAM is the built program. Without it that of this repository is taken, and first built where
-# it is missing or older than a source; so are the tests of all crates. Run by hand: once they are
-# built it takes a few minutes, and needs a C compiler `cc` and glibc. No proof speaks of what is
-# seen here: that the programs as they were built tell each such failure.
+# PROGRAM is the built program; without it that which `./grid` runs. The tests of the crates are
+# built first where they are missing or older than a source. Run by hand: once they are built it
+# takes a few minutes, and needs a C compiler `cc` and glibc. No proof speaks of what is seen here:
+# that the programs as they were built tell each such failure.
 #
 # A file of 56 bytes is put, got and checked at 1 of 1 and at 3 of 10, and one of 3,000 bytes in ten
 # segments at 3 of 10, of which a range is got too. Once as it is; then the first call fails, then
@@ -31,9 +31,7 @@
 # where nothing could be run.
 
 here=$(cd "$(dirname "$0")/.." && pwd) || exit 2
-program=${1:-$here/crates/grid_main/out/grid_main}
-test_crates='base_tests text_tests reading_tests tree_tests layout_tests file_tests protocol_tests store_tests
-loop_tests upload_tests command_tests put_tests check_command_tests'
+test_crates=$(grep -rl 'fn refused_memory_' "$here"/crates/*/src | sed 's|.*/crates/||; s|/.*||' | sort -u)
 
 # Whether a crate's built tests are missing, or older than a source.
 are_tests_old() {
@@ -41,9 +39,6 @@ are_tests_old() {
         \( -name '*.rt' -o -name '*.antt' -o -name crates.txt \) -newer "$1" -print | head -n 1)" ]
 }
 
-if [ $# = 0 ]; then
-    "$here/grid" cap URI:LIT: > /dev/null || exit 2
-fi
 for crate in $test_crates; do
     tests=$here/crates/$crate/out/${crate}_tests
     if are_tests_old "$tests"; then
@@ -52,6 +47,7 @@ for crate in $test_crates; do
         touch "$tests"
     fi
 done
+program=${1:-$("$here/grid" --program)}
 [ -x "$program" ] || { echo "$program: no program" >&2; exit 2; }
 case $program in /*) ;; *) program=$PWD/$program ;; esac
 

@@ -4,9 +4,8 @@
 #
 #     tests/schedules.sh [PROGRAM [FIRST LAST]]
 #
-# PROGRAM is the built program. Without it that of this repository is taken, and first built where
-# it is missing or older than a source. FIRST to LAST are the numbers of the schedules, 1 to 1000
-# without them. Run by hand; it takes half a minute at most.
+# PROGRAM is the built program; without it that which `./grid` runs. FIRST to LAST are the numbers
+# of the schedules, 1 to 1000 without them. Run by hand; it takes half a minute at most.
 #
 # A schedule's number draws all of its script: how many nodes are honest and which liars there are,
 # two or three uploads with their files and parameters (in some schedules one file by two nodes),
@@ -18,12 +17,9 @@
 # those that differed. The status is 0 where none did, else 1; 2 where nothing could be run.
 
 here=$(cd "$(dirname "$0")/.." && pwd) || exit 2
-program=${1:-$here/crates/grid_main/out/grid_main}
 first=${2:-1}
 last=${3:-1000}
-if [ $# = 0 ]; then
-    "$here/grid" cap URI:LIT: > /dev/null || exit 2
-fi
+program=${1:-$("$here/grid" --program)}
 [ -x "$program" ] || { echo "$program: no program" >&2; exit 2; }
 case $program in /*) ;; *) program=$PWD/$program ;; esac
 

@@ -7,7 +7,7 @@ here=$(cd "$(dirname "$0")" && pwd)
 prepare "tagged_hash cap_text file_encoding sha2"
 export GLIBC_TUNABLES="glibc.malloc.hugetlb=1${GLIBC_TUNABLES:+:$GLIBC_TUNABLES}"
 echo "Each run takes fresh memory from the system:"
-rt run --cpu "$("$root/processor")"
+rt run --cpu "$("$root/tools/processor")"
 echo "Memory is kept from run to run, so that it was touched before:"
 keep=glibc.malloc.mmap_threshold=8589934592:glibc.malloc.trim_threshold=8589934592
 GLIBC_TUNABLES="$keep:$GLIBC_TUNABLES" out/bench

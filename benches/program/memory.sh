@@ -9,8 +9,7 @@ root=$(cd "$here/../.." && pwd)
 program=${1:-}
 large=${2:-1024}
 if [ -z "$program" ]; then
-    "$root/grid" cap URI:LIT:na > /dev/null
-    program=$root/crates/grid_main/out/grid_main
+    program=$("$root/grid" --program)
 fi
 export GLIBC_TUNABLES="glibc.malloc.hugetlb=1${GLIBC_TUNABLES:+:$GLIBC_TUNABLES}"
 work=$(mktemp -d)

@@ -11,10 +11,9 @@ here=$(cd "$(dirname "$0")" && pwd)
 mib=${1:-16}
 program=${2:-}
 prepare "sha2"
-processor=${3:-$("$root/processor")}
+processor=${3:-$("$root/tools/processor")}
 if [ -z "$program" ]; then
-    "$root/grid" cap URI:LIT:na > /dev/null
-    program=$root/crates/grid_main/out/grid_main
+    program=$("$root/grid" --program)
 fi
 export GLIBC_TUNABLES="glibc.malloc.hugetlb=1${GLIBC_TUNABLES:+:$GLIBC_TUNABLES}"
 rt run --cpu "$processor" -- 1 > /dev/null

@@ -9,8 +9,7 @@ root=$(cd "$here/../.." && pwd)
 timed=$(type -P time) || { echo "GNU time is not here" >&2; exit 2; }
 program=${1:-}
 if [ -z "$program" ]; then
-    "$root/grid" cap URI:LIT:na > /dev/null
-    program=$root/crates/grid_main/out/grid_main
+    program=$("$root/grid" --program)
 fi
 script=$(mktemp)
 told=$(mktemp)
