@@ -27,9 +27,10 @@ IsCarried calls (Some ends) way m None after =
 IsCarried {E = E} calls (Some ends) way m (Some out) after =
     (last : E) × (after ≡ Some last) × Carries calls way ends (frame m) (frame out) last
 
--- In memory each message comes.
+-- In memory each message comes, and the link stays as it is.
 abbrev pub IsCarriedOver : {E : Type 0} → EndsCalls E → GridLink E → Way → Message
     → Option Message → GridLink E → Type 0
-IsCarriedOver calls (Memory link) way m came after = came ≡ Some m
+IsCarriedOver calls (Memory link) way m came after =
+    (came ≡ Some m) × (after ≡ Memory link)
 IsCarriedOver {E = E} calls (Sockets ends) way m came after =
     (last : Option E) × (after ≡ Sockets last) × IsCarried calls ends way m came last
