@@ -31,7 +31,8 @@
 # where nothing could be run.
 
 here=$(cd "$(dirname "$0")/.." && pwd) || exit 2
-test_crates=$(grep -rl 'fn refused_memory_' "$here"/crates/*/src | sed 's|.*/crates/||; s|/.*||' | sort -u)
+test_crates=$(grep -rl 'fn refused_memory_' "$here"/crates/*/src |
+    sed 's|.*/crates/||; s|/.*||' | sort -u)
 
 # Whether a crate's built tests are missing, or older than a source.
 are_tests_old() {

@@ -5,9 +5,9 @@
 #     tests/wrong-bodies.sh [NAME..]
 #
 # NAME is a crate; without one all crates that have such a folder are taken. Run by hand whenever
-# code or clauses of a crate change. It works on a copy of the files as they are now, and begins with
-# the libraries that checks in this checkout have built. A crate takes what one check of it takes,
-# and then some 10 to 60 seconds an edit.
+# code or clauses of a crate change. It works on a copy of the files as they are now, and begins
+# with the libraries that checks in this checkout have built. A crate takes what one check of it
+# takes, and then some 10 to 60 seconds an edit.
 #
 # Each edit has a line. One that says that only a proof file names what the edit took away shows
 # nothing of the contract: it counts as told by names. The last line counts the edits, those that
@@ -33,7 +33,8 @@ git ls-files -z -co --exclude-standard | xargs -0 sh -c '
 # The libraries that the checks of these edits load.
 for crate in $(tools/crates-below "$@"); do
     if [ -f "crates/$crate/out/rlib/stamp" ]; then
-        mkdir -p "$room/crates/$crate/out" && cp -a "crates/$crate/out/rlib" "$room/crates/$crate/out/"
+        mkdir -p "$room/crates/$crate/out"
+        cp -a "crates/$crate/out/rlib" "$room/crates/$crate/out/"
     fi
 done
 for name; do
