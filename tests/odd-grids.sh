@@ -71,10 +71,13 @@ sees 'the shares put over it' gives_file
 # ---- files and folders of `put`
 
 truncate -s 1099511627777 large
-sees 'a file of 2^40 + 1 bytes' ends 3 'grid: 30 TooLarge' "$grid" put large --grid new --segment 1048576
-sees 'a file in the place of the folder' ends 7 'grid: 90 FileFault file' "$grid" put large --grid file
+sees 'a file of 2^40 + 1 bytes' ends 3 'grid: 30 TooLarge' \
+    "$grid" put large --grid new --segment 1048576
+sees 'a file in the place of the folder' ends 7 'grid: 90 FileFault file' \
+    "$grid" put large --grid file
 truncate -s 1099511627776 large
-sees 'a file of 2^40 bytes' ends 7 'grid: 1 OutOfMemory' "$grid" put large --grid new --segment 1048576
+sees 'a file of 2^40 bytes' ends 7 'grid: 1 OutOfMemory' \
+    "$grid" put large --grid new --segment 1048576
 sees 'no folder for what was not stored' [ ! -e new ]
 sees 'an empty name' ends 7 'grid: 90 FileFault ' "$grid" put file --grid ''
 head -c 70000 file > part && mkfifo pipe
@@ -90,8 +93,8 @@ ln -s "$grid" link
 sees 'a link to the script' ends 0 '' ./link cap URI:LIT:
 calls_with_cdpath() { (CDPATH=/ && export CDPATH && cd "$here" && ends 0 '' ./grid cap URI:LIT:); }
 sees 'CDPATH set' calls_with_cdpath
-for words in '--version version' '--help grid' 'put --help put' 'get --help get' 'check --help check' \
-    'world --help world' 'cap --help cap'; do
+for words in '--version version' '--help grid' 'put --help put' 'get --help get' \
+    'check --help check' 'world --help world' 'cap --help cap'; do
     "$grid" ${words% *} > out 2> err
     sees "the stored text of ${words% *}" cmp -s out "$here/docs/help/${words##* }"
 done

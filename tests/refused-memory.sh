@@ -111,7 +111,8 @@ is_right() {
             case $(cat mark 2> /dev/null) in
                 *' -1-') [ $status = 7 ] && is_beginning && [ ! -s err ] ;;
                 *'grid/server-'*)
-                    is_told 4 'grid: 70 Unhappy reached [0-9]* wanted [0-9]*' || is_less_happy "$2" ;;
+                    is_told 4 'grid: 70 Unhappy reached [0-9]* wanted [0-9]*' ||
+                        is_less_happy "$2" ;;
                 *'held/server-'*) [ "$2" = "$3" ] && is_told 5 'grid: 71 NotEnoughShares' ;;
                 *) false ;;
             esac ;;
@@ -133,7 +134,10 @@ is_whole() {
 count() {
     runs=$((runs + at - 1))
     differed=$((differed + wrong))
-    [ $at -gt 1 ] || { echo "no call was seen to fail: is the program linked to its C library at run time?"; differed=$((differed + 1)); }
+    if [ $at = 1 ]; then
+        echo "no call was seen to fail: is the program linked to its C library at run time?"
+        differed=$((differed + 1))
+    fi
 }
 
 # Makes each call of kind $1 of a command fail in turn; $2 is `put`, `get` or `check`, $3 shares are
@@ -152,7 +156,8 @@ each() {
         fi
         if ! is_right "$kind" "$needed" "$total" || { [ "$command" = put ] && ! is_whole; }; then
             wrong=$((wrong + 1))
-            echo "$command $needed of $total, $size bytes: $kind call $at ($(cat mark 2> /dev/null)) ended with status $status: $(head -n 1 err)"
+            echo "$command $needed of $total, $size bytes: $kind call $at" \
+                "($(cat mark 2> /dev/null)) ended with status $status: $(head -n 1 err)"
         elif ! is_as_without; then
             told=$((told + 1))
         fi
@@ -160,7 +165,8 @@ each() {
         [ -e mark ] || break
         at=$((at + 1))
     done
-    echo "$command $needed of $total, $size bytes, $kind: $((at - 1)) calls failed in turn; $told runs told it, $((at - 1 - told - wrong)) ended as without, $wrong otherwise"
+    echo "$command $needed of $total, $size bytes, $kind: $((at - 1)) calls failed in turn;" \
+        "$told runs told it, $((at - 1 - told - wrong)) ended as without, $wrong otherwise"
     count
 }
 
@@ -218,7 +224,8 @@ for numbers in '1 1 56 131072' '3 10 56 131072' '3 10 3000 300'; do
     mv err plain.err
     each memory get "$needed" "$total" --from $from --to $to
     run none 0 "$program" check "$cap" --grid held
-    if [ $status != 0 ] || [ "$(tail -n 1 out)" != "healthy yes recoverable yes happiness $total" ]; then
+    wanted="healthy yes recoverable yes happiness $total"
+    if [ $status != 0 ] || [ "$(tail -n 1 out)" != "$wanted" ]; then
         echo "check $needed of $total does not end well without a fault: status $status"
         differed=$((differed + 1))
         continue
