@@ -1,0 +1,9 @@
+pub mod Bools
+pub mod Bytes
+pub mod Eights
+pub mod Members
+pub mod Numbers
+pub mod Options
+pub mod Places
+pub mod Ranges
+pub mod Results
