@@ -1,28 +1,17 @@
 -- A byte and its bits, and what is true of all bytes by trying each.
-use Rattle.std.proofs.Common.{◌≡◌, ℕ, zero, suc, ◌+◌, ◌*◌, ◌/◌, ◌^◌, ◌<◌, List, [], ◌∷◌, ◌++◌, All, length, map, get_or, refl, sym, ap, ap₂, subst, pow-suc, zero-add, ext_get_or, ◌%◌, ◌∙◌, arith}
+use Rattle.std.proofs.Common.{◌≡◌, ℕ, zero, suc, ◌+◌, ◌*◌, ◌/◌, ◌^◌, ◌<◌, List, [], ◌∷◌, All, length, map, get_or, sym, ap, subst, pow-suc, zero-add, ext_get_or, ◌%◌, ◌∙◌, arith}
 use Rattle.std.specs.Int.{bit_at}
 use Rattle.std.specs.List.{AllByRecursion, range_with_len}
 use Rattle.std.proofs.lemmas.List.{get_or-map, length-map}
 use Rattle.std.proofs.lemmas.Nat.Bits.{bit_at_lowest, bit_at-lt, bit_at-suc}
 use Rattle.std.proofs.lemmas.List.Elements.{All-map, recursion_from_All}
-use Rattle.std.proofs.lemmas.List.FromFn.{get_or-map-range_with_len, map-range_with_len_more}
+use Rattle.std.proofs.lemmas.List.FromFn.{get_or-map-range_with_len}
+use Rattle.lemmas.proofs.Ranges.{same_below}
 use Rattle.aes_ctr.specs.Slices.{number_of, bit_in, bits_in, block_in}
 
 -- the bits of a byte, the lowest first
 abbrev pub bits_of : ℕ → List ℕ
 bits_of b = map (bit_at b) (range_with_len 0 8)
-
--- two functions that give the same for all below n
-pub same_below : {X : Type 0} (f g : ℕ → X) (n : ℕ) → ((p : ℕ) → p < n → f p ≡ g p) → map f (range_with_len 0 n) ≡ map g (range_with_len 0 n)
-same_below {X} f g n same = go n same
-  where
-    go : (m : ℕ) → ((p : ℕ) → p < m → f p ≡ g p) → map f (range_with_len 0 m) ≡ map g (range_with_len 0 m)
-    go zero h = refl
-    go (suc m) h =
-        let e : suc m ≡ m + 1 = omega arith in
-        ap (λ k. map f (range_with_len 0 k)) e ∙ map-range_with_len_more f 0 m m (omega arith)
-        ∙ ap₂ (λ (xs : List X) (x : X). xs ++ x ∷ []) (go m (λ p lt. h p (omega arith))) (h m (omega arith))
-        ∙ sym (map-range_with_len_more g 0 m m (omega arith)) ∙ ap (λ k. map g (range_with_len 0 k)) (sym e)
 
 -- and the other way round: where the two lists are one, so are the values
 pub at_below : {X : Type 0} (f g : ℕ → X) (n : ℕ) → map f (range_with_len 0 n) ≡ map g (range_with_len 0 n) → (p : ℕ) → p < n → f p ≡ g p

@@ -4,10 +4,11 @@ use Rattle.std.specs.Int.{w128, bit_at, bytes_high_first, to_be_bytes}
 use Rattle.std.proofs.lemmas.Bool.{cases_lt}
 use Rattle.std.specs.List.{range_with_len}
 use Rattle.std.proofs.lemmas.Nat.Bits.{bit_at_or, bit_at-zero}
+use Rattle.lemmas.proofs.Eights.{by_eight}
 use lib.Lanes.{zip2}
 use Rattle.aes_ctr.specs.Slices.{AreSlices, bit_in, block_in}
 use Rattle.aes_ctr.proofs.Bytes.{at_below, bits_of_block, is_block}
-use Rattle.aes_ctr.proofs.SliceLemmas.{by_bit, lane, long_both}
+use Rattle.aes_ctr.proofs.SliceLemmas.{lane, long_both}
 use Rattle.aes_ctr.proofs.TransposeLemmas.{are_slices, eight}
 
 -- two lists that differ in their last number
@@ -143,7 +144,7 @@ module _ (n j : ℕ) (slices : List (List ℕ)) (are : AreSlices slices) (fits :
 
   before_last : (p i : ℕ) → p < 15 → i < 8 → bit_in (get_or (counted slices) i []) j p ≡ bit_in (get_or slices i []) j p
   before_last p i before low =
-      by_bit (λ i. bit_in (get_or (counted slices) i []) j p ≡ bit_in (get_or slices i []) j p)
+      by_eight (λ i. bit_in (get_or (counted slices) i []) j p ≡ bit_in (get_or slices i []) j p)
       (kept_bit (get_or slices 0 []) 0 j (long slices are 0 (omega arith)) p before)
       (kept_bit (get_or slices 1 []) 1 j (long slices are 1 (omega arith)) p before)
       (kept_bit (get_or slices 2 []) 2 j (long slices are 2 (omega arith)) p before)
@@ -152,7 +153,7 @@ module _ (n j : ℕ) (slices : List (List ℕ)) (are : AreSlices slices) (fits :
 
   last : (i : ℕ) → i < 8 → bit_in (get_or (counted slices) i []) j 15 ≡ bit_at ((n + j) % 256) i
   last i low =
-      by_bit (λ i. bit_in (get_or (counted slices) i []) j 15 ≡ bit_at ((n + j) % 256) i)
+      by_eight (λ i. bit_in (get_or (counted slices) i []) j 15 ≡ bit_at ((n + j) % 256) i)
       (omega (arith, last_bit (get_or slices 0 []) 0 j (long slices are 0 (omega arith)) (omega arith) below, old 15 0 (omega arith) (omega arith)))
       (omega (arith, last_bit (get_or slices 1 []) 1 j (long slices are 1 (omega arith)) (omega arith) below, old 15 1 (omega arith) (omega arith)))
       (omega (arith, last_bit (get_or slices 2 []) 2 j (long slices are 2 (omega arith)) (omega arith) below, old 15 2 (omega arith) (omega arith)))

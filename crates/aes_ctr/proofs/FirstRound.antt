@@ -4,12 +4,13 @@ use Rattle.std.specs.Int.{w128, to_be_bytes}
 use Rattle.std.specs.List.{range_with_len}
 use Rattle.std.proofs.lemmas.List.FromFn.{get_or-map-range_with_len}
 use Rattle.std.proofs.lemmas.Nat.{xor_comm, xor_lt}
+use Rattle.lemmas.proofs.Numbers.{xor_exchange}
 use lib.Bits.{xor_assoc, xor_self, xor_zero_l, xor_zero_r}
 use Rattle.aes_ctr.specs.Aes.{mix_columns, round, round_key, rounds, shift_rows, xor_bytes}
 use Rattle.aes_ctr.specs.Byte.{inverse, substituted, substituted_bit}
 use Rattle.aes_ctr.specs.Differences.{counter_round}
 use Rattle.aes_ctr.proofs.CounterLemmas.{counter_bytes, high_bytes}
-use Rattle.aes_ctr.proofs.Mixing.{AddUp, crossed, mixed_sum}
+use Rattle.aes_ctr.proofs.Mixing.{AddUp, mixed_sum}
 
 -- a sum that cancels
 cancelled : (a b : ℕ) → a ≡ bit_xor b (bit_xor a b)
@@ -56,7 +57,7 @@ key_added (a ∷ l) (b ∷ m) (c ∷ n) [] size_m size_n = refl
 key_added (a ∷ l) (b ∷ m) (c ∷ n) (k ∷ key) size_m size_n =
     ap₂ (λ (x : ℕ) (xs : List ℕ). x ∷ xs)
     (ap (bit_xor (bit_xor a (bit_xor b c))) (sym (xor_zero_r k)) ∙ ap (λ z. bit_xor (bit_xor a (bit_xor b c)) (bit_xor k z)) (sym (xor_self k))
-    ∙ crossed a (bit_xor b c) k (bit_xor k k) ∙ ap (bit_xor (bit_xor a k)) (crossed b c k k))
+    ∙ xor_exchange a (bit_xor b c) k (bit_xor k k) ∙ ap (bit_xor (bit_xor a k)) (xor_exchange b c k k))
     (key_added l m n key (omega arith) (omega arith))
 
 module _ (key : List ℕ) (n x y : ℕ) (fits : n + 255 < 2 ^ 64) (whole : n % 256 ≡ 0) (small_x : x < 256) (small_y : y < 256) where

@@ -1,7 +1,8 @@
 -- MixColumns by doubling: twice the sum of a byte and the one below it, with the other three bytes of the column added.
-use Rattle.std.proofs.Common.{◌≡◌, ℕ, zero, suc, ◌+◌, ◌*◌, ◌/◌, ◌^◌, ◌<◌, List, [], ◌∷◌, ◌++◌, map, get_or, bit_xor, refl, sym, ap, ap₂, ◌∙◌, arith}
+use Rattle.std.proofs.Common.{◌≡◌, ℕ, zero, suc, ◌+◌, ◌*◌, ◌/◌, ◌<◌, List, [], ◌∷◌, ◌++◌, map, get_or, bit_xor, refl, sym, ap, ap₂, ◌∙◌, arith}
 use Rattle.std.specs.List.{range_with_len}
-use Rattle.std.proofs.lemmas.Nat.{xor_block, xor_comm, xor_lt, xor_shr}
+use Rattle.std.proofs.lemmas.Nat.{xor_comm, xor_lt, xor_shr}
+use Rattle.lemmas.proofs.Numbers.{double-xor, xor_exchange}
 use lib.Bits.{xor_assoc, xor_zero_r}
 use Rattle.aes_ctr.specs.Aes.{mix_column, mix_columns, shift_rows, xor_bytes}
 use Rattle.aes_ctr.specs.Byte.{product, times_x}
@@ -19,14 +20,6 @@ carried_tried = refl
 carried_is : (b : ℕ) → b < 256 → times_x b ≡ carried b
 carried_is = at_below times_x carried 256 carried_tried
 
-twice : (a b : ℕ) → 2 * bit_xor a b ≡ bit_xor (2 * a) (2 * b)
-twice a b =
-    let left : a * 2 ^ 1 + 0 ≡ 2 * a = omega arith in
-    let right : b * 2 ^ 1 + 0 ≡ 2 * b = omega arith in
-    let apart : bit_xor (a * 2 ^ 1 + 0) (b * 2 ^ 1 + 0) ≡ bit_xor a b * 2 ^ 1 + 0 = xor_block 1 a b 0 0 (omega arith) (omega arith) in
-    let whole : 2 * bit_xor a b ≡ bit_xor a b * 2 ^ 1 + 0 = omega arith in
-    whole ∙ sym apart ∙ ap₂ bit_xor left right
-
 times_283 : (h k : ℕ) → h < 2 → k < 2 → bit_xor h k * 0x11b ≡ bit_xor (h * 0x11b) (k * 0x11b)
 times_283 zero zero p q = refl
 times_283 zero (suc zero) p q = refl
@@ -36,17 +29,11 @@ times_283 (suc (suc h)) k p q = absurd (omega arith)
 times_283 zero (suc (suc k)) p q = absurd (omega arith)
 times_283 (suc zero) (suc (suc k)) p q = absurd (omega arith)
 
--- four sums in another order
-pub crossed : (a b c d : ℕ) → bit_xor (bit_xor a b) (bit_xor c d) ≡ bit_xor (bit_xor a c) (bit_xor b d)
-crossed a b c d =
-    xor_assoc a b (bit_xor c d) ∙ ap (bit_xor a) (sym (xor_assoc b c d) ∙ ap (λ x. bit_xor x d) (xor_comm b c) ∙ xor_assoc c b d)
-    ∙ sym (xor_assoc a c (bit_xor b d))
-
 times_x-xor : (a b : ℕ) → a < 256 → b < 256 → times_x (bit_xor a b) ≡ bit_xor (times_x a) (times_x b)
 times_x-xor a b small_a small_b =
     carried_is (bit_xor a b) (xor_lt 8 a b small_a small_b)
-    ∙ ap₂ bit_xor (twice a b) (ap (λ x. x * 0x11b) (xor_shr a b 7) ∙ times_283 (a / 128) (b / 128) (omega arith) (omega arith))
-    ∙ crossed (2 * a) (2 * b) (a / 128 * 0x11b) (b / 128 * 0x11b)
+    ∙ ap₂ bit_xor (double-xor a b) (ap (λ x. x * 0x11b) (xor_shr a b 7) ∙ times_283 (a / 128) (b / 128) (omega arith) (omega arith))
+    ∙ xor_exchange (2 * a) (2 * b) (a / 128 * 0x11b) (b / 128 * 0x11b)
     ∙ ap₂ bit_xor (sym (carried_is a small_a)) (sym (carried_is b small_b))
 
 -- ---- one byte of a mixed column
@@ -121,7 +108,7 @@ module _ (f : ℕ → ℕ) (small : (p : ℕ) → f p < 256) where
 
 -- the sum of two sums, each of two parts
 sum_of_parts : (x y a b c d : ℕ) → x ≡ bit_xor a b → y ≡ bit_xor c d → bit_xor x y ≡ bit_xor (bit_xor a c) (bit_xor b d)
-sum_of_parts x y a b c d first second = ap₂ bit_xor first second ∙ crossed a b c d
+sum_of_parts x y a b c d first second = ap₂ bit_xor first second ∙ xor_exchange a b c d
 
 twofold : (a b : ℕ) → a < 256 → b < 256 → product 2 (bit_xor a b) ≡ bit_xor (product 2 a) (product 2 b)
 twofold a b small_a small_b = product-2 (bit_xor a b) ∙ times_x-xor a b small_a small_b ∙ ap₂ bit_xor (sym (product-2 a)) (sym (product-2 b))

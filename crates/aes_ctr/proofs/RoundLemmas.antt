@@ -8,26 +8,13 @@ use Rattle.std.proofs.lemmas.List.Elements.{All-nil, recursion_from_All}
 use Rattle.std.proofs.lemmas.Nat.{xor_block}
 use Rattle.std.proofs.lemmas.Nat.Bits.{bit_at_xor}
 use Rattle.std.proofs.lemmas.Simd.{get_or-zip2, length-zip2, map-map, zip2-map}
+use Rattle.lemmas.proofs.Ranges.{same_below}
 use Rattle.aes_ctr.specs.Aes.{xor_bytes}
 use Rattle.aes_ctr.specs.Byte.{times_x}
 use Rattle.aes_ctr.specs.Circuit.{Gate, wire, sum, bit_of, slice_of}
 use Rattle.aes_ctr.specs.Slices.{AreSlices, bit_in, bits_in, block_in, moved_in_halves, number_of}
-use Rattle.aes_ctr.proofs.Bytes.{bits_of, bits_small, boxed_block, byte_of_block, length-bits_in, same_below}
+use Rattle.aes_ctr.proofs.Bytes.{bits_of, bits_small, boxed_block, byte_of_block, length-bits_in}
 use Rattle.aes_ctr.proofs.Circuits.{Is32, all_read, gates_bits, gates_size}
-
--- eight slices, each named
-pub named : (slices : List (List ℕ)) → length slices ≡ 8
-    → slices ≡ get_or slices 0 [] ∷ get_or slices 1 [] ∷ get_or slices 2 [] ∷ get_or slices 3 [] ∷ get_or slices 4 [] ∷ get_or slices 5 [] ∷ get_or slices 6 [] ∷ get_or slices 7 [] ∷ []
-named (a ∷ b ∷ c ∷ d ∷ e ∷ f ∷ g ∷ h ∷ []) size = refl
-named [] size = absurd (omega arith)
-named (a ∷ []) size = absurd (omega arith)
-named (a ∷ b ∷ []) size = absurd (omega arith)
-named (a ∷ b ∷ c ∷ []) size = absurd (omega arith)
-named (a ∷ b ∷ c ∷ d ∷ []) size = absurd (omega arith)
-named (a ∷ b ∷ c ∷ d ∷ e ∷ []) size = absurd (omega arith)
-named (a ∷ b ∷ c ∷ d ∷ e ∷ f ∷ []) size = absurd (omega arith)
-named (a ∷ b ∷ c ∷ d ∷ e ∷ f ∷ g ∷ []) size = absurd (omega arith)
-named (a ∷ b ∷ c ∷ d ∷ e ∷ f ∷ g ∷ h ∷ i ∷ rest) size = absurd (omega arith)
 
 -- ---- bytes that change places
 

@@ -1,22 +1,11 @@
 -- Bits of bytes that change places.
-use Rattle.std.proofs.Common.{◌≡◌, ℕ, zero, suc, ◌+◌, ◌-◌, ◌*◌, ◌/◌, ◌%◌, ◌^◌, ◌<◌, ◌==◌, if◌then◌else◌, List, length, get_or, replicate, bit_and, bit_or, refl, ap, ◌∙◌, arith, div-le_self}
+use Rattle.std.proofs.Common.{◌≡◌, ℕ, ◌+◌, ◌-◌, ◌*◌, ◌/◌, ◌%◌, ◌^◌, ◌<◌, ◌==◌, if◌then◌else◌, List, length, get_or, replicate, bit_and, bit_or, refl, ap, ◌∙◌, arith, div-le_self}
 use Rattle.std.specs.Int.{bit_at}
 use Rattle.std.proofs.lemmas.Nat.Bits.{bit_at_and, bit_at_or}
 use Rattle.std.proofs.lemmas.Simd.{length-zip2, get_or-zip2, get_or-replicate}
+use Rattle.lemmas.proofs.Eights.{by_eight}
 use lib.Bits.{and_le_r, or_lt}
 use lib.Lanes.{zip2}
-
--- a fact of each of the eight bits
-pub by_bit : (P : ℕ → Type 0) → P 0 → P 1 → P 2 → P 3 → P 4 → P 5 → P 6 → P 7 → (b : ℕ) → b < 8 → P b
-by_bit P p0 p1 p2 p3 p4 p5 p6 p7 zero lt = p0
-by_bit P p0 p1 p2 p3 p4 p5 p6 p7 (suc zero) lt = p1
-by_bit P p0 p1 p2 p3 p4 p5 p6 p7 (suc (suc zero)) lt = p2
-by_bit P p0 p1 p2 p3 p4 p5 p6 p7 (suc (suc (suc zero))) lt = p3
-by_bit P p0 p1 p2 p3 p4 p5 p6 p7 (suc (suc (suc (suc zero)))) lt = p4
-by_bit P p0 p1 p2 p3 p4 p5 p6 p7 (suc (suc (suc (suc (suc zero))))) lt = p5
-by_bit P p0 p1 p2 p3 p4 p5 p6 p7 (suc (suc (suc (suc (suc (suc zero)))))) lt = p6
-by_bit P p0 p1 p2 p3 p4 p5 p6 p7 (suc (suc (suc (suc (suc (suc (suc zero))))))) lt = p7
-by_bit P p0 p1 p2 p3 p4 p5 p6 p7 (suc (suc (suc (suc (suc (suc (suc (suc b)))))))) lt = absurd (omega arith)
 
 -- a lane of two vectors, and of one and a splat
 pub lane : (f : ℕ → ℕ → ℕ) (xs ys : List ℕ) (p : ℕ) → length xs ≡ 32 → length ys ≡ 32 → p < 32
@@ -101,7 +90,7 @@ first_1 x y =
     let or = bit_at_or (bit_and x 85) (bit_and y 85 * 2 ^ 1 % 2 ^ 8) in
     let stays = bit_at_and x 85 in
     let comes = bit_at_and y 85 in
-    by_bit (λ b. bit_at (first 1 85 x y) b ≡ (if b % 2 == 0 then bit_at x b else bit_at y (b - 1)))
+    by_eight (λ b. bit_at (first 1 85 x y) b ≡ (if b % 2 == 0 then bit_at x b else bit_at y (b - 1)))
     (omega (arith, or 0, stays 0))
     (omega (arith, or 1, stays 1, comes 0))
     (omega (arith, or 2, stays 2, comes 1))
@@ -116,7 +105,7 @@ second_1 x y =
     let or = bit_at_or (bit_and x 170 / 2 ^ 1) (bit_and y 170) in
     let comes = bit_at_and x 170 in
     let stays = bit_at_and y 170 in
-    by_bit (λ b. bit_at (second 1 170 x y) b ≡ (if b % 2 == 0 then bit_at x (b + 1) else bit_at y b))
+    by_eight (λ b. bit_at (second 1 170 x y) b ≡ (if b % 2 == 0 then bit_at x (b + 1) else bit_at y b))
     (omega (arith, or 0, stays 0, comes 1))
     (omega (arith, or 1, stays 1, comes 2))
     (omega (arith, or 2, stays 2, comes 3))
@@ -131,7 +120,7 @@ first_2 x y =
     let or = bit_at_or (bit_and x 51) (bit_and y 51 * 2 ^ 2 % 2 ^ 8) in
     let stays = bit_at_and x 51 in
     let comes = bit_at_and y 51 in
-    by_bit (λ b. bit_at (first 2 51 x y) b ≡ (if b / 2 % 2 == 0 then bit_at x b else bit_at y (b - 2)))
+    by_eight (λ b. bit_at (first 2 51 x y) b ≡ (if b / 2 % 2 == 0 then bit_at x b else bit_at y (b - 2)))
     (omega (arith, or 0, stays 0))
     (omega (arith, or 1, stays 1))
     (omega (arith, or 2, stays 2, comes 0))
@@ -146,7 +135,7 @@ second_2 x y =
     let or = bit_at_or (bit_and x 204 / 2 ^ 2) (bit_and y 204) in
     let comes = bit_at_and x 204 in
     let stays = bit_at_and y 204 in
-    by_bit (λ b. bit_at (second 2 204 x y) b ≡ (if b / 2 % 2 == 0 then bit_at x (b + 2) else bit_at y b))
+    by_eight (λ b. bit_at (second 2 204 x y) b ≡ (if b / 2 % 2 == 0 then bit_at x (b + 2) else bit_at y b))
     (omega (arith, or 0, stays 0, comes 2))
     (omega (arith, or 1, stays 1, comes 3))
     (omega (arith, or 2, stays 2, comes 4))
@@ -161,7 +150,7 @@ first_4 x y =
     let or = bit_at_or (bit_and x 15) (bit_and y 15 * 2 ^ 4 % 2 ^ 8) in
     let stays = bit_at_and x 15 in
     let comes = bit_at_and y 15 in
-    by_bit (λ b. bit_at (first 4 15 x y) b ≡ (if b / 4 % 2 == 0 then bit_at x b else bit_at y (b - 4)))
+    by_eight (λ b. bit_at (first 4 15 x y) b ≡ (if b / 4 % 2 == 0 then bit_at x b else bit_at y (b - 4)))
     (omega (arith, or 0, stays 0))
     (omega (arith, or 1, stays 1))
     (omega (arith, or 2, stays 2))
@@ -176,7 +165,7 @@ second_4 x y =
     let or = bit_at_or (bit_and x 240 / 2 ^ 4) (bit_and y 240) in
     let comes = bit_at_and x 240 in
     let stays = bit_at_and y 240 in
-    by_bit (λ b. bit_at (second 4 240 x y) b ≡ (if b / 4 % 2 == 0 then bit_at x (b + 4) else bit_at y b))
+    by_eight (λ b. bit_at (second 4 240 x y) b ≡ (if b / 4 % 2 == 0 then bit_at x (b + 4) else bit_at y b))
     (omega (arith, or 0, stays 0, comes 4))
     (omega (arith, or 1, stays 1, comes 5))
     (omega (arith, or 2, stays 2, comes 6))

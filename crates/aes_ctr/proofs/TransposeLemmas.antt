@@ -3,9 +3,9 @@ use Rattle.std.proofs.Common.{◌≡◌, ℕ, ◌+◌, ◌-◌, ◌*◌, ◌/◌
 use Rattle.std.specs.Int.{bit_at}
 use Rattle.std.specs.List.{range_with_len}
 use Rattle.std.proofs.lemmas.List.{get_or-drop, get_or-take, length-drop, length-take-le, take-append-drop, take_all}
+use Rattle.lemmas.proofs.Eights.{by_eight}
 use Rattle.aes_ctr.specs.Slices.{AreSlices, block_in}
 use Rattle.aes_ctr.proofs.Bytes.{at_below, is_block}
-use Rattle.aes_ctr.proofs.SliceLemmas.{by_bit}
 
 -- bit b of byte p of slice i
 abbrev pub slice_bit : List (List ℕ) → ℕ → ℕ → ℕ → ℕ
@@ -58,7 +58,7 @@ module _ (p : ℕ) (a0 a1 a2 a3 a4 a5 a6 a7 c0 c1 c2 c3 c4 c5 c6 c7 : List ℕ) 
       → Stage 1 p (eight a0 a1 a2 a3 a4 a5 a6 a7) (eight c0 c1 c2 c3 c4 c5 c6 c7)
   stage_1 e01 e23 e45 e67 i b below within =
       let old = eight a0 a1 a2 a3 a4 a5 a6 a7 in
-      by_bit (λ i. slice_bit (eight c0 c1 c2 c3 c4 c5 c6 c7) p i b ≡ slice_bit old p (slice_before 1 i b) (slice_before 1 b i))
+      by_eight (λ i. slice_bit (eight c0 c1 c2 c3 c4 c5 c6 c7) p i b ≡ slice_bit old p (slice_before 1 i b) (slice_before 1 b i))
       (row 1 p 0 old (firsts 1 p a0 a1) c0 refl e01.firsts_are b within)
       (row 1 p 1 old (seconds 1 p a0 a1) c1 refl e01.seconds_are b within)
       (row 1 p 2 old (firsts 1 p a2 a3) c2 refl e23.firsts_are b within)
@@ -73,7 +73,7 @@ module _ (p : ℕ) (a0 a1 a2 a3 a4 a5 a6 a7 c0 c1 c2 c3 c4 c5 c6 c7 : List ℕ) 
       → Stage 2 p (eight a0 a1 a2 a3 a4 a5 a6 a7) (eight c0 c1 c2 c3 c4 c5 c6 c7)
   stage_2 e02 e13 e46 e57 i b below within =
       let old = eight a0 a1 a2 a3 a4 a5 a6 a7 in
-      by_bit (λ i. slice_bit (eight c0 c1 c2 c3 c4 c5 c6 c7) p i b ≡ slice_bit old p (slice_before 2 i b) (slice_before 2 b i))
+      by_eight (λ i. slice_bit (eight c0 c1 c2 c3 c4 c5 c6 c7) p i b ≡ slice_bit old p (slice_before 2 i b) (slice_before 2 b i))
       (row 2 p 0 old (firsts 2 p a0 a2) c0 refl e02.firsts_are b within)
       (row 2 p 1 old (firsts 2 p a1 a3) c1 refl e13.firsts_are b within)
       (row 2 p 2 old (seconds 2 p a0 a2) c2 refl e02.seconds_are b within)
@@ -88,7 +88,7 @@ module _ (p : ℕ) (a0 a1 a2 a3 a4 a5 a6 a7 c0 c1 c2 c3 c4 c5 c6 c7 : List ℕ) 
       → Stage 4 p (eight a0 a1 a2 a3 a4 a5 a6 a7) (eight c0 c1 c2 c3 c4 c5 c6 c7)
   stage_4 e04 e15 e26 e37 i b below within =
       let old = eight a0 a1 a2 a3 a4 a5 a6 a7 in
-      by_bit (λ i. slice_bit (eight c0 c1 c2 c3 c4 c5 c6 c7) p i b ≡ slice_bit old p (slice_before 4 i b) (slice_before 4 b i))
+      by_eight (λ i. slice_bit (eight c0 c1 c2 c3 c4 c5 c6 c7) p i b ≡ slice_bit old p (slice_before 4 i b) (slice_before 4 b i))
       (row 4 p 0 old (firsts 4 p a0 a4) c0 refl e04.firsts_are b within)
       (row 4 p 1 old (firsts 4 p a1 a5) c1 refl e15.firsts_are b within)
       (row 4 p 2 old (firsts 4 p a2 a6) c2 refl e26.firsts_are b within)
@@ -139,5 +139,5 @@ pub are_slices : (a b c d e f g h : List ℕ) → length a ≡ 32 → length b �
     → length e ≡ 32 → length f ≡ 32 → length g ≡ 32 → length h ≡ 32 → AreSlices (eight a b c d e f g h)
 are_slices a b c d e f g h la lb lc ld le lf lg lh = record {
   eight = refl;
-  each = λ k other below. by_bit (λ k. length (get_or (eight a b c d e f g h) k other) ≡ 32) la lb lc ld le lf lg lh k below;
+  each = λ k other below. by_eight (λ k. length (get_or (eight a b c d e f g h) k other) ≡ 32) la lb lc ld le lf lg lh k below;
 }

@@ -1,9 +1,9 @@
 use Rattle.std.proofs.Common.{◌≡◌, ◌+◌, ◌*◌, ◌/◌, ◌%◌, ◌^◌, ◌<◌, ◌==◌, if◌then◌else◌, ℕ, List, [], get_or, bit_and, sym, ap, ◌∙◌, arith}
 use Rattle.std.specs.Int.{bit_at}
 use Rattle.std.proofs.lemmas.Simd.{Each1-get_or}
+use Rattle.lemmas.proofs.Eights.{by_eight}
 use Rattle.aes_ctr.specs.Slices.{bit_in}
 use Rattle.aes_ctr.proofs.Bytes.{is_block}
-use Rattle.aes_ctr.proofs.SliceLemmas.{by_bit}
 use Rattle.aes_ctr.proofs.SpreadLemmas.{in_both, spread_bit}
 use Rattle.aes_ctr.proofs.TransposeLemmas.{are_slices, eight}
 use Rattle.aes_ctr.proofs.slices.repeated.Goals as goal
@@ -29,7 +29,7 @@ returns-clause-blocks c j below =
     spread_bit x i (j / 2) (omega arith)
     ∙ ap (λ (y : ℕ). bit_at y (j / 2)) (ap (λ (y : ℕ). if bit_and y (2 ^ i) == 2 ^ i then 255 else 0) (sym byte) ∙ sym is)
     in
-    by_bit (λ i. bit_at x i ≡ bit_in (get_or slices i []) j p)
+    by_eight (λ i. bit_at x i ≡ bit_in (get_or slices i []) j p)
     (spread 0 c.spread.result (c.spread.ensures.lanes q within))
     (spread 1 c.spread-2.result (c.spread-2.ensures.lanes q within))
     (spread 2 c.spread-3.result (c.spread-3.ensures.lanes q within))

@@ -1,6 +1,6 @@
 use Rattle.std.proofs.Common.{◌≡◌, ◌<◌, ℕ, List, [], get_or, refl, ◌∙◌}
 use Rattle.std.specs.Int.{bit_at}
-use Rattle.aes_ctr.proofs.SliceLemmas.{by_bit}
+use Rattle.lemmas.proofs.Eights.{by_eight}
 use Rattle.aes_ctr.proofs.TransposeLemmas.{Exchanged, are_slices, eight, slice_bit, of_single_bits, stage_1, stage_2, stage_4, transposed, two_blocks}
 use Rattle.aes_ctr.proofs.slices.transposed.Goals as goal
 
@@ -65,10 +65,10 @@ returns-clause-blocks c t below =
     (stage_2 q b0 b1 b2 b3 b4 b5 b6 b7 d0 d1 d2 d3 d4 d5 d6 d7 x20 x21 x22 x23)
     (stage_4 q d0 d1 d2 d3 d4 d5 d6 d7 e0 e1 e2 e3 e4 e5 e6 e7 x40 x41 x42 x43)
     t i below low
-    ∙ by_bit (λ i. slice_bit (eight a0 a1 a2 a3 a4 a5 a6 a7) q i t ≡ slice_bit slices q i t) refl refl refl refl refl refl refl refl i low
+    ∙ by_eight (λ i. slice_bit (eight a0 a1 a2 a3 a4 a5 a6 a7) q i t ≡ slice_bit slices q i t) refl refl refl refl refl refl refl refl i low
     in
     let bytes : (q : ℕ) → q < 32 → get_or (get_or new t []) q 0 < 256 = λ q within.
-    by_bit (λ t. get_or (get_or new t []) q 0 < 256)
+    by_eight (λ t. get_or (get_or new t []) q 0 < 256)
     (c.exchanged_4.ensures.bytes q within).0
     (c.exchanged_4-2.ensures.bytes q within).0
     (c.exchanged_4-3.ensures.bytes q within).0
