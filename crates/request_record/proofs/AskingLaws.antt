@@ -4,6 +4,7 @@ use Rattle.std.specs.Prelude.{slice_get}
 use Rattle.std.proofs.lemmas.Bool.{cases_lt}
 use Rattle.std.proofs.lemmas.List.{length-append}
 use Rattle.std.proofs.lemmas.Option.{slice_get_within}
+use Rattle.lemmas.proofs.Places.{get_push, get_last}
 use Rattle.wire.specs.declared.message.Body.{Body}
 use Rattle.wire.specs.declared.message.Message.{Message}
 use Rattle.request_record.specs.declared.requests.Asked.{Asked}
@@ -12,7 +13,6 @@ use Rattle.request_record.specs.declared.requests.Outcome.TheVariants.{Answered,
 use Rattle.request_record.specs.declared.requests.Request.{Request}
 use Rattle.request_record.specs.Record.{RequestsState, at, answered_in, counted_at, counts_at, first_request, is_lost_at, is_resent_at, resent_one, ticked_one, with_outcome}
 use Rattle.request_record.specs.Asking.{AreApart, AsksOnce, after_message, after_tick}
-use Rattle.request_record.proofs.RecordLaws.{get_push, get_last}
 
 -- the request asks the same of the same server
 abbrev AsksSame : Request → Request → Type 0

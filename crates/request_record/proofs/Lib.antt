@@ -1,3 +1,4 @@
+pub mod StepLaws
 pub mod RecordLaws
 pub mod QueueLaws
 pub mod AskingLaws

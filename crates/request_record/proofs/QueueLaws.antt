@@ -4,11 +4,11 @@ use Rattle.std.specs.Prelude.{◌==◌, ◌&&◌, not, slice_get, slice_set, nat
 use Rattle.std.specs.List.{All}
 use Rattle.std.proofs.lemmas.Bool.{ltb-true, leb-true, lt-ltb, eqb-true}
 use Rattle.std.proofs.lemmas.List.Elements.{All-nil, All-cons, All-head, All-tail, All-weaker}
+use Rattle.lemmas.proofs.Bools.{both}
 use Rattle.request_record.specs.declared.requests.Outcome.{Outcome}
 use Rattle.request_record.specs.declared.requests.Outcome.TheVariants.{Lost}
 use Rattle.request_record.specs.declared.requests.Request.{Request}
 use Rattle.request_record.specs.Record.{AreInOrder, IsRecord, IsIndexed, is_current_in, was_sent_again, was_sent_again_in, sent_to, without, without_lost, is_outstanding, with_outcome, passed, age_of, is_lost_at, is_resent_at, is_lost_in, resent_one, ticked_one, places_from, resent_places}
-use Rattle.request_record.proofs.RecordLaws.{both}
 
 -- the request at a place was sent again
 abbrev IsAgain : List Request → ℕ → Type 0

@@ -8,6 +8,10 @@ use Rattle.std.proofs.Math.Seq.{take-set-lt}
 use Rattle.std.proofs.lemmas.List.Sums.{sum_by-append, sum_by-cons, sum_by-set}
 use Rattle.std.proofs.lemmas.List.Elements.{All-nil, All-cons, All-head, All-tail, All-push, All-weaker, All-append, All-set, All-map, All-more, All-same}
 use Rattle.std.proofs.lemmas.Option.{get_or_from_slice_get, slice_get-map}
+use Rattle.lemmas.proofs.Options.{chosen}
+pub use Rattle.lemmas.proofs.Places.{get_push, get_last}
+use Rattle.lemmas.proofs.Places.{get_set_other}
+use Rattle.lemmas.proofs.Bools.{both, not_both}
 use Rattle.wire.specs.declared.message.Body.{Body}
 use Rattle.wire.specs.declared.message.Message.{Message}
 use Rattle.request_record.specs.declared.requests.Asked.{Asked}
@@ -16,6 +20,7 @@ use Rattle.request_record.specs.declared.requests.Outcome.{Outcome}
 use Rattle.request_record.specs.declared.requests.Outcome.TheVariants.{Unawaited, Outstanding, Answered, Lost}
 use Rattle.request_record.specs.declared.requests.Request.{Request}
 use Rattle.request_record.specs.Record.{RequestsState, IsRecord, IsIndexed, AreSettled, AreInOrder, fits, is_outstanding, with_outcome, first_outcome, first_request, asked_more, asked_all, awaits_at, counts_at, without, without_lost, passed, age_of, is_lost_at, is_resent_at, is_lost_in, resent_one, ticked_one, places_from, resent_places, lost_places, IsSentFew, is_current, is_current_in, outstanding_count}
+use Rattle.request_record.proofs.StepLaws.{count_cons, waiting_one}
 use Rattle.request_record.specs.Asking.{asks_of, begun, fresh}
 
 -- ---- lists
@@ -26,22 +31,6 @@ IsQuiet r = is_outstanding r.outcome ≡ false
 abbrev IsCurrentIn : List Request → ℕ → Type 0
 IsCurrentIn entries place = is_current_in (slice_get entries place) ≡ true
 
-pub get_push : {X : Type 0} (xs : List X) (x : X) (i : ℕ) → i < length xs → slice_get (xs ++ x ∷ []) i ≡ slice_get xs i
-get_push [] x i lt = absurd (omega (arith, lt))
-get_push (y ∷ ys) x zero lt = refl
-get_push (y ∷ ys) x (suc i) lt = get_push ys x i (omega (arith, lt))
-
-pub get_last : {X : Type 0} (xs : List X) (x : X) → slice_get (xs ++ x ∷ []) (length xs) ≡ Some x
-get_last [] x = refl
-get_last (y ∷ ys) x = get_last ys x
-
-get_set_other : {X : Type 0} (xs : List X) (i j : ℕ) (y : X) → (j ≡ i → ⊥) → slice_get (set xs i y) j ≡ slice_get xs j
-get_set_other [] i j y other = refl
-get_set_other (x ∷ xs) zero zero y other = absurd (other refl)
-get_set_other (x ∷ xs) zero (suc j) y other = refl
-get_set_other (x ∷ xs) (suc i) zero y other = refl
-get_set_other (x ∷ xs) (suc i) (suc j) y other = get_set_other xs i j y (λ e. other (ap suc e))
-
 -- what a filter keeps, where what it tests gives more
 all_kept : {X : Type 0} (P Q : X → Type 0) (test : X → Bool) → ((x : X) → P x → test x ≡ true → Q x) → (xs : List X) → All P xs → All Q (filter test xs)
 all_kept P Q test from [] all = All-nil Q
@@ -50,14 +39,6 @@ all_kept P Q test from (x ∷ xs) all = go (test x) refl (all_kept P Q test from
     go : (b : Bool) → test x ≡ b → All Q (filter test xs) → All Q (cond b (x ∷ filter test xs) (filter test xs))
     go true e rest = All-cons Q x (filter test xs) (from x (All-head P x xs all) e) rest
     go false e rest = rest
-
-not_true : (b : Bool) → not b ≡ true → b ≡ true → ⊥
-not_true true e h = cc
-not_true false e h = cc
-
-pub both : (a b : Bool) → (a && b) ≡ true → (a ≡ true) × (b ≡ true)
-both true b e = (refl, e)
-both false b e = absurd cc
 
 -- ---- asking
 
@@ -130,10 +111,6 @@ pub record Awaits (entries : List Request) (place : ℕ) : Type 0 where
   pub there : slice_get entries place ≡ Some request
   pub waits : is_outstanding request.outcome ≡ true
 
-chosen : (b : Bool) (x y : ℕ) → cond b (Some x) None ≡ Some y → (b ≡ true) × (x ≡ y)
-chosen true x y e = (refl, cc)
-chosen false x y e = absurd cc
-
 awaits_is : (from : ℕ) (body : Body) (entries : List Request) (place : ℕ) (o : Option Request) → slice_get entries place ≡ o → awaits_at from body o ≡ true → Awaits entries place
 awaits_is from body entries place None there e = absurd cc
 awaits_is from body entries place (Some r) there e =
@@ -168,7 +145,7 @@ pub answered_right : (r : RequestsState) (place : ℕ) (a : Awaits r.entries pla
 answered_right r place a body lt right new entries-are outgoing-are =
     let len : length new.entries ≡ length r.entries = ap length entries-are ∙ length-set r.entries place (with_outcome a.request (Answered body)) in
     let there : All (λ p. p < length new.entries) (without place r.outgoing) = all_kept (λ p. p < length r.entries) (λ p. p < length new.entries) (λ (p : ℕ). not (p == place)) (λ p h e. omega (arith, h, len)) r.outgoing right.there in
-    let current : All (IsCurrentIn (settled r.entries place a body)) (without place r.outgoing) = all_kept (IsCurrentIn r.entries) (IsCurrentIn (settled r.entries place a body)) (λ (p : ℕ). not (p == place)) (λ p h e. ap is_current_in (get_set_other r.entries place p (with_outcome a.request (Answered body)) (λ same. not_true (p == place) e (eq-eqb p place same))) ∙ h) r.outgoing right.current in
+    let current : All (IsCurrentIn (settled r.entries place a body)) (without place r.outgoing) = all_kept (IsCurrentIn r.entries) (IsCurrentIn (settled r.entries place a body)) (λ (p : ℕ). not (p == place)) (λ p h e. ap is_current_in (get_set_other r.entries place p (with_outcome a.request (Answered body)) (λ same. not_both (p == place) (eq-eqb p place same) e)) ∙ h) r.outgoing right.current in
     record {
       few = subst (All IsSentFew) (sym entries-are) (few_settled r.entries place a body lt right.few);
       there = subst (All (λ p. p < length new.entries)) (sym outgoing-are) there;
@@ -209,7 +186,8 @@ few_one now r few = go (is_lost_at now r) (is_resent_at now r) refl
 pub few_ticked : (now : ℕ) (entries : List Request) → All IsSentFew entries → All IsSentFew (map (ticked_one now) entries)
 few_ticked now entries few = All-map IsSentFew (ticked_one now) entries (All-weaker IsSentFew (λ r. IsSentFew (ticked_one now r)) (few_one now) entries few)
 
-places_there : (test : Request → Bool) (place : ℕ) (entries : List Request) (n : ℕ) → place + length entries ≤ n → All (λ p. p < n) (places_from test place entries)
+-- the places of those that pass a test are below their number
+pub places_there : (test : Request → Bool) (place : ℕ) (entries : List Request) (n : ℕ) → place + length entries ≤ n → All (λ p. p < n) (places_from test place entries)
 places_there test place [] n le = All-nil (λ p. p < n)
 places_there test place (r ∷ rs) n le = go (test r) (places_there test (place + 1) rs n (omega arith))
   where
@@ -270,13 +248,6 @@ ticked_right now r right new entries-are outgoing-are =
       there = subst (All (λ p. p < length new.entries)) (sym outgoing-are) there;
       current = subst (λ (es : List Request). All (IsCurrentIn es) new.outgoing) (sym entries-are) (subst (All (IsCurrentIn (map (ticked_one now) r.entries))) (sym outgoing-are) current);
     }
-
--- one request waits or not
-abbrev waiting_one : Request → ℕ
-waiting_one r = cond (is_outstanding r.outcome) 1 0
-
-count_cons : (r : Request) (rs : List Request) → outstanding_count (r ∷ rs) ≡ waiting_one r + outstanding_count rs
-count_cons r rs = sum_by-cons waiting_one r rs
 
 -- how many a tick finds lost
 pub count_ticked : (now place : ℕ) (entries : List Request) → outstanding_count (map (ticked_one now) entries) + length (places_from (is_lost_at now) place entries) ≡ outstanding_count entries
