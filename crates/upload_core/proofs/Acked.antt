@@ -2,8 +2,9 @@
 use Rattle.std.proofs.Common.{◌≡◌, ℕ, zero, suc, ◌<◌, inl, inr, Bool, true, false, cond, ◌&&◌, ◌||◌, List, [], ◌∷◌, ◌++◌, All, Contains, length, get_or, eqb, refl, sym, subst, arith, true≢false}
 use Rattle.std.specs.List.{list_any}
 use Rattle.std.specs.Prelude.{nat_lt}
-use Rattle.std.proofs.lemmas.Bool.{eq-eqb, ltb-true}
+use Rattle.std.proofs.lemmas.Bool.{eq-eqb, ltb-true, or_left, or_right}
 use Rattle.std.proofs.lemmas.List.Elements.{All-nil, All-cons, All-head, All-tail, All-append, All-weaker}
+use Rattle.lemmas.proofs.Bools.{both}
 use Rattle.wire.specs.declared.message.Body.{Body}
 use Rattle.wire.specs.declared.message.Body.TheVariants.{Ask, Have, Allocate, Granted, Already, Busy, Full, Write, Wrote, WrongOffset, Close, Closed, NotComplete, Abort, Read, Data, NoShare}
 use Rattle.wire.specs.declared.message.HeldShare.{HeldShare}
@@ -17,7 +18,6 @@ use Rattle.upload_core.specs.State.{Goal}
 use Rattle.upload_core.specs.Acknowledged.{acked_answer, acked_by, acked_held, acked_outcome, acked_pairs, acked_share, is_digest_of}
 use Rattle.upload_core.specs.Rounds.{answers_as, asked_answered_as, readonly_servers, writable_servers}
 use Rattle.upload_core.specs.Course.{IsOfTold, has_told, is_holdings, is_told}
-use Rattle.upload_core.proofs.Records.{both, or_left, or_right}
 use Rattle.upload_core.proofs.Servers.{told_there}
 
 module _ (g : Goal) (s : ℕ) where

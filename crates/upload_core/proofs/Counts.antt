@@ -1,21 +1,15 @@
 -- How many requests wait, as the record goes on.
 use Rattle.std.proofs.Common.{◌≡◌, ℕ, zero, suc, ◌+◌, Bool, true, false, cond, List, [], ◌∷◌, Option, Some, None, length, map, refl, sym, ap, ◌∙◌, arith, true≢false}
 use Rattle.std.specs.Prelude.{max, slice_get}
-use Rattle.std.proofs.lemmas.List.Sums.{sum_by-cons}
+use Rattle.request_record.proofs.StepLaws.{count_cons, waiting_one, all_quiet_ticked, uncounted}
 use Rattle.wire.specs.declared.message.Message.{Message}
 use Rattle.request_record.specs.declared.requests.Asked.TheVariants.{Allocation}
 use Rattle.request_record.specs.declared.requests.Request.{Request}
-use Rattle.request_record.specs.Record.{RequestsState, asked_all, asked_more, at, counted_at, counts_at, first_request, is_outstanding, outstanding_count, ticked_one}
+use Rattle.request_record.specs.Record.{RequestsState, asked_all, asked_more, counts_at, first_request, is_outstanding, outstanding_count}
 use Rattle.request_record.specs.Asking.{after_message, after_tick}
 use Rattle.request_record.proofs.RecordLaws.{count_push, counts_is}
 use Rattle.placement.specs.Matching.{Pair}
 use Rattle.upload_core.specs.Rounds.{IsSettled}
-
-abbrev waiting_one : Request → ℕ
-waiting_one r = cond (is_outstanding r.outcome) 1 0
-
-count_cons : (r : Request) (rs : List Request) → outstanding_count (r ∷ rs) ≡ waiting_one r + outstanding_count rs
-count_cons r rs = sum_by-cons waiting_one r rs
 
 -- room for each pair is waited for
 pub count_allocations : (len : ℕ) (pairs : List Pair) (r : RequestsState) → outstanding_count (asked_all (map (λ (pair : Pair). (pair.0, Allocation pair.1 len)) pairs) r).entries ≡ outstanding_count r.entries + length pairs
@@ -36,17 +30,6 @@ quiet_of (q ∷ qs) settled zero r e =
     by false k = refl
 quiet_of (q ∷ qs) settled (suc i) r e = quiet_of qs (omega (arith, settled, count_cons q qs)) i r e
 
-ticked_settled : (now : ℕ) (rs : List Request) → outstanding_count rs ≡ 0 → map (ticked_one now) rs ≡ rs
-ticked_settled now [] settled = refl
-ticked_settled now (q ∷ qs) settled =
-    let rest : map (ticked_one now) qs ≡ qs = ticked_settled now qs (omega (arith, settled, count_cons q qs)) in
-    let quiet : is_outstanding q.outcome ≡ false = quiet_of (q ∷ qs) settled 0 q refl in
-    let same : ticked_one now q ≡ q = rw quiet refl in
-    ap (λ (x : Request). x ∷ map (ticked_one now) qs) same ∙ ap (λ (xs : List Request). q ∷ xs) rest
-
-pub counted_none : (from : ℕ) (m : Message) (now : ℕ) (r : RequestsState) → counts_at from m r ≡ None → (after_message from m now r).entries ≡ r.entries
-counted_none from m now r e = ap (λ (o : Option ℕ). (counted_at m (at now r) o).entries) e
-
 -- no message counts for a settled record
 settled_none : (from : ℕ) (m : Message) (r : RequestsState) → IsSettled r.entries → (o : Option ℕ) → counts_at from m r ≡ o → o ≡ None
 settled_none from m r settled None e = refl
@@ -55,7 +38,7 @@ settled_none from m r settled (Some place) e =
     absurd (true≢false (sym a.waits ∙ quiet_of r.entries settled place a.request a.there))
 
 pub message_settled : (from : ℕ) (m : Message) (now : ℕ) (r : RequestsState) → IsSettled r.entries → (after_message from m now r).entries ≡ r.entries
-message_settled from m now r settled = counted_none from m now r (settled_none from m r settled (counts_at from m r) refl)
+message_settled from m now r settled = uncounted from m now r (settled_none from m r settled (counts_at from m r) refl)
 
 pub tick_settled : (now : ℕ) (r : RequestsState) → IsSettled r.entries → (after_tick now r).entries ≡ r.entries
-tick_settled now r settled = ticked_settled (max r.clock now) r.entries settled
+tick_settled now r settled = all_quiet_ticked (max r.clock now) r.entries settled

@@ -5,6 +5,7 @@ use Rattle.std.specs.List.{AllByRecursion, IsDistinct}
 use Rattle.std.proofs.lemmas.Bool.{cases_lt, eq-eqb}
 use Rattle.std.proofs.lemmas.List.Elements.{All-contains, Contains-get_or}
 use Rattle.std.proofs.lemmas.Option.{slice_get-map}
+use Rattle.lemmas.proofs.Bools.{both}
 use Rattle.wire.specs.declared.message.Message.{Message}
 use Rattle.request_record.specs.declared.requests.Asked.{Asked}
 use Rattle.request_record.specs.declared.requests.Outcome.TheVariants.{Answered, Lost}
@@ -21,7 +22,7 @@ use Rattle.upload_core.proofs.Lists.{all_of, contains_at, from_flat, get_either,
 use Rattle.request_record.proofs.RecordLaws.{counts_is}
 use Rattle.placement.proofs.Best.{each_absent}
 use Rattle.placement.proofs.Members.{Contains-nil, Contains-uncons}
-use Rattle.upload_core.proofs.Records.{Goes, about_was, both, was_goes}
+use Rattle.upload_core.proofs.Records.{Goes, about_was, was_goes}
 use Rattle.upload_core.proofs.Goes.{message_goes, tick_goes}
 use Rattle.upload_core.proofs.Followed.{asked_after, entries_all, inside_at, message_there, new_of}
 

@@ -4,6 +4,7 @@ use Rattle.std.specs.Prelude.{◌==◌, slice_get, is_some, option_map}
 use Rattle.std.proofs.lemmas.Bool.{cases_lt}
 use Rattle.std.proofs.lemmas.List.{append_assoc, append-nil}
 use Rattle.std.proofs.lemmas.Option.{get_or_from_slice_get, slice_get-map, slice_get_within}
+use Rattle.lemmas.proofs.Places.{get_last}
 use Rattle.wire.specs.declared.message.Body.{Body}
 use Rattle.wire.specs.declared.message.Body.TheVariants.{Already, Closed, Granted, Wrote, WrongOffset}
 use Rattle.wire.specs.declared.message.Message.{Message}
@@ -14,7 +15,7 @@ use Rattle.request_record.specs.declared.requests.Outcome.TheVariants.{Unawaited
 use Rattle.request_record.specs.declared.requests.Request.{Request}
 use Rattle.request_record.specs.Record.{RequestsState, answered_in, asked_all, asked_more, at, counted_at, counts_at, first_outcome, first_request, is_lost_at, is_outstanding, is_resent_at, resent_one, ticked_one, with_outcome}
 use Rattle.request_record.specs.Asking.{after_message, after_tick}
-use Rattle.request_record.proofs.RecordLaws.{Awaits, counts_is, get_last}
+use Rattle.request_record.proofs.RecordLaws.{Awaits, counts_is}
 use Rattle.placement.specs.Matching.{Pair}
 use Rattle.placement.proofs.Members.{Contains-head, Contains-nil, Contains-uncons}
 use Rattle.upload_core.specs.State.{Goal}

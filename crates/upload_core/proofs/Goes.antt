@@ -1,24 +1,27 @@
 -- How an upload goes on from its record.
-use Rattle.std.proofs.Common.{◌≡◌, ◌≢◌, ℕ, zero, suc, ◌+◌, ◌<◌, ◌≤◌, ◌==◌, ◌⊎◌, inl, inr, Bool, true, false, cond, ◌&&◌, ◌||◌, List, [], ◌∷◌, ◌++◌, All, Option, Some, None, Result, Ok, Err, length, take, map, get_or, eqb, nat_lt, IsPermutation, refl, sym, ap, subst, ◌∙◌, arith, true≢false}
+use Rattle.std.proofs.Common.{◌≡◌, ◌≢◌, ℕ, zero, suc, ◌+◌, ◌<◌, ◌≤◌, ◌==◌, inl, inr, Bool, true, false, ◌&&◌, ◌||◌, List, [], ◌∷◌, ◌++◌, All, Option, Some, None, Result, Ok, Err, length, take, map, get_or, eqb, nat_lt, IsPermutation, refl, sym, ap, subst, ◌∙◌, arith, true≢false}
 use Rattle.std.specs.Prelude.{max, slice_get}
-use Rattle.std.specs.Result.{IfOk, OnOk, OnErr}
+use Rattle.std.specs.Result.{IfOk}
 use Rattle.std.specs.List.{AllByRecursion, IsDistinct, range_with_len}
 use Rattle.std.specs.Cmp.{nat_eq_equiv}
 use Rattle.std.proofs.lemmas.Grind.{flat_map-append}
 use Rattle.std.proofs.lemmas.List.Sorted.{IsPermutation-map}
 use Rattle.std.proofs.lemmas.Map.Keys.{IsDistinct-IsPermutation}
-use Rattle.std.proofs.lemmas.Bool.{cases_lt, eqb-true, eq-eqb, ltb-true, ltb-false}
+use Rattle.std.proofs.lemmas.Bool.{cases_lt, eqb-true, eq-eqb, ltb-true, ltb-false, or_left, or_right}
 use Rattle.std.proofs.lemmas.List.{append-nil, append_assoc, length-append, length-map, map-append, take_more}
 use Rattle.std.proofs.lemmas.List.Elements.{All-cons, All-head, All-nil, All-tail, All-take}
 use Rattle.std.proofs.lemmas.Option.{slice_get-get_or, slice_get_within}
+use Rattle.lemmas.proofs.Places.{get_last, get_push}
+use Rattle.request_record.proofs.StepLaws.{asked_joined, sent_entries}
+use Rattle.lemmas.proofs.Bools.{both}
 use Rattle.wire.specs.declared.message.Body.{Body}
 use Rattle.wire.specs.declared.message.Message.{Message}
 use Rattle.request_record.specs.declared.requests.Asked.{Asked}
 use Rattle.request_record.specs.declared.requests.Asked.TheVariants.{Holdings, Allocation, Writing, Closing, Reading, Aborting}
 use Rattle.request_record.specs.declared.requests.Request.{Request}
-use Rattle.request_record.specs.Record.{RequestsState, TakesNext, answered_in, asked_all, asked_more, at, counted_at, counts_at, first_request, is_lost_at, is_outstanding, places_from}
+use Rattle.request_record.specs.Record.{RequestsState, TakesNext, answered_in, asked_all, asked_more, at, counted_at, counts_at, first_request, is_lost_at, is_outstanding}
 use Rattle.request_record.specs.Asking.{after_message, after_tick, asks_of, begun, fresh, lost_by_tick}
-use Rattle.request_record.proofs.RecordLaws.{Awaits, asked_snoc, counts_is, get_last, get_push}
+use Rattle.request_record.proofs.RecordLaws.{Awaits, asked_snoc, counts_is, places_there}
 use Rattle.placement.specs.Matching.{IsLargestMatching, Pair, shares_of}
 use Rattle.placement.specs.Plan.{IsPlan}
 use Rattle.upload_core.specs.declared.status.ServerInfo.{ServerInfo}
@@ -30,15 +33,7 @@ use Rattle.upload_core.specs.Moves.{AreInOrder, GoesOn, TicksWith, all_follow_up
 use Rattle.upload_core.specs.Course.{IsCourse, IsInside, IsOfTold, MayPlace, allocations, asked_servers, is_holdings}
 use Rattle.upload_core.specs.Trails.{AreFollowed, AreTrails, IsAbout, IsAtEnd, IsBefore, IsNew, rank_of, share_of}
 use Rattle.upload_core.proofs.Follow.{IsOnward, follow_none, follow_onward}
-use Rattle.upload_core.proofs.Records.{Goes, MayAsk, both, course_asked, course_goes, told_push, either, goes_refl, goes_settled, goes_ticked, length_goes, or_left, or_right}
-
-pub settled_by : {X E : Type 0} (r : Result X E) (P Q : Type 0) → OnOk r P → OnErr r Q → P ⊎ Q
-settled_by (Ok x) P Q p q = inl p
-settled_by (Err e) P Q p q = inr q
-
-pub on_ok : {X E : Type 0} (r : Result X E) (P Q : Type 0) → (P → Q) → OnOk r P → OnOk r Q
-on_ok (Ok x) P Q f p = f p
-on_ok (Err e) P Q f p = p
+use Rattle.upload_core.proofs.Records.{Goes, MayAsk, course_asked, course_goes, told_push, either, goes_refl, goes_settled, goes_ticked, length_goes}
 
 holdings_is : (a : Asked) → is_holdings a ≡ true → a ≡ Holdings
 holdings_is Holdings h = refl
@@ -255,10 +250,6 @@ get_asked_all (ask ∷ asks) r p lt =
     let more : p < length new.entries = omega (arith, lt, length-append r.entries (first_request ask.0 ask.1 r.clock ∷ [])) in
     get_asked_all asks new p more ∙ get_push r.entries (first_request ask.0 ask.1 r.clock) p lt
 
-all_append : (xs ys : List (ℕ × Asked)) (r : RequestsState) → asked_all (xs ++ ys) r ≡ asked_all ys (asked_all xs r)
-all_append [] ys r = refl
-all_append (x ∷ xs) ys r = all_append xs ys (asked_more x.0 x.1 r)
-
 -- one more of the lost requests is followed up
 pub follow_more : (g : Goal) (r : RequestsState) (lost : List ℕ) (i : ℕ) → i < length lost → All (λ (p : ℕ). p < length r.entries) lost
     → asked_all (follow_ups_at g (slice_get (asked_all (all_follow_ups g r.entries (take i lost)) r).entries (get_or lost i 0))) (asked_all (all_follow_ups g r.entries (take i lost)) r)
@@ -270,22 +261,14 @@ follow_more g r lost i lt there =
     let old : slice_get (asked_all before r).entries p ≡ slice_get r.entries p = get_asked_all before r p (there i 0 lt) in
     let split : all_follow_ups g r.entries (take (i + 1) lost) ≡ before ++ f p = ap (all_follow_ups g r.entries) (take_more lost i 0 lt) ∙ flat_map-append f (take i lost) (p ∷ []) ∙ ap (λ (l : List (ℕ × Asked)). before ++ l) (append-nil (f p)) in
     ap (λ (o : Option Request). asked_all (follow_ups_at g o) (asked_all before r)) old
-    ∙ sym (all_append before (f p) r)
+    ∙ sym (asked_joined before (f p) r)
     ∙ ap (λ (asks : List (ℕ × Asked)). asked_all asks r) (sym split)
 
 pub follow_there : (g : Goal) (r : RequestsState) (lost : List ℕ) (i : ℕ) → i < length lost → All (λ (p : ℕ). p < length r.entries) lost → get_or lost i 0 < length (asked_all (all_follow_ups g r.entries (take i lost)) r).entries
 follow_there g r lost i lt there = omega (arith, there i 0 lt, length_asked (all_follow_ups g r.entries (take i lost)) r)
 
-places_below : (test : Request → Bool) (place : ℕ) (entries : List Request) (n : ℕ) → place + length entries ≤ n → All (λ p. p < n) (places_from test place entries)
-places_below test place [] n le = All-nil (λ p. p < n)
-places_below test place (r ∷ rs) n le = by (test r) (places_below test (place + 1) rs n (omega arith))
-  where
-    by : (b : Bool) → All (λ p. p < n) (places_from test (place + 1) rs) → All (λ p. p < n) (cond b (place ∷ places_from test (place + 1) rs) (places_from test (place + 1) rs))
-    by true rest = All-cons (λ p. p < n) place (places_from test (place + 1) rs) (omega arith) rest
-    by false rest = rest
-
 pub lost_there : (now : ℕ) (r : RequestsState) → All (λ (p : ℕ). p < length (after_tick now r).entries) (lost_by_tick now r)
-lost_there now r = places_below (is_lost_at (max r.clock now)) 0 r.entries (length (after_tick now r).entries) (omega (arith, length_goes r.entries (after_tick now r).entries (tick_goes now r)))
+lost_there now r = places_there (is_lost_at (max r.clock now)) 0 r.entries (length (after_tick now r).entries) (omega (arith, length_goes r.entries (after_tick now r).entries (tick_goes now r)))
 
 -- ---- the beginning
 
@@ -377,9 +360,5 @@ pub if_ok : {X E : Type 0} (r : Result X E) (P Q : X → Type 0) → ((x : X) �
 if_ok (Ok x) P Q f p = f x p
 if_ok (Err e) P Q f p = p
 
-taken_entries : (old new : RequestsState) (o : Option ℕ) → TakesNext old o new → new.entries ≡ old.entries
-taken_entries old new None t = ap (λ (r : RequestsState). r.entries) t.1
-taken_entries old new (Some place) t = ap (λ (r : RequestsState). r.entries) t.1
-
 pub taken_course : (u : UploadState) (o : Option ℕ) (new : RequestsState) → TakesNext u.requests o new → IsCourse u → IsCourse (with_record u new)
-taken_course u o new t c = course_goes u new (subst (Goes u.requests.entries) (sym (taken_entries u.requests new o t)) (goes_refl u.requests.entries)) c
+taken_course u o new t c = course_goes u new (subst (Goes u.requests.entries) (sym (sent_entries u.requests new o t)) (goes_refl u.requests.entries)) c

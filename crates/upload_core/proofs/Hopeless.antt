@@ -6,12 +6,15 @@ use Rattle.std.specs.Set.{is_member}
 use Rattle.std.proofs.lemmas.Grind.{flat_map-append}
 use Rattle.std.proofs.lemmas.List.Elements.{All-contains, Contains-append_cases, Contains-append_left, Contains-append_right}
 use Rattle.std.proofs.lemmas.List.{append-nil}
+use Rattle.std.proofs.lemmas.Bool.{or_left, or_right}
+use Rattle.lemmas.proofs.Ranges.{range_has}
+use Rattle.lemmas.proofs.Bools.{not_both}
 use Rattle.request_record.specs.declared.requests.Asked.TheVariants.{Allocation}
 use Rattle.request_record.specs.declared.requests.Request.{Request}
 use Rattle.request_record.specs.Record.{RequestsState}
 use Rattle.placement.specs.Matching.{IsLargestMatching, IsMatching, Pair, shares_of}
 use Rattle.placement.specs.Plan.{held_by, placeable, shares_below, without_shares}
-use Rattle.placement.proofs.Best.{from_member, member_from, product_from, product_has, range_has}
+use Rattle.placement.proofs.Best.{from_member, member_from, product_from, product_has}
 use Rattle.placement.proofs.Members.{Contains-filter, Contains-nil, from_filter, from_member_map, member_map}
 use Rattle.upload_core.specs.State.{Goal, UploadState, with_record}
 use Rattle.upload_core.specs.Acknowledged.{acked_by, acked_pairs}
@@ -20,8 +23,7 @@ use Rattle.upload_core.specs.Rounds.{HasEnough, IsHopeless, IsOver, IsPlacing, I
 use Rattle.upload_core.specs.Course.{CanGoOn, IsOfRound, IsOfTold, IsRound, asked_servers}
 use Rattle.upload_core.specs.Trails.{AreFollowed, by_answer, by_failure, by_waiting}
 use Rattle.upload_core.proofs.Lists.{all_of, contains_at, from_flat, get_either, place_of, to_flat}
-use Rattle.upload_core.proofs.Records.{or_left, or_right}
-use Rattle.upload_core.proofs.Servers.{answered_ask, not_both}
+use Rattle.upload_core.proofs.Servers.{answered_ask}
 use Rattle.upload_core.proofs.Acked.{outcome_acked}
 use Rattle.upload_core.proofs.Counts.{quiet_of}
 use Rattle.upload_core.proofs.Placings.{best_of}

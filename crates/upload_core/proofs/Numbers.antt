@@ -2,8 +2,9 @@
 use Rattle.std.proofs.Common.{◌≡◌, ℕ, ◌⊎◌, inl, inr, Bool, true, false, cond, List, [], ◌∷◌, ◌++◌, filter, eqb, refl, sym, ap, ◌∙◌, true≢false}
 use Rattle.std.specs.List.{IsDistinct, AllByRecursion}
 use Rattle.std.specs.Set.{is_member}
-use Rattle.std.proofs.lemmas.Bool.{eq-eqb, eqb-true}
-use Rattle.upload_core.proofs.Records.{either, or_left, or_right}
+use Rattle.std.proofs.lemmas.Bool.{eq-eqb, eqb-true, or_left, or_right}
+use Rattle.lemmas.proofs.Members.{each_append}
+use Rattle.upload_core.proofs.Records.{either}
 
 absent : (x : ℕ) (ys : List ℕ) → (is_member eqb ys x ≡ true → ⊥) → AllByRecursion (λ z. eqb x z ≡ false) ys
 absent x [] out = tt
@@ -13,34 +14,13 @@ absent x (y ∷ ys) out = (by (eqb x y) refl, absent x ys (λ h. out (or_right (
     by true e = absurd (out (or_left (eqb x y) (is_member eqb ys x) e))
     by false e = e
 
-both_parts : (P : ℕ → Type 0) (xs ys : List ℕ) → AllByRecursion P xs → AllByRecursion P ys → AllByRecursion P (xs ++ ys)
-both_parts P [] ys a b = b
-both_parts P (x ∷ xs) ys a b = (a.0, both_parts P xs ys a.1 b)
-
 pub distinct_append : (xs ys : List ℕ) → IsDistinct eqb xs → IsDistinct eqb ys → ((s : ℕ) → is_member eqb xs s ≡ true → is_member eqb ys s ≡ true → ⊥) → IsDistinct eqb (xs ++ ys)
 unfolding IsDistinct
 distinct_append [] ys a b apart = b
 distinct_append (x ∷ xs) ys a b apart = (
-  both_parts (λ z. eqb x z ≡ false) xs ys a.0 (absent x ys (apart x (or_left (eqb x x) (is_member eqb xs x) (eq-eqb x x refl)))),
+  each_append (λ z. eqb x z ≡ false) xs ys a.0 (absent x ys (apart x (or_left (eqb x x) (is_member eqb xs x) (eq-eqb x x refl)))),
   distinct_append xs ys a.1 b (λ s h k. apart s (or_right (eqb s x) (is_member eqb xs s) h) k),
 )
-
-each_kept : (P : ℕ → Type 0) (t : ℕ → Bool) (xs : List ℕ) → AllByRecursion P xs → AllByRecursion P (filter t xs)
-each_kept P t [] a = tt
-each_kept P t (x ∷ xs) a = by (t x) (each_kept P t xs a.1)
-  where
-    by : (b : Bool) → AllByRecursion P (filter t xs) → AllByRecursion P (cond b (x ∷ filter t xs) (filter t xs))
-    by true r = (a.0, r)
-    by false r = r
-
-pub distinct_kept : (t : ℕ → Bool) (xs : List ℕ) → IsDistinct eqb xs → IsDistinct eqb (filter t xs)
-unfolding IsDistinct
-distinct_kept t [] d = tt
-distinct_kept t (x ∷ xs) d = by (t x) (distinct_kept t xs d.1)
-  where
-    by : (b : Bool) → IsDistinct eqb (filter t xs) → IsDistinct eqb (cond b (x ∷ filter t xs) (filter t xs))
-    by true r = (each_kept (λ z. eqb x z ≡ false) t xs d.0, r)
-    by false r = r
 
 -- a member of what a filter keeps
 pub from_kept : (t : ℕ → Bool) (xs : List ℕ) (s : ℕ) → is_member eqb (filter t xs) s ≡ true → (is_member eqb xs s ≡ true) × (t s ≡ true)

@@ -5,10 +5,12 @@ use Rattle.std.specs.Set.{is_member}
 use Rattle.std.proofs.lemmas.List.{map-append}
 use Rattle.std.proofs.lemmas.List.Elements.{All-cons, Contains-append_cases, Contains-append_right, Contains-append_left}
 use Rattle.std.proofs.lemmas.List.FromFn.{length-range_with_len, get_or-range_with_len}
+use Rattle.lemmas.proofs.Members.{distinct_kept}
+use Rattle.lemmas.proofs.Bools.{not_both}
 use Rattle.request_record.specs.declared.requests.Request.{Request}
 use Rattle.placement.specs.Matching.{IsMatching, Pair, servers_of, shares_of}
 use Rattle.placement.specs.Plan.{IsLeastLoaded, IsPlan, Spreads, held_by, remaining, shares_below, spare, unused, without_shares}
-use Rattle.placement.proofs.Best.{distinct_append, distinct_of_filter, each_absent, from_member, has_share, member_from, range_distinct, range_from, share_pair, zip_from, zip_shares_once}
+use Rattle.placement.proofs.Best.{distinct_append, each_absent, from_member, has_share, member_from, range_distinct, range_from, share_pair, zip_from, zip_shares_once}
 use Rattle.placement.proofs.Members.{Contains-filter, Contains-nil, from_filter, member_map}
 use Rattle.upload_core.specs.State.{UploadState}
 use Rattle.upload_core.specs.Acknowledged.{acked_by, acked_pairs}
@@ -18,7 +20,7 @@ use Rattle.upload_core.specs.Course.{MayPlace}
 use Rattle.upload_core.specs.Trails.{AreFollowed, IsNew, by_answer, by_failure, by_waiting}
 use Rattle.upload_core.proofs.Lists.{all_of, contains_at, place_of, to_flat}
 use Rattle.upload_core.proofs.Counts.{quiet_of}
-use Rattle.upload_core.proofs.Servers.{not_both, writable_told}
+use Rattle.upload_core.proofs.Servers.{writable_told}
 
 pub below_all : (n : ℕ) → All (λ (h : ℕ). h < n) (shares_below n)
 below_all n k d lt =
@@ -119,8 +121,8 @@ module _ (u : UploadState) (m1 m2 m3 leftovers : List Pair) (unplaced : List ℕ
   placed_once =
       subst (IsDistinct eqb) (sym (map-append (λ (x : Pair). x.1) m3 leftovers))
       (distinct_append (shares_of m3) (shares_of leftovers)
-      (subst (λ (l : List Pair). IsDistinct eqb (shares_of l)) (sym p.third_paired) (zip_shares_once (unused m2 writable) (remaining m1 m2 n) (distinct_of_filter (λ (h : ℕ). not (is_member eqb (shares_of (m1 ++ m2)) h)) (shares_below n) (range_distinct 0 n))))
-      (spread_once writable (m2 ++ m3) (spare m1 m2 m3 held n) leftovers unplaced p.rest_spread (distinct_of_filter (λ (h : ℕ). not (is_member eqb (shares_of (m1 ++ m2 ++ m3 ++ held)) h)) (shares_below n) (range_distinct 0 n)))
+      (subst (λ (l : List Pair). IsDistinct eqb (shares_of l)) (sym p.third_paired) (zip_shares_once (unused m2 writable) (remaining m1 m2 n) (distinct_kept (λ (h : ℕ). not (is_member eqb (shares_of (m1 ++ m2)) h)) (shares_below n) (range_distinct 0 n))))
+      (spread_once writable (m2 ++ m3) (spare m1 m2 m3 held n) leftovers unplaced p.rest_spread (distinct_kept (λ (h : ℕ). not (is_member eqb (shares_of (m1 ++ m2 ++ m3 ++ held)) h)) (shares_below n) (range_distinct 0 n)))
       apart)
     where
       apart : (h : ℕ) → Contains (shares_of m3) h → Contains (shares_of leftovers) h → ⊥

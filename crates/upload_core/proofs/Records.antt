@@ -17,9 +17,10 @@ use Rattle.upload_core.specs.Rounds.{asked_answered_as, has_answered_as}
 use Rattle.upload_core.specs.Course.{IsCourse, IsInside, IsOfTold, asked_servers, has_told, is_holdings, is_told}
 use Rattle.upload_core.specs.Trails.{AreTrails, GoesFurther, IsAbout, IsBefore, rank_of, share_of}
 use Rattle.placement.specs.Matching.{Pair}
-use Rattle.request_record.proofs.RecordLaws.{get_last, get_push}
-use Rattle.std.proofs.lemmas.Bool.{cases_lt}
+use Rattle.std.proofs.lemmas.Bool.{cases_lt, or_left, or_right}
 use Rattle.std.proofs.lemmas.Option.{slice_get_within}
+use Rattle.lemmas.proofs.Places.{get_last, get_push}
+use Rattle.lemmas.proofs.Bools.{both}
 use Rattle.upload_core.proofs.Follow.{IsGood}
 
 -- ---- the same requests, and more answers
@@ -55,21 +56,9 @@ untold_as ro a Unawaited w h = absurd cc
 untold_as ro a (Answered body) w h = absurd cc
 untold_as ro a Lost w h = absurd cc
 
-pub or_right : (a b : Bool) → b ≡ true → (a || b) ≡ true
-or_right true b h = refl
-or_right false b h = h
-
-pub or_left : (a b : Bool) → a ≡ true → (a || b) ≡ true
-or_left true b h = refl
-or_left false b h = absurd cc
-
 pub either : (a b : Bool) → (a || b) ≡ true → (a ≡ true) ⊎ (b ≡ true)
 either true b h = inl refl
 either false b h = inr h
-
-pub both : (a b : Bool) → (a && b) ≡ true → (a ≡ true) × (b ≡ true)
-both true b e = (refl, e)
-both false b e = absurd cc
 
 untold : (r : Request) → is_outstanding r.outcome ≡ true → has_told r ≡ true → ⊥
 untold r w h = elim (either (has_answered_as true r) (has_answered_as false r) h) [

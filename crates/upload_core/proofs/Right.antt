@@ -4,6 +4,8 @@ use Rattle.std.specs.Prelude.{slice_get}
 use Rattle.std.specs.Result.{OnErr, OnOk}
 use Rattle.std.specs.List.{AllByRecursion, IsDistinct}
 use Rattle.std.proofs.lemmas.Bool.{eq-eqb}
+use Rattle.request_record.proofs.StepLaws.{uncounted}
+use Rattle.lemmas.proofs.Results.{on_ok}
 use Rattle.wire.specs.declared.message.Message.{Message}
 use Rattle.request_record.specs.declared.requests.Asked.{Asked}
 use Rattle.request_record.specs.declared.requests.Asked.TheVariants.{Holdings, Allocation, Writing, Closing, Reading, Aborting}
@@ -22,9 +24,9 @@ use Rattle.upload_core.specs.Sending.{one_sent}
 use Rattle.upload_core.specs.Course.{CanGoOn, IsCourse, IsInside, IsKept, IsRound, asked_servers, is_holdings}
 use Rattle.upload_core.specs.Trails.{AreFollowed, rank_of, share_of}
 use Rattle.upload_core.proofs.Followed.{inside_at, followed_message, followed_placed, followed_tick}
-use Rattle.upload_core.proofs.Goes.{followed_begun, on_ok}
+use Rattle.upload_core.proofs.Goes.{followed_begun}
 use Rattle.upload_core.proofs.Stands.{Stands, ended_stands, goes_stand, is_running, same_entries, stands_failed, stands_sent, waits_stands}
-use Rattle.upload_core.proofs.Counts.{counted_none, message_settled, tick_settled}
+use Rattle.upload_core.proofs.Counts.{message_settled, tick_settled}
 use Rattle.upload_core.proofs.Placings.{round_message, round_placed, round_tick}
 use Rattle.request_record.proofs.RecordLaws.{count_ticked}
 use Rattle.upload_core.specs.Rounds.{IsSettled}
@@ -146,7 +148,7 @@ module _ (from : ℕ) (m : Message) (now : ℕ) (old new : UploadState) (stands 
       by : old.status ≡ Running → (o : Option ℕ) → counts_at from m old.requests ≡ o → AdvancesAt o (after_message from m now old.requests) old new → Moves new
       by running None e is =
           let can = kept.going running in
-          let same : (after_message from m now old.requests).entries ≡ old.requests.entries = counted_none from m now old.requests e in
+          let same : (after_message from m now old.requests).entries ≡ old.requests.entries = uncounted from m now old.requests e in
           subst Moves (sym is) (record {
             stands = same_entries old (after_message from m now old.requests) same stands;
             going = λ runs. record {

@@ -2,11 +2,13 @@
 use Rattle.std.proofs.Common.{◌≡◌, ℕ, ◌<◌, ◌⊎◌, inl, inr, Bool, true, false, cond, not, ◌&&◌, List, [], ◌∷◌, ◌++◌, Contains, length, map, filter, get_or, eqb, refl, sym, ap, subst, ◌∙◌, arith, true≢false}
 use Rattle.std.specs.List.{IsDistinct}
 use Rattle.std.specs.Set.{is_member}
-use Rattle.std.proofs.lemmas.Bool.{cases_lt, eq-eqb, eqb-true}
+use Rattle.std.proofs.lemmas.Bool.{cases_lt, eq-eqb, eqb-true, or_left, or_right}
 use Rattle.std.proofs.lemmas.List.{get_or_default, get_or-map, length-map}
 use Rattle.std.proofs.lemmas.List.Folds.{list_any-append}
 use Rattle.std.proofs.lemmas.Map.Keys.{apart_from_distinct}
 use Rattle.std.proofs.lemmas.Map.Views.{Contains-from_any}
+use Rattle.lemmas.proofs.Members.{distinct_kept}
+use Rattle.lemmas.proofs.Bools.{both, not_both, bool_cases}
 use Rattle.wire.specs.declared.message.Body.{Body}
 use Rattle.wire.specs.declared.message.Body.TheVariants.{Ask, Have, Allocate, Granted, Already, Busy, Full, Write, Wrote, WrongOffset, Close, Closed, NotComplete, Abort, Read, Data, NoShare}
 use Rattle.request_record.specs.declared.requests.Asked.{Asked}
@@ -19,8 +21,8 @@ use Rattle.upload_core.specs.State.{Goal}
 use Rattle.upload_core.specs.Rounds.{answered_as, answers_as, asked_answered_as, has_answered_as, readonly_servers, writable_servers}
 use Rattle.upload_core.specs.Transfers.{failed_servers}
 use Rattle.upload_core.specs.Course.{asked_servers, has_told, is_holdings, is_told}
-use Rattle.upload_core.proofs.Records.{both, either, or_left, or_right}
-use Rattle.upload_core.proofs.Numbers.{distinct_append, distinct_kept, from_kept, to_kept}
+use Rattle.upload_core.proofs.Records.{either}
+use Rattle.upload_core.proofs.Numbers.{distinct_append, from_kept, to_kept}
 
 abbrev server_of : Request → ℕ
 server_of r = r.server
@@ -98,14 +100,6 @@ outcome_one_way (Aborting share) o h k = true≢false (sym h)
 
 one_way : (r : Request) → has_answered_as true r ≡ true → has_answered_as false r ≡ true → ⊥
 one_way r h k = outcome_one_way r.asked r.outcome h k
-
-pub not_both : (b : Bool) → b ≡ true → not b ≡ true → ⊥
-not_both true h k = true≢false (sym k)
-not_both false h k = true≢false (sym h)
-
-tested : (b : Bool) → (b ≡ true) ⊎ (b ≡ false)
-tested true = inl refl
-tested false = inr refl
 
 -- a server of one that a filter keeps
 there_cons : (p : Request → Bool) (s : ℕ) (r : Request) (rs : List Request) → is_member eqb (map server_of (filter p rs)) s ≡ true → is_member eqb (map server_of (filter p (r ∷ rs))) s ≡ true
@@ -194,7 +188,7 @@ module _ (g : Goal) (es : List Request) where
       (list_any-append (eqb s) (a ++ filter failed b) kept ∙
       (elim (told_as s es h) [
         | inl x ↦ or_left (is_member eqb (a ++ filter failed b) s) (is_member eqb kept s) (list_any-append (eqb s) a (filter failed b) ∙ or_left (is_member eqb a s) (is_member eqb (filter failed b) s) x)
-        | inr x ↦ (elim (tested (failed s)) [
+        | inr x ↦ (elim (bool_cases (failed s)) [
           | inl t ↦ or_left (is_member eqb (a ++ filter failed b) s) (is_member eqb kept s) (list_any-append (eqb s) a (filter failed b) ∙ or_right (is_member eqb a s) (is_member eqb (filter failed b) s) (to_kept failed b s x t))
           | inr t ↦ or_right (is_member eqb (a ++ filter failed b) s) (is_member eqb kept s) (to_kept (λ (q : ℕ). not (failed q)) b s x (ap not t))
         ])

@@ -1,7 +1,7 @@
 use Rattle.std.proofs.Common.{◌≡◌, ◌+◌, ◌<◌, ◌≤◌, ℕ, List, [], ◌∷◌, Vec, Global, length, map, take, drop, get_or, ext_get_or, sym, ap, ◌∙◌, arith}
 use Rattle.std.proofs.lemmas.List.{get_or-map, length-map}
 use Rattle.std.proofs.lemmas.Simd.{get_or-chunk, length-chunk}
-use Rattle.tagged_hash.proofs.RowLemmas.{by_lane}
+use Rattle.lemmas.proofs.Eights.{by_eight}
 use Rattle.tagged_hash.specs.TaggedHash.{share_digest}
 use Rattle.upload_core.specs.Pieces.{HaveOneLength, length_of}
 use Rattle.upload_core.proofs.pieces.eight_digests.Goals as goal
@@ -36,7 +36,7 @@ tagged_eight-requires-clause-messages c k d below =
     let first : length c.as_slice.result.now ≡ length_of (texts own) =
     ap length c.as_slice.ensures.value ∙ one_long own _ c.args.first one (omega arith) c.index-shares-first.is in
     let len = sym first in
-    by_lane (λ q. length (get_or (c.as_slice.result ∷ c.as_slice-2.result ∷ c.as_slice-3.result ∷ c.as_slice-4.result
+    by_eight (λ q. length (get_or (c.as_slice.result ∷ c.as_slice-2.result ∷ c.as_slice-3.result ∷ c.as_slice-4.result
     ∷ c.as_slice-5.result ∷ c.as_slice-6.result ∷ c.as_slice-7.result ∷ c.as_slice-8.result ∷ []) q d).now ≡ length c.as_slice.result.now)
     (first ∙ len)
     (ap length c.as_slice-2.ensures.value ∙ one_long own _ (c.args.first + 1) one (omega arith) c.index-shares-first-2.is ∙ len)
@@ -60,7 +60,7 @@ returns c =
     ext_get_or [] c.tagged_eight.result (map digest (take 8 (drop at own)))
     (count ∙ sym (length-map (take 8 (drop at own)) digest ∙ many))
     (λ j below.
-    by_lane (λ q. get_or c.tagged_eight.result q [] ≡ get_or (map digest (take 8 (drop at own))) q [])
+    by_eight (λ q. get_or c.tagged_eight.result q [] ≡ get_or (map digest (take 8 (drop at own))) q [])
     (ap (λ (h : List (List ℕ)). get_or h 0 []) all
     ∙ one_digest own v _ at 0 (omega arith) room c.as_slice.ensures.value (c.index-shares-first.is ∙ ap (λ (n : ℕ). get_or own n v) here))
     (ap (λ (h : List (List ℕ)). get_or h 1 []) all ∙ one_digest own _ _ at 1 (omega arith) room c.as_slice-2.ensures.value c.index-shares-first-2.is)

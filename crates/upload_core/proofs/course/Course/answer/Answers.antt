@@ -1,5 +1,6 @@
 use Rattle.std.proofs.Common.{◌≡◌, ◌<◌, Some, length, sym, ap, subst, ◌∙◌, Option, ℕ}
 use Rattle.std.specs.Prelude.{slice_get}
+use Rattle.lemmas.proofs.Results.{on_ok}
 use Rattle.request_record.specs.Asking.{after_message}
 use Rattle.request_record.specs.Record.{RequestsState, asked_all, counts_at}
 use Rattle.upload_core.specs.State.{UploadState, with_record}
@@ -9,7 +10,7 @@ use Rattle.upload_core.specs.Course.{CanGoOn}
 use Rattle.upload_core.specs.Trails.{AreFollowed, IsAtEnd}
 use Rattle.upload_core.proofs.Ends.{answered_end}
 use Rattle.upload_core.proofs.Followed.{followed_message}
-use Rattle.upload_core.proofs.Goes.{counted_there, goes_on_from, message_course, on_ok}
+use Rattle.upload_core.proofs.Goes.{counted_there, goes_on_from, message_course}
 use Rattle.upload_core.proofs.course.Course.answer.Goals as goal
 
 pub invariant_of-self-2 : goal.invariant_of-self-2

@@ -1,5 +1,6 @@
 use Rattle.std.proofs.Common.{◌≡◌, ◌<◌, Some, None, inl, inr, get_or, length, sym, ap, subst, ◌∙◌, List}
 use Rattle.std.specs.Prelude.{slice_get}
+use Rattle.lemmas.proofs.Results.{settled_by, on_ok}
 use Rattle.request_record.specs.declared.requests.Request.{Request}
 use Rattle.request_record.specs.Record.{RequestsState, asked_all, asked_more}
 use Rattle.upload_core.specs.State.{UploadState, with_record}
@@ -8,7 +9,7 @@ use Rattle.upload_core.specs.Moves.{follow_ups_at}
 use Rattle.upload_core.specs.Course.{IsCourse}
 use Rattle.upload_core.specs.Trails.{IsAtEnd}
 use Rattle.upload_core.proofs.Records.{course_asked}
-use Rattle.upload_core.proofs.Goes.{follow_asks, follow_nothing, may_follow, on_ok, settled_by}
+use Rattle.upload_core.proofs.Goes.{follow_asks, follow_nothing, may_follow}
 use Rattle.upload_core.proofs.course.Course.follow.Goals as goal
 
 pub invariant_of-self : goal.invariant_of-self

@@ -1,6 +1,7 @@
 use Rattle.std.proofs.Common.{◌≡◌, ◌≢◌, ◌++◌, List, [], ℕ, length, map, inl, inr, sym, ap, subst, ◌∙◌, arith, true≢false}
 use Rattle.std.proofs.lemmas.Bool.{eq-eqb, eqb-true}
 use Rattle.std.proofs.lemmas.List.{length-map}
+use Rattle.lemmas.proofs.Results.{on_ok}
 use Rattle.request_record.specs.declared.requests.Asked.{Asked}
 use Rattle.request_record.specs.declared.requests.Asked.TheVariants.{Allocation}
 use Rattle.request_record.specs.Record.{asked_all, outstanding_count}
@@ -10,7 +11,7 @@ use Rattle.upload_core.specs.Acknowledged.{acked_pairs}
 use Rattle.upload_core.specs.Rounds.{IsOver, IsSettled, IsToPlace, Placing, transfers_of}
 use Rattle.upload_core.specs.Moves.{ends, places}
 use Rattle.upload_core.specs.Course.{transfers}
-use Rattle.upload_core.proofs.Goes.{nil_of, not_to_place, on_ok, to_place}
+use Rattle.upload_core.proofs.Goes.{nil_of, not_to_place, to_place}
 use Rattle.upload_core.proofs.course.Course.go_on.Goals as goal
 use Rattle.upload_core.proofs.course.Course.go_on.Goals.{then-is_to_place+in_ok-transfers+else-not-is_empty, else-is_to_place}
 

@@ -6,11 +6,12 @@ use Rattle.upload_core.specs.declared.status.UploadStatus.TheVariants.{Running}
 use Rattle.upload_core.specs.State.{UploadState, with_record}
 use Rattle.upload_core.specs.Moves.{GoesOn, all_follow_ups}
 use Rattle.std.specs.List.{IsDistinct}
+use Rattle.lemmas.proofs.Results.{on_ok}
 use Rattle.upload_core.specs.Course.{CanGoOn}
 use Rattle.upload_core.specs.Trails.{AreFollowed, IsAtEnd}
 use Rattle.upload_core.proofs.Ends.{lost_ends, lost_once}
 use Rattle.upload_core.proofs.Followed.{followed_tick}
-use Rattle.upload_core.proofs.Goes.{goes_on_from, lost_there, on_ok, tick_course, ticks_with}
+use Rattle.upload_core.proofs.Goes.{goes_on_from, lost_there, tick_course, ticks_with}
 use Rattle.upload_core.proofs.course.Course.pass.Goals as goal
 
 pub invariant_of-self-2 : goal.invariant_of-self-2
