@@ -43,7 +43,7 @@ use Rattle.share_opening.specs.declared.opening.Opening.TheVariants.{Start, Seco
 use Rattle.share_opening.proofs.ReadLemmas.{length-text_of}
 
 -- the beginning of a share tells its layout, and its numbers
-layout_take : (n : ℕ) (share : List ℕ) → 4 ≤ n → layout_in (take n share) ≡ layout_in share
+pub layout_take : (n : ℕ) (share : List ℕ) → 4 ≤ n → layout_in (take n share) ≡ layout_in share
 layout_take n share long = ap (λ (t : List ℕ). if bytes_eq (to_be_bytes w32 (version Two)) t then Two else One) (take-take 4 n share long)
 
 number_take : (l : Layout) (n a : ℕ) (share : List ℕ) → a + width l ≤ n → number_at l (take n share) a ≡ number_at l share a

@@ -9,8 +9,9 @@ use Rattle.share_layout.specs.declared.places.Places.{Places}
 use Rattle.share_layout.specs.Layout.{header_size, width}
 use Rattle.share_layout.specs.Places.{layout_in}
 use Rattle.share_opening.specs.Opening.{text_of}
-use Rattle.share_opening.specs.Reads.{Brought, IsHeaderBy, IsLengthBy, LeadOn, Rise}
+use Rattle.share_opening.specs.Reads.{Brought, IsHeaderBy, IsLedToBy, IsLengthBy, LeadOn, Rise}
 use Rattle.share_opening.specs.declared.header.ShareHeader.{ShareHeader}
+use Rattle.share_opening.specs.declared.opening.Opening.{Opening}
 use Rattle.share_opening.specs.declared.opening.Opening.TheVariants.{Start, Second, Header, Block}
 
 -- a header has the length that its layout gives it
@@ -37,15 +38,31 @@ two h start rest is long more =
     is_two h.places.layout (sym (length-text_of h) ∙ ap length is ∙ omega (arith, length-append start rest, long, more))
 
 -- its extension block stands behind it
-behind : (h : ShareHeader) → header_size h.places.layout ≤ h.places.extension_block
+pub behind : (h : ShareHeader) → header_size h.places.layout ≤ h.places.extension_block
 behind h =
     let r = subst (λ (p : Places). header_size p.layout ≤ p.extension_block) (sym h.right.places)
     (let o = h.right.tells.places.rising in omega arith) in r
 
-more_header : (reads more : List Brought) → ((read : Brought) → Contains reads read → Contains more read) → (l : Layout) (text : List ℕ)
+-- more reads have the bytes of the header too
+pub more_header : (reads more : List Brought) → ((read : Brought) → Contains reads read → Contains more read) → (l : Layout) (text : List ℕ)
     → IsHeaderBy reads l text → IsHeaderBy more l text
 more_header reads more grows One text held = grows _ held
 more_header reads more grows Two text held = (grows _ held.0, grows _ held.1)
+
+-- and those of the block's length
+pub more_length : (reads more : List Brought) → ((read : Brought) → Contains reads read → Contains more read) → (h : ShareHeader) (told : ℕ)
+    → IsLengthBy reads h told → IsLengthBy more h told
+more_length reads more grows h told is = record { bytes = is.bytes; read = grows _ is.read; long = is.long; number = is.number }
+
+-- more reads lead to the same opening
+pub more_led : (reads more : List Brought) → ((read : Brought) → Contains reads read → Contains more read) → (o : Opening) → IsLedToBy reads o → IsLedToBy more o
+more_led reads more grows Start led = led
+more_led reads more grows (Second s) led = grows _ led
+more_led reads more grows (Header h) led = more_header reads more grows h.places.layout (text_of h) led
+more_led reads more grows (Block b) led = (
+  more_header reads more grows b.header.places.layout (text_of b.header) led.0,
+  more_length reads more grows b.header b.block_length led.1,
+)
 
 by_two : (more : List Brought) (text start rest : List ℕ) → text ≡ start ++ rest → length start ≡ 36 → Contains more (0, start) → Contains more (36, rest)
     → IsHeaderBy more Two text

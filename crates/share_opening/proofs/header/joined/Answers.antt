@@ -1,5 +1,5 @@
 use Rattle.std.proofs.Common.{◌∙◌, ap, length, refl}
-use Rattle.share_opening.proofs.ListLemmas.{put_behind}
+use Rattle.lemmas.proofs.Bytes.{put_behind}
 use Rattle.share_opening.proofs.header.joined.Goals as goal
 
 pub returns : goal.returns
