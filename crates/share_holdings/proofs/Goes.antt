@@ -4,6 +4,7 @@ use Rattle.std.specs.Prelude.{slice_get, slice_index_or, slice_set}
 use Rattle.std.proofs.lemmas.Bool.{cases_eq, cases_lt}
 use Rattle.std.proofs.lemmas.List.{length-append, length-set}
 use Rattle.std.proofs.lemmas.Option.{slice_get-get_or, slice_get_within}
+use Rattle.lemmas.proofs.Places.{get_set, get_other, set_cases, get_push, get_last}
 use Rattle.wire.specs.declared.message.Body.TheVariants.{NoShare}
 use Rattle.wire.specs.declared.message.Message.{Message}
 use Rattle.request_record.specs.declared.requests.Asked.TheVariants.{Reading}
@@ -13,7 +14,6 @@ use Rattle.request_record.specs.declared.requests.Request.{Request}
 use Rattle.request_record.specs.Record.{RequestsState, answered_in, asked_more, at, counted_at, counts_at, first_request, is_outstanding, with_outcome}
 use Rattle.request_record.specs.Asking.{AreApart, AsksOnce, after_message}
 use Rattle.request_record.proofs.AskingLaws.{once_answered, once_asked}
-use Rattle.request_record.proofs.RecordLaws.{get_last, get_push}
 use Rattle.share_verify.specs.declared.check.Check.{Check}
 use Rattle.share_holdings.specs.Moves.{Asks, Blames, IsUnasked}
 use Rattle.share_holdings.specs.Left.{IsBlamed, IsGone, IsLeft, IsOffered}
@@ -22,7 +22,6 @@ use Rattle.share_holdings.specs.Table.{IsHolding, Releases, Retires, Suspends, T
 use Rattle.share_holdings.specs.Right.{IsOwned, IsRight}
 use Rattle.share_holdings.specs.declared.holding.Blame.{Blame}
 use Rattle.share_holdings.specs.declared.holding.Holding.{Holding}
-use Rattle.share_holdings.proofs.Lists.{get_other, get_set, set_cases}
 use Rattle.share_holdings.proofs.Records.{AskedAlike, StaysTo, alike_message, stays_message}
 
 -- ---- what was answered stays

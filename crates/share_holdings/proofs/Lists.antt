@@ -1,40 +1,13 @@
 -- What stands at a place of a list, and what a list contains.
-use Rattle.std.proofs.Common.{◌≡◌, ℕ, zero, suc, ◌<◌, ◌⊎◌, inl, inr, Bool, true, false, cond, not, List, [], ◌∷◌, Contains, length, Some, None, refl, sym, ap, ◌∙◌, arith, true≢false}
-use Rattle.std.specs.Prelude.{◌==◌, slice_get, slice_index_or, slice_set}
+use Rattle.std.proofs.Common.{◌≡◌, ℕ, Bool, true, false, cond, not, List, Contains, Some, None, refl, sym, ◌∙◌, true≢false}
+use Rattle.std.specs.Prelude.{◌==◌}
 use Rattle.std.proofs.lemmas.Bool.{eq-eqb, eqb-true}
-use Rattle.std.proofs.lemmas.Option.{slice_get-get_or}
+pub use Rattle.lemmas.proofs.Places.{got, get_set, get_other, set_cases}
 use Rattle.placement.proofs.Members.{Contains-filter, from_filter}
 use Rattle.request_record.specs.Record.{without}
 use Rattle.share_holdings.specs.Numbers.{released}
 
--- what an index reads stands there
-pub got : {X : Type 0} (xs : List X) (i : ℕ) (x : X) → i < length xs → x ≡ slice_index_or xs i x → slice_get xs i ≡ Some x
-got xs i x lt e = slice_get-get_or xs i x lt ∙ ap Some (sym e)
-
 -- ---- one place is changed
-
-pub get_set : {X : Type 0} (xs : List X) (i : ℕ) (x y : X) → slice_get xs i ≡ Some y → slice_get (slice_set xs i x) i ≡ Some x
-get_set [] i x y e = absurd cc
-get_set (q ∷ qs) zero x y e = refl
-get_set (q ∷ qs) (suc i) x y e = get_set qs i x y e
-
-pub get_other : {X : Type 0} (xs : List X) (i j : ℕ) (x : X) → (j ≡ i → ⊥) → slice_get (slice_set xs i x) j ≡ slice_get xs j
-get_other [] i j x other = refl
-get_other (q ∷ qs) zero zero x other = absurd (other refl)
-get_other (q ∷ qs) zero (suc j) x other = refl
-get_other (q ∷ qs) (suc i) zero x other = refl
-get_other (q ∷ qs) (suc i) (suc j) x other = get_other qs i j x (λ e. other (ap suc e))
-
--- what stands at a place afterwards: the new one at its place, and else the old one
-pub set_cases : {X : Type 0} (xs : List X) (i j : ℕ) (x y : X) → slice_get (slice_set xs i x) j ≡ Some y → ((j ≡ i) × (x ≡ y)) ⊎ ((j ≡ i → ⊥) × (slice_get xs j ≡ Some y))
-set_cases [] i j x y e = absurd cc
-set_cases (q ∷ qs) zero zero x y e = let is : x ≡ y = cc in inl (refl, is)
-set_cases (q ∷ qs) zero (suc j) x y e = inr ((λ f. omega (arith, f)), e)
-set_cases (q ∷ qs) (suc i) zero x y e = inr ((λ f. omega (arith, f)), e)
-set_cases (q ∷ qs) (suc i) (suc j) x y e = elim (set_cases qs i j x y e) [
-  | inl k ↦ inl (ap suc k.0, k.1)
-  | inr k ↦ inr ((λ f. k.0 (omega (arith, f))), k.1)
-]
 
 -- ---- a place is not listed any more
 

@@ -2,14 +2,17 @@
 use Rattle.std.proofs.Common.{◌≡◌, ℕ, zero, suc, Bool, true, false, cond, List, [], ◌∷◌, ◌++◌, Option, Some, None, map, refl, sym, ap, subst, ◌∙◌, true≢false}
 use Rattle.std.specs.Prelude.{slice_get, slice_set, max}
 use Rattle.std.proofs.lemmas.Option.{slice_get_within}
+use Rattle.lemmas.proofs.Places.{get_push}
+use Rattle.request_record.proofs.StepLaws.{quiet_ticked}
+pub use Rattle.request_record.proofs.StepLaws.{uncounted}
 use Rattle.wire.specs.declared.message.Body.{Body}
 use Rattle.wire.specs.declared.message.Message.{Message}
 use Rattle.request_record.specs.declared.requests.Asked.{Asked}
 use Rattle.request_record.specs.declared.requests.Outcome.TheVariants.{Answered, Lost}
 use Rattle.request_record.specs.declared.requests.Request.{Request}
-use Rattle.request_record.specs.Record.{RequestsState, TakesNext, answered_in, asked_all, asked_more, at, counted_at, counts_at, first_request, is_lost_at, is_outstanding, is_resent_at, resent_one, ticked_one, with_outcome}
+use Rattle.request_record.specs.Record.{RequestsState, answered_in, asked_all, asked_more, at, counted_at, counts_at, first_request, is_lost_at, is_outstanding, is_resent_at, resent_one, ticked_one, with_outcome}
 use Rattle.request_record.specs.Asking.{after_message, after_tick}
-use Rattle.request_record.proofs.RecordLaws.{counts_is, get_push}
+use Rattle.request_record.proofs.RecordLaws.{counts_is}
 
 -- the request at a place asked the same of the same server
 pub record WasAsked (es : List Request) (i : ℕ) (n : Request) : Type 0 where
@@ -59,14 +62,7 @@ stays_counted from m s (Some place) e =
 pub stays_message : (from : ℕ) (m : Message) (now : ℕ) (s : RequestsState) → StaysTo s.entries (after_message from m now s).entries
 stays_message from m now s = stays_counted from m (at now s) (counts_at from m (at now s)) refl
 
--- a message that does not count changes no request
-pub uncounted : (from : ℕ) (m : Message) (now : ℕ) (s : RequestsState) → counts_at from m s ≡ None → (after_message from m now s).entries ≡ s.entries
-uncounted from m now s e = ap (λ (o : Option ℕ). (counted_at m (at now s) o).entries) e
-
 -- ---- ticks
-
-quiet_ticked : (now : ℕ) (r : Request) → is_outstanding r.outcome ≡ false → ticked_one now r ≡ r
-quiet_ticked now r quiet = rw quiet refl
 
 pub stays_ticked : (now : ℕ) (es : List Request) → StaysTo es (map (ticked_one now) es)
 stays_ticked now [] i r e quiet = absurd cc
@@ -128,8 +124,3 @@ alike_ticked now (x ∷ xs) (suc i) n e = let w = alike_ticked now xs i n e in r
 
 pub alike_tick : (now : ℕ) (s : RequestsState) → AskedAlike s.entries (after_tick now s).entries
 alike_tick now s = alike_ticked (max s.clock now) s.entries
-
--- a request that is sent is as it was
-pub sent_entries : (old new : RequestsState) (o : Option ℕ) → TakesNext old o new → new.entries ≡ old.entries
-sent_entries old new None t = ap (λ (r : RequestsState). r.entries) t.1
-sent_entries old new (Some place) t = ap (λ (r : RequestsState). r.entries) t.1

@@ -7,13 +7,13 @@ use Rattle.std.proofs.lemmas.List.{length-append, length-set, take_more}
 use Rattle.std.proofs.lemmas.List.Elements.{All-head, All-tail, Contains-append_left, Contains-push, Contains-push_cases}
 use Rattle.std.proofs.lemmas.List.Sums.{sum_by-cons, sum_by-set}
 use Rattle.std.proofs.lemmas.Option.{get_or_from_slice_get, slice_get-get_or, slice_get_within}
-use Rattle.request_record.proofs.RecordLaws.{get_push, get_last}
+use Rattle.lemmas.proofs.Places.{got, get_set, get_other, set_cases, get_push, get_last}
 use Rattle.share_holdings.specs.Choice.{Chooses, NoneIsFreeBefore}
 use Rattle.share_holdings.specs.Numbers.{is_at, no_holding, read_count, released, taken_up, with_place, without_place}
 use Rattle.share_holdings.specs.State.{NumberState, TableState}
 use Rattle.share_holdings.specs.Table.{IsFree, IsHolding, IsNumber, ChangesNumber, IsTable, Releases, Retires, Suspends, TakesUp, told_one}
 use Rattle.share_holdings.specs.declared.holding.Holding.{Holding}
-use Rattle.share_holdings.proofs.Lists.{from_without, got, get_other, get_set, set_cases, without_keeps}
+use Rattle.share_holdings.proofs.Lists.{from_without, without_keeps}
 
 -- the one that is read is no other than this, if this is it
 at_is : (place : ℕ) (reading : Option ℕ) (other : ℕ) → released place reading ≡ Some other → (reading ≡ Some other) × (other ≡ place → ⊥)

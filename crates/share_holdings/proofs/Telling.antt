@@ -5,6 +5,8 @@ use Rattle.std.proofs.lemmas.Bool.{and_parts, cases_lt, le-ltb, leb-true, lt-ltb
 use Rattle.std.proofs.lemmas.List.Elements.{filter-append}
 use Rattle.std.proofs.lemmas.List.{append_assoc, append-nil, length-set, take_more}
 use Rattle.std.proofs.lemmas.Option.{get_or_from_slice_get, slice_get-get_or, slice_get_within}
+pub use Rattle.lemmas.proofs.Places.{get_left as append_front}
+use Rattle.lemmas.proofs.Places.{set_cases, get_left}
 use Rattle.wire.specs.declared.message.Body.{Body}
 use Rattle.wire.specs.declared.message.Body.TheVariants.{Have}
 use Rattle.wire.specs.declared.message.HeldShare.{HeldShare}
@@ -26,7 +28,6 @@ use Rattle.share_holdings.specs.Numbers.{with_place}
 use Rattle.share_holdings.specs.Right.{IsRight}
 use Rattle.share_holdings.specs.declared.holding.Holding.{Holding}
 use Rattle.share_holdings.proofs.Goes.{alike_forth, answered_at, gone_message, gone_stays, message_goes, offered_stays}
-use Rattle.share_holdings.proofs.Lists.{set_cases}
 use Rattle.share_holdings.proofs.Records.{alike_message, stays_message}
 
 -- ---- what stands in the joined list
@@ -39,11 +40,6 @@ append_cases (z ∷ zs) ys (suc i) x e = elim (append_cases zs ys i x e) [
   | inl k ↦ inl k
   | inr k ↦ (let le = k.0 in let at : suc i - (length zs + 1) ≡ i - length zs = omega arith in let len : length (z ∷ zs) ≡ length zs + 1 = omega arith in inr (omega (arith, le, len), ap (λ (n : ℕ). slice_get ys (suc i - n)) len ∙ ap (slice_get ys) at ∙ k.1))
 ]
-
-pub append_front : {X : Type 0} (xs ys : List X) (i : ℕ) (x : X) → slice_get xs i ≡ Some x → slice_get (xs ++ ys) i ≡ Some x
-append_front [] ys i x e = absurd cc
-append_front (z ∷ zs) ys zero x e = e
-append_front (z ∷ zs) ys (suc i) x e = append_front zs ys i x e
 
 -- ---- what is told
 
@@ -156,7 +152,7 @@ module _ (s : HoldingsState) (right : IsRight s) (from : ℕ) (m : Message) (now
   cases_after k h e = append_cases s.table.holdings new-ones k h (sym (ap (λ (l : List Holding). slice_get l k) holdings) ∙ e)
 
   front_after : (k : ℕ) (h : Holding) → IsHolding s.table k h → IsHolding u k h
-  front_after k h e = ap (λ (l : List Holding). slice_get l k) holdings ∙ append_front s.table.holdings new-ones k h e
+  front_after k h e = ap (λ (l : List Holding). slice_get l k) holdings ∙ get_left s.table.holdings new-ones k h e
 
   answered-at : slice_get entries-after place ≡ Some (with_outcome q (Answered m.body))
   answered-at = answered_at from m now s.requests place q counts there

@@ -5,6 +5,7 @@ use Rattle.std.proofs.lemmas.Bool.{cases_eq, cases_lt}
 use Rattle.std.proofs.lemmas.List.{length-map, length-set, take_more}
 use Rattle.std.proofs.lemmas.List.Elements.{Contains-append_left, Contains-push, Contains-push_cases}
 use Rattle.std.proofs.lemmas.Option.{get_or_from_slice_get, slice_get-get_or, slice_get_within}
+use Rattle.lemmas.proofs.Places.{set_cases}
 use Rattle.placement.proofs.Members.{Contains-cons, Contains-head, Contains-nil, Contains-uncons}
 use Rattle.request_record.specs.declared.requests.Asked.TheVariants.{Holdings, Reading}
 use Rattle.request_record.specs.declared.requests.Outcome.{Outcome}
@@ -22,7 +23,7 @@ use Rattle.share_holdings.specs.Table.{IsHolding, Retires}
 use Rattle.share_holdings.specs.Right.{IsRight}
 use Rattle.share_holdings.specs.declared.holding.Holding.{Holding}
 use Rattle.share_holdings.proofs.Goes.{GoesAlike, HaveSamePairs, gone_stays, only_owner, right_goes}
-use Rattle.share_holdings.proofs.Lists.{released_at, released_else, set_cases}
+use Rattle.share_holdings.proofs.Lists.{released_at, released_else}
 use Rattle.share_holdings.proofs.Records.{alike_tick, stays_tick}
 
 -- ---- which requests a tick finds lost

@@ -1,6 +1,7 @@
 use Rattle.std.proofs.Common.{rules, ◌≡◌, ℕ, ◌-◌, ◌<◌, ◌≤◌, Option, Some, None, length, List, refl, sym, subst, ◌∙◌, arith}
 use Rattle.std.specs.Prelude.{slice_get, slice_index_or}
 use Rattle.std.proofs.lemmas.Option.{slice_get_within}
+use Rattle.lemmas.proofs.Places.{got}
 use Rattle.wire.specs.declared.message.Body.TheVariants.{NoShare}
 use Rattle.wire.specs.declared.message.HeldShare.{HeldShare}
 use Rattle.request_record.specs.declared.requests.Outcome.TheVariants.{Answered}
@@ -10,7 +11,6 @@ use Rattle.share_holdings.specs.Right.{IsRight}
 use Rattle.share_holdings.specs.State.{HoldingsState}
 use Rattle.share_holdings.specs.declared.holdings.Heard.TheVariants as heard
 use Rattle.share_holdings.proofs.Goes.{right_gone, right_message}
-use Rattle.share_holdings.proofs.Lists.{got}
 use Rattle.share_holdings.proofs.Telling.{ToldNow, told_by}
 use Rattle.share_holdings.proofs.holdings.Holdings.take_answer.Goals as goal
 

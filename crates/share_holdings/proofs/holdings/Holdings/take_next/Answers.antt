@@ -1,5 +1,5 @@
+use Rattle.request_record.proofs.StepLaws.{sent_entries}
 use Rattle.share_holdings.proofs.Goes.{right_sent}
-use Rattle.share_holdings.proofs.Records.{sent_entries}
 use Rattle.share_holdings.proofs.holdings.Holdings.take_next.Goals as goal
 
 pub invariant_of-self : goal.invariant_of-self

@@ -1,9 +1,9 @@
 use Rattle.std.proofs.Common.{rules, ◌≡◌, ℕ, ◌<◌, ◌≤◌, length, Some, None, true, false, is_some, Option, IfSome, refl, sym, subst, ◌∙◌, arith, All}
 use Rattle.std.specs.Prelude.{slice_index_or}
+use Rattle.lemmas.proofs.Places.{got}
 use Rattle.share_holdings.specs.Choice.{Chooses}
 use Rattle.share_holdings.specs.Table.{IsFree, IsHolding, IsNumber, IsTable}
 use Rattle.share_holdings.specs.declared.holding.Holding.{Holding}
-use Rattle.share_holdings.proofs.Lists.{got}
 use Rattle.share_holdings.proofs.Tables.{free_here, left_inside, none_at_all, none_chosen, one_read}
 use Rattle.share_holdings.proofs.table.Table.choose.Goals.{then-not-is_read+else-is_some, else-not-is_read}
 use Rattle.share_holdings.proofs.table.Table.choose.Goals as goal
