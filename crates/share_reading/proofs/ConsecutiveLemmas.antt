@@ -1,27 +1,15 @@
 -- Reads that follow one another, and what they bring.
-use Rattle.std.proofs.Common.{◌≡◌, ℕ, zero, suc, ◌+◌, ◌-◌, ◌<◌, ◌≤◌, List, [], ◌∷◌, ◌++◌, length, get_or, take, drop, ap, refl, sym, subst, ◌∙◌, arith, inl, inr, ◌⊎◌, append_assoc}
+use Rattle.std.proofs.Common.{◌≡◌, ℕ, ◌+◌, ◌-◌, ◌<◌, ◌≤◌, List, [], ◌∷◌, ◌++◌, length, get_or, take, drop, ap, sym, subst, ◌∙◌, arith, inl, inr, append_assoc}
 use Rattle.std.specs.Prelude.{Contains}
 use Rattle.std.proofs.lemmas.Bool.{cases_lt}
 use Rattle.std.proofs.lemmas.List.{get_or-take, get_or-drop, length-append, length-take, length-drop, ext_get_or}
 use Rattle.std.proofs.Math.Seq.{take-append_seam, drop-append_seam}
+use Rattle.lemmas.proofs.Members.{contains_head, contains_tail, contains_cases, contains_none}
 use Rattle.share_opening.specs.Reads.{Brought}
 use Rattle.share_opening.specs.Blame.{HasAt, HasReads}
 use Rattle.share_reading.specs.Whole.{AreConsecutive, AreOne, IsWhole, joined}
 
 -- ---- members of a list
-
-pub contains_head : {X : Type 0} (x : X) (xs : List X) → Contains (x ∷ xs) x
-contains_head x xs = (zero, omega arith, refl)
-
-pub contains_tail : {X : Type 0} (x y : X) (xs : List X) → Contains xs y → Contains (x ∷ xs) y
-contains_tail x y xs at = (suc at.0, omega (arith, at.1), at.2)
-
-pub contains_cases : {X : Type 0} (x y : X) (xs : List X) → Contains (x ∷ xs) y → (x ≡ y) ⊎ Contains xs y
-contains_cases x y xs (zero, lt, is) = inl is
-contains_cases x y xs (suc k, lt, is) = inr (k, omega (arith, lt), is)
-
-pub contains_none : {X : Type 0} (x : X) → Contains [] x → ⊥
-contains_none x at = omega (arith, at.1)
 
 -- ---- reads one after another
 

@@ -2,9 +2,8 @@
 use Rattle.std.proofs.Common.{◌≡◌, ℕ, ◌+◌, ◌≤◌, List, [], ◌∷◌, ◌++◌, length, ap, refl, sym, subst, ◌∙◌, arith, inl, inr}
 use Rattle.std.specs.Prelude.{Contains}
 use Rattle.std.proofs.lemmas.List.Elements.{Contains-append_left, Contains-append_right, Contains-append_cases, Contains-push}
+use Rattle.lemmas.proofs.Members.{contains_head, contains_none}
 use Rattle.cap_text.specs.Cap.{VerifyCapValue}
-use Rattle.share_layout.specs.declared.layout.Layout.{Layout}
-use Rattle.share_layout.specs.declared.layout.Layout.TheVariants.{One, Two}
 use Rattle.share_layout.specs.declared.places.Places.{Places}
 use Rattle.share_layout.specs.Geometry.{Geometry}
 use Rattle.share_layout.specs.Layout.{header_size, places_of, width}
@@ -17,7 +16,7 @@ use Rattle.share_verify.specs.declared.check.Check.{Check}
 use Rattle.share_verify.proofs.GeometryOfUeb.{is_geometry}
 use Rattle.share_opening.specs.Opening.{IsOpened, text_of}
 use Rattle.share_opening.specs.Opening as opening
-use Rattle.share_opening.specs.Reads.{Brought, IsHeaderBy, IsLedToBy, IsLengthBy}
+use Rattle.share_opening.specs.Reads.{Brought, IsLedToBy}
 use Rattle.share_opening.specs.declared.block.Opened.{Opened}
 use Rattle.share_opening.specs.declared.block.PendingBlock.{PendingBlock}
 use Rattle.share_opening.specs.declared.header.ShareHeader.{ShareHeader}
@@ -25,7 +24,7 @@ use Rattle.share_opening.specs.declared.header.HeaderStart.{HeaderStart}
 use Rattle.share_opening.specs.declared.opening.Opening.{Opening}
 use Rattle.share_opening.specs.declared.opening.Opening.TheVariants.{Start, Second, Header, Block}
 use Rattle.share_opening.specs.declared.opening.Progress.TheVariants as progress
-use Rattle.share_opening.proofs.ReadLemmas.{lead_on, rise}
+use Rattle.share_opening.proofs.ReadLemmas.{lead_on, rise, behind, more_header, more_length}
 use Rattle.share_opening.proofs.BlameLemmas.{refused_fail}
 use Rattle.share_reading.specs.Reading.{next_length, next_place}
 use Rattle.share_reading.specs.Reads.{Ask, AsksNone, End, GoOn, HasHeaderBy, IsReadBy, IsRest, IsRestBy, Stop}
@@ -33,15 +32,9 @@ use Rattle.share_reading.specs.Whole.{AreConsecutive}
 use Rattle.share_reading.specs.declared.reading.Reading.{Reading}
 use Rattle.share_reading.specs.declared.reading.Reading.TheVariants.{Beginning, Remaining}
 use Rattle.share_reading.specs.declared.rest.Rest.{Rest}
-use Rattle.share_reading.proofs.ConsecutiveLemmas.{append, contains_head, contains_none, inside, push, whole}
+use Rattle.share_reading.proofs.ConsecutiveLemmas.{append, inside, push, whole}
 
 -- ---- what is known of a header
-
--- the extension block stands behind it
-behind : (h : ShareHeader) → header_size h.places.layout ≤ h.places.extension_block
-behind h =
-    subst (λ (p : Places). header_size p.layout ≤ p.extension_block) (sym h.right.places)
-    (let o = h.right.tells.places.rising in omega arith)
 
 -- the extension block's geometry gives the places that the header tells
 places_are : (cap : VerifyCapValue) (h : ShareHeader) (bytes : List ℕ) (o : Opened) → IsOpened cap (text_of h) bytes o → h.places ≡ places_of (geometry_by o.ueb)
@@ -50,24 +43,6 @@ places_are cap h bytes o is =
     h.right.places ∙ (tells_places (geometry_by o.ueb) (text_of h) (is_geometry o.ueb is.ueb.grammar.contents) own).2
 
 -- ---- more reads
-
-more_header : (reads more : List Brought) → ((read : Brought) → Contains reads read → Contains more read) → (l : Layout) (text : List ℕ)
-    → IsHeaderBy reads l text → IsHeaderBy more l text
-more_header reads more grows One text held = grows _ held
-more_header reads more grows Two text held = (grows _ held.0, grows _ held.1)
-
-more_length : (reads more : List Brought) → ((read : Brought) → Contains reads read → Contains more read) → (h : ShareHeader) (told : ℕ)
-    → IsLengthBy reads h told → IsLengthBy more h told
-more_length reads more grows h told is = record { bytes = is.bytes; read = grows _ is.read; long = is.long; number = is.number }
-
-pub more_led : (reads more : List Brought) → ((read : Brought) → Contains reads read → Contains more read) → (o : Opening) → IsLedToBy reads o → IsLedToBy more o
-more_led reads more grows Start led = led
-more_led reads more grows (Second s) led = grows _ led
-more_led reads more grows (Header h) led = more_header reads more grows h.places.layout (text_of h) led
-more_led reads more grows (Block b) led = (
-  more_header reads more grows b.header.places.layout (text_of b.header) led.0,
-  more_length reads more grows b.header b.block_length led.1,
-)
 
 -- ---- the next read
 

@@ -3,6 +3,7 @@ use Rattle.std.proofs.Common.{◌≡◌, ℕ, List, [], ◌∷◌, ◌++◌, len
 use Rattle.std.specs.Prelude.{Contains}
 use Rattle.std.proofs.lemmas.List.Elements.{Contains-append_left, Contains-append_right}
 use Rattle.std.proofs.lemmas.Option.{none-some, same_Some}
+use Rattle.lemmas.proofs.Members.{contains_head, contains_cases, contains_none}
 use Rattle.cap_text.specs.Cap.{VerifyCapValue}
 use Rattle.share_verify.specs.Checks.{check_of}
 use Rattle.share_verify.proofs.Faults.{first_fails}
@@ -15,7 +16,7 @@ use Rattle.share_reading.specs.Reading.{next_place}
 use Rattle.share_reading.specs.Verdict.{AreAnswered, AreExclusive, AreFull, FailsFirst, IsGood, IsLost, IsStopped, IsVerdict, Settled, brought_at, brought_by, brought_of}
 use Rattle.share_reading.specs.declared.verdict.Verdict.{Verdict}
 use Rattle.share_reading.specs.declared.verdict.Verdict.TheVariants.{Good, Corrupt, Lost}
-use Rattle.share_reading.proofs.ConsecutiveLemmas.{are_one, contains_cases, contains_head, contains_none}
+use Rattle.share_reading.proofs.ConsecutiveLemmas.{are_one}
 use Rattle.share_reading.proofs.ReadingLemmas.{stop}
 
 -- ---- what reads brought
