@@ -3,6 +3,9 @@ use Rattle.std.proofs.Common.{◌≡◌, ℕ, ◌+◌, ◌≤◌, Bool, true, fa
 use Rattle.std.specs.Prelude.{Contains, slice_get}
 use Rattle.std.proofs.lemmas.List.Elements.{Contains-append_left, Contains-append_right, Contains-append_cases, Contains-push, Contains-push_cases}
 use Rattle.std.proofs.lemmas.Option.{same_Some}
+use Rattle.share_opening.proofs.ReadLemmas.{more_led}
+use Rattle.lemmas.proofs.Members.{contains_at, flat_map_from, contains_cases, contains_head, contains_none, contains_tail}
+use Rattle.lemmas.proofs.Places.{get_pushed, get_last}
 use Rattle.cap_text.specs.Cap.{VerifyCapValue}
 use Rattle.placement.specs.Matching.{Pair}
 use Rattle.wire.specs.declared.message.Body.TheVariants.{Ask, Have, Allocate, Granted, Already, Busy, Full, Write, Wrote, WrongOffset, Close, Closed, NotComplete, Abort, Read, Data, NoShare}
@@ -12,7 +15,6 @@ use Rattle.request_record.specs.declared.requests.Outcome.{Outcome}
 use Rattle.request_record.specs.declared.requests.Outcome.TheVariants.{Unawaited, Outstanding, Answered, Lost}
 use Rattle.request_record.specs.declared.requests.Request.{Request}
 use Rattle.request_record.specs.Record.{first_request, is_outstanding}
-use Rattle.request_record.proofs.RecordLaws.{get_last}
 use Rattle.share_verify.specs.declared.check.Check.{Check}
 use Rattle.share_opening.specs.Reads.{Brought}
 use Rattle.share_opening.specs.declared.opening.Opening.TheVariants.{Start, Second, Header, Block}
@@ -26,14 +28,13 @@ use Rattle.share_reading.specs.declared.reading.Reading as readings
 use Rattle.share_reading.specs.declared.reading.Reading.TheVariants.{Beginning, Remaining}
 use Rattle.share_reading.specs.declared.verdict.Verdict.{Verdict}
 use Rattle.share_reading.specs.declared.verdict.Verdict.TheVariants as verdicts
-use Rattle.share_reading.proofs.ConsecutiveLemmas.{contains_cases, contains_head, contains_none, contains_tail}
-use Rattle.share_reading.proofs.ReadingLemmas.{ask, end_whole, go_on, more_led}
+use Rattle.share_reading.proofs.ReadingLemmas.{ask, end_whole, go_on}
 use Rattle.share_reading.proofs.VerdictLemmas.{brought_has}
 use Rattle.checker.specs.Shares.{offered_pairs, settled_in, settled_of}
 use Rattle.checker.specs.Offers.{IsKeptBy, key_of}
 use Rattle.checker.specs.Book.{AreReadAt, HasBytes, IsAbout, IsEnded, IsReadAt, IsReadOnlyAt, IsReading, IsUnread}
 use Rattle.checker.specs.declared.offers.Offer.{Offer}
-use Rattle.checker.proofs.Entries.{about_by, IsSettledBy, flat_map_from, get_contains, get_pushed, settled_from, settled_has}
+use Rattle.checker.proofs.Entries.{about_by, IsSettledBy, settled_from, settled_has}
 use Rattle.checker.proofs.OfferMoves.{IsOneOf, brought, last, reads_push, all_quiet, next_about, next_asked, one_of, same_next}
 
 -- ---- what a request that waits no more tells
@@ -163,7 +164,7 @@ pub brought_from : (reads : List Settled) (b : Brought) → Contains (brought_of
 brought_from reads b at =
     let found = flat_map_from brought_by reads b at in
     let parts = brought_in found.source.place found.source.answer b found.has in
-    record { read = found.source; among = get_contains reads found.place found.source found.there; place = parts.0; answer = parts.1 }
+    record { read = found.source; among = contains_at reads found.place found.source found.there; place = parts.0; answer = parts.1 }
 
 -- ---- the next request
 

@@ -4,23 +4,23 @@ use Rattle.std.specs.Prelude.{Contains, slice_get}
 use Rattle.std.proofs.lemmas.Bool.{cases_lt}
 use Rattle.std.proofs.lemmas.List.{length-append, length-set}
 use Rattle.std.proofs.lemmas.Option.{slice_get_within, same_Some}
+use Rattle.lemmas.proofs.Members.{contains_cases, contains_none}
+use Rattle.lemmas.proofs.Places.{get_set_other, get_pushed, get_last}
 use Rattle.cap_text.specs.Cap.{VerifyCapValue}
 use Rattle.placement.specs.Matching.{Pair}
 use Rattle.request_record.specs.declared.requests.Outcome.{Outcome}
 use Rattle.request_record.specs.declared.requests.Outcome.TheVariants.{Unawaited, Outstanding, Answered, Lost}
 use Rattle.request_record.specs.declared.requests.Request.{Request}
 use Rattle.request_record.specs.Record.{is_outstanding}
-use Rattle.request_record.proofs.RecordLaws.{get_last}
 use Rattle.share_reading.specs.Reading as reading
 use Rattle.share_reading.specs.declared.reading.Reading as readings
-use Rattle.share_reading.proofs.ConsecutiveLemmas.{contains_cases, contains_none}
 use Rattle.checker.specs.Offers.{key_of}
 use Rattle.checker.specs.Shares.{offered_in}
 use Rattle.checker.specs.Book.{AreKeys, HasTold, IsAbout, IsAt, IsBook, IsOffer, IsOwner, IsStarted, IsTold}
 use Rattle.checker.specs.declared.machine.Told.{Told}
 use Rattle.checker.specs.declared.offers.Offer.{Offer}
 use Rattle.checker.specs.declared.offers.Stage.TheVariants.{Read}
-use Rattle.checker.proofs.Entries.{GoesTo, about_by, about_one, about_same, get_kept, get_pushed, get_set_other, get_set_same, was_at}
+use Rattle.checker.proofs.Entries.{GoesTo, about_by, about_one, about_same, get_kept, get_set_same, was_at}
 use Rattle.checker.proofs.OfferMoves.{offer_done, offer_goes, offer_other, offer_push, waits_about}
 use Rattle.checker.proofs.AnswerMoves.{next_request}
 

@@ -1,12 +1,14 @@
 -- The requests of a record, as it goes on, and what they tell of a share.
-use Rattle.std.proofs.Common.{◌≡◌, ℕ, zero, suc, ◌<◌, Bool, true, false, cond, List, [], ◌∷◌, ◌++◌, length, set, Some, ap, refl, sym, subst, ◌∙◌, arith, inl, inr, ◌⊎◌, true≢false}
-use Rattle.std.specs.Prelude.{Contains, slice_get, ◌==◌, ◌&&◌}
+use Rattle.std.proofs.Common.{◌≡◌, ℕ, zero, suc, ◌<◌, Bool, true, false, cond, List, [], ◌∷◌, ◌++◌, length, set, Some, ap, refl, sym, ◌∙◌, arith, inl, inr, ◌⊎◌, true≢false}
+use Rattle.std.specs.Prelude.{Contains, slice_get, ◌==◌}
 use Rattle.std.specs.List.{flat_map}
 use Rattle.std.proofs.lemmas.List.{append-nil}
 use Rattle.std.proofs.lemmas.List.Concat.{flat_map-append}
-use Rattle.std.proofs.lemmas.List.Elements.{Contains-append_left, Contains-append_right, Contains-append_cases}
 use Rattle.std.proofs.lemmas.Option.{slice_get_within, same_Some}
 use Rattle.std.proofs.lemmas.Bool.{eqb-true, eq-eqb}
+use Rattle.lemmas.proofs.Places.{get_of, get_push}
+use Rattle.lemmas.proofs.Bools.{both, bool_cases}
+use Rattle.lemmas.proofs.Members.{flat_map_has, flat_map_from, contains_none}
 use Rattle.placement.specs.Matching.{Pair}
 use Rattle.request_record.specs.declared.requests.Asked.{Asked}
 use Rattle.request_record.specs.declared.requests.Asked.TheVariants.{Holdings, Allocation, Writing, Closing, Reading, Aborting}
@@ -14,9 +16,7 @@ use Rattle.request_record.specs.declared.requests.Outcome.{Outcome}
 use Rattle.request_record.specs.declared.requests.Outcome.TheVariants.{Unawaited, Outstanding, Answered, Lost}
 use Rattle.request_record.specs.declared.requests.Request.{Request}
 use Rattle.request_record.specs.Record.{is_outstanding}
-use Rattle.request_record.proofs.RecordLaws.{get_push}
 use Rattle.share_reading.specs.Verdict.{Settled}
-use Rattle.share_reading.proofs.ConsecutiveLemmas.{contains_head, contains_none, contains_tail}
 use Rattle.checker.specs.Shares.{is_about, reads_share, settled_by, settled_in, settled_of}
 use Rattle.checker.specs.Book.{IsAbout}
 
@@ -26,28 +26,6 @@ pub get_set_same : {X : Type 0} (xs : List X) (i : ℕ) (x y : X) → slice_get 
 get_set_same [] i x y e = absurd cc
 get_set_same (z ∷ zs) zero x y e = refl
 get_set_same (z ∷ zs) (suc i) x y e = get_set_same zs i x y e
-
-pub get_set_other : {X : Type 0} (xs : List X) (i j : ℕ) (y : X) → (j ≡ i → ⊥) → slice_get (set xs i y) j ≡ slice_get xs j
-get_set_other [] i j y other = refl
-get_set_other (x ∷ xs) zero zero y other = absurd (other refl)
-get_set_other (x ∷ xs) zero (suc j) y other = refl
-get_set_other (x ∷ xs) (suc i) zero y other = refl
-get_set_other (x ∷ xs) (suc i) (suc j) y other = get_set_other xs i j y (λ e. other (ap suc e))
-
--- an element of a list with one more is the last, or was there before
-pub get_pushed : {X : Type 0} (xs : List X) (x y : X) (i : ℕ) → slice_get (xs ++ x ∷ []) i ≡ Some y → (slice_get xs i ≡ Some y) ⊎ ((i ≡ length xs) × (x ≡ y))
-get_pushed [] x y zero e = inr (refl, same_Some x y e)
-get_pushed [] x y (suc i) e = absurd cc
-get_pushed (z ∷ zs) x y zero e = inl e
-get_pushed (z ∷ zs) x y (suc i) e = elim (get_pushed zs x y i e) [
-  | inl there ↦ inl there
-  | inr last ↦ inr (ap suc last.0, last.1)
-]
-
-pub get_contains : {X : Type 0} (xs : List X) (i : ℕ) (x : X) → slice_get xs i ≡ Some x → Contains xs x
-get_contains [] i x e = absurd cc
-get_contains (y ∷ ys) zero x e = subst (Contains (y ∷ ys)) (same_Some y x e) (contains_head y ys)
-get_contains (y ∷ ys) (suc i) x e = contains_tail y x ys (get_contains ys i x e)
 
 pub get_kept : {X : Type 0} (xs : List X) (x y : X) (i : ℕ) → slice_get xs i ≡ Some y → slice_get (xs ++ x ∷ []) i ≡ Some y
 get_kept xs x y i e = get_push xs x i (slice_get_within xs i y e) ∙ e
@@ -61,32 +39,7 @@ flat_map_same f (x ∷ xs) (y ∷ ys) long same =
     ap (λ l. l ++ flat_map f ys) (same zero x y refl refl)
     ∙ ap (λ l. f x ++ l) (flat_map_same f xs ys (omega (arith, long)) (λ i. same (suc i)))
 
-pub flat_map_has : {X A : Type 0} (f : X → List A) (xs : List X) (i : ℕ) (x : X) (a : A) → slice_get xs i ≡ Some x → Contains (f x) a → Contains (flat_map f xs) a
-flat_map_has f [] i x a e at = absurd cc
-flat_map_has f (y ∷ ys) zero x a e at =
-    Contains-append_left (f y) (flat_map f ys) a (subst (λ z. Contains (f z) a) (sym (same_Some y x e)) at)
-flat_map_has f (y ∷ ys) (suc i) x a e at = Contains-append_right (f y) (flat_map f ys) a (flat_map_has f ys i x a e at)
-
-pub record IsFrom {X A : Type 0} (f : X → List A) (xs : List X) (a : A) : Type 0 where
-  pub place : ℕ
-  pub source : X
-  pub there : slice_get xs place ≡ Some source
-  pub has : Contains (f source) a
-
-pub flat_map_from : {X A : Type 0} (f : X → List A) (xs : List X) (a : A) → Contains (flat_map f xs) a → IsFrom f xs a
-flat_map_from f [] a at = absurd (contains_none a at)
-flat_map_from f (x ∷ xs) a at = elim (Contains-append_cases (f x) (flat_map f xs) a at) [
-  | inl here ↦ record { place = 0; source = x; there = refl; has = here }
-  | inr later ↦ (
-      let found = flat_map_from f xs a later in
-      record { place = suc found.place; source = found.source; there = found.there; has = found.has })
-]
-
 -- ---- the reads of a share
-
-pub both : (a b : Bool) → (a && b) ≡ true → (a ≡ true) × (b ≡ true)
-both true b e = (refl, e)
-both false b e = absurd cc
 
 -- it asks for bytes of a share
 pub record IsReadOf (share : ℕ) (asked : Asked) : Type 0 where
@@ -133,10 +86,6 @@ about_same key r n server asked is =
     about_by key r read.offset read.len (sym server ∙ about_server key n is) (sym asked ∙ read.is)
 
 -- ---- what waits no more
-
-pub waits_or_not : (b : Bool) → (b ≡ true) ⊎ (b ≡ false)
-waits_or_not true = inl refl
-waits_or_not false = inr refl
 
 pub is_waiting : (o : Outcome) → is_outstanding o ≡ true → o ≡ Outstanding
 is_waiting Unawaited e = absurd cc
@@ -212,11 +161,6 @@ pub record WasAt (es : List Request) (todo : List ℕ) (i : ℕ) (n : Request) :
   pub asked : n.asked ≡ request.asked
   pub still : is_outstanding request.outcome ≡ false → n ≡ request
 
-get_of : {X : Type 0} (xs : List X) (i : ℕ) → i < length xs → (x : X) × (slice_get xs i ≡ Some x)
-get_of [] i lt = absurd (omega (arith, lt))
-get_of (x ∷ xs) zero lt = (x, refl)
-get_of (x ∷ xs) (suc i) lt = get_of xs i (omega (arith, lt))
-
 pub was_at : (es ns : List Request) (todo : List ℕ) → GoesTo es ns todo → (i : ℕ) (n : Request) → slice_get ns i ≡ Some n → WasAt es todo i n
 was_at es ns todo goes i n there =
     let within : i < length es = omega (arith, slice_get_within ns i n there, goes.long) in
@@ -241,7 +185,7 @@ settled_stays es ns todo key goes quiet = flat_map_same (settled_by key.0 key.1)
     same i r n there now =
         let was = was_at es ns todo goes i n now in
         let is : was.request ≡ r = same_Some was.request r (sym was.there ∙ there) in
-        elim (waits_or_not (is_outstanding r.outcome)) [
+        elim (bool_cases (is_outstanding r.outcome)) [
           | inr still ↦ ap (settled_by key.0 key.1) (was.still (ap (λ (q : Request). is_outstanding q.outcome) is ∙ still) ∙ is)
           | inl waits ↦ (
               let unread : IsAbout key r → ⊥ = λ about. true≢false (sym waits ∙ quiet i r there about) in

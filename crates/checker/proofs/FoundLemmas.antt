@@ -6,6 +6,9 @@ use Rattle.std.proofs.lemmas.List.{map-append}
 use Rattle.std.proofs.lemmas.List.Sums.{sum_by-append}
 use Rattle.std.proofs.lemmas.List.Elements.{All-nil, All-append, All-map, All-take, All-drop, All-contains}
 use Rattle.std.proofs.lemmas.Option.{slice_get-get_or, slice_get_within, same_Some}
+use Rattle.lemmas.proofs.Members.{contains_none}
+use Rattle.lemmas.proofs.Ranges.{range_more}
+use Rattle.lemmas.proofs.Places.{get_of}
 use Rattle.placement.specs.Matching.{Pair}
 use Rattle.request_record.specs.declared.requests.Asked.{Asked}
 use Rattle.request_record.specs.declared.requests.Asked.TheVariants.{Holdings}
@@ -13,7 +16,6 @@ use Rattle.request_record.specs.declared.requests.Request.{Request}
 use Rattle.request_record.specs.Record.{is_outstanding}
 use Rattle.share_reading.specs.Verdict.{IsVerdict}
 use Rattle.share_reading.specs.declared.verdict.Verdict.{Verdict}
-use Rattle.share_reading.proofs.ConsecutiveLemmas.{contains_none}
 use Rattle.share_reading.proofs.VerdictLemmas.{exclusive}
 use Rattle.checker.specs.Offers.{key_of}
 use Rattle.checker.specs.Shares.{offered_pairs, offered_to, settled_of}
@@ -29,24 +31,12 @@ use Rattle.checker.specs.declared.status.CheckStatus.TheVariants.{Done}
 use Rattle.checker.specs.declared.status.ShareVerdict.{ShareVerdict}
 use Rattle.checker.proofs.Entries.{about_read}
 use Rattle.checker.proofs.Keeping.{none_waits}
-use Rattle.checker.proofs.MachineMoves.{get_of}
 
 -- ---- numbers are counted
 
-range_push : (a n : ℕ) → range_with_len a (n + 1) ≡ range_with_len a n ++ (a + n) ∷ []
-range_push a zero = ap (λ m. m ∷ []) (omega arith)
-range_push a (suc n) =
-    ap (range_with_len a) (later n) ∙ ap (λ (l : List ℕ). a ∷ l) (range_push (a + 1) n ∙ ap (λ m. range_with_len (a + 1) n ++ m ∷ []) (moved a n))
-  where
-    later : (m : ℕ) → suc m + 1 ≡ suc (m + 1)
-    later m = omega arith
-
-    moved : (x y : ℕ) → x + 1 + y ≡ x + suc y
-    moved x y = omega arith
-
 counted : (test : ℕ → Bool) (n : ℕ) → count_by test (range_with_len 0 (n + 1)) ≡ count_by test (range_with_len 0 n) + cond (test n) 1 0
 counted test n =
-    ap (count_by test) (range_push 0 n ∙ ap (λ m. range_with_len 0 n ++ m ∷ []) (omega arith))
+    ap (count_by test) (range_more 0 n ∙ ap (λ m. range_with_len 0 n ++ m ∷ []) (omega arith))
     ∙ sum_by-append (λ m. cond (test m) 1 0) (range_with_len 0 n) (n ∷ [])
     ∙ ap (λ m. count_by test (range_with_len 0 n) + m) (omega arith)
 

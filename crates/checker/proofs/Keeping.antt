@@ -1,5 +1,5 @@
 -- What is kept of each check, as it goes on.
-use Rattle.std.proofs.Common.{◌≡◌, ◌≢◌, ℕ, zero, suc, ◌+◌, ◌<◌, ◌≤◌, List, [], ◌∷◌, ◌++◌, length, get_or, drop, map, replicate, eqb, append_assoc, true≢false, Bool, true, false, cond, inl, inr, Option, Some, None, Result, Ok, Err, ap, refl, sym, subst, ◌∙◌, arith}
+use Rattle.std.proofs.Common.{◌≡◌, ◌≢◌, ℕ, zero, suc, ◌+◌, ◌<◌, ◌≤◌, List, [], ◌∷◌, ◌++◌, length, get_or, drop, map, replicate, eqb, append_assoc, true≢false, Bool, true, false, cond, inl, inr, Option, Some, Result, Ok, Err, ap, refl, sym, subst, ◌∙◌, arith}
 use Rattle.std.specs.Prelude.{Contains, slice_get}
 use Rattle.std.specs.Result.{IfOk}
 use Rattle.std.specs.List.{AllByRecursion, IsDistinct}
@@ -9,6 +9,9 @@ use Rattle.std.proofs.lemmas.List.{append-nil, drop_all, length-map, length-repl
 use Rattle.std.proofs.lemmas.List.Elements.{Contains-get_or}
 use Rattle.std.proofs.lemmas.Option.{none-some, same_Some}
 use Rattle.std.proofs.lemmas.Bool.{eq-eqb}
+use Rattle.lemmas.proofs.Members.{contains_head, contains_none}
+use Rattle.request_record.proofs.StepLaws.{asked_joined, sent_entries}
+use Rattle.lemmas.proofs.Places.{get_of}
 use Rattle.cap_text.specs.Cap.{VerifyCapValue}
 use Rattle.request_record.specs.declared.requests.Asked.{Asked}
 use Rattle.request_record.specs.declared.requests.Asked.TheVariants.{Holdings}
@@ -16,7 +19,6 @@ use Rattle.request_record.specs.declared.requests.Outcome.TheVariants.{Lost}
 use Rattle.request_record.specs.declared.requests.Request.{Request}
 use Rattle.request_record.specs.Record.{RequestsState, TakesNext, asked_all, asked_more, first_request, is_outstanding, outstanding_count}
 use Rattle.request_record.specs.Asking.{AsksOnce, asks_of, begun, fresh}
-use Rattle.share_reading.proofs.ConsecutiveLemmas.{contains_head, contains_none}
 use Rattle.checker.specs.Moves.{GoesOn}
 use Rattle.checker.specs.Right.{AreAsked, AreOfShares, IsRight, MayAsk}
 use Rattle.checker.specs.Book.{AreKeys, AreLost, AsksMore, HasBook, IsBook, IsFresh, IsKept, IsSafe, state_of}
@@ -26,7 +28,7 @@ use Rattle.checker.specs.declared.machine.Told.{Told}
 use Rattle.checker.proofs.Entries.{GoesTo, get_kept, was_at}
 use Rattle.checker.proofs.BookMoves.{book_goes}
 use Rattle.checker.proofs.RecordMoves.{IsCounted, IsTicked, may_more, offered_goes, shares_go}
-use Rattle.checker.proofs.MachineMoves.{book_as, get_of}
+use Rattle.checker.proofs.MachineMoves.{book_as}
 use Rattle.checker.proofs.ToldMoves.{not_read}
 use Rattle.checker.specs.declared.status.CheckStatus.{CheckStatus}
 use Rattle.checker.specs.declared.status.CheckStatus.TheVariants.{Running, Done, Failed}
@@ -49,10 +51,6 @@ kept_same m r status same k = record {
   begun = k.begun;
 }
 
-sent_entries : (old new : RequestsState) (o : Option ℕ) → TakesNext old o new → new.entries ≡ old.entries
-sent_entries old new None t = ap (λ (r : RequestsState). r.entries) t.1
-sent_entries old new (Some p) t = ap (λ (r : RequestsState). r.entries) t.1
-
 pub kept_sent : (m : Machine) (out : RequestsState) (o : Option ℕ) (status : CheckStatus) → TakesNext m.requests o out → IsKept m status → IsKept (with_requests m out) status
 kept_sent m out o status next k = kept_same m out status (sent_entries m.requests out o next) k
 
@@ -61,15 +59,11 @@ kept_sent m out o status next k = kept_same m out status (sent_entries m.request
 pub asks_none : (m : Machine) → AsksMore m m
 asks_none m = record { cap = refl; asks = []; requests = refl }
 
-asked_both : (a b : List (ℕ × Asked)) (r : RequestsState) → asked_all (a ++ b) r ≡ asked_all b (asked_all a r)
-asked_both [] b r = refl
-asked_both (x ∷ xs) b r = asked_both xs b (asked_more x.0 x.1 r)
-
 pub asks_trans : (a b c : Machine) → AsksMore a b → AsksMore b c → AsksMore a c
 asks_trans a b c one two = record {
   cap = two.cap ∙ one.cap;
   asks = one.asks ++ two.asks;
-  requests = two.requests ∙ ap (asked_all two.asks) one.requests ∙ sym (asked_both one.asks two.asks a.requests);
+  requests = two.requests ∙ ap (asked_all two.asks) one.requests ∙ sym (asked_joined one.asks two.asks a.requests);
 }
 
 stays_asked : (asks : List (ℕ × Asked)) (r : RequestsState) (i : ℕ) (x : Request) → slice_get r.entries i ≡ Some x → slice_get (asked_all asks r).entries i ≡ Some x

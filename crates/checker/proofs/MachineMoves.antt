@@ -1,9 +1,10 @@
 -- How a check goes on, step by step.
-use Rattle.std.proofs.Common.{◌≡◌, ℕ, zero, suc, ◌+◌, ◌-◌, ◌<◌, ◌≤◌, false, List, [], ◌∷◌, ◌++◌, length, set, Result, Ok, Err, Some, Vec, Global, ap, refl, sym, subst, ◌∙◌, arith, inl, inr, ◌⊎◌}
+use Rattle.std.proofs.Common.{◌≡◌, ℕ, zero, suc, ◌+◌, ◌-◌, ◌<◌, ◌≤◌, false, List, [], ◌∷◌, ◌++◌, length, set, Err, Some, Vec, Global, ap, refl, sym, subst, ◌∙◌, arith, inl, inr, ◌⊎◌}
 use Rattle.std.specs.Prelude.{Contains, slice_get}
-use Rattle.std.specs.Result.{OnErr, OnOk}
 use Rattle.std.proofs.lemmas.Bool.{cases_lt}
 use Rattle.std.proofs.lemmas.Option.{slice_get_within}
+use Rattle.lemmas.proofs.Members.{flat_map_has, contains_none}
+use Rattle.lemmas.proofs.Places.{get_pushed}
 use Rattle.cap_text.specs.Cap.{VerifyCapValue}
 use Rattle.placement.specs.Matching.{Pair}
 use Rattle.request_record.specs.declared.requests.Asked.{Asked}
@@ -22,7 +23,6 @@ use Rattle.share_reading.specs.declared.reading.Reading as readings
 use Rattle.share_reading.specs.declared.reading.Reading.TheVariants.{Beginning}
 use Rattle.share_reading.specs.declared.verdict.Verdict.{Verdict}
 use Rattle.share_reading.specs.declared.verdict.Verdict.TheVariants as verdicts
-use Rattle.share_reading.proofs.ConsecutiveLemmas.{contains_none}
 use Rattle.checker.specs.Shares.{offered_in, offered_pairs, offered_to, settled_of}
 use Rattle.checker.specs.Offers.{IsKeptBy, key_of, with_stage}
 use Rattle.checker.specs.Right.{AreAsked, AreOfShares, MayAsk}
@@ -31,7 +31,6 @@ use Rattle.checker.specs.declared.machine.Machine.{Machine}
 use Rattle.checker.specs.declared.machine.Told.{Told}
 use Rattle.checker.specs.declared.offers.Offer.{Offer}
 use Rattle.checker.specs.declared.offers.Stage.TheVariants.{Waiting, Read, Ended}
-use Rattle.checker.proofs.Entries.{flat_map_has, get_pushed}
 use Rattle.checker.proofs.OfferMoves.{waits_about}
 use Rattle.checker.proofs.AnswerMoves.{IsSafeToAsk, goes_on, is_judged, is_lost, is_stopped, back_kept, front_kept, next_request, reads_first, safe_next}
 use Rattle.checker.proofs.BookMoves.{book_asked, book_done, tail, book_ended, others_less, quiet_less, tells_less, told_less}
@@ -252,14 +251,6 @@ module _ (m : Machine) (place : ℕ) (todo : List ℕ) (k : ℕ) (o : Offer) (r 
 
 -- ---- results
 
-pub on_ok : {A E : Type 0} (r : Result A E) (P Q : Type 0) → OnOk r P → (P → Q) → OnOk r Q
-on_ok (Ok x) P Q p f = f p
-on_ok (Err e) P Q p f = tt
-
-pub by_result : {A E : Type 0} (r : Result A E) (P Q C : Type 0) → OnOk r P → OnErr r Q → (P → C) → (Q → C) → C
-by_result (Ok x) P Q C p q f g = f p
-by_result (Err e) P Q C p q f g = g q
-
 pub safe_same : (m new : Machine) → AsksNothing m new → IsSafe m → IsSafe new
 safe_same m new same safe = record {
   once = subst AsksOnce (ap (λ (x : RequestsState). x.entries) (sym same.requests)) safe.once;
@@ -268,11 +259,6 @@ safe_same m new same safe = record {
   reads = subst (λ (c : VerifyCapValue). AreOfShares c new.requests.entries) (sym same.cap)
       (subst (λ (l : List Request). AreOfShares m.cap l) (ap (λ (x : RequestsState). x.entries) (sym same.requests)) safe.reads);
 }
-
-pub get_of : {X : Type 0} (xs : List X) (i : ℕ) → i < length xs → (x : X) × (slice_get xs i ≡ Some x)
-get_of [] i lt = absurd (omega (arith, lt))
-get_of (x ∷ xs) zero lt = (x, refl)
-get_of (x ∷ xs) (suc i) lt = get_of xs i (omega (arith, lt))
 
 -- ---- the share that a request reads
 

@@ -3,6 +3,8 @@ use Rattle.std.proofs.Common.{◌≡◌, ℕ, true, false, List, [], ◌∷◌, 
 use Rattle.std.specs.Prelude.{Contains, slice_get}
 use Rattle.std.proofs.lemmas.List.Elements.{Contains-append_left, Contains-append_right, Contains-append_cases}
 use Rattle.std.proofs.lemmas.Option.{same_Some}
+use Rattle.lemmas.proofs.Members.{contains_cases, contains_head, contains_none, contains_tail}
+use Rattle.lemmas.proofs.Places.{get_pushed}
 use Rattle.cap_text.specs.Cap.{VerifyCapValue}
 use Rattle.placement.specs.Matching.{Pair}
 use Rattle.wire.specs.declared.message.Body.TheVariants.{Data}
@@ -15,13 +17,12 @@ use Rattle.share_opening.specs.Reads.{Brought}
 use Rattle.share_reading.specs.Reading as reading
 use Rattle.share_reading.specs.Verdict.{IsVerdict, Settled}
 use Rattle.share_reading.specs.declared.reading.Reading as readings
-use Rattle.share_reading.proofs.ConsecutiveLemmas.{contains_cases, contains_head, contains_none, contains_tail}
 use Rattle.checker.specs.Offers.{key_of}
 use Rattle.checker.specs.Book.{AreReadAt, IsAbout, IsAt, IsNext, IsOffer, IsReadAt, IsReadOnlyAt, IsReading}
 use Rattle.checker.specs.declared.offers.Offer.{Offer}
 use Rattle.checker.specs.declared.offers.Stage.{Stage}
 use Rattle.checker.specs.declared.offers.Stage.TheVariants.{Waiting, Read, Ended}
-use Rattle.checker.proofs.Entries.{GoesTo, about_by, about_same, get_kept, get_pushed, settled_push, settled_stays, was_at}
+use Rattle.checker.proofs.Entries.{GoesTo, about_by, about_same, get_kept, settled_push, settled_stays, was_at}
 
 -- what was read at one of these places
 read_among : (es : List Request) (key : Pair) (places : List ℕ) (reads : List Brought) (i : ℕ) → AreReadAt es key places reads → Contains places i

@@ -6,6 +6,10 @@ use Rattle.std.proofs.lemmas.List.{length-map, length-set}
 use Rattle.std.proofs.lemmas.List.Concat.{flat_map-append}
 use Rattle.std.proofs.lemmas.List.Elements.{Contains-append_left}
 use Rattle.std.proofs.lemmas.Option.{slice_get_within, same_Some}
+use Rattle.request_record.proofs.StepLaws.{quiet_ticked}
+use Rattle.lemmas.proofs.Bools.{both, bool_cases}
+use Rattle.lemmas.proofs.Members.{flat_map_has, flat_map_from, contains_cases, contains_head, contains_none, contains_tail}
+use Rattle.lemmas.proofs.Places.{get_set_other, get_pushed, get_map}
 use Rattle.cap_text.specs.Cap.{VerifyCapValue}
 use Rattle.placement.specs.Matching.{Pair}
 use Rattle.wire.specs.declared.message.Body.{Body}
@@ -24,11 +28,10 @@ use Rattle.share_reading.specs.Reading as reading
 use Rattle.share_reading.specs.Reads.{IsAsked}
 use Rattle.share_reading.specs.Verdict.{Settled, brought_of}
 use Rattle.share_reading.specs.declared.reading.Reading as readings
-use Rattle.share_reading.proofs.ConsecutiveLemmas.{contains_cases, contains_head, contains_none, contains_tail}
 use Rattle.share_reading.proofs.VerdictLemmas.{brought_has}
 use Rattle.checker.specs.Right.{AreOfShares, MayAsk}
 use Rattle.checker.specs.Shares.{offered_in, offered_pairs, offered_to, settled_of}
-use Rattle.checker.proofs.Entries.{BecomesAt, GoesTo, IsSettledBy, about_by, both, flat_map_from, flat_map_has, get_pushed, get_set_other, get_set_same, is_waiting, settled_from, settled_has, settled_push, unsettled, waits_or_not, was_at}
+use Rattle.checker.proofs.Entries.{BecomesAt, GoesTo, IsSettledBy, about_by, get_set_same, is_waiting, settled_from, settled_has, settled_push, unsettled, was_at}
 use Rattle.checker.proofs.AnswerMoves.{IsSafeToAsk, brought_from, more_asked, next_request}
 
 -- ---- a message
@@ -121,9 +124,6 @@ ticked_cases now r = by (is_lost_at now r) (is_resent_at now r) refl
     by false true e = inr (refl, refl, refl)
     by false false e = inr (refl, refl, refl)
 
-quiet_ticked : (now : ℕ) (r : Request) → is_outstanding r.outcome ≡ false → ticked_one now r ≡ r
-quiet_ticked now r quiet = rw quiet refl
-
 lost_waits : (now : ℕ) (r : Request) → is_lost_at now r ≡ true → is_outstanding r.outcome ≡ true
 lost_waits now r e = (both (is_outstanding r.outcome) (nat_le 20 (age_of now r)) e).0
 
@@ -163,11 +163,6 @@ place_by test from x xs p false e rest k = place_later test from x xs p (rest k)
 of_places : (test : Request → Bool) (from : ℕ) (es : List Request) (p : ℕ) → Contains (places_from test from es) p → IsPlaceOf test from es p
 of_places test from [] p h = absurd (contains_none p h)
 of_places test from (x ∷ xs) p h = place_by test from x xs p (test x) refl (of_places test (from + 1) xs p) h
-
-get_map : {X Y : Type 0} (f : X → Y) (xs : List X) (i : ℕ) (x : X) → slice_get xs i ≡ Some x → slice_get (map f xs) i ≡ Some (f x)
-get_map f [] i x e = absurd cc
-get_map f (y ∷ ys) zero x e = ap (λ z. Some (f z)) (same_Some y x e)
-get_map f (y ∷ ys) (suc i) x e = get_map f ys i x e
 
 -- what a tick makes of the record
 pub record IsTicked (es ns : List Request) (lost : List ℕ) : Type 0 where
@@ -270,7 +265,7 @@ offered_goes total es ns todo goes p at =
     let found = flat_map_from (offers_in total) es p at in
     let source = found.source in
     let becomes = goes.each found.place source found.there in
-    elim (waits_or_not (is_outstanding source.outcome)) [
+    elim (bool_cases (is_outstanding source.outcome)) [
       | inl waits ↦ absurd (contains_none p (subst (λ (l : List Pair). Contains l p) (unoffered total source.server source.asked source.outcome waits) found.has))
       | inr quiet ↦ flat_map_has (offers_in total) ns found.place becomes.request p becomes.there (subst (λ (x : Request). Contains (offers_in total x) p) (sym (becomes.still quiet)) found.has)
     ]

@@ -6,6 +6,9 @@ use Rattle.std.proofs.lemmas.List.{length-append, length-set, length-map, length
 use Rattle.std.proofs.Math.Seq.{drop-append_seam}
 use Rattle.std.proofs.lemmas.List.Elements.{All-get_or}
 use Rattle.std.proofs.lemmas.Option.{slice_get_within, same_Some, get_or_from_slice_get}
+use Rattle.lemmas.proofs.Bools.{both}
+use Rattle.lemmas.proofs.Members.{contains_at, contains_cases, contains_head}
+use Rattle.lemmas.proofs.Places.{get_set_other, get_of, get_left, get_map}
 use Rattle.cap_text.specs.Cap.{VerifyCapValue}
 use Rattle.placement.specs.Matching.{Pair}
 use Rattle.wire.specs.Held.{rises_from}
@@ -15,23 +18,17 @@ use Rattle.request_record.specs.declared.requests.Asked.TheVariants.{Holdings, R
 use Rattle.request_record.specs.declared.requests.Request.{Request}
 use Rattle.request_record.specs.Record.{is_outstanding}
 use Rattle.request_record.specs.Asking.{AreApart, AsksOnce}
-use Rattle.share_reading.proofs.ConsecutiveLemmas.{contains_cases, contains_head}
 use Rattle.checker.specs.Offers.{key_of}
 use Rattle.checker.specs.Shares.{offered_in}
 use Rattle.checker.specs.Book.{AreKeys, ArePushed, HasTold, IsAbout, IsAt, IsBook, IsNew, IsOffer, IsOwner, IsReadOnlyAt, IsTakenOnce, IsTold}
 use Rattle.checker.specs.declared.machine.Told.{Told}
 use Rattle.checker.specs.declared.offers.Offer.{Offer}
-use Rattle.checker.proofs.Entries.{about_one, about_read, both, get_contains, get_set_other, get_set_same}
+use Rattle.checker.proofs.Entries.{about_one, about_read, get_set_same}
 use Rattle.checker.proofs.OfferMoves.{offer_other}
 use Rattle.checker.proofs.BookMoves.{tail}
 use Rattle.checker.proofs.Joining.{pair_at}
 
 -- ---- lists
-
-get_left : {X : Type 0} (xs ys : List X) (i : ℕ) (x : X) → slice_get xs i ≡ Some x → slice_get (xs ++ ys) i ≡ Some x
-get_left [] ys i x e = absurd cc
-get_left (z ∷ zs) ys zero x e = e
-get_left (z ∷ zs) ys (suc i) x e = get_left zs ys i x e
 
 record IsBehindAt {X : Type 0} (xs ys : List X) (i : ℕ) (x : X) : Type 0 where
   pub index : ℕ
@@ -45,16 +42,6 @@ get_either (z ∷ zs) ys (suc i) x e = elim (get_either zs ys i x e) [
   | inl before ↦ inl before
   | inr behind ↦ inr (record { index = behind.index; is = omega (arith, behind.is); there = behind.there })
 ]
-
-get_of : {X : Type 0} (xs : List X) (i : ℕ) → i < length xs → (x : X) × (slice_get xs i ≡ Some x)
-get_of [] i lt = absurd (omega (arith, lt))
-get_of (x ∷ xs) zero lt = (x, refl)
-get_of (x ∷ xs) (suc i) lt = get_of xs i (omega (arith, lt))
-
-get_mapped : {X Y : Type 0} (f : X → Y) (xs : List X) (i : ℕ) (x : X) → slice_get xs i ≡ Some x → slice_get (map f xs) i ≡ Some (f x)
-get_mapped f [] i x e = absurd cc
-get_mapped f (y ∷ ys) zero x e = ap (λ z. Some (f z)) (same_Some y x e)
-get_mapped f (y ∷ ys) (suc i) x e = get_mapped f ys i x e
 
 record IsMapped {X Y : Type 0} (f : X → Y) (xs : List X) (i : ℕ) (y : Y) : Type 0 where
   pub source : X
@@ -136,7 +123,7 @@ module _ (cap : VerifyCapValue) (es : List Request) (told : List Told) (owners :
 
   -- a new one is of this server
   new_listed : (j : ℕ) (y : Offer) → slice_get more j ≡ Some y → IsMapped (pair_at q.server) kept j (key_of y)
-  new_listed j y e = get_unmapped (pair_at q.server) kept j (key_of y) (ap (λ (l : List Pair). slice_get l j) (sym listed) ∙ get_mapped key_of more j y e)
+  new_listed j y e = get_unmapped (pair_at q.server) kept j (key_of y) (ap (λ (l : List Pair). slice_get l j) (sym listed) ∙ get_map key_of more j y e)
 
   new_server : (j : ℕ) (y : Offer) → slice_get more j ≡ Some y → y.server ≡ q.server
   new_server j y e = ap (λ (p : Pair). p.0) (new_listed j y e).is
@@ -158,7 +145,7 @@ module _ (cap : VerifyCapValue) (es : List Request) (told : List Told) (owners :
   listed_new : (j : ℕ) (y : Offer) → slice_get more j ≡ Some y → Contains (offered_in cap.total y.server q.outcome) (key_of y)
   listed_new j y e =
       subst (λ s. Contains (offered_in cap.total s q.outcome) (key_of y)) (sym (new_server j y e))
-      (subst (λ (l : List Pair). Contains l (key_of y)) (listed ∙ sym offered) (get_contains (map key_of more) j (key_of y) (get_mapped key_of more j y e)))
+      (subst (λ (l : List Pair). Contains l (key_of y)) (listed ∙ sym offered) (contains_at (map key_of more) j (key_of y) (get_map key_of more j y e)))
 
   -- so none of those that were there is of this server
   old_other : (l : ℕ) (x : Offer) → slice_get offers l ≡ Some x → x.server ≡ q.server → ⊥

@@ -1,10 +1,10 @@
 use Rattle.std.proofs.Common.{◌≡◌, ◌∙◌, ℕ, [], ◌∷◌, inl, Some, sym, subst}
 use Rattle.std.proofs.lemmas.Bool.{false≢true}
+use Rattle.lemmas.proofs.Members.{contains_head, contains_none}
 use Rattle.request_record.specs.Record.{RequestsState, counts_at}
 use Rattle.wire.specs.declared.message.Message.{Message}
 use Rattle.request_record.specs.Asking.{AsksOnce, after_message}
 use Rattle.request_record.proofs.AskingLaws.{once_answered}
-use Rattle.share_reading.proofs.ConsecutiveLemmas.{contains_head, contains_none}
 use Rattle.checker.specs.Book.{state_of}
 use Rattle.checker.specs.Moves.{GoesOn}
 use Rattle.checker.specs.declared.status.CheckStatus.TheVariants.{Running, Failed}

@@ -1,11 +1,12 @@
 use Rattle.std.proofs.Common.{[], ◌+◌, ◌∙◌, length, ap, subst, arith}
 use Rattle.std.proofs.lemmas.List.{length-set}
+use Rattle.lemmas.proofs.Places.{get_of}
 use Rattle.share_opening.specs.declared.opening.Opening.TheVariants.{Start}
 use Rattle.share_reading.specs.declared.reading.Reading.TheVariants.{Beginning}
 use Rattle.share_reading.specs.declared.reading.Reading.{Reading}
 use Rattle.checker.specs.Book.{HasAsked}
 use Rattle.checker.proofs.AnswerMoves.{safe_first}
-use Rattle.checker.proofs.MachineMoves.{asks_asked, book_begun, one_ask, get_of, kinds_asked_now, listed_at, once_asked_now, shares_asked_now, unread_at}
+use Rattle.checker.proofs.MachineMoves.{asks_asked, book_begun, one_ask, kinds_asked_now, listed_at, once_asked_now, shares_asked_now, unread_at}
 use Rattle.checker.proofs.machine.Machine.begin_next.Goals as goal
 
 pub overflow_add-self : goal.overflow_add-self

@@ -1,5 +1,6 @@
 use Rattle.std.proofs.Common.{◌∙◌, List, Ok, ap, sym, subst}
 use Rattle.std.specs.Prelude.{slice_get, slice_set}
+use Rattle.lemmas.proofs.Results.{on_ok_then, by_result}
 use Rattle.share_reading.specs.declared.reading.Progress.{Progress}
 use Rattle.share_reading.specs.declared.reading.Progress.TheVariants.{Next, Whole}
 use Rattle.checker.specs.Offers.{with_stage}
@@ -8,7 +9,7 @@ use Rattle.checker.specs.declared.offers.Offer.{Offer}
 use Rattle.checker.specs.declared.offers.Stage.TheVariants.{Ended}
 use Rattle.checker.proofs.Entries.{get_set_same}
 use Rattle.checker.proofs.AnswerMoves.{advances_long}
-use Rattle.checker.proofs.MachineMoves.{book_judged, book_stopped, by_result, on_ok, one_ask, safe_same, set_set, taken_book, taken_kinds, taken_once, taken_shares}
+use Rattle.checker.proofs.MachineMoves.{book_judged, book_stopped, one_ask, safe_same, set_set, taken_book, taken_kinds, taken_once, taken_shares}
 use Rattle.checker.proofs.machine.Machine.take_answer.Goals as goal
 
 pub returns-in-Err-clause-book : goal.returns-in-Err-clause-book
@@ -24,7 +25,7 @@ returns-in-Next-clause-book c todo b =
     let w = c.requires.waits in
     let told = subst (λ (p : Progress). IsReadOn m.cap m.requests.entries c.args.reading.now c.args.place (Ok p)) c.in-Next.is c.in-Ok.ensures in
     let kept = c.in_ok-keep.ensures w.offer w.there in
-    on_ok c.ask.result _ (HasBook c.ask.new.self todo) c.ask.ensures.ok
+    on_ok_then c.ask.result _ (HasBook c.ask.new.self todo) c.ask.ensures.ok
     (λ all. taken_book m c.args.place todo c.args.offer w.offer c.args.reading.now b c.requires.behind c.requires.settled w.there w.stage told.0 told.1 kept.0 kept.2
     (advances_long m.cap c.args.reading.now told.0 (Next c.in-Next.next) told.2) c.ask.new.self c.keep.new.offers c.in-Next.next kept.1 told.2
     (all kept.0 (ap (λ (l : List Offer). slice_get l c.args.offer) kept.1 ∙ get_set_same m.offers.items c.args.offer w.offer kept.0 w.there)))
@@ -34,7 +35,7 @@ returns-in-Next-clause-asks c =
     let m = c.args.self.now in
     let w = c.requires.waits in
     let kept = c.in_ok-keep.ensures w.offer w.there in
-    on_ok c.ask.result _ (AsksMore m c.ask.new.self) c.ask.ensures.ok
+    on_ok_then c.ask.result _ (AsksMore m c.ask.new.self) c.ask.ensures.ok
     (λ all. let a = all kept.0 (ap (λ (l : List Offer). slice_get l c.args.offer) kept.1 ∙ get_set_same m.offers.items c.args.offer w.offer kept.0 w.there) in
     record { cap = a.cap; asks = one_ask kept.0 c.in-Next.next; requests = a.requests })
 
