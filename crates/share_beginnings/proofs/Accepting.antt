@@ -1,6 +1,8 @@
 -- One header is compared.
 use Rattle.std.proofs.Common.{◌≡◌, ℕ, ◌+◌, inr, Bool, true, List, [], ◌∷◌, ◌++◌, Some, None, refl, sym, ap, ◌∙◌, arith, true≢false}
 use Rattle.std.specs.Prelude.{slice_get}
+use Rattle.lemmas.proofs.Places.{get_set}
+use Rattle.lemmas.proofs.Options.{one_there}
 use Rattle.share_layout.specs.Geometry.{Geometry, IsGeometry}
 use Rattle.share_opening.specs.Opening.{Agrees}
 use Rattle.share_opening.specs.declared.opening.Opening.{Opening}
@@ -10,7 +12,6 @@ use Rattle.share_holdings.specs.State.{HoldingsState}
 use Rattle.share_holdings.specs.Table.{IsHolding, IsTable, Releases, Suspends}
 use Rattle.share_holdings.specs.declared.holding.Blame.{Blame}
 use Rattle.share_holdings.specs.declared.holding.Holding.{Holding}
-use Rattle.share_holdings.proofs.Lists.{get_set}
 use Rattle.share_verify.specs.declared.check.Check.{Check}
 use Rattle.share_verify.specs.declared.check.Check.TheVariants as checks
 use Rattle.share_beginnings.specs.Causes.{AddsBlames, IsOtherHeader}
@@ -21,7 +22,6 @@ use Rattle.share_beginnings.specs.Opening.{AreComparedUpTo, IsCompared}
 use Rattle.share_beginnings.specs.State.{BeginningsState, IsBegun}
 use Rattle.share_beginnings.specs.declared.begun.Begun.{Begun}
 use Rattle.share_beginnings.proofs.Comparing.{Unreads, compared_gone, compared_kept, compared_next, unreads_released, unreads_retired, unreads_suspended}
-use Rattle.share_beginnings.proofs.Entries.{same_of}
 use Rattle.share_beginnings.proofs.Falling.{falls_one, retired_left}
 use Rattle.share_beginnings.proofs.Knowing.{keeps_same, known_blamed, known_same, shares_released, shares_suspended}
 use Rattle.share_beginnings.proofs.Opened.{goes_blamed, goes_from, goes_none}
@@ -47,7 +47,7 @@ module _ (g : Geometry) (holding : ℕ) (valid : IsGeometry g) (s : BeginningsSt
   held_before h is = sym (ap (λ (l : List Holding). slice_get l holding) releases.2) ∙ is
 
   begun_same : (c : Begun) → slice_get s.begun holding ≡ Some c → b ≡ c
-  begun_same c is = same_of (slice_get s.begun holding) b c at is
+  begun_same c is = one_there (slice_get s.begun holding) b c at is
 
   -- nothing was read of it
   pub unopened_compared : b.opening ≡ None → (found : ℕ) → AreComparedUpTo g found holding s → AreComparedUpTo g found (holding + 1) released_state
@@ -106,7 +106,7 @@ module _ (g : Geometry) (holding : ℕ) (valid : IsGeometry g) (s : BeginningsSt
         by : (h : Holding) (c : Begun) → IsHolding u.table holding h → slice_get s.begun holding ≡ Some c → Unreads holding s.holdings.table u.table → IsCompared g suspended_state holding h c
         by h c is there unreads =
             let y = suspends.1.0 in
-            let now : record y { suspended = out } ≡ h = same_of (slice_get u.table.holdings holding) (record y { suspended = out }) h
+            let now : record y { suspended = out } ≡ h = one_there (slice_get u.table.holdings holding) (record y { suspended = out }) h
             (ap (λ (l : List Holding). slice_get l holding) suspends.1.1.holdings ∙ get_set t.table.holdings holding (record y { suspended = out }) y suspends.1.1.is) is in
             compared_kept g found holding s suspended_state before suspended_requests refl unreads h y c valid (held_before y suspends.1.1.is) there
             (ap (λ (x : Holding). x.server) (sym now)) (ap (λ (x : Holding). x.share) (sym now)) (λ l. ap (λ (x : Holding). x.left) now ∙ l)

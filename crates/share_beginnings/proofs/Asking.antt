@@ -3,6 +3,8 @@ use Rattle.std.proofs.Common.{◌≡◌, ℕ, ◌+◌, ◌<◌, ◌≤◌, ◌�
 use Rattle.std.specs.Prelude.{slice_get, slice_set}
 use Rattle.std.proofs.lemmas.Bool.{cases_eq, cases_lt}
 use Rattle.std.proofs.lemmas.List.{length-set}
+use Rattle.lemmas.proofs.Places.{get_set, get_other, set_cases, get_last}
+use Rattle.lemmas.proofs.Options.{one_there}
 use Rattle.cap_text.specs.Cap.{VerifyCapValue}
 use Rattle.share_opening.specs.Opening.{Advances, next_length, next_place}
 use Rattle.share_opening.specs.Reads.{IsLedToBy}
@@ -15,20 +17,18 @@ use Rattle.request_record.specs.declared.requests.Asked.TheVariants.{Holdings, A
 use Rattle.request_record.specs.declared.requests.Request.{Request}
 use Rattle.request_record.specs.Asking.{AreApart}
 use Rattle.request_record.specs.Record.{first_request}
-use Rattle.request_record.proofs.RecordLaws.{get_last}
 use Rattle.share_holdings.specs.Moves.{IsUnasked}
 use Rattle.share_holdings.specs.Right.{IsRight}
 use Rattle.share_holdings.specs.State.{HoldingsState, NumberState, TableState}
 use Rattle.share_holdings.specs.Table.{IsHolding, IsNumber}
 use Rattle.share_holdings.specs.declared.holding.Holding.{Holding}
-use Rattle.share_holdings.proofs.Lists.{get_other, get_set, set_cases}
 use Rattle.share_beginnings.specs.Known.{AreBegun, IsBegunBy, IsNextAt}
 use Rattle.share_beginnings.specs.Moves.{AsksNext}
 use Rattle.share_beginnings.specs.Opening.{AreOpening, IsOpening, IsOut, IsTaken, nobody}
 use Rattle.share_beginnings.specs.Reads.{IsBeginning, IsOutAt, IsReadAt, IsReadUpTo, brought_of}
 use Rattle.share_beginnings.specs.State.{BeginningsState, IsBegun}
 use Rattle.share_beginnings.specs.declared.begun.Begun.{Begun}
-use Rattle.share_beginnings.proofs.Entries.{out_pushed, read_pushed, same_of}
+use Rattle.share_beginnings.proofs.Entries.{out_pushed, read_pushed}
 use Rattle.share_beginnings.proofs.Knowing.{begun_by, grows_asks, held_follows, led_grows, offered_asks}
 use Rattle.share_beginnings.proofs.Reading.{ends, next_is}
 
@@ -128,14 +128,14 @@ module _ (s u : BeginningsState) (holding : ℕ) (o : Opening) (known : AreBegun
     each = λ place g b is there. elim (begun_cases place b there) [
       | inl k ↦ (
           let held : IsHolding s.holdings.table holding g = ap (slice_get s.holdings.table.holdings) (sym k.0) ∙ held_back place g is in
-          let same : g ≡ h = same_of (slice_get s.holdings.table.holdings holding) g h held a.asks.1 in
+          let same : g ≡ h = one_there (slice_get s.holdings.table.holdings holding) g h held a.asks.1 in
           record {
             led = λ p e. (
-                let one : o ≡ p = same_of b.opening o p k.1 e in
+                let one : o ≡ p = one_there b.opening o p k.1 e in
                 subst (λ (q : Opening). IsLedToBy (brought_of u.holdings.requests.entries g.server g.share) q) one
                 (led_grows es u.holdings.requests.entries g g o (grows_asks holding (next_place o) (next_length o) s.holdings u.holdings a.asks).stays refl refl (led g held)));
             waits = λ request e. (
-                let one : length es ≡ request = same_of b.waiting (length es) request k.2 e in
+                let one : length es ≡ request = one_there b.waiting (length es) request k.2 e in
                 subst (λ (q : Option Opening). IsNextAt u.holdings.requests.entries g q request) (sym k.1)
                 (subst (λ (ns : List Request). IsReadAt ns g request (next_place o) (next_length o)) (sym entries_are)
                 (subst (λ (q : ℕ). IsReadAt now_asked g q (next_place o) (next_length o)) one

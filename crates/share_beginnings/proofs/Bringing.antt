@@ -1,7 +1,9 @@
 -- The bytes that a message brings are there.
-use Rattle.std.proofs.Common.{◌≡◌, ℕ, ◌+◌, ◌-◌, inl, inr, Bool, true, false, cond, List, Option, Some, None, refl, sym, ap, subst, ◌∙◌, arith}
+use Rattle.std.proofs.Common.{◌≡◌, ℕ, ◌+◌, ◌-◌, inl, inr, true, List, Option, Some, None, refl, sym, ap, subst, ◌∙◌, arith}
 use Rattle.std.specs.Prelude.{◌==◌, ◌&&◌, not, slice_get}
 use Rattle.std.proofs.lemmas.Bool.{false≢true}
+use Rattle.lemmas.proofs.Options.{chosen, one_there}
+use Rattle.lemmas.proofs.Bools.{both}
 use Rattle.wire.specs.declared.message.Body.{Body}
 use Rattle.wire.specs.declared.message.Body.TheVariants.{Ask, Have, Allocate, Granted, Already, Busy, Full, Write, Wrote, WrongOffset, Close, Closed, NotComplete, Abort, Read, Data, NoShare}
 use Rattle.wire.specs.declared.message.Message.{Message}
@@ -20,15 +22,6 @@ use Rattle.share_beginnings.specs.Reads.{IsAnsweredBy}
 use Rattle.share_beginnings.specs.State.{BeginningsState}
 use Rattle.share_beginnings.specs.declared.beginnings.News.{News}
 use Rattle.share_beginnings.specs.declared.beginnings.News.TheVariants as news
-use Rattle.share_beginnings.proofs.Entries.{same_of}
-
-both : (a b : Bool) → (a && b) ≡ true → (a ≡ true) × (b ≡ true)
-both true b e = (refl, e)
-both false b e = absurd cc
-
-chosen : (b : Bool) (x y : ℕ) → cond b (Some x) None ≡ Some y → (b ≡ true) × (x ≡ y)
-chosen true x y e = (refl, cc)
-chosen false x y e = absurd cc
 
 fitting : (from : ℕ) (body : Body) (o : Option Request) → awaits_at from body o ≡ true → (r : Request) × (o ≡ Some r) × (fits r.asked body ≡ true)
 fitting from body None e = absurd (false≢true e)
@@ -69,7 +62,7 @@ module _ (s u : BeginningsState) (from : ℕ) (m : Message) (now : ℕ) (what : 
       let o = right.owned (place - s.holdings.servers) holding b.2 in
       let le = b.0 in
       let at : s.holdings.servers + (place - s.holdings.servers) ≡ place = omega (arith, le) in
-      let same : o.request ≡ f.0 = same_of (slice_get s.holdings.requests.entries place) o.request f.0 (ap (slice_get s.holdings.requests.entries) (sym at) ∙ o.there) f.1 in
+      let same : o.request ≡ f.0 = one_there (slice_get s.holdings.requests.entries place) o.request f.0 (ap (slice_get s.holdings.requests.entries) (sym at) ∙ o.there) f.1 in
       let asks : f.0.asked ≡ Reading o.held.share o.read.offset o.read.len = sym (ap (λ (q : Request). q.asked) same) ∙ o.read.asked in
       let d = fits_data o.held.share o.read.offset o.read.len m.body (subst (λ (a : Asked). fits a m.body ≡ true) asks f.2) b.3 in (
         d.0,

@@ -3,6 +3,8 @@ use Rattle.std.proofs.Common.{◌≡◌, ℕ, inl, inr, List, [], ◌∷◌, ◌
 use Rattle.std.specs.Prelude.{slice_get, slice_index_or}
 use Rattle.std.proofs.lemmas.Bool.{cases_lt}
 use Rattle.std.proofs.lemmas.Option.{slice_get-get_or, slice_get_within}
+use Rattle.lemmas.proofs.Options.{one_there}
+use Rattle.lemmas.proofs.Places.{get_pushed}
 use Rattle.cap_text.specs.Cap.{VerifyCapValue}
 use Rattle.wire.specs.declared.message.Body.TheVariants.{Data}
 use Rattle.request_record.specs.declared.requests.Asked.TheVariants.{Reading}
@@ -16,7 +18,7 @@ use Rattle.share_opening.specs.Reads.{IsLedToBy}
 use Rattle.share_opening.specs.Refusal.{IsRefused, check_of}
 use Rattle.share_opening.specs.declared.error.OpeningError.{OpeningError}
 use Rattle.share_opening.specs.declared.opening.Opening.{Opening}
-use Rattle.share_opening.proofs.ReadLemmas.{lead_on}
+use Rattle.share_opening.proofs.ReadLemmas.{lead_on, more_led}
 use Rattle.share_holdings.specs.Table.{IsHolding}
 use Rattle.share_holdings.specs.declared.holding.Blame.{Blame}
 use Rattle.share_holdings.specs.declared.holding.Holding.{Holding}
@@ -30,15 +32,15 @@ use Rattle.share_beginnings.specs.Moves.{AsksNext, Awaits, GoesOn}
 use Rattle.share_beginnings.specs.Reads.{AddsReads, IsAnsweredBy, IsInBeginning, IsReadAt, brought_of}
 use Rattle.share_beginnings.specs.State.{BeginningsState, IsBegun}
 use Rattle.share_beginnings.specs.declared.begun.Begun.{Begun}
-use Rattle.share_beginnings.proofs.Entries.{brought_grows, brought_has, pushed, same_of}
-use Rattle.share_beginnings.proofs.Knowing.{grows_asks, led_more}
+use Rattle.share_beginnings.proofs.Entries.{brought_grows, brought_has}
+use Rattle.share_beginnings.proofs.Knowing.{grows_asks}
 use Rattle.share_beginnings.proofs.Reading.{next_is}
 
 pub adds_none : (P : Blame → Type 0) (old new : List Blame) → new ≡ old → AddsBlames P old new
 adds_none P old new e i b is le = (let w = slice_get_within new i b is in let l = ap length e in absurd (omega (arith, w, l, le)))
 
 pub adds_one : (P : Blame → Type 0) (old new : List Blame) (one : Blame) → new ≡ old ++ one ∷ [] → P one → AddsBlames P old new
-adds_one P old new one e p i b is le = elim (pushed old one b i (sym (ap (λ (l : List Blame). slice_get l i) e) ∙ is)) [
+adds_one P old new one e p i b is le = elim (get_pushed old one b i (sym (ap (λ (l : List Blame). slice_get l i) e) ∙ is)) [
   | inl was ↦ (let w = slice_get_within old i b was in absurd (omega (arith, w, le)))
   | inr last ↦ subst P last.1 p
 ]
@@ -66,7 +68,7 @@ module _ (s : BeginningsState) (holding place : ℕ) (o : Opening) (h : Holding)
   next = subst (λ (q : Option Opening). IsNextAt s.holdings.requests.entries h q place) opening ((known.each holding h awaits.1.begun at awaits.1.there).waits place awaits.1.waiting)
 
   answer : next.request.outcome ≡ Answered (Data bytes)
-  answer = ap (λ (r : Request). r.outcome) (same_of (slice_get s.holdings.requests.entries place) next.request answered.request next.there answered.there) ∙ answered.answer
+  answer = ap (λ (r : Request). r.outcome) (one_there (slice_get s.holdings.requests.entries place) next.request answered.request next.there answered.there) ∙ answered.answer
 
   pub opening_fault : (cap : VerifyCapValue) (check : Check) (error : OpeningError) → IsRefused cap o bytes error → check ≡ check_of error → IsOpeningFault cap s.holdings.requests.entries (record { server = h.server; share = h.share; check = check })
   opening_fault cap check error refused same = record {
@@ -100,7 +102,7 @@ module _ (s : BeginningsState) (holding place : ℕ) (o : Opening) (h : Holding)
 -- ---- what led to an opening stays
 
 led_stays : (es ns : List Request) (server share : ℕ) (o : Opening) → StaysTo es ns → IsLedToBy (brought_of es server share) o → IsLedToBy (brought_of ns server share) o
-led_stays es ns server share o stays led = led_more (brought_of es server share) (brought_of ns server share) (λ read. brought_grows es ns server share read stays) o led
+led_stays es ns server share o stays led = more_led (brought_of es server share) (brought_of ns server share) (λ read. brought_grows es ns server share read stays) o led
 
 pub opening_fault_stays : (cap : VerifyCapValue) (es ns : List Request) (b : Blame) → StaysTo es ns → IsOpeningFault cap es b → IsOpeningFault cap ns b
 opening_fault_stays cap es ns b stays k = record {
@@ -134,7 +136,7 @@ pub reads_trans : (may : ℕ → ℕ → ℕ → ℕ → Type 0) (es ns ms : Lis
 reads_trans may es ns ms stays first second place r share offset len there le asked = elim (cases_lt place (length ns)) [
   | inl lt ↦ (
       let was : slice_get ns place ≡ Some (slice_index_or ns place r) = slice_get-get_or ns place r lt in
-      let same : slice_index_or ns place r ≡ r = same_of (slice_get ms place) (slice_index_or ns place r) r (stays place (slice_index_or ns place r) was) there in
+      let same : slice_index_or ns place r ≡ r = one_there (slice_get ms place) (slice_index_or ns place r) r (stays place (slice_index_or ns place r) was) there in
       first place r share offset len (was ∙ ap Some same) le asked)
   | inr ge ↦ second place r share offset len there ge asked
 ]
@@ -145,7 +147,7 @@ reads_asked may s u holding offset len a own place r share o l there le asked =
     let es = s.requests.entries in
     let n = first_request a.0.server (Reading a.0.share offset len) s.requests.clock in
     let list : u.requests.entries ≡ es ++ n ∷ [] = ap (λ (x : HoldingsState). x.requests.entries) a.2 in
-    elim (pushed es n r place (sym (ap (λ (x : List Request). slice_get x place) list) ∙ there)) [
+    elim (get_pushed es n r place (sym (ap (λ (x : List Request). slice_get x place) list) ∙ there)) [
       | inl was ↦ (let w = slice_get_within es place r was in absurd (omega (arith, w, le)))
       | inr last ↦ (
           let asks : Reading a.0.share offset len ≡ Reading share o l = ap (λ (q : Request). q.asked) last.1 ∙ asked in

@@ -3,6 +3,8 @@ use Rattle.std.proofs.Common.{◌≡◌, ℕ, ◌+◌, ◌<◌, ◌≤◌, ◌�
 use Rattle.std.specs.Prelude.{slice_get, slice_set}
 use Rattle.std.proofs.lemmas.Bool.{cases_eq, cases_lt}
 use Rattle.std.proofs.lemmas.Option.{slice_get_within}
+use Rattle.lemmas.proofs.Places.{get_set, get_other, set_cases}
+use Rattle.lemmas.proofs.Options.{one_there}
 use Rattle.share_layout.specs.Geometry.{Geometry, IsGeometry}
 use Rattle.share_opening.specs.Opening.{Agrees}
 use Rattle.share_opening.specs.declared.opening.Opening.{Opening}
@@ -12,13 +14,12 @@ use Rattle.share_holdings.specs.Numbers.{released, without_place}
 use Rattle.share_holdings.specs.State.{NumberState, TableState}
 use Rattle.share_holdings.specs.Table.{IsHolding, IsNumber, IsTable, Releases, Retires, Suspends}
 use Rattle.share_holdings.specs.declared.holding.Holding.{Holding}
-use Rattle.share_holdings.proofs.Lists.{get_other, get_set, released_at, released_else, set_cases}
+use Rattle.share_holdings.proofs.Lists.{released_at, released_else}
 use Rattle.share_beginnings.specs.Known.{AreBegun}
 use Rattle.share_beginnings.specs.Opening.{AreCompared, AreComparedUpTo, IsCompared, IsFound, IsOut, IsTaken}
 use Rattle.share_beginnings.specs.Reads.{IsBeginning, IsBeside, IsOutAt, IsReadAt}
 use Rattle.share_beginnings.specs.State.{BeginningsState, IsBegun}
 use Rattle.share_beginnings.specs.declared.begun.Begun.{Begun}
-use Rattle.share_beginnings.proofs.Entries.{same_of}
 use Rattle.share_beginnings.proofs.Falling.{falls_one}
 use Rattle.share_beginnings.proofs.Reading.{beside}
 
@@ -54,14 +55,14 @@ unreads_released holding t u k right = record {
   unread = λ share n is reads. (
       let p = right.places share holding n is (right.reading share holding n is reads) in
       let held : IsHolding u holding k.0 = ap (λ (l : List Holding). slice_get l holding) k.2 ∙ k.1 in
-      let one : p.0 ≡ k.0 = same_of (slice_get u.holdings holding) p.0 k.0 p.1 held in
+      let one : p.0 ≡ k.0 = one_there (slice_get u.holdings holding) p.0 k.0 p.1 held in
       let at : share ≡ k.0.share = sym p.2 ∙ ap (λ (h : Holding). h.share) one in
       elim (number share n is) [
         | inl here ↦ (let r = released_from holding holding k.3.number.reading (here.1 ∙ reads) in r.1 refl)
         | inr old ↦ (
             let now : slice_get u.numbers share ≡ Some (record k.3.number { reading = released holding k.3.number.reading }) =
             ap (λ (l : List NumberState). slice_get l share) k.3.numbers ∙ ap (slice_get (slice_set t.numbers k.0.share (record k.3.number { reading = released holding k.3.number.reading }))) at ∙ get_set t.numbers k.0.share (record k.3.number { reading = released holding k.3.number.reading }) k.3.number k.3.is in
-            let same = same_of (slice_get u.numbers share) (record k.3.number { reading = released holding k.3.number.reading }) n now is in
+            let same = one_there (slice_get u.numbers share) (record k.3.number { reading = released holding k.3.number.reading }) n now is in
             let r = released_from holding holding k.3.number.reading (ap (λ (x : NumberState). x.reading) same ∙ reads) in
             r.1 refl)
       ]);
@@ -75,7 +76,7 @@ unreads_released holding t u k right = record {
 
     taken : (place : ℕ) (h : Holding) → (place ≡ holding → ⊥) → (t0 : IsTaken t place h) → (h.share ≡ k.0.share) ⊎ (h.share ≡ k.0.share → ⊥) → IsTaken u place h
     taken place h other t0 (inl here) =
-        let one : t0.number ≡ k.3.number = same_of (slice_get t.numbers h.share) t0.number k.3.number t0.there (ap (slice_get t.numbers) here ∙ k.3.is) in
+        let one : t0.number ≡ k.3.number = one_there (slice_get t.numbers h.share) t0.number k.3.number t0.there (ap (slice_get t.numbers) here ∙ k.3.is) in
         record {
           number = record k.3.number { reading = released holding k.3.number.reading };
           there = ap (λ (l : List NumberState). slice_get l h.share) k.3.numbers ∙ ap (slice_get (slice_set t.numbers k.0.share (record k.3.number { reading = released holding k.3.number.reading }))) here ∙ get_set t.numbers k.0.share (record k.3.number { reading = released holding k.3.number.reading }) k.3.number k.3.is;
@@ -115,7 +116,7 @@ unreads_retired holding t u v f r =
   where
     taken : (place : ℕ) (h : Holding) → (place ≡ holding → ⊥) → (t0 : IsTaken u place h) → (h.share ≡ r.0.share) ⊎ (h.share ≡ r.0.share → ⊥) → IsTaken v place h
     taken place h other t0 (inl here) =
-        let one : t0.number ≡ r.2.number = same_of (slice_get u.numbers h.share) t0.number r.2.number t0.there (ap (slice_get u.numbers) here ∙ r.2.is) in
+        let one : t0.number ≡ r.2.number = one_there (slice_get u.numbers h.share) t0.number r.2.number t0.there (ap (slice_get u.numbers) here ∙ r.2.is) in
         record {
           number = without_place holding r.2.number;
           there = ap (λ (l : List NumberState). slice_get l h.share) r.2.numbers ∙ ap (slice_get (slice_set u.numbers r.0.share (without_place holding r.2.number))) here ∙ get_set u.numbers r.0.share (without_place holding r.2.number) r.2.number r.2.is;

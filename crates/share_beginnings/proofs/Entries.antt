@@ -1,10 +1,12 @@
 -- The record goes on, and what was asked and brought stays.
-use Rattle.std.proofs.Common.{◌≡◌, ℕ, zero, suc, ◌⊎◌, inl, inr, Bool, true, false, cond, ◌&&◌, List, [], ◌∷◌, ◌++◌, Contains, length, Option, Some, refl, sym, ap, subst, ◌∙◌, true≢false}
+use Rattle.std.proofs.Common.{◌≡◌, ℕ, ◌⊎◌, inl, inr, Bool, true, false, cond, ◌&&◌, List, [], ◌∷◌, ◌++◌, Contains, length, Some, refl, sym, ap, subst, ◌∙◌, true≢false}
 use Rattle.std.specs.Prelude.{◌==◌, slice_get}
-use Rattle.std.specs.List.{flat_map}
 use Rattle.std.proofs.lemmas.Bool.{eq-eqb}
-use Rattle.std.proofs.lemmas.List.Elements.{Contains-append_cases, Contains-append_left, Contains-append_right}
 use Rattle.std.proofs.lemmas.Option.{slice_get_within}
+use Rattle.lemmas.proofs.Members.{flat_map_has, IsFrom, flat_map_from}
+pub use Rattle.lemmas.proofs.Options.{one_there as same_of}
+pub use Rattle.lemmas.proofs.Places.{get_pushed as pushed}
+use Rattle.lemmas.proofs.Places.{get_pushed, get_push}
 use Rattle.placement.proofs.Members.{Contains-head, Contains-nil}
 use Rattle.wire.specs.declared.message.Body.TheVariants.{Data}
 use Rattle.request_record.specs.declared.requests.Asked.{Asked}
@@ -13,7 +15,6 @@ use Rattle.request_record.specs.declared.requests.Outcome.{Outcome}
 use Rattle.request_record.specs.declared.requests.Outcome.TheVariants.{Unawaited, Outstanding, Answered, Lost}
 use Rattle.request_record.specs.declared.requests.Request.{Request}
 use Rattle.request_record.specs.Record.{first_request, is_outstanding}
-use Rattle.request_record.proofs.RecordLaws.{get_push}
 use Rattle.share_opening.specs.Reads.{Brought}
 use Rattle.share_holdings.specs.Left.{IsOffered}
 use Rattle.share_holdings.specs.declared.holding.Holding.{Holding}
@@ -22,31 +23,6 @@ use Rattle.share_holdings.proofs.Records.{AskedAlike, StaysTo}
 use Rattle.share_beginnings.specs.Reads.{IsOutAt, IsReadAt, brought_by, brought_in, brought_of, reads_share}
 
 -- ---- lists
-
-pub same_of : {X : Type 0} (o : Option X) (x y : X) → o ≡ Some x → o ≡ Some y → x ≡ y
-same_of o x y e f = let two : Some x ≡ Some y = sym e ∙ f in cc
-
-pub flat_map_has : {X A : Type 0} (f : X → List A) (xs : List X) (i : ℕ) (x : X) (a : A) → slice_get xs i ≡ Some x → Contains (f x) a → Contains (flat_map f xs) a
-flat_map_has f [] i x a e at = absurd cc
-flat_map_has f (y ∷ ys) zero x a e at =
-    let is : y ≡ x = cc in
-    Contains-append_left (f y) (flat_map f ys) a (subst (λ z. Contains (f z) a) (sym is) at)
-flat_map_has f (y ∷ ys) (suc i) x a e at = Contains-append_right (f y) (flat_map f ys) a (flat_map_has f ys i x a e at)
-
-pub record IsFrom {X A : Type 0} (f : X → List A) (xs : List X) (a : A) : Type 0 where
-  pub place : ℕ
-  pub source : X
-  pub there : slice_get xs place ≡ Some source
-  pub has : Contains (f source) a
-
-pub flat_map_from : {X A : Type 0} (f : X → List A) (xs : List X) (a : A) → Contains (flat_map f xs) a → IsFrom f xs a
-flat_map_from f [] a at = absurd (Contains-nil a at)
-flat_map_from f (x ∷ xs) a at = elim (Contains-append_cases (f x) (flat_map f xs) a at) [
-  | inl here ↦ record { place = 0; source = x; there = refl; has = here }
-  | inr later ↦ (
-      let found = flat_map_from f xs a later in
-      record { place = suc found.place; source = found.source; there = found.there; has = found.has })
-]
 
 -- ---- what was brought
 
@@ -59,10 +35,6 @@ pub record IsBroughtBy (entries : List Request) (server share : ℕ) (read : Bro
   pub len : ℕ
   pub asked : request.asked ≡ Reading share read.0 len
   pub answer : request.outcome ≡ Answered (Data read.1)
-
-both : (a b : Bool) → (a && b) ≡ true → (a ≡ true) × (b ≡ true)
-both true b e = (refl, e)
-both false b e = absurd cc
 
 about : (server share : ℕ) (r : Request) (offset len : ℕ) → r.server ≡ server → r.asked ≡ Reading share offset len → ((r.server == server) && reads_share share r.asked) ≡ true
 about server share r offset len of_server asked =
@@ -138,19 +110,10 @@ read_alike es ns h g place offset len alike servers shares r =
     let w = alike place r.request r.there in
     record { request = w.request; there = w.there; of_server = w.of_server ∙ r.of_server ∙ servers; asked = w.same ∙ r.asked ∙ ap (λ n. Reading n offset len) shares }
 
-pub pushed : {X : Type 0} (xs : List X) (x y : X) (i : ℕ) → slice_get (xs ++ x ∷ []) i ≡ Some y → (slice_get xs i ≡ Some y) ⊎ ((i ≡ length xs) × (x ≡ y))
-pushed [] x y zero e = let is : x ≡ y = cc in inr (refl, is)
-pushed [] x y (suc i) e = absurd cc
-pushed (z ∷ zs) x y zero e = inl e
-pushed (z ∷ zs) x y (suc i) e = elim (pushed zs x y i e) [
-  | inl there ↦ inl there
-  | inr last ↦ inr (ap suc last.0, last.1)
-]
-
 -- a read was there, or is the last
 pub read_pushed : (es : List Request) (n : Request) (h : Holding) (place offset len : ℕ) → IsReadAt (es ++ n ∷ []) h place offset len
     → IsReadAt es h place offset len ⊎ ((place ≡ length es) × (n.server ≡ h.server) × (n.asked ≡ Reading h.share offset len))
-read_pushed es n h place offset len r = elim (pushed es n r.request place r.there) [
+read_pushed es n h place offset len r = elim (get_pushed es n r.request place r.there) [
   | inl old ↦ inl (record { request = r.request; there = old; of_server = r.of_server; asked = r.asked })
   | inr last ↦ inr (last.0, ap (λ (q : Request). q.server) last.1 ∙ r.of_server, ap (λ (q : Request). q.asked) last.1 ∙ r.asked)
 ]
@@ -162,7 +125,7 @@ out_pushed es n place o = record { request = o.request; there = get_push es n pl
 -- ---- what is offered
 
 pub offered_pushed : (es : List Request) (server share now s offset len : ℕ) (other : ℕ) → IsOffered (es ++ first_request s (Reading other offset len) now ∷ []) server share → IsOffered es server share
-offered_pushed es server share now s offset len other o = elim (pushed es (first_request s (Reading other offset len) now) o.request o.place o.there) [
+offered_pushed es server share now s offset len other o = elim (get_pushed es (first_request s (Reading other offset len) now) o.request o.place o.there) [
   | inl old ↦ record { place = o.place; request = o.request; there = old; of_server = o.of_server; asked = o.asked; readonly = o.readonly; held = o.held; answer = o.answer; index = o.index; listed = o.listed; among = o.among; number = o.number }
   | inr last ↦ (let two : Reading other offset len ≡ Holdings = ap (λ (q : Request). q.asked) last.1 ∙ o.asked in absurd cc)
 ]

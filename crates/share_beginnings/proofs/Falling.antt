@@ -4,13 +4,14 @@ use Rattle.std.specs.Prelude.{slice_get, slice_index_or}
 use Rattle.std.proofs.lemmas.Bool.{cases_eq}
 use Rattle.std.proofs.lemmas.List.{length-set}
 use Rattle.std.proofs.lemmas.Option.{slice_get-get_or, slice_get_within}
+use Rattle.lemmas.proofs.Places.{get_set, set_cases}
+use Rattle.lemmas.proofs.Options.{one_there}
 use Rattle.share_holdings.specs.Moves.{RetiresAll, StaysRead}
 use Rattle.share_holdings.specs.Numbers.{released, without_place}
 use Rattle.share_holdings.specs.State.{NumberState, TableState}
 use Rattle.share_holdings.specs.Table.{IsHolding, IsNumber, Retires}
 use Rattle.share_holdings.specs.declared.holding.Holding.{Holding}
-use Rattle.share_holdings.proofs.Lists.{get_set, released_at, released_else, set_cases}
-use Rattle.share_beginnings.proofs.Entries.{same_of}
+use Rattle.share_holdings.proofs.Lists.{released_at, released_else}
 
 -- a holding as it was
 pub record WasHolding (t : TableState) (place : ℕ) (g : Holding) : Type 0 where
@@ -72,7 +73,7 @@ falls_all P t u r = record {
     by_kept : (share place : ℕ) (n : NumberState) → IsNumber t share n → n.reading ≡ Some place → (m : NumberState) → IsNumber u share m → StaysRead P n m → IsReadOn u share place
     by_kept share place n e reads m is (inl same) = inl (m, is, same ∙ reads)
     by_kept share place n e reads m is (inr gone) =
-        let one : place ≡ gone.0 = same_of n.reading place gone.0 reads gone.1 in
+        let one : place ≡ gone.0 = one_there n.reading place gone.0 reads gone.1 in
         inr (λ g held left.
         ((r.holdings place _ g (at_place t.holdings u.holdings place g r.long held) held).3 left).1 (subst P (sym one) gone.2))
 
@@ -82,7 +83,7 @@ retires_all holding t u r = record {
   long = ap length r.1.holdings ∙ length-set t.holdings holding (record r.0 { left = false });
   holdings = λ place h g e f. elim (set_cases t.holdings holding place (record r.0 { left = false }) g (sym (ap (λ (l : List Holding). slice_get l place) r.1.holdings) ∙ f)) [
     | inl k ↦ (
-        let same : h ≡ r.0 = same_of (slice_get t.holdings place) h r.0 e (ap (slice_get t.holdings) k.0 ∙ r.1.is) in (
+        let same : h ≡ r.0 = one_there (slice_get t.holdings place) h r.0 e (ap (slice_get t.holdings) k.0 ∙ r.1.is) in (
           sym (ap (λ (x : Holding). x.server) k.1) ∙ sym (ap (λ (x : Holding). x.server) same),
           sym (ap (λ (x : Holding). x.share) k.1) ∙ sym (ap (λ (x : Holding). x.share) same),
           sym (ap (λ (x : Holding). x.suspended) k.1) ∙ sym (ap (λ (x : Holding). x.suspended) same),
@@ -90,7 +91,7 @@ retires_all holding t u r = record {
           λ left. inr k.0,
         ))
     | inr k ↦ (
-        let same : h ≡ g = same_of (slice_get t.holdings place) h g e k.1 in (
+        let same : h ≡ g = one_there (slice_get t.holdings place) h g e k.1 in (
           sym (ap (λ (x : Holding). x.server) same),
           sym (ap (λ (x : Holding). x.share) same),
           sym (ap (λ (x : Holding). x.suspended) same),
@@ -101,9 +102,9 @@ retires_all holding t u r = record {
   count = ap length r.2.numbers ∙ length-set t.numbers r.0.share (without_place holding r.2.number);
   numbers = λ share n m e f. elim (set_cases t.numbers r.0.share share (without_place holding r.2.number) m (sym (ap (λ (l : List NumberState). slice_get l share) r.2.numbers) ∙ f)) [
     | inl k ↦ (
-        let same : r.2.number ≡ n = same_of (slice_get t.numbers share) r.2.number n (ap (slice_get t.numbers) k.0 ∙ r.2.is) e in
+        let same : r.2.number ≡ n = one_there (slice_get t.numbers share) r.2.number n (ap (slice_get t.numbers) k.0 ∙ r.2.is) e in
         by n m (sym (ap (λ (x : NumberState). x.reading) k.1) ∙ ap (λ (x : NumberState). released holding x.reading) same) n.reading refl)
-    | inr k ↦ inl (ap (λ (x : NumberState). x.reading) (same_of (slice_get t.numbers share) m n k.1 e))
+    | inr k ↦ inl (ap (λ (x : NumberState). x.reading) (one_there (slice_get t.numbers share) m n k.1 e))
   ];
 }
   where
@@ -121,7 +122,7 @@ falls_one holding t u r = falls_all (λ place. place ≡ holding) t u (retires_a
 pub retired_left : (holding : ℕ) (t u : TableState) (g : Holding) → Retires holding t u → IsHolding u holding g → g.left ≡ true → ⊥
 retired_left holding t u g r e left =
     let is = ap (λ (l : List Holding). slice_get l holding) r.1.holdings ∙ get_set t.holdings holding (record r.0 { left = false }) r.0 r.1.is in
-    let same : record r.0 { left = false } ≡ g = same_of (slice_get u.holdings holding) (record r.0 { left = false }) g is e in
+    let same : record r.0 { left = false } ≡ g = one_there (slice_get u.holdings holding) (record r.0 { left = false }) g is e in
     true≢false (sym left ∙ sym (ap (λ (x : Holding). x.left) same))
 
 -- nor read

@@ -4,6 +4,8 @@ use Rattle.std.specs.Prelude.{slice_get, slice_set}
 use Rattle.std.proofs.lemmas.Bool.{cases_eq}
 use Rattle.std.proofs.lemmas.List.{length-set}
 use Rattle.std.proofs.lemmas.Option.{slice_get_within}
+use Rattle.lemmas.proofs.Places.{get_set}
+use Rattle.lemmas.proofs.Options.{one_there}
 use Rattle.cap_text.specs.Cap.{VerifyCapValue}
 use Rattle.share_opening.specs.Opening.{Advances, next_length, next_place}
 use Rattle.share_opening.specs.Reads.{IsLedToBy}
@@ -20,7 +22,7 @@ use Rattle.share_holdings.specs.Right.{IsRight}
 use Rattle.share_holdings.specs.State.{HoldingsState, NumberState, TableState}
 use Rattle.share_holdings.specs.Table.{IsHolding, IsNumber, IsTable, Retires}
 use Rattle.share_holdings.specs.declared.holding.Holding.{Holding}
-use Rattle.share_holdings.proofs.Lists.{get_set, released_at, released_else}
+use Rattle.share_holdings.proofs.Lists.{released_at, released_else}
 use Rattle.share_verify.specs.declared.check.Check.{Check}
 use Rattle.share_beginnings.specs.Known.{AreBegun, IsNextAt}
 use Rattle.share_beginnings.specs.Moves.{AsksNext, Awaits, GoesOn, IsBlockAt, Rests, rested}
@@ -29,7 +31,7 @@ use Rattle.share_beginnings.specs.Reads.{IsAnsweredBy, IsBeginning, IsReadAt, Is
 use Rattle.share_beginnings.specs.State.{BeginningsState}
 use Rattle.share_beginnings.specs.declared.begun.Begun.{Begun}
 use Rattle.share_beginnings.proofs.Asking.{known_next, opening_next, unasked_next}
-use Rattle.share_beginnings.proofs.Entries.{brought_has, same_of}
+use Rattle.share_beginnings.proofs.Entries.{brought_has}
 use Rattle.share_beginnings.proofs.Falling.{falls_one}
 use Rattle.share_beginnings.proofs.Knowing.{keeps_set, known_blamed, known_same, shares_same}
 use Rattle.share_beginnings.proofs.Opened.{goes_from, goes_none}
@@ -42,10 +44,10 @@ retired_none holding share t u m right r is reads =
     let falls = falls_one holding t u r in
     let n = falls.reading share holding m is reads in
     let p = right.places share holding n.0 n.1 (right.reading share holding n.0 n.1 n.2) in
-    let one : p.0 ≡ r.0 = same_of (slice_get t.holdings holding) p.0 r.0 p.1 r.1.is in
+    let one : p.0 ≡ r.0 = one_there (slice_get t.holdings holding) p.0 r.0 p.1 r.1.is in
     let at : share ≡ r.0.share = sym p.2 ∙ ap (λ (h : Holding). h.share) one in
     let now = ap (λ (l : List NumberState). slice_get l share) r.2.numbers ∙ ap (slice_get (slice_set t.numbers r.0.share (without_place holding r.2.number))) at ∙ get_set t.numbers r.0.share (without_place holding r.2.number) r.2.number r.2.is in
-    let same : without_place holding r.2.number ≡ m = same_of (slice_get u.numbers share) (without_place holding r.2.number) m now is in
+    let same : without_place holding r.2.number ≡ m = one_there (slice_get u.numbers share) (without_place holding r.2.number) m now is in
     let gone : released holding r.2.number.reading ≡ Some holding = ap (λ (x : NumberState). x.reading) same ∙ reads in
     by r.2.number.reading gone
   where
@@ -82,7 +84,7 @@ module _ (s w : BeginningsState) (holding : ℕ) (known : AreBegun s) (rests : R
     gone_opening h table is gone = narrowed w holding rested_opening
         (λ share m at reads. (
         let p = table.places share holding m at (table.reading share holding m at reads) in
-        true≢false (sym p.3 ∙ ap (λ (x : Holding). x.left) (same_of (slice_get w.holdings.table.holdings holding) p.0 h p.1 is) ∙ gone)))
+        true≢false (sym p.3 ∙ ap (λ (x : Holding). x.left) (one_there (slice_get w.holdings.table.holdings holding) p.0 h p.1 is) ∙ gone)))
 
     pub blamed_known : (u : BeginningsState) (check : Check) → Blames holding check w.holdings u.holdings → IsRight u.holdings → u.begun ≡ w.begun → AreBegun u
     blamed_known u check b right same = known_blamed w u holding check rested_known b (falls_one holding w.holdings.table u.holdings.table b.retired) right same
@@ -97,7 +99,7 @@ module _ (s w : BeginningsState) (holding : ℕ) (known : AreBegun s) (rests : R
       others = rested_opening;
       quiet = λ b is. (
           let now : slice_get w.begun holding ≡ Some (rested rests.begun) = ap (λ (x : BeginningsState). slice_get x.begun holding) rests.is ∙ get_set s.begun holding (rested rests.begun) rests.begun rests.there in
-          ap (λ (x : Begun). x.waiting) (same_of (slice_get w.begun holding) b (rested rests.begun) is now));
+          ap (λ (x : Begun). x.waiting) (one_there (slice_get w.begun holding) b (rested rests.begun) is now));
     }
 
     module _ (o : Opening) (place : ℕ) (awaits : Awaits s holding place o) (bytes : List ℕ) (answered : IsAnsweredBy s.holdings.requests.entries place bytes) (verify : VerifyCapValue) where
@@ -106,7 +108,7 @@ module _ (s w : BeginningsState) (holding : ℕ) (known : AreBegun s) (rests : R
           ((known.each holding awaits.held awaits.begun awaits.is awaits.there).waits place awaits.waiting)
 
       held_now : (h : Holding) → IsHolding w.holdings.table holding h → awaits.held ≡ h
-      held_now h is = same_of (slice_get s.holdings.table.holdings holding) awaits.held h awaits.is (sym (ap (λ (x : HoldingsState). slice_get x.table.holdings holding) holdings_are) ∙ is)
+      held_now h is = one_there (slice_get s.holdings.table.holdings holding) awaits.held h awaits.is (sym (ap (λ (x : HoldingsState). slice_get x.table.holdings holding) holdings_are) ∙ is)
 
       reads_up_to : (h : Holding) (i offset len : ℕ) → IsHolding w.holdings.table holding h → IsReadAt w.holdings.requests.entries h i offset len → IsReadUpTo o offset len
       reads_up_to h i offset len is read =
@@ -132,7 +134,7 @@ module _ (s w : BeginningsState) (holding : ℕ) (known : AreBegun s) (rests : R
             of_server = next_at.of_server;
             len = next_length o;
             asked = next_at.asked;
-            answer = ap (λ (r : Request). r.outcome) (same_of (slice_get s.holdings.requests.entries place) next_at.request answered.request next_at.there answered.there) ∙ answered.answer;
+            answer = ap (λ (r : Request). r.outcome) (one_there (slice_get s.holdings.requests.entries place) next_at.request answered.request next_at.there answered.there) ∙ answered.answer;
           }))))
 
       pub nexts_known : (u : BeginningsState) (next : Opening) → Advances verify o bytes (Next next) → AsksNext holding next w u → IsRight u.holdings → AreBegun u
@@ -147,8 +149,8 @@ module _ (s w : BeginningsState) (holding : ℕ) (known : AreBegun s) (rests : R
           (λ h is. (
           let old = opening.each holding awaits.held awaits.begun awaits.is awaits.there in
           let now : slice_get w.begun holding ≡ Some (rested rests.begun) = ap (λ (x : BeginningsState). slice_get x.begun holding) rests.is ∙ get_set s.begun holding (rested rests.begun) rests.begun rests.there in
-          let one : asks.begun ≡ rested rests.begun = same_of (slice_get w.begun holding) asks.begun (rested rests.begun) asks.there now in
-          let two : rests.begun ≡ awaits.begun = same_of (slice_get s.begun holding) rests.begun awaits.begun rests.there awaits.there in
+          let one : asks.begun ≡ rested rests.begun = one_there (slice_get w.begun holding) asks.begun (rested rests.begun) asks.there now in
+          let two : rests.begun ≡ awaits.begun = one_there (slice_get s.begun holding) rests.begun awaits.begun rests.there awaits.there in
           (ap (λ (x : Holding). x.suspended) (sym (held_now h is)) ∙ old.choosable, ap (λ (x : Begun). x.reader) one ∙ ap (λ (x : Begun). x.reader) two ∙ old.unread)))
 
       pub block_at : (done : Opened) → Advances verify o bytes (Done done) → IsBlockAt verify w.holdings.requests.entries place done
@@ -166,7 +168,7 @@ module _ (s w : BeginningsState) (holding : ℕ) (known : AreBegun s) (rests : R
             len = b.block_length;
             asked = at.asked;
             text = bytes;
-            answer = ap (λ (r : Request). r.outcome) (same_of (slice_get s.holdings.requests.entries place) at.request answered.request at.there answered.there) ∙ answered.answer;
+            answer = ap (λ (r : Request). r.outcome) (one_there (slice_get s.holdings.requests.entries place) at.request answered.request at.there answered.there) ∙ answered.answer;
             whole = a.0;
             block = a.1.ueb;
             geometry = a.1.geometry;

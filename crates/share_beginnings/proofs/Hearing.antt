@@ -4,6 +4,8 @@ use Rattle.std.specs.Prelude.{slice_get, slice_index_or, nat_lt}
 use Rattle.std.proofs.lemmas.Bool.{cases_lt}
 use Rattle.std.proofs.lemmas.List.{take_all}
 use Rattle.std.proofs.lemmas.Option.{slice_get-get_or, slice_get_within}
+use Rattle.lemmas.proofs.Places.{replicated, get_left}
+use Rattle.lemmas.proofs.Options.{one_there}
 use Rattle.wire.specs.declared.message.Body.{Body}
 use Rattle.wire.specs.declared.message.Body.TheVariants.{Have}
 use Rattle.wire.specs.declared.message.HeldShare.{HeldShare}
@@ -24,7 +26,7 @@ use Rattle.share_holdings.specs.declared.holdings.Heard.{Heard}
 use Rattle.share_holdings.specs.declared.holdings.Heard.TheVariants as heard
 use Rattle.share_holdings.proofs.Goes.{message_cases, message_goes, only_owner}
 use Rattle.share_holdings.proofs.Records.{AskedAlike, alike_message}
-use Rattle.share_holdings.proofs.Telling.{append_cases, append_front, told_has}
+use Rattle.share_holdings.proofs.Telling.{append_cases, told_has}
 use Rattle.share_beginnings.specs.Known.{AreBegun, IsNextAt}
 use Rattle.share_beginnings.specs.Moves.{IsNewsOf}
 use Rattle.share_beginnings.specs.Opening.{AreOpening, IsOpening, IsOut, IsToldOf, nobody}
@@ -33,7 +35,7 @@ use Rattle.share_beginnings.specs.State.{BeginningsState, IsBegun, unbegun}
 use Rattle.share_beginnings.specs.declared.begun.Begun.{Begun}
 use Rattle.share_beginnings.specs.declared.beginnings.News.{News}
 use Rattle.share_beginnings.proofs.Asking.{distinct_places}
-use Rattle.share_beginnings.proofs.Entries.{Grows, grows_goes, read_alike, same_of}
+use Rattle.share_beginnings.proofs.Entries.{Grows, grows_goes, read_alike}
 use Rattle.share_beginnings.proofs.Falling.{Falls, IsReadOn, WasHolding, falls_none, falls_one, retired_left}
 use Rattle.share_beginnings.proofs.Knowing.{WasBegun, known_follows, shares_fall}
 use Rattle.share_beginnings.proofs.Openings.{opening_was}
@@ -75,7 +77,7 @@ pub becomes_told : (server count : ℕ) (held : List HeldShare) (t u : TableStat
 becomes_told server count held t u k = record {
   more = (let l = ap length k.holdings in let m = length-append t.holdings (told (length t.numbers) server (take count held)) in omega (arith, l, m));
   count = k.long;
-  forth = λ place h e. (h, ap (λ (l : List Holding). slice_get l place) k.holdings ∙ append_front t.holdings (told (length t.numbers) server (take count held)) place h e, refl, refl);
+  forth = λ place h e. (h, ap (λ (l : List Holding). slice_get l place) k.holdings ∙ get_left t.holdings (told (length t.numbers) server (take count held)) place h e, refl, refl);
   back = λ place g e. elim (append_cases t.holdings (told (length t.numbers) server (take count held)) place g (sym (ap (λ (l : List Holding). slice_get l place) k.holdings) ∙ e)) [
     | inl old ↦ inl (record { held = g; is = old; of_server = refl; of_share = refl; left = λ l. l; suspended = refl })
     | inr new ↦ inr (new.0, told_open server (filter (λ (x : HeldShare). nat_lt x.share (length t.numbers)) (take count held)) (place - length t.holdings) g new.1)
@@ -98,18 +100,13 @@ append_at (x ∷ xs) ys (suc i) j y at e = append_at xs ys i j y (omega (arith, 
 append_back : {X : Type 0} (xs ys : List X) (j : ℕ) (y : X) → slice_get ys j ≡ Some y → slice_get (xs ++ ys) (length xs + j) ≡ Some y
 append_back xs ys j y e = append_at xs ys (length xs + j) j y refl e
 
-repeated : {X : Type 0} (count i : ℕ) (x y : X) → slice_get (replicate count x) i ≡ Some y → x ≡ y
-repeated zero i x y e = absurd cc
-repeated (suc count) zero x y e = cc
-repeated (suc count) (suc i) x y e = repeated count i x y e
-
 -- the place of a counted message is not one of a request for what a server holds, where bytes of a
 -- share are owned
 reads_owned : (s : HoldingsState) (right : IsRight s) (k holding : ℕ) (r : Request) → s.servers ≤ k → slice_get s.owners (k - s.servers) ≡ Some holding → slice_get s.requests.entries k ≡ Some r → r.asked ≡ Holdings → ⊥
 reads_owned s right k holding r le own there asked =
     let o = right.owned (k - s.servers) holding own in
     let at : s.servers + (k - s.servers) ≡ k = omega (arith, le) in
-    let same : o.request ≡ r = same_of (slice_get s.requests.entries k) o.request r (ap (slice_get s.requests.entries) (sym at) ∙ o.there) there in
+    let same : o.request ≡ r = one_there (slice_get s.requests.entries k) o.request r (ap (slice_get s.requests.entries) (sym at) ∙ o.there) there in
     let two : Holdings ≡ Reading o.held.share o.read.offset o.read.len = sym asked ∙ sym (ap (λ (q : Request). q.asked) same) ∙ o.read.asked in
     absurd cc
 
@@ -157,7 +154,7 @@ module _ (s u : BeginningsState) (from : ℕ) (m : Message) (now : ℕ) (what : 
       new heard.Held b e =
           let t = b.1.tells in
           let was = alike o.place o.request o.there in
-          let same : was.request ≡ b.1.request = same_of (slice_get es o.place) was.request b.1.request was.there b.1.there in
+          let same : was.request ≡ b.1.request = one_there (slice_get es o.place) was.request b.1.request was.there b.1.there in
           let listed : held_by (Answered m.body) ≡ o.held = ap (λ (x : Body). held_by (Answered x)) e in
           let all : take (length (held_by (Answered m.body))) (held_by (Answered m.body)) ≡ o.held = take_all (length (held_by (Answered m.body))) (held_by (Answered m.body)) (omega arith) ∙ listed in
           let c = becomes.count in
@@ -186,11 +183,11 @@ module _ (s u : BeginningsState) (from : ℕ) (m : Message) (now : ℕ) (what : 
     begun_cases : (place : ℕ) (b : Begun) → IsBegun u place b → IsBegun s place b ⊎ ((length s.begun ≤ place) × (b ≡ unbegun))
     begun_cases place b e = elim (append_cases s.begun (replicate count unbegun) place b (sym (ap (λ (l : List Begun). slice_get l place) begun) ∙ e)) [
       | inl old ↦ inl old
-      | inr new ↦ inr (new.0, sym (repeated count (place - length s.begun) unbegun b new.1))
+      | inr new ↦ inr (new.0, sym (replicated count (place - length s.begun) unbegun b new.1))
     ]
 
     begun_old : (place : ℕ) (b : Begun) → IsBegun s place b → IsBegun u place b
-    begun_old place b e = ap (λ (l : List Begun). slice_get l place) begun ∙ append_front s.begun (replicate count unbegun) place b e
+    begun_old place b e = ap (λ (l : List Begun). slice_get l place) begun ∙ get_left s.begun (replicate count unbegun) place b e
 
     pub known_heard : AreBegun u
     known_heard = known_follows s u known goes right held_heard counted
@@ -216,7 +213,7 @@ module _ (s u : BeginningsState) (from : ℕ) (m : Message) (now : ℕ) (what : 
               let own = got_at s.holdings.owners (i - s.holdings.servers) lt in
               let o = known.right.owned (i - s.holdings.servers) own.0 own.1 in
               let at : s.holdings.servers + (i - s.holdings.servers) ≡ i = omega (arith, high) in
-              let same : o.request ≡ old.request = same_of (slice_get es i) o.request old.request (ap (slice_get es) (sym at) ∙ o.there) old.there in
+              let same : o.request ≡ old.request = one_there (slice_get es i) o.request old.request (ap (slice_get es) (sym at) ∙ o.there) old.there in
               let asks : Reading o.held.share o.read.offset o.read.len ≡ Reading g.share offset len = sym o.read.asked ∙ ap (λ (q : Request). q.asked) same ∙ old.asked in
               let shares : o.held.share ≡ g.share = cc in
               let servers : o.held.server ≡ g.server = sym o.read.of_server ∙ ap (λ (q : Request). q.server) same ∙ old.of_server in
@@ -238,7 +235,7 @@ module _ (s u : BeginningsState) (from : ℕ) (m : Message) (now : ℕ) (what : 
           left : (g : Holding) → IsHolding u.holdings.table place g → g.left ≡ true
           left g held =
               let p = table.places share place n is (table.reading share place n is reading) in
-              ap (λ (x : Holding). x.left) (same_of (slice_get u.holdings.table.holdings place) g p.0 held p.1) ∙ p.3
+              ap (λ (x : Holding). x.left) (one_there (slice_get u.holdings.table.holdings place) g p.0 held p.1) ∙ p.3
 
           held_now : (g : Holding) × IsHolding u.holdings.table place g
           held_now = (let p = table.places share place n is (table.reading share place n is reading) in (p.0, p.1))
@@ -288,7 +285,7 @@ module _ (s u : BeginningsState) (from : ℕ) (m : Message) (now : ℕ) (what : 
 
           by : (k : (n : Request) × (slice_get ns out.request ≡ Some n) × (n.asked ≡ out.out.request.asked) × (n.server ≡ out.out.request.server))
               → (slice_get es out.request ≡ Some k.0) ⊎ ((counts_at from m s.holdings.requests ≡ Some out.request) × (k.0.outcome ≡ Answered m.body)) → (q : Request) × (slice_get ns out.request ≡ Some q) × (is_outstanding q.outcome ≡ true)
-          by k (inl same) = (k.0, k.1, (let one = same_of (slice_get es out.request) k.0 out.out.request same out.out.there in ap (λ (q : Request). is_outstanding q.outcome) one ∙ out.out.waits))
+          by k (inl same) = (k.0, k.1, (let one = one_there (slice_get es out.request) k.0 out.out.request same out.out.there in ap (λ (q : Request). is_outstanding q.outcome) one ∙ out.out.waits))
           by k (inr counts) = absurd (brings what (subst (λ (p : Option ℕ). HearsAt p m s.holdings u.holdings what) counts.0 hears.heard) tells)
 
       pub opening_heard : AreOpening (IsToldOf told_news) u

@@ -1,14 +1,14 @@
 -- What is kept of the beginnings of shares stays as the record says.
-use Rattle.std.proofs.Common.{◌≡◌, ℕ, ◌⊎◌, inl, inr, Bool, List, Contains, length, Option, Some, None, refl, sym, ap, subst, ◌∙◌, arith}
+use Rattle.std.proofs.Common.{◌≡◌, ℕ, ◌⊎◌, inl, inr, Bool, List, length, Option, Some, None, refl, sym, ap, subst, ◌∙◌, arith}
 use Rattle.std.specs.Prelude.{slice_get, slice_index_or, slice_set}
 use Rattle.std.proofs.lemmas.Bool.{cases_eq}
 use Rattle.std.proofs.lemmas.List.{length-set}
-use Rattle.share_layout.specs.declared.layout.Layout.{Layout}
-use Rattle.share_layout.specs.declared.layout.Layout.TheVariants.{One, Two}
-use Rattle.share_opening.specs.Opening.{next_length, next_place, text_of}
-use Rattle.share_opening.specs.Reads.{Brought, IsHeaderBy, IsLedToBy}
+use Rattle.lemmas.proofs.Places.{get_set, get_other, set_cases}
+use Rattle.lemmas.proofs.Options.{one_there}
+use Rattle.share_opening.specs.Opening.{next_length, next_place}
+use Rattle.share_opening.specs.Reads.{IsLedToBy}
 use Rattle.share_opening.specs.declared.opening.Opening.{Opening}
-use Rattle.share_opening.specs.declared.opening.Opening.TheVariants.{Start, Second, Header, Block}
+use Rattle.share_opening.proofs.ReadLemmas.{more_led}
 use Rattle.share_verify.specs.declared.check.Check.{Check}
 use Rattle.request_record.specs.declared.requests.Asked.TheVariants.{Reading}
 use Rattle.request_record.specs.declared.requests.Request.{Request}
@@ -20,33 +20,21 @@ use Rattle.share_holdings.specs.State.{HoldingsState, TableState}
 use Rattle.share_holdings.specs.Table.{IsHolding, Releases, Suspends, TakesUp}
 use Rattle.share_holdings.specs.declared.holding.Holding.{Holding}
 use Rattle.share_holdings.proofs.Goes.{HaveSamePairs}
-use Rattle.share_holdings.proofs.Lists.{get_other, get_set, set_cases}
 use Rattle.share_holdings.proofs.Records.{StaysTo}
 use Rattle.share_beginnings.specs.Known.{AreBegun, IsBegunBy, IsNextAt}
 use Rattle.share_beginnings.specs.Reads.{brought_of}
 use Rattle.share_beginnings.specs.State.{BeginningsState, IsBegun, unbegun}
 use Rattle.share_beginnings.specs.declared.begun.Begun.{Begun}
-use Rattle.share_beginnings.proofs.Entries.{Grows, brought_grows, grows_none, grows_push, offered_pushed, read_grows, same_of}
+use Rattle.share_beginnings.proofs.Entries.{Grows, brought_grows, grows_none, grows_push, offered_pushed, read_grows}
 use Rattle.share_beginnings.proofs.Falling.{Falls, at_place}
 
 -- ---- one holding
-
-more_header : (reads more : List Brought) → ((read : Brought) → Contains reads read → Contains more read) → (l : Layout) (text : List ℕ) → IsHeaderBy reads l text → IsHeaderBy more l text
-more_header reads more grows One text held = grows _ held
-more_header reads more grows Two text held = (grows _ held.0, grows _ held.1)
-
--- more reads lead to the same opening
-pub led_more : (reads more : List Brought) → ((read : Brought) → Contains reads read → Contains more read) → (o : Opening) → IsLedToBy reads o → IsLedToBy more o
-led_more reads more grows Start led = led
-led_more reads more grows (Second s) led = grows _ led
-led_more reads more grows (Header h) led = more_header reads more grows h.places.layout (text_of h) led
-led_more reads more grows (Block b) led = (more_header reads more grows b.header.places.layout (text_of b.header) led.0, record { bytes = led.1.bytes; read = grows _ led.1.read; long = led.1.long; number = led.1.number })
 
 pub led_grows : (es ns : List Request) (h g : Holding) (o : Opening) → StaysTo es ns → g.server ≡ h.server → g.share ≡ h.share → IsLedToBy (brought_of es h.server h.share) o → IsLedToBy (brought_of ns g.server g.share) o
 led_grows es ns h g o stays servers shares led =
     subst (λ n. IsLedToBy (brought_of ns n g.share) o) (sym servers)
     (subst (λ n. IsLedToBy (brought_of ns h.server n) o) (sym shares)
-    (led_more (brought_of es h.server h.share) (brought_of ns h.server h.share) (λ read. brought_grows es ns h.server h.share read stays) o led))
+    (more_led (brought_of es h.server h.share) (brought_of ns h.server h.share) (λ read. brought_grows es ns h.server h.share read stays) o led))
 
 next_grows : (es ns : List Request) (h g : Holding) (o : Option Opening) (place : ℕ) → Grows es ns → g.server ≡ h.server → g.share ≡ h.share → IsNextAt es h o place → IsNextAt ns g o place
 next_grows es ns h g None place grows servers shares k = k
@@ -117,7 +105,7 @@ shares_fall t u f = record {
     forth = λ place h e. (
         let is = at_place u.holdings t.holdings place h (sym f.long) e in
         let w = f.back place (slice_index_or u.holdings place h) is in
-        let same : w.held ≡ h = same_of (slice_get t.holdings place) w.held h w.is e in
+        let same : w.held ≡ h = one_there (slice_get t.holdings place) w.held h w.is e in
         (slice_index_or u.holdings place h, is, w.of_server ∙ ap (λ (x : Holding). x.server) same, w.of_share ∙ ap (λ (x : Holding). x.share) same));
     back = λ place g e. (let w = f.back place g e in (w.held, w.is, w.of_server, w.of_share));
   };
@@ -146,7 +134,7 @@ shares_suspended suspended holding t u k = record {
   pairs = record {
     forth = λ place h e. elim (cases place) [
       | inl same ↦ (
-          let is : h ≡ k.1.0 = same_of (slice_get t.holdings place) h k.1.0 e (ap (slice_get t.holdings) same ∙ k.1.1.is) in (
+          let is : h ≡ k.1.0 = one_there (slice_get t.holdings place) h k.1.0 e (ap (slice_get t.holdings) same ∙ k.1.1.is) in (
             record k.1.0 { suspended = suspended },
             ap (λ (l : List Holding). slice_get l place) k.1.1.holdings ∙ ap (slice_get (slice_set t.holdings holding (record k.1.0 { suspended = suspended }))) same ∙ get_set t.holdings holding (record k.1.0 { suspended = suspended }) k.1.0 k.1.1.is,
             ap (λ (x : Holding). x.server) (sym is),

@@ -3,15 +3,16 @@ use Rattle.std.proofs.Common.{◌≡◌, ℕ, zero, suc, ◌+◌, ◌<◌, inr, 
 use Rattle.std.specs.Prelude.{slice_get, slice_set}
 use Rattle.std.proofs.lemmas.List.{append-nil, append_assoc}
 use Rattle.std.proofs.lemmas.Option.{slice_get_within}
+use Rattle.lemmas.proofs.Places.{get_set}
+use Rattle.request_record.proofs.StepLaws.{asked_joined}
+use Rattle.lemmas.proofs.Options.{one_there}
 use Rattle.share_opening.specs.Opening.{next_length, next_place}
 use Rattle.share_opening.specs.declared.opening.Opening.{Opening}
 use Rattle.share_opening.specs.declared.opening.Opening.TheVariants.{Start}
-use Rattle.request_record.specs.declared.requests.Asked.{Asked}
 use Rattle.request_record.specs.declared.requests.Asked.TheVariants.{Reading}
-use Rattle.request_record.specs.Record.{RequestsState, asked_all, asked_more}
+use Rattle.request_record.specs.Record.{RequestsState, asked_all}
 use Rattle.share_holdings.specs.Moves.{Asks, Blames, IsUnasked}
 use Rattle.share_holdings.specs.Numbers.{read_count, taken_up}
-use Rattle.share_holdings.proofs.Lists.{get_set}
 use Rattle.share_holdings.specs.Right.{IsRight}
 use Rattle.share_holdings.specs.State.{HoldingsState, NumberState}
 use Rattle.share_holdings.specs.Table.{IsFree, IsHolding, IsNumber, TakesUp}
@@ -25,7 +26,6 @@ use Rattle.share_beginnings.specs.Reads.{IsReadAt}
 use Rattle.share_beginnings.specs.State.{BeginningsState, IsBegun}
 use Rattle.share_beginnings.specs.declared.begun.Begun.{Begun}
 use Rattle.share_beginnings.proofs.Asking.{known_next, opening_next, unasked_first}
-use Rattle.share_beginnings.proofs.Entries.{same_of}
 use Rattle.share_beginnings.proofs.Knowing.{keeps_same, known_same, shares_taken}
 use Rattle.share_beginnings.proofs.Openings.{count_one, opening_taken, unread_free}
 
@@ -58,10 +58,6 @@ goes_from s t u e f g = record {
   blamed = g.blamed ∙ ap (λ (l : List Blame). l ++ g.more) f;
 }
 
-asked_joined : (asks more : List (ℕ × Asked)) (r : RequestsState) → asked_all (asks ++ more) r ≡ asked_all more (asked_all asks r)
-asked_joined [] more r = refl
-asked_joined (ask ∷ asks) more r = asked_joined asks more (asked_more ask.0 ask.1 r)
-
 pub goes_trans : (s t u : BeginningsState) → GoesOn s t → GoesOn t u → GoesOn s u
 goes_trans s t u f g = record {
   asks = f.asks ++ g.asks;
@@ -87,7 +83,7 @@ module _ (s t : BeginningsState) (holding : ℕ) (h : Holding) (known : AreBegun
   now = record takes.3.number { reading = taken_up holding takes.3.number.reading }
 
   held_same : (g : Holding) → IsHolding t.holdings.table holding g → g ≡ h
-  held_same g e = same_of (slice_get s.holdings.table.holdings holding) g h (sym (ap (λ (l : List Holding). slice_get l holding) takes.2) ∙ e) is
+  held_same g e = one_there (slice_get s.holdings.table.holdings holding) g h (sym (ap (λ (l : List Holding). slice_get l holding) takes.2) ∙ e) is
 
   begun_at : (b : Begun) × IsBegun s holding b
   begun_at = (
@@ -123,18 +119,18 @@ module _ (s t : BeginningsState) (holding : ℕ) (h : Holding) (known : AreBegun
       (λ g e. (
       let b = begun_at in
       let o = opening.each holding h b.0 is b.1 in
-      let one : a.begun ≡ b.0 = same_of (slice_get s.begun holding) a.begun b.0 (sym (ap (λ (l : List Begun). slice_get l holding) same) ∙ a.there) b.1 in
+      let one : a.begun ≡ b.0 = one_there (slice_get s.begun holding) a.begun b.0 (sym (ap (λ (l : List Begun). slice_get l holding) same) ∙ a.there) b.1 in
       (ap (λ (x : Holding). x.suspended) (held_same g e) ∙ o.choosable, ap (λ (x : Begun). x.reader) one ∙ o.unread)))
     where
       unread : takes.3.number.reading ≡ None
       unread =
-          let one : h ≡ takes.0 = same_of (slice_get s.holdings.table.holdings holding) h takes.0 is takes.1 in
-          let number : free.number ≡ takes.3.number = same_of (slice_get s.holdings.table.numbers h.share) free.number takes.3.number free.there (ap (λ (x : Holding). slice_get s.holdings.table.numbers x.share) one ∙ takes.3.is) in
+          let one : h ≡ takes.0 = one_there (slice_get s.holdings.table.holdings holding) h takes.0 is takes.1 in
+          let number : free.number ≡ takes.3.number = one_there (slice_get s.holdings.table.numbers h.share) free.number takes.3.number free.there (ap (λ (x : Holding). slice_get s.holdings.table.numbers x.share) one ∙ takes.3.is) in
           sym (ap (λ (n : NumberState). n.reading) number) ∙ free.unread
 
       number_there : (g : Holding) → IsHolding t.holdings.table holding g → IsNumber t.holdings.table g.share now
       number_there g e =
-          let one : g ≡ takes.0 = held_same g e ∙ same_of (slice_get s.holdings.table.holdings holding) h takes.0 is takes.1 in
+          let one : g ≡ takes.0 = held_same g e ∙ one_there (slice_get s.holdings.table.holdings holding) h takes.0 is takes.1 in
           ap (λ (l : List NumberState). slice_get l g.share) takes.3.numbers ∙ ap (λ (x : Holding). slice_get (slice_set s.holdings.table.numbers takes.0.share now) x.share) one ∙ get_set s.holdings.table.numbers takes.0.share now takes.3.number takes.3.is
 
   pub opened_count : read_count t.holdings.table.numbers ≡ read_count s.holdings.table.numbers + 1

@@ -1,6 +1,8 @@
 -- Shares are begun to be read still, as the holdings go on.
 use Rattle.std.proofs.Common.{◌≡◌, ℕ, ◌+◌, ◌⊎◌, inl, inr, Bool, true, false, List, Option, Some, None, refl, sym, ap, subst, ◌∙◌, true≢false}
 use Rattle.std.specs.Prelude.{slice_get, slice_set}
+use Rattle.lemmas.proofs.Places.{get_other, set_cases}
+use Rattle.lemmas.proofs.Options.{one_there}
 use Rattle.request_record.specs.declared.requests.Request.{Request}
 use Rattle.request_record.specs.Record.{RequestsState}
 use Rattle.share_opening.specs.declared.opening.Opening.{Opening}
@@ -8,7 +10,6 @@ use Rattle.share_holdings.specs.Numbers.{read_count, taken_up}
 use Rattle.share_holdings.specs.State.{NumberState, TableState}
 use Rattle.share_holdings.specs.Table.{IsFree, IsHolding, IsNumber, TakesUp}
 use Rattle.share_holdings.specs.declared.holding.Holding.{Holding}
-use Rattle.share_holdings.proofs.Lists.{get_other, set_cases}
 use Rattle.share_holdings.proofs.Records.{AskedAlike}
 use Rattle.share_holdings.proofs.Tables.{count_taken}
 use Rattle.share_beginnings.specs.Moves.{Rests, rested}
@@ -16,7 +17,7 @@ use Rattle.share_beginnings.specs.Opening.{AreOpening, IsOpening, IsOut, IsTaken
 use Rattle.share_beginnings.specs.Reads.{IsBeginning, IsOutAt, IsReadAt}
 use Rattle.share_beginnings.specs.State.{BeginningsState, IsBegun}
 use Rattle.share_beginnings.specs.declared.begun.Begun.{Begun}
-use Rattle.share_beginnings.proofs.Entries.{read_alike, same_of}
+use Rattle.share_beginnings.proofs.Entries.{read_alike}
 use Rattle.share_beginnings.proofs.Falling.{Falls, IsReadOn, WasHolding}
 
 -- ---- fewer are left
@@ -103,8 +104,8 @@ opening_rests s u holding opening r = subst (AreOpening (λ other. other ≡ hol
 
 pub count_one : (t u : TableState) (holding : ℕ) (h : Holding) → IsHolding t holding h → IsFree t h → TakesUp holding t u → read_count u.numbers ≡ read_count t.numbers + 1
 count_one t u holding h is free k =
-    let same : h ≡ k.0 = same_of (slice_get t.holdings holding) h k.0 is k.1 in
-    let number : free.number ≡ k.3.number = same_of (slice_get t.numbers h.share) free.number k.3.number free.there (ap (λ (x : Holding). slice_get t.numbers x.share) same ∙ k.3.is) in
+    let same : h ≡ k.0 = one_there (slice_get t.holdings holding) h k.0 is k.1 in
+    let number : free.number ≡ k.3.number = one_there (slice_get t.numbers h.share) free.number k.3.number free.there (ap (λ (x : Holding). slice_get t.numbers x.share) same ∙ k.3.is) in
     let unread : k.3.number.reading ≡ None = sym (ap (λ (n : NumberState). n.reading) number) ∙ free.unread in
     ap read_count k.3.numbers ∙ count_taken t.numbers k.0.share holding k.3.number (record k.3.number { reading = taken_up holding k.3.number.reading }) k.3.is unread (ap (taken_up holding) unread)
 
@@ -124,8 +125,8 @@ opening_taken s u holding h opening is free k e same = record {
   where
     unread : k.3.number.reading ≡ None
     unread =
-        let one : h ≡ k.0 = same_of (slice_get s.holdings.table.holdings holding) h k.0 is k.1 in
-        let number : free.number ≡ k.3.number = same_of (slice_get s.holdings.table.numbers h.share) free.number k.3.number free.there (ap (λ (x : Holding). slice_get s.holdings.table.numbers x.share) one ∙ k.3.is) in
+        let one : h ≡ k.0 = one_there (slice_get s.holdings.table.holdings holding) h k.0 is k.1 in
+        let number : free.number ≡ k.3.number = one_there (slice_get s.holdings.table.numbers h.share) free.number k.3.number free.there (ap (λ (x : Holding). slice_get s.holdings.table.numbers x.share) one ∙ k.3.is) in
         sym (ap (λ (n : NumberState). n.reading) number) ∙ free.unread
 
     taken : (place : ℕ) (g : Holding) → (g.left ≡ false) ⊎ IsTaken s.holdings.table place g → (g.left ≡ false) ⊎ IsTaken u.holdings.table place g
@@ -134,7 +135,7 @@ opening_taken s u holding h opening is free k e same = record {
       number = t.number;
       there = ap (λ (l : List NumberState). slice_get l g.share) k.3.numbers ∙ get_other s.holdings.table.numbers k.0.share g.share (record k.3.number { reading = taken_up holding k.3.number.reading })
           (λ here.
-          let one : t.number ≡ k.3.number = same_of (slice_get s.holdings.table.numbers g.share) t.number k.3.number t.there (ap (slice_get s.holdings.table.numbers) here ∙ k.3.is) in
+          let one : t.number ≡ k.3.number = one_there (slice_get s.holdings.table.numbers g.share) t.number k.3.number t.there (ap (slice_get s.holdings.table.numbers) here ∙ k.3.is) in
           let two : Some place ≡ None = sym t.reading ∙ ap (λ (n : NumberState). n.reading) one ∙ unread in
           absurd cc) ∙ t.there;
       reading = t.reading;
@@ -166,7 +167,7 @@ unread_free s holding h b opening is free there i offset len read =
     not_free : (h.left ≡ false) ⊎ IsTaken s.holdings.table holding h → ⊥
     not_free (inl gone) = true≢false (sym free.left ∙ gone)
     not_free (inr t) =
-        let one : t.number ≡ free.number = same_of (slice_get s.holdings.table.numbers h.share) t.number free.number t.there free.there in
+        let one : t.number ≡ free.number = one_there (slice_get s.holdings.table.numbers h.share) t.number free.number t.there free.there in
         let two : Some holding ≡ None = sym t.reading ∙ ap (λ (n : NumberState). n.reading) one ∙ free.unread in
         absurd cc
 

@@ -1,15 +1,11 @@
 -- Where the reads of the beginning of a share lie.
 use Rattle.std.proofs.Common.{◌≡◌, ℕ, ◌+◌, ◌≤◌, inl, inr, List, take, sym, ap, subst, ◌∙◌, arith}
-use Rattle.std.specs.Prelude.{if◌then◌else◌}
-use Rattle.std.specs.Int.{w32, to_be_bytes}
-use Rattle.std.specs.Str.{bytes_eq}
-use Rattle.std.proofs.lemmas.List.{take-take, take_all}
+use Rattle.std.proofs.lemmas.List.{take_all}
 use Rattle.cap_text.specs.Cap.{VerifyCapValue}
 use Rattle.share_layout.specs.Geometry.{Geometry, IsGeometry}
-use Rattle.share_layout.specs.declared.layout.Layout.{Layout}
-use Rattle.share_layout.specs.declared.layout.Layout.TheVariants.{One, Two}
+use Rattle.share_layout.specs.declared.layout.Layout.TheVariants.{Two}
 use Rattle.share_layout.specs.declared.places.Places.{Places}
-use Rattle.share_layout.specs.Layout.{header, header_size, layout_of, places_of, version}
+use Rattle.share_layout.specs.Layout.{header, header_size, layout_of, places_of}
 use Rattle.share_layout.specs.Places.{layout_in}
 use Rattle.share_layout.specs.Reading.{HasHeader}
 use Rattle.share_layout.proofs.LawLemmas.{tells_places}
@@ -21,7 +17,9 @@ use Rattle.share_opening.specs.declared.header.ShareHeader.{ShareHeader}
 use Rattle.share_opening.specs.declared.opening.Opening.{Opening}
 use Rattle.share_opening.specs.declared.opening.Opening.TheVariants.{Start, Second, Header, Block}
 use Rattle.share_opening.specs.declared.opening.Progress.TheVariants.{Next}
-use Rattle.share_opening.proofs.ReadLemmas.{rise}
+use Rattle.share_opening.proofs.ReadLemmas.{behind, rise}
+use Rattle.share_opening.proofs.BlameLemmas.{layout_take}
+use Rattle.share_opening.proofs.ListLemmas.{header_long}
 use Rattle.share_beginnings.specs.Reads.{IsBeside, IsReadUpTo}
 
 -- the next read is one
@@ -30,12 +28,6 @@ next_is Start = omega arith
 next_is (Second s) = omega arith
 next_is (Header h) = inr (omega arith, omega arith)
 next_is (Block b) = inr (omega arith, omega arith)
-
--- the header is read before what follows it
-behind : (h : ShareHeader) → header_size h.places.layout ≤ h.places.extension_block
-behind h =
-    subst (λ (p : Places). header_size p.layout ≤ p.extension_block) (sym h.right.places)
-    (let o = h.right.tells.places.rising in omega arith)
 
 -- all end with the next read
 pub ends : (o : Opening) (place len : ℕ) → IsReadUpTo o place len → place + len ≤ next_place o + next_length o
@@ -66,14 +58,6 @@ goes_on verify old new bytes place len a r =
 
 -- ---- beside the plans of a file whose header was read
 
-low : (l : Layout) → 36 ≤ header_size l
-low One = omega arith
-low Two = omega arith
-
--- the beginning of a header tells its layout
-layout_take : (n : ℕ) (share : List ℕ) → 4 ≤ n → layout_in (take n share) ≡ layout_in share
-layout_take n share long = ap (λ (t : List ℕ). if bytes_eq (to_be_bytes w32 (version Two)) t then Two else One) (take-take 4 n share long)
-
 own_layout : (g : Geometry) → IsGeometry g → layout_in (header g) ≡ layout_of g
 own_layout g valid =
     let own : HasHeader g (header g) = take_all (header_size (layout_of g)) (header g) (let e = length-header (layout_of g) g in omega (arith, e)) in
@@ -87,7 +71,7 @@ own_places : (g : Geometry) (h : ShareHeader) → IsGeometry g → HasHeader g (
 own_places g h valid has = h.right.places ∙ (tells_places g (text_of h) valid has).2
 
 pub beside : (g : Geometry) (o : Opening) (place len : ℕ) → IsGeometry g → Agrees g o → IsReadUpTo o place len → IsBeside g place len
-beside g Start place len valid agrees r = inl (let l = low (layout_of g) in omega (arith, l, r))
+beside g Start place len valid agrees r = inl (let l = header_long (layout_of g) in omega (arith, l, r))
 beside g (Second s) place len valid agrees r = inl (let l = ap header_size (second_layout g s.bytes valid s.second agrees) in omega (arith, l, r))
 beside g (Header h) place len valid agrees (inl in_header) = inl (let l = ap (λ (p : Places). header_size p.layout) (own_places g h valid agrees) in omega (arith, l, in_header))
 beside g (Header h) place len valid agrees (inr high) = inr (let l = ap (λ (p : Places). p.extension_block) (own_places g h valid agrees) in let e = high.0 in omega (arith, l, e))

@@ -3,6 +3,7 @@ use Rattle.std.proofs.Common.{◌≡◌, ℕ, ◌+◌, ◌-◌, ◌<◌, ◌≤�
 use Rattle.std.specs.Prelude.{slice_get, slice_index_or}
 use Rattle.std.proofs.lemmas.Bool.{cases_lt}
 use Rattle.std.proofs.lemmas.Option.{slice_get-get_or, slice_get_within}
+use Rattle.lemmas.proofs.Options.{one_there}
 use Rattle.wire.specs.declared.message.Body.TheVariants.{Have}
 use Rattle.request_record.specs.declared.requests.Asked.TheVariants.{Holdings, Reading}
 use Rattle.request_record.specs.declared.requests.Outcome.TheVariants.{Answered, Lost}
@@ -23,7 +24,7 @@ use Rattle.share_beginnings.specs.Opening.{AreOpening, IsOut, nobody}
 use Rattle.share_beginnings.specs.Reads.{IsReadAt}
 use Rattle.share_beginnings.specs.State.{BeginningsState}
 use Rattle.share_beginnings.specs.declared.begun.Begun.{Begun}
-use Rattle.share_beginnings.proofs.Entries.{Grows, grows_goes, same_of}
+use Rattle.share_beginnings.proofs.Entries.{Grows, grows_goes}
 use Rattle.share_beginnings.proofs.Falling.{Falls, falls_all}
 use Rattle.share_beginnings.proofs.Knowing.{keeps_same, known_goes, shares_fall}
 use Rattle.share_beginnings.proofs.Openings.{opening_falls}
@@ -54,7 +55,7 @@ module _ (s u : BeginningsState) (now : ℕ) (known : AreBegun s) (ticks : Ticks
   offered_ticked server share o =
       let q = there_after o.place o.request o.there in
       let w = alike_ticked o.place o.request o.there in
-      let one : w.request ≡ q.0 = same_of (slice_get es o.place) w.request q.0 w.there q.1 in
+      let one : w.request ≡ q.0 = one_there (slice_get es o.place) w.request q.0 w.there q.1 in
       elim (ticked_cases at q.0) [
         | inl lost ↦ (let two : Lost ≡ Answered (Have o.readonly o.held) = sym (lost_one at q.0 lost) ∙ ap (λ (x : Request). x.outcome) q.2 ∙ o.answer in absurd cc)
         | inr kept ↦ record {

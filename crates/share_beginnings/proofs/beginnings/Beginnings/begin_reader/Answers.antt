@@ -2,7 +2,7 @@ use Rattle.std.proofs.Common.{◌≡◌, ℕ, ◌<◌, length, Some, refl, sym, 
 use Rattle.std.specs.Prelude.{slice_set}
 use Rattle.std.proofs.lemmas.List.{length-set}
 use Rattle.std.proofs.lemmas.Option.{slice_get_within}
-use Rattle.share_holdings.proofs.Lists.{got}
+use Rattle.lemmas.proofs.Places.{got}
 use Rattle.share_holdings.specs.Table.{IsHolding}
 use Rattle.share_holdings.specs.declared.holding.Holding.{Holding}
 use Rattle.share_holdings.specs.State.{HoldingsState}

@@ -1,6 +1,7 @@
 use Rattle.std.proofs.Common.{◌≡◌, ◌∙◌, ◌<◌, inl, inr, List, [], ◌∷◌, ◌++◌, length, get_or, Some, false, refl, sym, subst, ap, arith}
 use Rattle.std.specs.Prelude.{slice_get}
 use Rattle.std.proofs.lemmas.Option.{slice_get-get_or, slice_get_within}
+use Rattle.lemmas.proofs.Results.{on_ok_then, by_result}
 use Rattle.share_holdings.specs.Moves.{Blames}
 use Rattle.share_holdings.specs.State.{HoldingsState}
 use Rattle.share_holdings.specs.Table.{IsHolding, Suspends}
@@ -16,7 +17,6 @@ use Rattle.share_beginnings.proofs.Falling.{falls_one}
 use Rattle.share_beginnings.proofs.Going.{goes_on_from, rested_goes, rested_known}
 use Rattle.share_beginnings.proofs.Knowing.{keeps_same, known_blamed, known_same, shares_suspended}
 use Rattle.share_beginnings.proofs.Opened.{goes_blamed, goes_none}
-use Rattle.share_beginnings.proofs.Results.{by_result, on_ok}
 use Rattle.share_beginnings.proofs.beginnings.Beginnings.compare.Goals as goal
 
 pub returns-then-not-holdings-holding-clause-known : goal.returns-then-not-holdings-holding-clause-known
@@ -51,12 +51,12 @@ module _ (c : goal.After-blame) where
 
 pub returns-in-Some-compared-clause-known : goal.returns-in-Some-compared-clause-known
 returns-in-Some-compared-clause-known c =
-    on_ok c.blame.result _ (AreBegun (u0 c)) c.blame.ensures.ok
+    on_ok_then c.blame.result _ (AreBegun (u0 c)) c.blame.ensures.ok
     (λ b. known_blamed (w0 c) (u0 c) c.args.holding c.in-Some-compared.check (subst AreBegun (sym c.self.view_is) (rested_known c.args.self.now c.take_waiting.new.self c.args.holding c.requires.known c.take_waiting.ensures.rests)) b (falls_one c.args.holding (w0 c).holdings.table (u0 c).holdings.table b.retired) c.blame.ensures.right refl)
 
 pub returns-in-Some-compared-clause-compares : goal.returns-in-Some-compared-clause-compares
 returns-in-Some-compared-clause-compares c =
-    on_ok c.blame.result _ _ c.blame.ensures.ok
+    on_ok_then c.blame.result _ _ c.blame.ensures.ok
     (λ b. record {
       rested_first = (c.take_waiting.new.self, c.take_waiting.ensures.rests);
       begun = ap (λ (x : BeginningsState). x.begun) c.self.view_is;

@@ -2,7 +2,6 @@ use Rattle.std.proofs.Common.{◌≡◌, ◌∙◌, ◌<◌, List, length, get_o
 use Rattle.std.specs.Prelude.{slice_get}
 use Rattle.share_opening.specs.Opening.{Agrees}
 use Rattle.share_opening.specs.declared.opening.Opening.{Opening}
-use Rattle.share_holdings.proofs.Lists.{got}
 use Rattle.share_holdings.specs.State.{HoldingsState}
 use Rattle.share_holdings.specs.declared.holding.Holding.{Holding}
 use Rattle.share_verify.specs.declared.check.Check.TheVariants as checks
@@ -14,10 +13,11 @@ use Rattle.share_beginnings.specs.Opening.{AreComparedUpTo}
 use Rattle.share_beginnings.specs.State.{BeginningsState, IsBegun}
 use Rattle.share_beginnings.proofs.Accepting.{refused_causes, refused_compared, refused_goes, refused_known, released_goes, released_known, released_requests, released_blamed, suspended_compared, suspended_goes, suspended_known, unopened_compared}
 use Rattle.share_beginnings.proofs.Opened.{goes_from, goes_none}
-use Rattle.share_beginnings.proofs.Results.{by_result, on_ok}
 use Rattle.share_beginnings.proofs.beginnings.Beginnings.compare_one.Goals.{else-left-via-then-left+else-differs, else-left-via-else-left}
 use Rattle.share_beginnings.proofs.beginnings.Beginnings.compare_one.Goals as goal
 use Rattle.std.proofs.lemmas.Option.{get_or_from_slice_get}
+use Rattle.lemmas.proofs.Places.{got}
+use Rattle.lemmas.proofs.Results.{on_ok_then, by_result}
 
 pub returns-in_default-clause-compared : goal.returns-in_default-clause-compared
 returns-in_default-clause-compared c found before =
@@ -49,7 +49,7 @@ returns-then-differs-clause-compared c found before =
     let known : AreBegun s = subst AreBegun (sym c.self.view_is) c.requires.known in
     let b = c.index.result.now in
     let at : IsBegun s c.args.holding b = got s.begun c.args.holding b (subst (λ (x : BeginningsState). c.args.holding < length x.begun) (sym c.self.view_is) c.requires.there) c.index.ensures in
-    on_ok c.blame.result _ _ c.blame.ensures.ok (λ k. refused_compared c.args.geometry.now c.args.holding c.requires.valid s known b at c.release.new.self c.release.ensures.releases c.release.ensures.others c.release.ensures.right c.holdings.ensures.table checks.Layout c.blame.new.self k c.blame.ensures.right found (subst (λ (x : BeginningsState). AreComparedUpTo c.args.geometry.now found c.args.holding x) (sym c.self.view_is) before))
+    on_ok_then c.blame.result _ _ c.blame.ensures.ok (λ k. refused_compared c.args.geometry.now c.args.holding c.requires.valid s known b at c.release.new.self c.release.ensures.releases c.release.ensures.others c.release.ensures.right c.holdings.ensures.table checks.Layout c.blame.new.self k c.blame.ensures.right found (subst (λ (x : BeginningsState). AreComparedUpTo c.args.geometry.now found c.args.holding x) (sym c.self.view_is) before))
 
 pub returns-then-differs-clause-known : goal.returns-then-differs-clause-known
 returns-then-differs-clause-known c =
@@ -57,7 +57,7 @@ returns-then-differs-clause-known c =
     let known : AreBegun s = subst AreBegun (sym c.self.view_is) c.requires.known in
     let b = c.index.result.now in
     let at : IsBegun s c.args.holding b = got s.begun c.args.holding b (subst (λ (x : BeginningsState). c.args.holding < length x.begun) (sym c.self.view_is) c.requires.there) c.index.ensures in
-    on_ok c.blame.result _ _ c.blame.ensures.ok (λ k. refused_known c.args.geometry.now c.args.holding c.requires.valid s known b at c.release.new.self c.release.ensures.releases c.release.ensures.others c.release.ensures.right c.holdings.ensures.table checks.Layout c.blame.new.self k c.blame.ensures.right)
+    on_ok_then c.blame.result _ _ c.blame.ensures.ok (λ k. refused_known c.args.geometry.now c.args.holding c.requires.valid s known b at c.release.new.self c.release.ensures.releases c.release.ensures.others c.release.ensures.right c.holdings.ensures.table checks.Layout c.blame.new.self k c.blame.ensures.right)
 
 pub returns-then-differs-clause-goes : goal.returns-then-differs-clause-goes
 returns-then-differs-clause-goes c =

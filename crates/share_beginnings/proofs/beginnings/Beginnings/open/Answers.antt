@@ -1,4 +1,5 @@
 use Rattle.std.proofs.Common.{◌≡◌, ◌∙◌, ◌+◌, List, OnOk, refl, sym, subst, ap}
+use Rattle.lemmas.proofs.Results.{on_ok_then, by_result}
 use Rattle.share_opening.specs.Opening.{next_length, next_place}
 use Rattle.share_opening.specs.declared.opening.Opening.{Opening}
 use Rattle.share_opening.specs.declared.opening.Opening.TheVariants.{Start}
@@ -15,7 +16,6 @@ use Rattle.request_record.specs.declared.requests.Request.{Request}
 use Rattle.share_beginnings.specs.Reads.{AddsReads, IsInBeginning}
 use Rattle.share_beginnings.proofs.Caused.{reads_next, reads_none}
 use Rattle.share_beginnings.proofs.Opened.{goes_from, goes_next, goes_none, opened_count, opened_known, opened_opening, taken_unasked}
-use Rattle.share_beginnings.proofs.Results.{by_result, on_ok}
 use Rattle.share_beginnings.proofs.beginnings.Beginnings.open.Goals as goal
 
 module _ (c : goal.After-ask_next-arg-2-1) where
@@ -71,15 +71,15 @@ asked : (c : goal.After-ask_next) → OnOk c.ask_next.result (AsksNext c.args.ho
 asked c = subst (λ (o : Opening). OnOk c.ask_next.result (AsksNext c.args.holding o (t c) c.ask_next.new.self)) c.start.ensures c.ask_next.ensures.asks
 
 pub returns-clause-known : goal.returns-clause-known
-returns-clause-known c = on_ok c.ask_next.result _ (AreBegun c.ask_next.new.self) (asked c)
+returns-clause-known c = on_ok_then c.ask_next.result _ (AreBegun c.ask_next.new.self) (asked c)
     (λ a. opened_known (s c) (t c) c.args.holding (h c) (known c) (opening c) (is c) (free c) c.take_up.ensures.takes c.take_up.ensures.others c.take_up.ensures.right refl c.ask_next.new.self a c.ask_next.ensures.right)
 
 pub returns-clause-opening : goal.returns-clause-opening
-returns-clause-opening c = on_ok c.ask_next.result _ (AreOpening nobody c.ask_next.new.self) (asked c)
+returns-clause-opening c = on_ok_then c.ask_next.result _ (AreOpening nobody c.ask_next.new.self) (asked c)
     (λ a. opened_opening (s c) (t c) c.args.holding (h c) (known c) (opening c) (is c) (free c) c.take_up.ensures.takes c.take_up.ensures.others c.take_up.ensures.right refl c.ask_next.new.self a)
 
 pub returns-clause-reads : goal.returns-clause-reads
-returns-clause-reads c = on_ok c.ask_next.result _ _ (asked c)
+returns-clause-reads c = on_ok_then c.ask_next.result _ _ (asked c)
     (λ a. ap (λ (x : HoldingsState). read_count x.table.numbers) a.asks.2
     ∙ opened_count (s c) (t c) c.args.holding (h c) (known c) (opening c) (is c) (free c) c.take_up.ensures.takes c.take_up.ensures.others c.take_up.ensures.right refl
     ∙ ap (λ (x : BeginningsState). read_count x.holdings.table.numbers + 1) c.self.view_is)
