@@ -3,8 +3,8 @@ use Rattle.std.proofs.Common.{◌≡◌, ℕ, suc, ◌+◌, ◌-◌, ◌*◌, �
 use Rattle.std.specs.Int.{to_be_bytes, w64}
 use Rattle.std.proofs.lemmas.List.{get_or_append_left, get_or-append_right}
 use Rattle.std.proofs.lemmas.Simd.{get_or-chunk, length-chunk, length-replicate, get_or-replicate}
+use Rattle.lemmas.proofs.Eights.{by_eight}
 use Rattle.sha2.specs.Sha256.{padded_message, padding, word_at}
-use Rattle.sha2_lanes.proofs.WordLemmas.{by_lane}
 use Rattle.sha2_lanes.specs.Lanes.{AreWords}
 
 module _ (p t : List ℕ) where
@@ -94,4 +94,4 @@ same_words x y w same are = record {
 pub same_eight : {x : ℕ → List ℕ} {w : List (List ℕ)} (y : ℕ → List ℕ) → AreWords x w
     → x 0 ≡ y 0 → x 1 ≡ y 1 → x 2 ≡ y 2 → x 3 ≡ y 3 → x 4 ≡ y 4 → x 5 ≡ y 5 → x 6 ≡ y 6 → x 7 ≡ y 7 → AreWords y w
 same_eight {x} {w} y are e0 e1 e2 e3 e4 e5 e6 e7 =
-    same_words x y w (λ j below. by_lane (λ q. x q ≡ y q) e0 e1 e2 e3 e4 e5 e6 e7 j below) are
+    same_words x y w (λ j below. by_eight (λ q. x q ≡ y q) e0 e1 e2 e3 e4 e5 e6 e7 j below) are

@@ -4,11 +4,11 @@ use Rattle.std.proofs.lemmas.Bool.{cases_lt}
 use Rattle.std.proofs.lemmas.List.{get_or-set_other, get_or-set_same, get_or_append_left, length-map, map-append, take_all}
 use Rattle.std.proofs.lemmas.List.Elements.{All-append, All-drop}
 use Rattle.std.proofs.lemmas.Simd.{length-chunk}
+use Rattle.lemmas.proofs.Eights.{by_eight}
 use Rattle.sha2.specs.Sha256.{add32, next_word, schedule, small_sigma0, small_sigma1}
 use Rattle.sha2.proofs.Schedule256.{length-schedule, slice_index-schedule_first, slice_index-schedule_next}
 use Rattle.sha2_lanes.specs.Lanes.{AreVectors, AreWords, lane, text}
 use Rattle.sha2_lanes.proofs.Lanes.{lane_set}
-use Rattle.sha2_lanes.proofs.WordLemmas.{by_lane}
 
 -- eight slices of 64 bytes
 pub room_of_eight : (a b c d e f g h : Bor (List ℕ))
@@ -16,7 +16,7 @@ pub room_of_eight : (a b c d e f g h : Bor (List ℕ))
     → length e.now ≡ 64 → length f.now ≡ 64 → length g.now ≡ 64 → length h.now ≡ 64
     → (j : ℕ) → j < 8 → 64 ≤ length (text (a ∷ b ∷ c ∷ d ∷ e ∷ f ∷ g ∷ h ∷ []) j)
 room_of_eight a b c d e f g h la lb lc ld le lf lg lh j below =
-    by_lane (λ q. 64 ≤ length (text (a ∷ b ∷ c ∷ d ∷ e ∷ f ∷ g ∷ h ∷ []) q))
+    by_eight (λ q. 64 ≤ length (text (a ∷ b ∷ c ∷ d ∷ e ∷ f ∷ g ∷ h ∷ []) q))
     (omega arith) (omega arith) (omega arith) (omega arith) (omega arith) (omega arith) (omega arith) (omega arith) j below
 
 -- a part of 64 bytes is all of its first 64 bytes
