@@ -5,6 +5,8 @@ use Rattle.std.proofs.lemmas.Bool.{true≢false}
 use Rattle.std.proofs.lemmas.List.{length-append, map-append}
 use Rattle.std.proofs.lemmas.List.Elements.{All-contains, All-nil, All-push, All-weaker, Contains-push_cases}
 use Rattle.std.proofs.lemmas.Option.{slice_get_within}
+use Rattle.lemmas.proofs.Options.{one_there}
+use Rattle.lemmas.proofs.Places.{get_pushed}
 use Rattle.merkle.specs.Partial.{PartialState}
 use Rattle.share_layout.specs.Geometry.{Geometry}
 use Rattle.download_plan.specs.declared.part.Part.{Part}
@@ -15,7 +17,6 @@ use Rattle.download_source.specs.Cursors.{LeadOn}
 use Rattle.download_source.specs.Source.{IsSource, SourceState, gives_from, new_source}
 use Rattle.download_segments.specs.Handout.{next_segment}
 use Rattle.download_segments.proofs.TreeLemmas.{grow_none}
-use Rattle.segment_groups.proofs.ListLemmas.{one_there}
 use Rattle.download_file.specs.State.{FileState, IsLive, IsReader, ReaderState, copy, copy_of, copies, waiting_at, waiting_in, waiting_parts}
 use Rattle.download_file.specs.Answers.{HoldsAnswers}
 use Rattle.download_file.specs.Asked.{AsksNoMore}
@@ -23,7 +24,7 @@ use Rattle.download_file.specs.Changes.{IsSameFile, StaysAskedUp, StaysRead}
 use Rattle.download_file.specs.Right.{AreLive, GivesTree, IsFile, IsGroup, IsReaderOf}
 use Rattle.download_file.specs.Steps.{IsBegun}
 use Rattle.download_file.specs.declared.reader.Waiting.{Waiting}
-use Rattle.download_file.proofs.ListLemmas.{get_first, get_pushed}
+use Rattle.download_file.proofs.ListLemmas.{get_first}
 use Rattle.download_file.proofs.GrowLemmas.{GrowReaders, goes_same, given_stays, group_stays, read_stays}
 use Rattle.download_file.proofs.LiveLemmas.{first_live, rise_push}
 use Rattle.download_file.proofs.StateLemmas.{Follows, KeepsAsks, asked_up_stays, asks_itself, asks_no_more, grows_itself, new_asks_none, same_reader}

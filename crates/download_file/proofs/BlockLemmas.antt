@@ -7,9 +7,9 @@ use Rattle.std.proofs.lemmas.List.{append-nil, length-append, length-drop, map-a
 use Rattle.std.proofs.lemmas.List.Folds.{concat-append}
 use Rattle.std.proofs.lemmas.List.Concat.{flat_map-append}
 use Rattle.std.proofs.lemmas.List.Elements.{Contains-push_cases}
+use Rattle.lemmas.proofs.Options.{one_there}
 use Rattle.request_record.specs.declared.requests.Request.{Request}
 use Rattle.download_source.specs.Blocks.{IsReady}
-use Rattle.segment_groups.proofs.ListLemmas.{one_there}
 use Rattle.download_file.specs.State.{ReaderState, numbers_of, share_in}
 use Rattle.download_file.specs.Answers.{answer_at, block_in, block_of, blocks_of}
 use Rattle.download_file.specs.Steps.{AreReady}

@@ -4,6 +4,9 @@ use Rattle.std.specs.Prelude.{slice_get, slice_set}
 use Rattle.std.proofs.lemmas.Bool.{cases_lt}
 use Rattle.std.proofs.lemmas.List.{append-nil, length-set}
 use Rattle.std.proofs.lemmas.List.Elements.{All-contains, All-weaker}
+use Rattle.lemmas.proofs.Options.{one_there}
+use Rattle.download_file.proofs.PatienceLemmas.{asks_two}
+use Rattle.lemmas.proofs.Places.{get_set, get_other, set_cases}
 use Rattle.share_layout.specs.Geometry.{Geometry}
 use Rattle.download_plan.specs.Plan.{IsNodePiece}
 use Rattle.download_plan.specs.Range.{IsRange}
@@ -20,14 +23,13 @@ use Rattle.download_source.proofs.SourceLemmas.{gives_source}
 use Rattle.download_segments.specs.Handout.{next_segment}
 use Rattle.download_segments.specs.State.{IsHandout}
 use Rattle.download_segments.proofs.TreeLemmas.{grow_none}
-use Rattle.segment_groups.proofs.ListLemmas.{one_there}
 use Rattle.download_file.specs.State.{FileState, IsLive, IsReader, ReaderState, copy, copy_of, giver, copies, waiting_at, waiting_in, waiting_parts, without}
 use Rattle.download_file.specs.Answers.{HoldsAnswers, HoldsFor}
 use Rattle.download_file.specs.Asked.{AsksNoMore}
 use Rattle.download_file.specs.Changes.{IsSameFile, OthersWait, StaysAskedUp, StaysGiven, StaysRead}
 use Rattle.download_file.specs.Right.{AreConsecutive, AreLive, IsFile, IsGroup, IsReaderOf, made_end}
 use Rattle.download_file.specs.Steps.{AsksNoTree, CanGive, EndsReader, giving, stopped}
-use Rattle.download_file.proofs.ListLemmas.{All-from_contains, get_cases, get_other, get_set, map_set, set_again, set_cases, set_same, waiting_set}
+use Rattle.download_file.proofs.ListLemmas.{All-from_contains, get_cases, map_set, set_again, set_same, waiting_set}
 use Rattle.download_file.proofs.GrowLemmas.{GoesOn, GrowReaders, goes_same, given_stays, group_stays, holds_as, read_stays, reader_there}
 use Rattle.download_file.proofs.LiveLemmas.{first_least, first_live, first_stays, from_without, length-without, rise_without, something_first}
 use Rattle.download_file.proofs.StateLemmas.{Follows, SameAsks, asked_up_stays, asks_itself, asks_no_more, grows_itself, reader_stays, same_reader}
@@ -336,10 +338,6 @@ module _ (f : FileState) (next : ℕ) (s : ReaderState) (k : Nearly f) (first : 
       ])
 
 -- ---- both
-
-pub asks_two : (f m g : FileState) → AsksNoMore f m → AsksNoMore m g → AsksNoMore f g
-asks_two f m g one two reader offset len =
-    ((λ h. (one reader offset len).0 ((two reader offset len).0 h)), (λ h. (two reader offset len).1 ((one reader offset len).1 h)))
 
 -- what holds of a file after a reader ended
 pub record HasEnded (f : FileState) (reader : ℕ) (s t : SourceState) (g : FileState) : Type 0 where

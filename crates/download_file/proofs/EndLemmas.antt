@@ -4,9 +4,9 @@ use Rattle.std.specs.Prelude.{slice_get, slice_set}
 use Rattle.std.specs.Option.{option_eq}
 use Rattle.std.proofs.lemmas.Bool.{eq-eqb, eqb-true, false≢true, true≢false}
 use Rattle.std.proofs.lemmas.List.Elements.{All-contains}
+use Rattle.lemmas.proofs.Places.{get_other}
 use Rattle.download_file.specs.State.{ReaderState, without}
 use Rattle.download_file.specs.Steps.{CanGive, EndsReader, giving, stopped}
-use Rattle.download_file.proofs.ListLemmas.{get_other}
 use Rattle.download_file.proofs.GrowLemmas.{reader_there}
 use Rattle.download_file.proofs.LiveLemmas.{first_live, from_without}
 

@@ -4,6 +4,7 @@ use Rattle.std.specs.Prelude.{slice_get, slice_range}
 use Rattle.std.specs.List.{flat_map, range_with_len}
 use Rattle.std.proofs.lemmas.List.{length-append, length-drop, length-map, length-take-le}
 use Rattle.std.proofs.lemmas.List.Elements.{All-contains, All-weaker}
+use Rattle.lemmas.proofs.Members.{contains_head, contains_tail, contains_cases, contains_none}
 use Rattle.request_record.specs.declared.requests.Request.{Request}
 use Rattle.share_layout.specs.Geometry.{Geometry, IsGeometry}
 use Rattle.share_layout.specs.Pieces.{block_length}
@@ -22,15 +23,10 @@ use Rattle.download_segments.specs.Handout.{next_segment}
 use Rattle.download_file.specs.Parts.{AreMadeAmong, IsMadeAmong}
 use Rattle.download_file.specs.Right.{AreConsecutive, IsFile, IsGroup, made_end}
 use Rattle.download_file.specs.Steps.{AreOfFile, HasBlock, IsMadeGroup}
-use Rattle.download_file.proofs.ListLemmas.{All-from_contains, first_in, more_in}
+use Rattle.download_file.proofs.ListLemmas.{All-from_contains}
 use Rattle.download_file.proofs.GrowLemmas.{HasAnswers, answer_is, has_answers, reader_there}
-use Rattle.download_file.proofs.LiveLemmas.{cons_cases, none_in}
 
 -- ---- numbers of segments
-
-pub range_more : (a n : ℕ) → range_with_len a (n + 1) ≡ range_with_len a n ++ (a + n) ∷ []
-range_more a zero = let e : a ≡ a + 0 = omega arith in ap (λ (k : ℕ). k ∷ []) e
-range_more a (suc n) = ap (range_with_len a) (let s : suc n + 1 ≡ suc (n + 1) = omega arith in s) ∙ ap (λ (l : List ℕ). a ∷ l) (range_more (a + 1) n ∙ ap (λ (k : ℕ). range_with_len (a + 1) n ++ k ∷ []) (let e : a + 1 + n ≡ a + suc n = omega arith in e))
 
 range_two : (a n m : ℕ) → range_with_len a n ++ range_with_len (a + n) m ≡ range_with_len a (n + m)
 range_two a zero m = (λ i. range_with_len (one i) (two i))
@@ -67,11 +63,11 @@ all_segments from end (g ∷ gs) is =
 
 -- each group is within
 pub groups_within : (from end : ℕ) (groups : List GroupState) (group : GroupState) → AreConsecutive from groups end → Contains groups group → (group.end ≤ end) × (from ≤ group.first) × (group.first ≤ group.end)
-groups_within from end [] group is among = absurd (none_in group among)
+groups_within from end [] group is among = absurd (contains_none group among)
 groups_within from end (g ∷ gs) group is among =
     let first = is.0 in
     let order = is.1 in
-    elim (cons_cases g group gs among) [
+    elim (contains_cases g group gs among) [
       | inl e ↦
           let rest = consecutive_order g.end end gs is.2 in
           subst (λ (x : GroupState). (x.end ≤ end) × (from ≤ x.first) × (x.first ≤ x.end)) e (rest, omega (arith, first), order)
@@ -115,12 +111,12 @@ pub blocks_long : (entries : List Request) (g : Geometry) (readers : List Reader
     → length (blocks_of entries readers number places) ≡ length places * block_length g number
 blocks_long entries g readers [] number file each = omega arith
 blocks_long entries g readers (p ∷ ps) number file each =
-    let r = each p (first_in p ps) in
+    let r = each p (contains_head p ps) in
     let one : length (block_in entries number (slice_get readers p)) ≡ block_length g number =
     ap (λ (o : Option ReaderState). length (block_in entries number o)) r.1
     ∙ block_long entries r.0.source number (file.source p r.0 r.1) r.2 (has_answers entries r.0 (file.held p r.0 r.1))
     ∙ ap (λ (h : Geometry). block_length h number) (file.geometry p r.0 r.1) in
-    let rest = blocks_long entries g readers ps number file (λ q among. each q (more_in p q ps among)) in
+    let rest = blocks_long entries g readers ps number file (λ q among. each q (contains_tail p q ps among)) in
     length-append (block_in entries number (slice_get readers p)) (blocks_of entries readers number ps)
     ∙ omega (arith, one, rest, suc-mul (length ps) (block_length g number))
 

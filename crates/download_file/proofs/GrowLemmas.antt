@@ -4,6 +4,8 @@ use Rattle.std.specs.Prelude.{slice_get, slice_range}
 use Rattle.std.proofs.lemmas.List.{append-nil, drop-append-le, drop-map, length-append, length-drop, take-append-le, take-map}
 use Rattle.std.proofs.lemmas.List.Elements.{All-contains, All-weaker}
 use Rattle.std.proofs.lemmas.Option.{slice_get_within, slice_get-get_or}
+use Rattle.lemmas.proofs.Options.{one_there}
+use Rattle.lemmas.proofs.Members.{contains_head, contains_tail}
 use Rattle.request_record.specs.declared.requests.Request.{Request}
 use Rattle.ueb.specs.Shape.{Contents}
 use Rattle.share_layout.specs.Geometry.{Geometry}
@@ -16,7 +18,6 @@ use Rattle.download_segments.specs.State.{HandoutState, TreesGrow}
 use Rattle.download_segments.specs.declared.piece.Piece.{Piece}
 use Rattle.download_segments.proofs.TreeLemmas.{proved_stays}
 use Rattle.segment_groups.specs.State.{GroupState}
-use Rattle.segment_groups.proofs.ListLemmas.{one_there}
 use Rattle.download_plan.specs.Plan.{length_of}
 use Rattle.download_plan.specs.declared.part.Part.TheVariants.{Data}
 use Rattle.download_file.specs.State.{FileState, ReaderState, numbers_of, share_in}
@@ -24,7 +25,6 @@ use Rattle.download_file.specs.Answers.{AnsweredWith, HoldsAnswers, HoldsFor, Is
 use Rattle.download_file.specs.Changes.{IsSameFile, StaysGiven}
 use Rattle.download_file.specs.Laws.{GivenStays, ReadsStay}
 use Rattle.download_file.specs.Right.{IsGroup}
-use Rattle.download_file.proofs.ListLemmas.{first_in, more_in}
 
 -- ---- lists
 
@@ -87,14 +87,14 @@ grow_same rs place r e = (r, e, refl, goes_same r.source)
 pub numbers_same : (rs rs' : List ReaderState) (places : List ℕ) → ((place : ℕ) → Contains places place → share_in (slice_get rs' place) ≡ share_in (slice_get rs place))
     → numbers_of rs' places ≡ numbers_of rs places
 numbers_same rs rs' [] same = refl
-numbers_same rs rs' (p ∷ ps) same = λ i. same p (first_in p ps) i ∷ numbers_same rs rs' ps (λ q among. same q (more_in p q ps among)) i
+numbers_same rs rs' (p ∷ ps) same = λ i. same p (contains_head p ps) i ∷ numbers_same rs rs' ps (λ q among. same q (contains_tail p q ps among)) i
 
 pub blocks_same : (entries new : List Request) (rs rs' : List ReaderState) (number : ℕ) (places : List ℕ)
     → ((place : ℕ) → Contains places place → block_in new number (slice_get rs' place) ≡ block_in entries number (slice_get rs place))
     → blocks_of new rs' number places ≡ blocks_of entries rs number places
 blocks_same entries new rs rs' number [] same = refl
 blocks_same entries new rs rs' number (p ∷ ps) same =
-    λ i. same p (first_in p ps) i ++ blocks_same entries new rs rs' number ps (λ q among. same q (more_in p q ps among)) i
+    λ i. same p (contains_head p ps) i ++ blocks_same entries new rs rs' number ps (λ q among. same q (contains_tail p q ps among)) i
 
 -- the reader at a place that is there
 pub reader_there : (rs : List ReaderState) (place : ℕ) → place < length rs → (r : ReaderState) × (slice_get rs place ≡ Some r)
@@ -192,7 +192,7 @@ answer_is entries place bytes a = ap bytes_of a.there ∙ ap bytes_in a.answer
 
 map_same : (f g : ℕ → List ℕ) (xs : List ℕ) → ((x : ℕ) → Contains xs x → f x ≡ g x) → map f xs ≡ map g xs
 map_same f g [] same = refl
-map_same f g (x ∷ xs) same = λ i. same x (first_in x xs) i ∷ map_same f g xs (λ y among. same y (more_in x y xs among)) i
+map_same f g (x ∷ xs) same = λ i. same x (contains_head x xs) i ∷ map_same f g xs (λ y among. same y (contains_tail x y xs among)) i
 
 map_range : (f g : ℕ → List ℕ) (xs : List ℕ) (a b : ℕ) → map f xs ≡ map g xs → map f (slice_range xs a b) ≡ map g (slice_range xs a b)
 map_range f g xs a b same =

@@ -1,28 +1,18 @@
 -- The readers that are read.
 use Rattle.std.proofs.Common.{◌≡◌, ℕ, zero, suc, ◌+◌, ◌<◌, ◌≤◌, ◌⊎◌, inl, inr, All, Bool, true, false, cond, not, Contains, List, [], ◌∷◌, ◌++◌, length, Some, refl, sym, ap, subst, ◌∙◌, arith}
-use Rattle.std.specs.Prelude.{◌==◌, slice_get, slice_index_or}
+use Rattle.std.specs.Prelude.{◌==◌, slice_get}
 use Rattle.std.proofs.lemmas.Bool.{eq-eqb, eqb-true, true≢false}
 use Rattle.std.proofs.lemmas.List.Elements.{All-tail, All-head}
+pub use Rattle.lemmas.proofs.Members.{contains_cases as cons_cases, contains_none as none_in}
+use Rattle.lemmas.proofs.Members.{contains_at, contains_head, contains_tail, contains_cases, contains_none}
 use Rattle.download_file.specs.Right.{RiseFrom}
 use Rattle.download_file.specs.State.{without}
-use Rattle.download_file.proofs.ListLemmas.{contains_at, first_in, more_in}
-
--- what a longer list contains
-pub cons_cases : {X : Type 0} (x y : X) (xs : List X) → Contains (x ∷ xs) y → (x ≡ y) ⊎ Contains xs y
-cons_cases {X} x y xs h = at h.0 h.1 h.2
-  where
-    at : (k : ℕ) → k < length (x ∷ xs) → slice_index_or (x ∷ xs) k y ≡ y → (x ≡ y) ⊎ Contains xs y
-    at zero low e = inl e
-    at (suc k) low e = inr (k, omega (arith, low), e)
-
-pub none_in : {X : Type 0} (y : X) → Contains [] y → ⊥
-none_in y h = let low = h.1 in omega (arith, low)
 
 -- ---- places that rise
 
 pub rise_above : (low : ℕ) (xs : List ℕ) (x : ℕ) → RiseFrom low xs → Contains xs x → low ≤ x
-rise_above low [] x rise among = absurd (none_in x among)
-rise_above low (y ∷ ys) x rise among = elim (cons_cases y x ys among) [
+rise_above low [] x rise among = absurd (contains_none x among)
+rise_above low (y ∷ ys) x rise among = elim (contains_cases y x ys among) [
   | inl e ↦ let from = rise.0 in omega (arith, e, from)
   | inr more ↦ let from = rise.0 in let k = rise_above (y + 1) ys x rise.1 more in omega (arith, from, k)
 ]
@@ -39,15 +29,15 @@ rise_push low (x ∷ xs) y rise order below =
 
 -- each but the first is behind the first
 pub live_giver : (low : ℕ) (xs : List ℕ) (x : ℕ) → RiseFrom low xs → Contains xs x → (slice_get xs 0 ≡ Some x) ⊎ ((g : ℕ) × (slice_get xs 0 ≡ Some g) × (g < x))
-live_giver low [] x rise among = absurd (none_in x among)
-live_giver low (y ∷ ys) x rise among = elim (cons_cases y x ys among) [
+live_giver low [] x rise among = absurd (contains_none x among)
+live_giver low (y ∷ ys) x rise among = elim (contains_cases y x ys among) [
   | inl e ↦ inl (ap Some e)
   | inr more ↦ inr (y, refl, (let k = rise_above (y + 1) ys x rise.1 more in omega (arith, k)))
 ]
 
 pub first_live : (xs : List ℕ) (g : ℕ) → slice_get xs 0 ≡ Some g → Contains xs g
 first_live [] g e = absurd cc
-first_live (x ∷ xs) g e = let is : x ≡ g = cc in subst (λ (n : ℕ). Contains (x ∷ xs) n) is (first_in x xs)
+first_live (x ∷ xs) g e = let is : x ≡ g = cc in subst (λ (n : ℕ). Contains (x ∷ xs) n) is (contains_head x xs)
 
 -- the first is before each other
 pub first_least : (low : ℕ) (xs : List ℕ) (g x : ℕ) → RiseFrom low xs → slice_get xs 0 ≡ Some g → Contains xs x → g ≤ x
@@ -71,27 +61,27 @@ without_cases place x xs = by (x == place) refl
     by false e = inr ((λ f. true≢false (sym (eq-eqb x place f) ∙ e)), without_by place x xs false e)
 
 pub without_keeps : (place q : ℕ) (xs : List ℕ) → Contains xs q → (q ≡ place → ⊥) → Contains (without place xs) q
-without_keeps place q [] h other = absurd (none_in q h)
+without_keeps place q [] h other = absurd (contains_none q h)
 without_keeps place q (x ∷ xs) h other = elim (without_cases place x xs) [
-  | inl gone ↦ subst (λ (l : List ℕ). Contains l q) (sym gone.1) (elim (cons_cases x q xs h) [
+  | inl gone ↦ subst (λ (l : List ℕ). Contains l q) (sym gone.1) (elim (contains_cases x q xs h) [
     | inl e ↦ absurd (other (sym e ∙ gone.0))
     | inr more ↦ without_keeps place q xs more other
   ])
-  | inr kept ↦ subst (λ (l : List ℕ). Contains l q) (sym kept.1) (elim (cons_cases x q xs h) [
-    | inl e ↦ subst (λ (n : ℕ). Contains (x ∷ without place xs) n) e (first_in x (without place xs))
-    | inr more ↦ more_in x q (without place xs) (without_keeps place q xs more other)
+  | inr kept ↦ subst (λ (l : List ℕ). Contains l q) (sym kept.1) (elim (contains_cases x q xs h) [
+    | inl e ↦ subst (λ (n : ℕ). Contains (x ∷ without place xs) n) e (contains_head x (without place xs))
+    | inr more ↦ contains_tail x q (without place xs) (without_keeps place q xs more other)
   ])
 ]
 
 pub from_without : (place q : ℕ) (xs : List ℕ) → Contains (without place xs) q → Contains xs q × (q ≡ place → ⊥)
-from_without place q [] h = absurd (none_in q h)
+from_without place q [] h = absurd (contains_none q h)
 from_without place q (x ∷ xs) h = elim (without_cases place x xs) [
   | inl gone ↦
       let k = from_without place q xs (subst (λ (l : List ℕ). Contains l q) gone.1 h) in
-      (more_in x q xs k.0, k.1)
-  | inr kept ↦ elim (cons_cases x q (without place xs) (subst (λ (l : List ℕ). Contains l q) kept.1 h)) [
-    | inl e ↦ (subst (λ (n : ℕ). Contains (x ∷ xs) n) e (first_in x xs), (λ f. kept.0 (e ∙ f)))
-    | inr more ↦ let k = from_without place q xs more in (more_in x q xs k.0, k.1)
+      (contains_tail x q xs k.0, k.1)
+  | inr kept ↦ elim (contains_cases x q (without place xs) (subst (λ (l : List ℕ). Contains l q) kept.1 h)) [
+    | inl e ↦ (subst (λ (n : ℕ). Contains (x ∷ xs) n) e (contains_head x xs), (λ f. kept.0 (e ∙ f)))
+    | inr more ↦ let k = from_without place q xs more in (contains_tail x q xs k.0, k.1)
   ]
 ]
 
@@ -125,7 +115,7 @@ first_stays place g (x ∷ xs) e other =
     ]
 
 pub something_first : (xs : List ℕ) (x : ℕ) → Contains xs x → (g : ℕ) × (slice_get xs 0 ≡ Some g)
-something_first [] x h = absurd (none_in x h)
+something_first [] x h = absurd (contains_none x h)
 something_first (y ∷ ys) x h = (y, refl)
 
 -- of places that rise a later one is a greater one

@@ -6,6 +6,8 @@ use Rattle.std.proofs.lemmas.Bool.{cases_order, false≢true}
 use Rattle.std.proofs.lemmas.List.{length-map}
 use Rattle.std.proofs.lemmas.List.Elements.{All-contains}
 use Rattle.std.proofs.lemmas.Option.{get_or_from_slice_get, slice_get-get_or, slice_get_within}
+use Rattle.proved_parts.proofs.Files.{length-pieces}
+use Rattle.lemmas.proofs.Members.{contains_at, contains_head, contains_tail}
 use Rattle.request_record.specs.declared.requests.Request.{Request}
 use Rattle.merkle.specs.Partial.{PartialState}
 use Rattle.share_layout.specs.Geometry.{Geometry, segment_count}
@@ -20,7 +22,6 @@ use Rattle.download_segments.specs.Decoding.{AreShareNumbers, blocks_in}
 use Rattle.download_segments.specs.Handout.{next_segment}
 use Rattle.download_segments.specs.NoCodeWord.{IsBlockBy, IsNoCodeWord}
 use Rattle.download_segments.specs.State.{RefutesSegment}
-use Rattle.download_segments.proofs.DecodingLemmas.{length-pieces}
 use Rattle.download_segments.proofs.LawLemmas.{blocks_lead, no_code_words}
 use Rattle.segment_groups.specs.Making.{nth_block}
 use Rattle.download_file.specs.State.{FileState, IsLive, ReaderState, numbers_of, share_in}
@@ -28,7 +29,7 @@ use Rattle.download_file.specs.Answers.{IsRead, block_in, block_of, blocks_of}
 use Rattle.download_file.specs.Making.{RefutesReader}
 use Rattle.download_file.specs.Right.{IsFile}
 use Rattle.download_file.specs.Steps.{AreOfFile, AreProved, AreReady, HasBlock, IsWrong}
-use Rattle.download_file.proofs.ListLemmas.{All-from_contains, contains_at, first_in, from_map, get_unmapped, more_in}
+use Rattle.download_file.proofs.ListLemmas.{All-from_contains, from_map, get_unmapped}
 use Rattle.download_file.proofs.GrowLemmas.{has_answers, reader_there}
 use Rattle.download_file.proofs.LiveLemmas.{rise_order}
 use Rattle.download_file.proofs.EvidenceLemmas.{block_long, blocks_long}
@@ -45,15 +46,15 @@ nth_is entries readers number size (p ∷ ps) zero place long at =
     let rest : List ℕ = blocks_of entries readers number ps in
     let none : 0 * size ≡ 0 = omega arith in
     ap (λ (n : ℕ). take size (drop n (b ++ rest))) none
-    ∙ ap (λ (n : ℕ). take n (b ++ rest)) (sym (long p (first_in p ps))) ∙ take-append_seam b rest
+    ∙ ap (λ (n : ℕ). take n (b ++ rest)) (sym (long p (contains_head p ps))) ∙ take-append_seam b rest
     ∙ ap (λ (q : ℕ). block_in entries number (slice_get readers q)) same
 nth_is entries readers number size (p ∷ ps) (suc k) place long at =
     let b : List ℕ = block_in entries number (slice_get readers p) in
     let rest : List ℕ = blocks_of entries readers number ps in
-    let is : length b ≡ size = long p (first_in p ps) in
+    let is : length b ≡ size = long p (contains_head p ps) in
     let more : suc k * size ≡ length b + k * size = suc-mul k size ∙ omega (arith, is) in
     ap (λ (n : ℕ). take size (drop n (b ++ rest))) more ∙ ap (take size) (drop-append-add b rest (k * size))
-    ∙ nth_is entries readers number size ps k place (λ q among. long q (more_in p q ps among)) at
+    ∙ nth_is entries readers number size ps k place (λ q among. long q (contains_tail p q ps among)) at
 
 -- ---- the blocks of the readers that are read
 

@@ -3,6 +3,7 @@ use Rattle.std.proofs.Common.{◌≡◌, ℕ, ◌+◌, ◌-◌, ◌/◌, ◌<◌
 use Rattle.std.specs.Prelude.{slice_get, if◌then◌else◌}
 use Rattle.std.proofs.lemmas.Bool.{lt-ltb}
 use Rattle.std.proofs.lemmas.List.Elements.{All-nil, All-weaker}
+use Rattle.lemmas.proofs.Members.{contains_tail, contains_none}
 use Rattle.request_record.specs.declared.requests.Request.{Request}
 use Rattle.ueb.specs.Shape.{Contents}
 use Rattle.share_layout.specs.Geometry.{Geometry, IsGeometry}
@@ -20,8 +21,6 @@ use Rattle.download_file.specs.Asked.{AsksNoMore}
 use Rattle.download_file.specs.Changes.{IsSameFile, StaysAskedUp, StaysRead}
 use Rattle.download_file.specs.Right.{IsFile, IsGroup, made_end}
 use Rattle.download_file.proofs.GrowLemmas.{given_stays, grow_same, group_stays, read_stays}
-use Rattle.download_file.proofs.ListLemmas.{more_in}
-use Rattle.download_file.proofs.LiveLemmas.{none_in}
 use Rattle.download_file.proofs.RangeLemmas.{end_within}
 use Rattle.download_file.proofs.StateLemmas.{Follows, asked_up_stays, asks_itself, asks_no_more, cursor_none, grows_itself, same_reader}
 
@@ -59,9 +58,9 @@ module _ (key : List ℕ) (u : Contents) (g : Geometry) (from to : ℕ) (some : 
           rise = tt;
           there = All-nil (λ place. place < 0);
           few = omega arith;
-          different = λ i j r s one two order_is at_one at_two same. none_in i one;
-          waits = λ place r among at. absurd (none_in place among);
-          reads = λ place r among at. absurd (none_in place among);
+          different = λ i j r s one two order_is at_one at_two same. contains_none i one;
+          waits = λ place r among at. absurd (contains_none place among);
+          reads = λ place r among at. absurd (contains_none place among);
         };
         ciphertext = record {
           levels = refl;
@@ -77,8 +76,8 @@ module _ (key : List ℕ) (u : Contents) (g : Geometry) (from to : ℕ) (some : 
   pub read_new : (entries : List Request) → IsRead entries (new_file key u g from to)
   read_new entries = record {
     held = λ place r at. absurd (none_there place r at);
-    made = λ group number among. absurd (none_in group among);
-    ready = λ p among. absurd (none_in p among);
+    made = λ group number among. absurd (contains_none group among);
+    ready = λ p among. absurd (contains_none p among);
   }
 
 -- ---- a piece is taken
@@ -90,7 +89,7 @@ taken_rest old new (Some p) takes = takes.1 ∙ sym (ap (λ (n : ℕ). record ol
 -- what is ready was before
 pub still_ready : (old new : HandoutState) (o : Option Piece) → TakesPiece old o new → (p : Piece) → Contains new.ready p → Contains old.ready p
 still_ready old new None takes p among = subst (λ (h : HandoutState). Contains h.ready p) takes.1 among
-still_ready old new (Some q) takes p among = subst (λ (l : List Piece). Contains l p) (sym takes.0) (more_in q p new.ready among)
+still_ready old new (Some q) takes p among = subst (λ (l : List Piece). Contains l p) (sym takes.0) (contains_tail q p new.ready among)
 
 module _ (f : FileState) (ready : List Piece) (handed : ℕ) (is : IsFile f) (right : IsHandout (record f.handout { ready = ready; handed = handed }))
     (among : (p : Piece) → Contains ready p → Contains f.handout.ready p) where

@@ -1,7 +1,7 @@
 -- The segments that a range touches.
 use Rattle.std.proofs.Common.{ℕ, ◌+◌, ◌-◌, ◌/◌, ◌^◌, ◌<◌, ◌≤◌, arith}
 use Rattle.share_layout.specs.Geometry.{Geometry, IsGeometry, segment_count}
-use Rattle.download_plan.proofs.NumberLemmas.{below_ceil, div_le}
+use Rattle.download_plan.proofs.NumberLemmas.{below_ceil}
 
 pub few_segments : (g : Geometry) → IsGeometry g → segment_count g ≤ 2 ^ 20
 few_segments g valid = valid.few
@@ -11,7 +11,3 @@ pub end_within : (g : Geometry) (to : ℕ) → IsGeometry g → 0 < to → to �
 end_within g to valid some inside =
     let low = below_ceil g.size g.segment_size (to - 1) valid.some_segment (omega (arith, some, inside)) in
     omega (arith, low)
-
--- a place is in no later segment than one that is not before it
-pub earlier : (from to size : ℕ) → 0 < size → from ≤ to → from / size ≤ to / size
-earlier from to size some order = div_le from to size some order

@@ -4,6 +4,9 @@ use Rattle.std.specs.Prelude.{slice_get, slice_set}
 use Rattle.std.specs.Int.{div_ceil}
 use Rattle.std.specs.declared.alloc.AllocError.{AllocError}
 use Rattle.std.proofs.lemmas.List.Elements.{All-contains, All-set, All-weaker}
+use Rattle.lemmas.proofs.Options.{one_there}
+use Rattle.lemmas.proofs.Places.{get_set}
+use Rattle.lemmas.proofs.Members.{contains_at}
 use Rattle.request_record.specs.declared.requests.Request.{Request}
 use Rattle.share_layout.specs.Pieces.{block_length}
 use Rattle.share_layout.proofs.CutLemmas.{cut_lengths}
@@ -13,7 +16,6 @@ use Rattle.download_segments.proofs.HandoutLemmas.{valid_of}
 use Rattle.download_segments.proofs.RowLemmas.{IsRowState, row_length, row_state, row_there, still_proved}
 use Rattle.segment_groups.specs.Making.{MakesRow, MakesSegment, nth}
 use Rattle.segment_groups.specs.State.{GroupState, IsLast, with_end}
-use Rattle.segment_groups.proofs.ListLemmas.{one_there}
 use Rattle.download_file.specs.State.{FileState}
 use Rattle.download_file.specs.Answers.{IsRead}
 use Rattle.download_file.specs.Changes.{IsSameFile, StaysAskedUp}
@@ -21,7 +23,7 @@ use Rattle.download_file.specs.Making.{MakesSegments}
 use Rattle.download_file.specs.Right.{IsFile, IsGroup}
 use Rattle.download_file.specs.Rows.{HasRow, HaveRow, IsRow}
 use Rattle.download_file.specs.Steps.{AreReady}
-use Rattle.download_file.proofs.ListLemmas.{contains_at, get_set, set_again, set_same}
+use Rattle.download_file.proofs.ListLemmas.{set_again, set_same}
 use Rattle.download_file.proofs.GrowLemmas.{grow_same, group_stays}
 use Rattle.download_file.proofs.MakeLemmas.{all_long, live_blocks}
 use Rattle.download_file.proofs.SegmentLemmas.{HasLast, has_groups, has_made, last_end, raise_last}

@@ -1,13 +1,13 @@
 -- Eight segments in a row.
-use Rattle.std.proofs.Common.{◌≡◌, ℕ, ◌+◌, ◌*◌, ◌<◌, ◌≤◌, inl, inr, List, [], ◌∷◌, ◌++◌, Some, sym, ap, subst, ◌∙◌, add-mul, arith}
+use Rattle.std.proofs.Common.{◌≡◌, ℕ, ◌+◌, ◌*◌, ◌<◌, ◌≤◌, inl, inr, List, Some, sym, ap, subst, ◌∙◌, add-mul, arith}
 use Rattle.std.specs.Prelude.{slice_get}
 use Rattle.std.proofs.Math.Nat.{mul-le-mul_right}
 use Rattle.std.proofs.lemmas.Bool.{cases_lt}
 use Rattle.std.specs.Prelude.{IsSome}
+use Rattle.lemmas.proofs.Options.{one_there}
 use Rattle.download_source.specs.Taking.{IsProved}
 use Rattle.download_segments.specs.State.{HandoutState}
 use Rattle.segment_groups.specs.Making.{nth_block}
-use Rattle.segment_groups.proofs.ListLemmas.{one_there}
 use Rattle.download_file.specs.State.{ReaderState}
 use Rattle.download_file.specs.Steps.{AreProved, HasAll, LacksSome}
 use Rattle.download_file.specs.Steps.LacksSome.{lacks_block, lacks_hash, lacks_readers}

@@ -6,6 +6,9 @@ use Rattle.std.proofs.lemmas.Bool.{cases_lt, ltb-false}
 use Rattle.std.proofs.lemmas.List.{length-append}
 use Rattle.std.proofs.lemmas.List.Elements.{All-contains, All-push, All-set, All-weaker, Contains-append_left, Contains-push_cases}
 use Rattle.std.proofs.lemmas.Nat.{le-div}
+use Rattle.lemmas.proofs.Options.{chosen, one_there}
+use Rattle.lemmas.proofs.Places.{get_last, get_set, set_cases}
+use Rattle.lemmas.proofs.Members.{contains_at}
 use Rattle.request_record.specs.declared.requests.Request.{Request}
 use Rattle.merkle.proofs.PaddingLemmas.{lt_from_true}
 use Rattle.share_layout.specs.Geometry.{Geometry}
@@ -18,14 +21,13 @@ use Rattle.download_segments.proofs.HandoutLemmas.{next_is, next_follows, next_s
 use Rattle.download_segments.proofs.TreeLemmas.{grow_none}
 use Rattle.segment_groups.specs.Making.{MakesSegment}
 use Rattle.segment_groups.specs.State.{GroupState, IsLast, new_group, with_end}
-use Rattle.segment_groups.proofs.ListLemmas.{one_there}
 use Rattle.download_file.specs.State.{FileState, numbers_of}
 use Rattle.download_file.specs.Answers.{IsGivenBy, IsMade, IsMadeSegment, IsRead, blocks_of}
 use Rattle.download_file.specs.Changes.{IsSameFile, StaysAskedUp, StaysGiven}
 use Rattle.download_file.specs.Making.{MakesNext}
 use Rattle.download_file.specs.Right.{AreConsecutive, IsFile, IsGroup, made_end}
 use Rattle.download_file.specs.Steps.{AreReady, BeginsGroup}
-use Rattle.download_file.proofs.ListLemmas.{at_contained, contains_at, get_cases, get_last, get_set, set_cases}
+use Rattle.download_file.proofs.ListLemmas.{at_contained, get_cases}
 use Rattle.download_file.proofs.GrowLemmas.{grow_same, group_stays, made_stays}
 use Rattle.download_file.proofs.MakeLemmas.{live_numbers}
 use Rattle.download_file.proofs.StateLemmas.{Follows, asked_up_stays, grows_itself, same_reader}
@@ -105,10 +107,6 @@ has_last f number groups is next enough (inr pushed) =
 
 -- ---- the segment is made
 
-if_some : (b : Bool) (x n : ℕ) → (if b then Some x else None) ≡ Some n → (b ≡ true) × (x ≡ n)
-if_some true x n e = (refl, cc)
-if_some false x n e = absurd cc
-
 module _ (entries : List Request) (f : FileState) (number : ℕ) (groups groups' : List GroupState) (joined : List ℕ) (is : IsFile f) (read : IsRead entries f)
     (next : next_segment f.handout ≡ Some number) (begun : HasLast f number groups) (ready : AreReady f.readers f.live number) (joins : joined ≡ blocks_of entries f.readers number f.live)
     (h' : HandoutState) (right : IsHandout h') (made : MakesSegment f.handout groups number joined h' groups') where
@@ -126,7 +124,7 @@ module _ (entries : List Request) (f : FileState) (number : ℕ) (groups groups'
 
   pub next_number : (n : ℕ) → next_segment (handed_out f.handout made.segment) ≡ Some n → (number + 1 ≡ n) × (number + 1 < f.end)
   next_number n e =
-      let k = if_some (nat_lt (next_end f.handout) f.handout.to) (number + 1) n (sym follows_next ∙ e) in
+      let k = chosen (nat_lt (next_end f.handout) f.handout.to) (number + 1) n (sym follows_next ∙ e) in
       let low : next_end f.handout < f.handout.to = lt_from_true (next_end f.handout) f.handout.to k.0 in
       let seg = f.handout.geometry.segment_size in
       let own = (next_is f.handout number next).1 in

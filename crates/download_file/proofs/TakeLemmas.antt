@@ -4,6 +4,8 @@ use Rattle.std.specs.Prelude.{slice_get, slice_set}
 use Rattle.std.proofs.lemmas.Bool.{cases_lt}
 use Rattle.std.proofs.lemmas.List.{append-nil, length-append, length-set}
 use Rattle.std.proofs.lemmas.List.Elements.{All-tail, All-weaker}
+use Rattle.lemmas.proofs.Options.{one_there}
+use Rattle.lemmas.proofs.Places.{get_set, get_other, set_cases}
 use Rattle.request_record.specs.declared.requests.Request.{Request}
 use Rattle.share_layout.specs.Geometry.{Geometry}
 use Rattle.download_plan.specs.Plan.{IsNodePiece, length_of, place_of}
@@ -19,7 +21,6 @@ use Rattle.download_source.specs.declared.cursors.Cursors.{Cursors}
 use Rattle.download_source.proofs.CursorLemmas.{piece_next}
 use Rattle.download_source.proofs.LawLemmas.{first_due}
 use Rattle.download_segments.specs.State.{HandoutState, with_trees}
-use Rattle.segment_groups.proofs.ListLemmas.{one_there}
 use Rattle.download_file.specs.State.{FileState, IsLive, ReaderState, copy, copy_of, giver, copies, waiting_at, waiting_in, waiting_parts}
 use Rattle.download_file.specs.Answers.{AnswersFirst, HoldsAnswers, HoldsFor, IsAnswerOf, IsAnswerTo, IsRead}
 use Rattle.request_record.specs.declared.requests.Asked.TheVariants.{Reading}
@@ -28,7 +29,7 @@ use Rattle.download_file.specs.Changes.{IsSameFile, OthersWait, StaysAskedUp}
 use Rattle.download_file.specs.Right.{AreLive, GivesTree, IsFile, IsGroup, IsReaderOf}
 use Rattle.download_file.specs.Steps.{IsTaker, KnowsPart, TakesPart, held_with, taken_with}
 use Rattle.download_file.specs.declared.reader.Waiting.{Waiting}
-use Rattle.download_file.proofs.ListLemmas.{get_cases, get_other, get_set, map_set, set_cases, set_same}
+use Rattle.download_file.proofs.ListLemmas.{get_cases, map_set, set_same}
 use Rattle.download_file.proofs.GrowLemmas.{GoesOn, GrowReaders, goes_same, given_stays, group_stays, holds_as, read_stays}
 use Rattle.download_file.proofs.LiveLemmas.{live_giver}
 use Rattle.download_file.proofs.StateLemmas.{Follows, GrowsAsks, KeepsAsks, SameAsks, StillAsks, asked_up_stays, asks_itself, asks_no_more, grows_itself, reader_stays, same_asks, same_reader}

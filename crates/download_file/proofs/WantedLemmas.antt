@@ -4,6 +4,9 @@ use Rattle.std.specs.Prelude.{slice_get, slice_set}
 use Rattle.std.proofs.Math.ListN.{get_or-map}
 use Rattle.std.proofs.lemmas.List.{append-nil, length-map, length-set, map-append}
 use Rattle.std.proofs.lemmas.List.Elements.{All-append, All-contains, All-weaker}
+use Rattle.lemmas.proofs.Options.{one_there}
+use Rattle.lemmas.proofs.Places.{get_set, get_other, set_cases}
+use Rattle.lemmas.proofs.Members.{contains_head, contains_tail, contains_map, contains_cases, contains_none}
 use Rattle.share_layout.specs.Geometry.{Geometry}
 use Rattle.download_plan.specs.Laws.{AreApart}
 use Rattle.download_plan.specs.Plan.{IsPlanned, length_of, max_read, place_of}
@@ -18,7 +21,6 @@ use Rattle.download_source.specs.declared.wanted.Wanted.{Wanted}
 use Rattle.download_source.proofs.LawLemmas.{lead_append, parts_apart, plans_grow}
 use Rattle.download_segments.specs.Handout.{next_segment}
 use Rattle.download_segments.proofs.TreeLemmas.{grow_none}
-use Rattle.segment_groups.proofs.ListLemmas.{one_there}
 use Rattle.download_file.specs.State.{FileState, IsLive, IsReader, ReaderState, copy, copy_of, giver, placed, copies, waiting_at, waiting_in, waiting_parts}
 use Rattle.download_file.specs.Answers.{HoldsAnswers, HoldsFor}
 use Rattle.download_file.specs.Asked.{AsksParts, HasAsked, IsAskedUp, IsOneOf, IsPlannedRead}
@@ -26,9 +28,8 @@ use Rattle.download_file.specs.Changes.{IsSameFile, OthersWait, StaysAskedUp, St
 use Rattle.download_file.specs.Right.{AreLive, IsFile, IsGroup, IsReaderOf}
 use Rattle.download_file.specs.Steps.{Asks, AsksNoTree}
 use Rattle.download_file.specs.declared.reader.Waiting.{Waiting}
-use Rattle.download_file.proofs.ListLemmas.{All-from_contains, contains_map, first_in, from_map, get_cases, get_other, get_set, map_set, more_in, set_cases}
+use Rattle.download_file.proofs.ListLemmas.{All-from_contains, from_map, get_cases, map_set}
 use Rattle.download_file.proofs.GrowLemmas.{GoesOn, GrowReaders, goes_same, given_stays, group_stays, holds_as, read_stays}
-use Rattle.download_file.proofs.LiveLemmas.{cons_cases, none_in}
 use Rattle.download_file.proofs.StateLemmas.{Follows, GrowsAsks, asked_up_stays, ciphertext_back, grows_itself, reader_stays, same_reader, wanted_back}
 
 -- ---- parts
@@ -69,10 +70,10 @@ placed_parts place [] = refl
 placed_parts place (w ∷ ws) = ap (λ (l : List Part). w.part ∷ l) (placed_parts (place + 1) ws)
 
 placed_all : (P : Wanted → Type 0) (place : ℕ) (wanted : List Wanted) → ((w : Wanted) → Contains wanted w → P w) → (v : Waiting) → Contains (placed place wanted) v → P v.wanted
-placed_all P place [] each v among = absurd (none_in v among)
-placed_all P place (w ∷ ws) each v among = elim (cons_cases (record { place = place; wanted = w }) v (placed (place + 1) ws) among) [
-  | inl e ↦ subst (λ (u : Waiting). P u.wanted) e (each w (first_in w ws))
-  | inr more ↦ placed_all P (place + 1) ws (λ u k. each u (more_in w u ws k)) v more
+placed_all P place [] each v among = absurd (contains_none v among)
+placed_all P place (w ∷ ws) each v among = elim (contains_cases (record { place = place; wanted = w }) v (placed (place + 1) ws) among) [
+  | inl e ↦ subst (λ (u : Waiting). P u.wanted) e (each w (contains_head w ws))
+  | inr more ↦ placed_all P (place + 1) ws (λ u k. each u (contains_tail w u ws k)) v more
 ]
 
 -- ---- the file

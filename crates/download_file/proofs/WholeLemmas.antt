@@ -5,6 +5,8 @@ use Rattle.std.proofs.lemmas.Grind.{div_ceil_times}
 use Rattle.std.proofs.lemmas.List.{get_or-map, length-map, take_all}
 use Rattle.std.proofs.lemmas.List.Elements.{All-contains, All-head, All-tail}
 use Rattle.std.proofs.lemmas.Nat.{same_from_place}
+use Rattle.proved_parts.proofs.Files.{length-pieces}
+use Rattle.lemmas.proofs.Members.{contains_cases, contains_none}
 use Rattle.aes_ctr.specs.CounterMode.{xored_from}
 use Rattle.aes_ctr.proofs.StreamLemmas.{length-xored_from, xored_from-append}
 use Rattle.tagged_hash.specs.TaggedHash.{tagged_hash}
@@ -23,7 +25,7 @@ use Rattle.download_trees.specs.Trees.{known_leaf}
 use Rattle.download_segments.specs.Decoding.{AreShareNumbers, blocks_in}
 use Rattle.download_segments.specs.Pieces.{AreConsecutive}
 use Rattle.download_segments.specs.declared.piece.Piece.{Piece}
-use Rattle.download_segments.proofs.DecodingLemmas.{length-pieces, unique}
+use Rattle.download_segments.proofs.DecodingLemmas.{unique}
 use Rattle.download_segments.proofs.PieceLemmas.{taken_within}
 use Rattle.segment_groups.specs.State.{GroupState}
 use Rattle.download_file.specs.State.{FileState}
@@ -33,7 +35,6 @@ use Rattle.download_file.specs.Right.{IsFile, IsGroup, made_end}
 use Rattle.download_file.specs.Whole.{SegmentsAreMadeOnce, WholeFiles, joined}
 use Rattle.download_file.proofs.EvidenceLemmas.{groups_within}
 use Rattle.download_file.proofs.GivenLemmas.{segment_there}
-use Rattle.download_file.proofs.LiveLemmas.{cons_cases, none_in}
 use Rattle.download_file.proofs.TextLemmas.{part_of_part, parts_joined, whole_text}
 
 -- ---- a segment is made once
@@ -41,16 +42,16 @@ use Rattle.download_file.proofs.TextLemmas.{part_of_part, parts_joined, whole_te
 -- of groups that follow one another, one has a segment
 one_group : (from end : ℕ) (groups : List GroupState) (g h : GroupState) (n : ℕ) → right.AreConsecutive from groups end → Contains groups g → Contains groups h
     → g.first ≤ n → n < g.end → h.first ≤ n → n < h.end → g ≡ h
-one_group from end [] g h n follow in_g in_h from_g to_g from_h to_h = absurd (none_in g in_g)
-one_group from end (x ∷ xs) g h n follow in_g in_h from_g to_g from_h to_h = elim (cons_cases x g xs in_g) [
-  | inl is_g ↦ elim (cons_cases x h xs in_h) [
+one_group from end [] g h n follow in_g in_h from_g to_g from_h to_h = absurd (contains_none g in_g)
+one_group from end (x ∷ xs) g h n follow in_g in_h from_g to_g from_h to_h = elim (contains_cases x g xs in_g) [
+  | inl is_g ↦ elim (contains_cases x h xs in_h) [
     | inl is_h ↦ sym is_g ∙ is_h
     | inr more_h ↦
         let behind = (groups_within x.end end xs h follow.2 more_h).1 in
         let same : x.end ≡ g.end = ap (λ (y : GroupState). y.end) is_g in
         absurd (omega (arith, behind, same, to_g, from_h))
   ]
-  | inr more_g ↦ elim (cons_cases x h xs in_h) [
+  | inr more_g ↦ elim (contains_cases x h xs in_h) [
     | inl is_h ↦
         let behind = (groups_within x.end end xs g follow.2 more_g).1 in
         let same : x.end ≡ h.end = ap (λ (y : GroupState). y.end) is_h in

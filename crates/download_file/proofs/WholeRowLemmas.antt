@@ -5,6 +5,8 @@ use Rattle.std.specs.declared.alloc.AllocError.{AllocError}
 use Rattle.std.proofs.lemmas.Bool.{true≢false}
 use Rattle.std.proofs.lemmas.List.Elements.{All-contains}
 use Rattle.std.proofs.lemmas.Option.{slice_get_within}
+use Rattle.lemmas.proofs.Options.{one_there}
+use Rattle.lemmas.proofs.Members.{contains_at}
 use Rattle.request_record.specs.declared.requests.Request.{Request}
 use Rattle.share_layout.specs.Geometry.{Geometry}
 use Rattle.proved_parts.specs.Decoding.{DecodesBlocks}
@@ -17,13 +19,12 @@ use Rattle.download_segments.proofs.HandoutLemmas.{valid_of}
 use Rattle.download_segments.proofs.RowLemmas.{row_there}
 use Rattle.segment_groups.specs.Making.{DecodesRow, MakesRow, RefutesRow, nth, nth_block}
 use Rattle.segment_groups.specs.State.{GroupState, IsLast}
-use Rattle.segment_groups.proofs.ListLemmas.{one_there}
 use Rattle.download_file.specs.State.{FileState, IsReader, ReaderState, numbers_of}
 use Rattle.download_file.specs.Answers.{block_of, blocks_of}
 use Rattle.download_file.specs.Making.{CanMakeRow, IsWholeRow}
 use Rattle.download_file.specs.Right.{IsGroup}
 use Rattle.download_file.specs.Rows.{AreRowsProved, HasRow, IsRow}
-use Rattle.download_file.proofs.ListLemmas.{at_contained, contains_at}
+use Rattle.download_file.proofs.ListLemmas.{at_contained}
 use Rattle.download_file.proofs.MakeLemmas.{live_numbers, nth_own}
 use Rattle.download_file.proofs.RowFileLemmas.{HasRowBlocks, its_size, row_enough, row_ready}
 use Rattle.download_file.proofs.SegmentLemmas.{HasLast}

@@ -2,9 +2,9 @@ use Rattle.std.proofs.Common.{◌≡◌, ◌∙◌, List, ℕ, arith, refl, subs
 use Rattle.std.proofs.lemmas.Bool.{true≢false}
 use Rattle.std.proofs.lemmas.List.{take_all}
 use Rattle.std.proofs.lemmas.List.Elements.{Contains-get_or}
+use Rattle.lemmas.proofs.Places.{got}
 use Rattle.download_source.specs.Blocks.{IsReady}
 use Rattle.download_source.specs.Source.{SourceState}
-use Rattle.segment_groups.proofs.ListLemmas.{got}
 use Rattle.download_file.specs.Steps.{AreReady}
 use Rattle.download_file.proofs.BlockLemmas.{ready_more}
 use Rattle.download_file.proofs.blocks.are_ready.Goals as goal

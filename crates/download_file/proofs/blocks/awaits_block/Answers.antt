@@ -1,14 +1,11 @@
-use Rattle.std.proofs.Common.{◌≡◌, ◌∙◌, ℕ, Option, Some, None, true, is_some, refl, subst, sym, get_or}
-use Rattle.std.proofs.lemmas.Bool.{false≢true, true≢false}
+use Rattle.std.proofs.Common.{◌∙◌, true, is_some, subst, sym, get_or}
+use Rattle.std.proofs.lemmas.Bool.{true≢false}
 use Rattle.std.proofs.lemmas.List.Elements.{Contains-get_or}
+use Rattle.lemmas.proofs.Places.{got}
+use Rattle.lemmas.proofs.Options.{some_of}
 use Rattle.download_source.specs.Blocks.{IsReady}
 use Rattle.download_source.specs.Source.{SourceState}
-use Rattle.segment_groups.proofs.ListLemmas.{got}
 use Rattle.download_file.proofs.blocks.awaits_block.Goals as goal
-
-some_of : (o : Option ℕ) → is_some o ≡ true → (n : ℕ) × (o ≡ Some n)
-some_of (Some n) e = (n, refl)
-some_of None e = absurd (false≢true e)
 
 pub returns-then-not-is_ready : goal.returns-then-not-is_ready
 returns-then-not-is_ready c = λ _.

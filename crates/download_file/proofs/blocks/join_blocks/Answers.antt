@@ -1,9 +1,10 @@
 use Rattle.std.proofs.Common.{◌≡◌, ◌∙◌, ◌++◌, ℕ, ap, subst, sym, get_or, slice_get, Some}
 use Rattle.std.proofs.lemmas.Option.{slice_get_within}
+use Rattle.lemmas.proofs.Options.{one_there}
+use Rattle.lemmas.proofs.Places.{got}
 use Rattle.share_layout.specs.Pieces.{block_length}
 use Rattle.download_source.specs.Blocks.{IsHeld}
 use Rattle.download_source.specs.Source.{SourceState}
-use Rattle.segment_groups.proofs.ListLemmas.{got, one_there}
 use Rattle.download_file.specs.State.{ReaderState}
 use Rattle.download_file.specs.Answers.{block_of}
 use Rattle.download_file.specs.Steps.{HasBlock}

@@ -2,11 +2,11 @@ use Rattle.std.proofs.Common.{◌≡◌, ◌∙◌, ◌++◌, ◌∷◌, ◌+◌
 use Rattle.std.specs.List.{range_with_len}
 use Rattle.std.proofs.lemmas.List.{append_assoc, map-append}
 use Rattle.std.proofs.lemmas.List.Elements.{All-push}
+use Rattle.lemmas.proofs.Ranges.{range_more}
 use Rattle.proved_parts.specs.Parts.{IsSegmentBy}
 use Rattle.proved_parts.specs.declared.evidence.EvidencePart.{EvidencePart}
 use Rattle.download_file.specs.Parts.{AreMadeAmong, IsMadeAmong}
 use Rattle.download_file.specs.Steps.{AreSegmentsBy, part_numbers}
-use Rattle.download_file.proofs.EvidenceLemmas.{range_more}
 use Rattle.download_file.proofs.evidence.push_parts.Goals as goal
 
 pub part_of-requires-clause-made : goal.part_of-requires-clause-made

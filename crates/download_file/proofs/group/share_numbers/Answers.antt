@@ -1,5 +1,5 @@
 use Rattle.std.proofs.Common.{◌≡◌, ◌∙◌, ◌++◌, ◌∷◌, [], sym, get_or, slice_get, Some}
-use Rattle.segment_groups.proofs.ListLemmas.{got}
+use Rattle.lemmas.proofs.Places.{got}
 use Rattle.download_file.proofs.BlockLemmas.{numbers_more}
 use Rattle.download_file.proofs.group.share_numbers.Goals as goal
 

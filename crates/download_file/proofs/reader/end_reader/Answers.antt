@@ -1,7 +1,7 @@
 use Rattle.std.proofs.Common.{◌≡◌, ◌∙◌, ◌<◌, ℕ, List, Some, ap, sym, length, slice_get}
 use Rattle.std.proofs.lemmas.List.{length-set}
 use Rattle.std.proofs.lemmas.List.Elements.{All-contains}
-use Rattle.segment_groups.proofs.ListLemmas.{got}
+use Rattle.lemmas.proofs.Places.{got}
 use Rattle.download_file.specs.State.{without}
 use Rattle.download_file.proofs.EndLemmas.{ends_gave, ends_other, next_gives, next_there, option_is, option_is_not}
 use Rattle.download_file.proofs.reader.end_reader.Goals as goal

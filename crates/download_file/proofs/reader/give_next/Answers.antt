@@ -1,5 +1,6 @@
 use Rattle.std.proofs.Common.{◌≡◌, ◌∙◌, ◌<◌, ℕ, IfSome, Option, Some, ap, subst, sym, length, slice_get, slice_set}
-use Rattle.segment_groups.proofs.ListLemmas.{got, one_there}
+use Rattle.lemmas.proofs.Options.{one_there}
+use Rattle.lemmas.proofs.Places.{got}
 use Rattle.download_file.specs.State.{ReaderState}
 use Rattle.download_file.specs.Steps.{giving}
 use Rattle.download_file.proofs.reader.give_next.Goals as goal

@@ -1,11 +1,11 @@
-use Rattle.std.proofs.Common.{◌≡◌, ◌+◌, ◌<◌, ◌≤◌, ℕ, List, Some, map, get_or, subst, sym, ◌∙◌, arith}
+use Rattle.std.proofs.Common.{◌≡◌, ◌+◌, ◌≤◌, ℕ, List, Some, map, get_or, subst, sym, ◌∙◌, arith}
 use Rattle.std.specs.Prelude.{slice_get}
 use Rattle.std.proofs.lemmas.Bool.{true≢false}
 use Rattle.std.proofs.lemmas.List.Elements.{Contains-get_or}
 use Rattle.std.proofs.lemmas.Option.{slice_get-get_or}
+use Rattle.lemmas.proofs.Places.{got}
 use Rattle.download_source.specs.Source.{SourceState}
 use Rattle.segment_groups.specs.Making.{nth}
-use Rattle.segment_groups.proofs.ListLemmas.{got}
 use Rattle.download_file.specs.State.{ReaderState}
 use Rattle.download_file.specs.Rows.{ProvesBlocks}
 use Rattle.download_file.proofs.RowLemmas.{proved_more}

@@ -1,5 +1,6 @@
 use Rattle.std.proofs.Common.{◌≡◌, ◌-◌, ◌/◌, ℕ, arith, ap, ◌∙◌}
-use Rattle.download_file.proofs.RangeLemmas.{earlier, end_within, few_segments}
+use Rattle.download_plan.proofs.NumberLemmas.{div_le}
+use Rattle.download_file.proofs.RangeLemmas.{end_within, few_segments}
 use Rattle.download_file.proofs.window.plan_of.Goals as goal
 
 pub of-requires-clause-within : goal.of-requires-clause-within
@@ -26,5 +27,5 @@ overflow_cast-first c =
     let high = end_within g c.args.to c.segment_size.ensures.valid (omega arith) c.requires.inside in
     let few = few_segments g c.segment_size.ensures.valid in
     let same : c.args.from / c.from-size.result ≡ c.args.from / g.segment_size = ap (λ (n : ℕ). c.args.from / n) size in
-    let low = earlier c.args.from (c.args.to - 1) g.segment_size c.segment_size.ensures.valid.some_segment (omega (arith, c.requires.some)) in
+    let low = div_le c.args.from (c.args.to - 1) g.segment_size c.segment_size.ensures.valid.some_segment (omega (arith, c.requires.some)) in
     omega (arith, high, same, few, low)

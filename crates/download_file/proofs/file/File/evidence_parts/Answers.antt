@@ -1,5 +1,6 @@
-use Rattle.std.proofs.Common.{refl, ◌≡◌, ◌∙◌, ◌-◌, All, List, IfOk, Result, Ok, Err, ap, subst, sym}
+use Rattle.std.proofs.Common.{refl, ◌≡◌, ◌∙◌, ◌-◌, All, List, ap, subst, sym}
 use Rattle.std.specs.List.{flat_map, range_with_len}
+use Rattle.lemmas.proofs.Results.{if_ok_then}
 use Rattle.segment_groups.specs.State.{GroupState, segments_in}
 use Rattle.download_file.specs.State.{FileState, ReaderState}
 use Rattle.proved_parts.specs.declared.evidence.EvidencePart.{EvidencePart}
@@ -38,10 +39,6 @@ evidence_of-requires-clause-made c =
     (subst (λ (gs : List GroupState). All (IsMadeGroup c.args.requests.now.entries c.self.inside.handout c.self.inside.readers.items) gs) (sym c.deref-2.ensures.value)
     (all_made c.args.requests.now.entries f c.self.invariant.0 (subst (IsRead c.args.requests.now.entries) (sym c.self.view_is) c.requires.reads)))
 
-on_ok : {X E : Type 0} (r : Result X E) (P Q : X → Type 0) → IfOk r P → ((x : X) → P x → Q x) → IfOk r Q
-on_ok (Ok x) P Q is more = more x is
-on_ok (Err e) P Q is more = tt
-
 pub returns-clause-all : goal.returns-clause-all
 returns-clause-all c =
     let f : FileState = record {
@@ -56,7 +53,7 @@ returns-clause-all c =
     let all : flat_map segments_in c.deref-2.result.now ≡ range_with_len c.args.self.now.first (made_end c.args.self.now - c.args.self.now.first) =
     ap (flat_map segments_in) c.deref-2.ensures.value ∙ all_segments f.first (made_end f) f.groups c.self.invariant.0.in_order
     ∙ ap (λ (s : FileState). range_with_len s.first (made_end s - s.first)) c.self.view_is in
-    on_ok c.evidence_of.result _ _ c.evidence_of.ensures.all (λ parts is. is ∙ all)
+    if_ok_then c.evidence_of.result _ _ c.evidence_of.ensures.all (λ parts is. is ∙ all)
 
 pub returns-clause-made : goal.returns-clause-made
 returns-clause-made c =
@@ -70,6 +67,6 @@ returns-clause-made c =
       groups = c.self.inside.groups.items;
     } in
     let entries = c.args.requests.now.entries in
-    on_ok c.evidence_of.result _ _ c.evidence_of.ensures.made (λ parts made.
+    if_ok_then c.evidence_of.result _ _ c.evidence_of.ensures.made (λ parts made.
     subst (λ (s : FileState). All (λ (p : EvidencePart). IsMadeSegment entries s p.number p.segment) parts.items) c.self.view_is
     (made_segments entries f c.self.inside.handout c.deref.result.now c.deref-2.result.now parts.items refl c.deref.ensures.value c.deref-2.ensures.value made))

@@ -1,6 +1,7 @@
 use Rattle.std.proofs.Common.{◌≡◌, ◌⊎◌, ◌∙◌, ◌*◌, ◌<◌, ℕ, All, List, Ok, Some, ap, inl, inr, subst, sym, length, refl, true}
 use Rattle.std.proofs.lemmas.Bool.{true≢false}
 use Rattle.std.proofs.lemmas.List.Elements.{All-contains}
+use Rattle.lemmas.proofs.Members.{contains_at}
 use Rattle.share_layout.specs.Geometry.{Geometry}
 use Rattle.share_layout.specs.Pieces.{block_length}
 use Rattle.proved_parts.specs.Decoding.{DecodesBlocks}
@@ -18,7 +19,6 @@ use Rattle.download_file.specs.Making.{CanNotGoOn, LacksNext, RefutesReader}
 use Rattle.download_file.specs.Right.{IsFile, IsGroup}
 use Rattle.download_file.specs.Steps.{AreProved, AreReady, BeginsGroup, HasAll, HasBlock, IsWrong, LacksSome}
 use Rattle.download_file.proofs.GrowLemmas.{same_itself}
-use Rattle.download_file.proofs.ListLemmas.{contains_at}
 use Rattle.download_file.proofs.WaitLemmas.{cannot, complete, lacks_next}
 use Rattle.download_file.proofs.MakeLemmas.{all_long, is_no_code_word, live_blocks, live_numbers, refutes_reader}
 use Rattle.download_file.proofs.SegmentLemmas.{HasGroups, HasLast, HasMade, has_groups, has_last, has_made}

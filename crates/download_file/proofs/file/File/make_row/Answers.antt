@@ -2,6 +2,7 @@ use Rattle.std.proofs.Common.{◌≡◌, ◌↔◌, ◌∙◌, false, None, ◌+
 use Rattle.std.specs.Prelude.{IfOk, IsTrue}
 use Rattle.std.proofs.lemmas.Bool.{true≢false}
 use Rattle.std.proofs.lemmas.List.Elements.{All-contains}
+use Rattle.lemmas.proofs.Members.{contains_at}
 use Rattle.request_record.specs.declared.requests.Request.{Request}
 use Rattle.share_layout.specs.Geometry.{Geometry}
 use Rattle.share_layout.specs.Pieces.{block_length}
@@ -19,7 +20,6 @@ use Rattle.download_file.specs.Right.{IsFile, IsGroup}
 use Rattle.download_file.specs.Rows.{AreRowsProved, HasRow, HaveRow, IsRow}
 use Rattle.download_file.specs.Steps.{AreReady, BeginsGroup}
 use Rattle.download_file.proofs.GrowLemmas.{same_itself}
-use Rattle.download_file.proofs.ListLemmas.{contains_at}
 use Rattle.download_file.proofs.MakeLemmas.{live_numbers}
 use Rattle.download_file.proofs.RowFileLemmas.{HasEndedRow, HasRowBlocks, has_ended_row, row_blocks, row_enough, row_long, row_needed, row_ready}
 use Rattle.download_file.proofs.SegmentLemmas.{HasLast, has_last}

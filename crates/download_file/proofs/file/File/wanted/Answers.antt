@@ -1,10 +1,9 @@
 use Rattle.std.proofs.Common.{◌≡◌, ◌≢◌, ◌∙◌, ◌<◌, ℕ, List, true, false, Some, ap, subst, sym, length, slice_get, slice_set, arith}
 use Rattle.std.proofs.lemmas.List.{length-set}
 use Rattle.std.proofs.lemmas.List.Elements.{All-contains, All-weaker}
+use Rattle.lemmas.proofs.Places.{get_other, got}
 use Rattle.download_segments.specs.Handout.{next_segment}
-use Rattle.segment_groups.proofs.ListLemmas.{got}
 use Rattle.download_file.specs.State.{FileState, IsLive, ReaderState, giver}
-use Rattle.download_file.proofs.ListLemmas.{get_other}
 use Rattle.download_file.proofs.EndLemmas.{next_left, option_is_false, option_is_true}
 use Rattle.download_file.proofs.EndFileLemmas.{HasEnded, can_give, has_ended}
 use Rattle.download_file.proofs.WantedLemmas.{HasWanted, has_wanted}
