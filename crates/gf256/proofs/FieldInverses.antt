@@ -1,7 +1,8 @@
 -- The first byte whose product with b is 1 is the one in the table of inverses.
-use Rattle.std.proofs.Common.{◌≡◌, ◌⊎◌, cond, ltb, ℕ, zero, suc, ◌+◌, ◌<◌, ◌≤◌, Bool, true, false, Option, Some, find, unwrap_or, sym, ap, refl, ◌∙◌, arith, inl, inr, nat_eq, get_or}
+use Rattle.std.proofs.Common.{◌≡◌, cond, ltb, ℕ, zero, suc, ◌+◌, ◌<◌, ◌≤◌, Bool, true, false, Option, Some, find, unwrap_or, sym, ap, refl, ◌∙◌, arith, inl, inr, nat_eq, get_or}
 use Rattle.std.specs.List.{range_with_len}
 use Rattle.std.proofs.lemmas.Bool.{cases_eq, eqb-true, ltb-true}
+use Rattle.lemmas.proofs.Bools.{bool_cases}
 use Rattle.gf256.specs.Field as field
 use Rattle.gf256.specs.Field.{product}
 use Rattle.gf256.specs.declared.tables.TheConstants.{INVERSES}
@@ -16,10 +17,6 @@ pub record IsFound (test : ℕ → Bool) (top : ℕ) (found : Option ℕ) : Type
   pub passes : test number ≡ true
   pub below : number < top
 
-both : (b : Bool) → (b ≡ true) ⊎ (b ≡ false)
-both true = inl refl
-both false = inr refl
-
 -- one more number in front, which does not pass
 later : (test : ℕ → Bool) (a n : ℕ) (found : Option ℕ) → test a ≡ false → IsFound test (a + 1 + n) found
     → IsFound test (a + suc n) (cond (test a) (Some a) found)
@@ -33,7 +30,7 @@ later test a n found fails f = record {
 pub found_in_range : (test : ℕ → Bool) (n a c : ℕ) → a ≤ c → c < a + n → test c ≡ true → IsFound test (a + n) (find test (range_with_len a n))
 found_in_range test zero a c low high is = absurd (omega arith)
 found_in_range test (suc n) a c low high is =
-    elim (both (test a)) [
+    elim (bool_cases (test a)) [
       | inl here ↦ record { number = a; is = rw here refl; passes = here; below = omega arith }
       | inr fails ↦ elim (cases_eq a c) [
         | inl same ↦ (let bad : true ≡ false = sym is ∙ ap test (sym same) ∙ fails in cc)
