@@ -4,6 +4,7 @@ use Rattle.std.specs.Simd.{first_chunks}
 use Rattle.std.proofs.lemmas.Bool.{cases_lt}
 use Rattle.std.proofs.lemmas.List.{ext_get_or, get_or-drop, get_or-map, get_or-take, length-map}
 use Rattle.std.proofs.lemmas.Nat.{pow_pos}
+use Rattle.lemmas.proofs.Numbers.{next_power}
 use Rattle.tagged_hash.proofs.HashLemmas.{length-double_sha256}
 use Rattle.tagged_hash.specs.TaggedHash.{tagged_hash}
 use Rattle.tagged_hash.specs.declared.tag.Tag.TheVariants.{Block}
@@ -15,7 +16,7 @@ use Rattle.merkle.specs.Nodes.{AreTreeNodes}
 use Rattle.share_verify.specs.Leaves.{AreBlockHashes}
 use Rattle.share_verify.specs.TreeSection.{AreHashes, HoldsTree, IsTreeSection, IsTreeWithRoot, hashes_in, root_in}
 use Rattle.share_verify.proofs.ChunkLemmas.{first_chunk, first_chunks-joined, get_or-first_chunks, pieces_are_chunks, joined-first_chunks, length-chunk, length-first_chunks, length-joined}
-use Rattle.merkle.proofs.NodesLemmas.{inner_place, leaf_count_is, next_power}
+use Rattle.merkle.proofs.NodesLemmas.{inner_place, leaf_count_is}
 
 -- each node of a tree of hashes is a hash
 pub length-tree_node : (leaves : List (List ℕ)) → AreHashes leaves → (row place : ℕ) → row ≤ height (length leaves) → place < 2 ^ row

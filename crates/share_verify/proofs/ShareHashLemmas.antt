@@ -1,14 +1,11 @@
 -- The siblings that share hashes carry.
 use Rattle.std.proofs.Common.{◌≡◌, ℕ, ◌<◌, ◌≤◌, List, [], Some, length, get_or, take, ap, subst, sym, ◌∙◌, arith}
 use Rattle.std.proofs.lemmas.List.{ext_get_or, get_or-take, length-take-le}
+use Rattle.std.proofs.lemmas.Option.{same_Some}
 use Rattle.merkle.specs.Path.{LeadsBy}
 use Rattle.merkle.specs.Tree.{height, node_number}
 use Rattle.merkle.specs.Tree.{sibling_number}
 use Rattle.share_verify.specs.ShareHashes.{LeadsByEntries, carried_hash}
-
--- what an option holds
-same_some : (a b : List ℕ) → Some a ≡ Some b → a ≡ b
-same_some a b same = cc
 
 module _ (total : ℕ) (root : List ℕ) (leaf : ℕ) (hash : List ℕ) (entries siblings : List (List ℕ))
     (long : height total ≤ length siblings)
@@ -29,6 +26,6 @@ module _ (total : ℕ) (root : List ℕ) (leaf : ℕ) (hash : List ℕ) (entries
       let same : held.siblings ≡ take m siblings =
       ext_get_or [] held.siblings (take m siblings) (held.leads.1 ∙ sym front) (λ i below.
       let low : i < m = omega (arith, held.leads.1) in
-      same_some (get_or held.siblings i []) (get_or siblings i []) (sym (held.carried i low) ∙ all i low)
+      same_Some (get_or held.siblings i []) (get_or siblings i []) (sym (held.carried i low) ∙ all i low)
       ∙ sym (get_or-take m siblings i [] low)) in
       subst (LeadsBy total root leaf hash) same held.leads
