@@ -7,6 +7,7 @@ use Rattle.std.proofs.Math.ListN.{drop_of_length-le}
 use Rattle.std.proofs.lemmas.List.{append-nil, drop_at, length-append, length-drop, length-map, length-take, nil_from_length, take_all, take_at}
 use Rattle.std.proofs.lemmas.List.FromFn.{length-map-range_with_len}
 use Rattle.std.proofs.lemmas.Nat.{div-add-mod'}
+use Rattle.lemmas.proofs.Numbers.{next_power}
 use Rattle.tagged_hash.specs.TaggedHash.{tagged_hash}
 use Rattle.tagged_hash.specs.declared.tag.Tag.TheVariants.{Block}
 use Rattle.merkle.specs.Tree.{height, needed_numbers, tree_nodes}
@@ -18,14 +19,13 @@ use Rattle.share_layout.specs.Pieces.{pieces}
 use Rattle.share_verify.specs.Pieces.{block_hashes, joined}
 use Rattle.proved_parts.proofs.Files.{length-pieces}
 use Rattle.file_encoding.specs.Blocks.{padded_block, padded_blocks}
-use Rattle.file_encoding.proofs.Numbers.{double}
 use Rattle.file_encoding.proofs.OwnBlocks.{div_ceil_within}
 
 -- the nodes of a tree with a leaf for each segment fill a section
 pub nodes_size : (g : Geometry) (leaves : List (List ℕ)) → length leaves ≡ segment_count g → length (tree_nodes leaves) * 32 ≡ tree_size g
 nodes_size g leaves count =
     let all = length-tree_nodes leaves in
-    let twice = double (height (length leaves)) in
+    let twice = next_power (height (length leaves)) in
     let some : length (tree_nodes leaves) ≡ 2 * 2 ^ height (length leaves) - 1 = omega (arith, all, twice) in
     ap (λ n. n * 32) some ∙ ap (λ n. (2 * 2 ^ height n - 1) * 32) count
 

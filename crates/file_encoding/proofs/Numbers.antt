@@ -1,18 +1,16 @@
 -- The nodes that a share carries are nodes of its tree.
-use Rattle.std.proofs.Common.{◌≡◌, ℕ, zero, suc, ◌+◌, ◌-◌, ◌*◌, ◌/◌, ◌^◌, ◌<◌, ◌≤◌, List, length, get_or, inl, inr, sym, subst, add-one, arith}
+use Rattle.std.proofs.Common.{◌≡◌, ℕ, zero, suc, ◌+◌, ◌-◌, ◌*◌, ◌/◌, ◌^◌, ◌<◌, ◌≤◌, List, length, get_or, inl, inr, sym, subst, arith}
 use Rattle.std.proofs.Math.Nat.{pow-suc}
 use Rattle.std.proofs.Math.Pow.{pow_mono}
 use Rattle.std.proofs.lemmas.Nat.{pow_pos, shr_below}
 use Rattle.std.proofs.lemmas.Bool.{cases_lt, cases_eq}
 use Rattle.std.proofs.lemmas.Grind.{get_or_default_zero}
+use Rattle.lemmas.proofs.Numbers.{next_power}
 use Rattle.merkle.specs.Tree.{height, needed_numbers, sibling, tree_nodes}
-use Rattle.merkle.proofs.HeightLemmas.{height_is, height_room}
+use Rattle.merkle.proofs.HeightLemmas.{height_room, height_below}
 use Rattle.merkle.proofs.PathLemmas.{sibling_below}
 use Rattle.merkle.proofs.TreeLemmas.{length-tree_nodes}
 use Rattle.merkle.proofs.NumberLemmas.{length-needed_numbers, needed_above, needed_left, needed_right}
-
-pub double : (h : ℕ) → 2 ^ (h + 1) ≡ 2 ^ h + 2 ^ h
-double h = rw add-one (omega (arith, pow-suc 2 h))
 
 -- half of a leaf's place
 half_below : (h leaf : ℕ) → 0 < h → leaf < 2 ^ h → leaf / 2 * 2 + 2 ≤ 2 ^ h
@@ -25,7 +23,7 @@ above_below h leaf place low inside =
     let sum : row + (h - row) ≡ h = omega arith in
     let at = sibling_below row (leaf / 2 ^ (h - row)) (omega arith) (shr_below leaf row (h - row) (rw sum inside)) in
     let room : 2 ^ row ≤ 2 ^ h = pow_mono (omega arith) in
-    omega (arith, at, room, double h, pow_pos row)
+    omega (arith, at, room, next_power h, pow_pos row)
 
 -- each of the numbers is that of a node
 pub needed-below : (h leaf place : ℕ) → place < length (needed_numbers h leaf) → leaf < 2 ^ h → get_or (needed_numbers h leaf) place 0 + 1 < 2 ^ (h + 1)
@@ -35,7 +33,7 @@ needed-below (suc m) leaf place there inside =
     let h : ℕ = suc m in
     let all = length-needed_numbers h leaf in
     let half = half_below h leaf (omega arith) inside in
-    let twice = double h in
+    let twice = next_power h in
     elim (cases_lt (place + 1) h) [
       | inl low ↦ subst (λ n. n + 1 < 2 ^ (h + 1)) (sym (needed_above h leaf place low)) (above_below h leaf place low inside)
       | inr high ↦ elim (cases_eq (place + 1) h) [
@@ -54,18 +52,9 @@ needed-inside leaves leaf place d inside there =
     let all = length-tree_nodes leaves in
     subst (λ n. n < length (tree_nodes leaves)) (sym (get_or_default_zero (needed_numbers h leaf) place d there)) (omega (arith, below, all))
 
--- a tree of few leaves is low
-pub height_most : (n most : ℕ) → n ≤ 2 ^ most → height n ≤ most
-height_most n zero few = let low : height n ≡ 0 = height_is n 0 few (λ k below. absurd (omega arith)) in omega (arith, low)
-height_most n (suc most) few =
-    elim (cases_lt (2 ^ most) n) [
-      | inl over ↦ (let high : height n ≡ suc most = height_is n (suc most) few (λ k below. let up : 2 ^ k ≤ 2 ^ most = pow_mono (omega arith) in omega (arith, up, over)) in omega (arith, high))
-      | inr under ↦ (let low = height_most n most under in omega (arith, low))
-    ]
-
 -- of 256 leaves it has at most 511 nodes
 pub nodes-few : (leaves : List (List ℕ)) → length leaves ≤ 256 → length (tree_nodes leaves) ≤ 511
 nodes-few leaves few =
-    let low : height (length leaves) ≤ 8 = height_most (length leaves) 8 few in
+    let low : height (length leaves) ≤ 8 = height_below (length leaves) 8 few in
     let all : 2 ^ (height (length leaves) + 1) ≤ 2 ^ 9 = pow_mono {j = 9} (omega (arith, low)) in
     omega (arith, all, length-tree_nodes leaves)

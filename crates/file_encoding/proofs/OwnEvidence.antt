@@ -1,8 +1,9 @@
 -- What own evidence hashes is hashed for the encoding.
-use Rattle.std.proofs.Common.{◌≡◌, ◌⊎◌, ℕ, zero, suc, List, [], ◌∷◌, ◌++◌, length, map, inl, inr, subst, arith}
+use Rattle.std.proofs.Common.{◌≡◌, ℕ, suc, List, [], ◌∷◌, ◌++◌, length, map, inl, inr, subst, arith}
 use Rattle.std.specs.Prelude.{All, Contains, slice_index_or}
 use Rattle.std.specs.List.{flat_map, range_with_len}
 use Rattle.std.proofs.lemmas.List.Elements.{Contains-append_cases, Contains-append_left}
+use Rattle.lemmas.proofs.Members.{contains_cases}
 use Rattle.aes_ctr.specs.CounterMode.{xored}
 use Rattle.merkle.specs.Inputs.{AreAmong, tree_inputs}
 use Rattle.tagged_hash.specs.ConvergentKey.{convergent_key_of, key_input}
@@ -18,10 +19,6 @@ use Rattle.file_encoding.specs.Inputs.{blocks_inputs, ciphertext_inputs, encodin
 use Rattle.file_encoding.specs.Encoding.{Parameters, blocks_of, encoding_of, extension_block_contents, share_leaves}
 use Rattle.ueb.specs.Block.{ueb_text}
 use Rattle.file_encoding.specs.Parts.{OwnEvidenceIsWithin, OwnTreesAreWithin}
-
-member_cases : (x y : List ℕ) (xs : List (List ℕ)) → Contains (x ∷ xs) y → (x ≡ y) ⊎ Contains xs y
-member_cases x y xs (zero, low, e) = inl e
-member_cases x y xs (suc k, low, e) = inr (k, omega (arith, low), e)
 
 -- what all parts hash is among some inputs where what each of them does is
 flat_among : (inputs : List (List ℕ)) (f : EvidencePart → List (List ℕ)) (ps : List EvidencePart)
@@ -93,7 +90,7 @@ own_evidence_is_within file secret p e own =
     (own_parts_are_within g ciphertext q.number (own.there k d low) input
     (subst (λ (T : Type 0). T) (λ i. Contains (segment_inputs q.number (own.segments k d low i) (own.paths k d low i)) input) c)))) in
     λ input c.
-    elim (member_cases _ input _ c) [
+    elim (contains_cases _ input _ c) [
       | inl is ↦
           up input
           (subst (Contains (ciphertext_inputs g ciphertext)) (subst (λ (b : List ℕ). tagged_input ExtensionBlock b ≡ input) own.block is)

@@ -1,14 +1,14 @@
 -- What a reader takes of shares of one encoding.
 use Rattle.std.proofs.Common.{◌≡◌, ℕ, ◌<◌, List, [], length, get_or, All, inl, inr, refl, sym, subst, ◌∙◌, arith}
 use Rattle.std.proofs.lemmas.List.{length-map}
+use Rattle.share_verify.proofs.Faults.{same_block}
 use Rattle.cap_text.specs.Cap.{VerifyCapValue, verify_cap_of}
 use Rattle.ueb.proofs.Refusals.{read_unique}
 use Rattle.ueb.specs.Block.{ueb_text}
 use Rattle.ueb.specs.Shape.{Contents, IsShape}
 use Rattle.ueb.specs.declared.block.Expect.{Expect}
-use Rattle.share_layout.proofs.ShareLemmas.{located_tail, one_reading}
+use Rattle.share_layout.proofs.ShareLemmas.{one_reading}
 use Rattle.share_layout.specs.Geometry.{Geometry}
-use Rattle.share_layout.specs.Places.{LocatesUeb}
 use Rattle.share_layout.specs.Share.{IsShare, Sections}
 use Rattle.share_verify.specs.CapBlock.{IsUebFor, geometry_by}
 use Rattle.share_verify.specs.Verify.{IsSound}
@@ -19,10 +19,6 @@ use Rattle.file_encoding.specs.OwnFile.{AreEnoughOwn, AreOwnShares}
 use Rattle.file_encoding.specs.Reading.{IsAmong, IsTaken, LacksShares, TakenShare, numbers_of}
 use Rattle.file_encoding.proofs.OwnShares.{ciphertext_shares_pass}
 use Rattle.file_encoding.proofs.Pigeonhole.{no_more}
-
--- a share has one extension block
-one_block : (share a b : List ℕ) → LocatesUeb share a → LocatesUeb share b → a ≡ b
-one_block share a b l m = (located_tail share a l).tail ∙ sym (located_tail share b m).tail
 
 -- which has one value for a cap
 one_ueb : (cap : VerifyCapValue) (block : List ℕ) (u v : Contents) → IsUebFor cap block u → IsUebFor cap block v → u ≡ v
@@ -36,7 +32,7 @@ one_ueb cap block u v a b =
 pub one_way : (cap : VerifyCapValue) (i j : ℕ) (share : List ℕ) (u v : Contents) (s t : Sections) → IsSound cap i share u s → IsSound cap j share v t
     → (u ≡ v) × (s ≡ t)
 one_way cap i j share u v s t a b =
-    let block : s.extension_block ≡ t.extension_block = one_block share s.extension_block t.extension_block a.reads.located b.reads.located in
+    let block : s.extension_block ≡ t.extension_block = same_block share s.extension_block t.extension_block a.reads.located b.reads.located in
     let same : u ≡ v = one_ueb cap s.extension_block u v a.reads.ueb (subst (λ x. IsUebFor cap x v) (sym block) b.reads.ueb) in
     (same, one_reading (geometry_by u) i j share s t a.reads.layout (subst (λ w. IsShare (geometry_by w) j share t) (sym same) b.reads.layout))
 

@@ -1,5 +1,5 @@
 -- The share hashes of an encoding lead to its share tree's root.
-use Rattle.std.proofs.Common.{◌≡◌, ◌≢◌, ℕ, zero, suc, ◌+◌, ◌-◌, ◌*◌, ◌/◌, ◌%◌, ◌^◌, ◌<◌, ◌≤◌, Bool, true, false, ◌⊎◌, List, [], ◌∷◌, ◌++◌, Some, length, get_or, map, take, inl, inr, ap, refl, subst, sym, ◌∙◌, arith, zero-add}
+use Rattle.std.proofs.Common.{◌≡◌, ◌≢◌, ℕ, zero, suc, ◌+◌, ◌-◌, ◌*◌, ◌/◌, ◌%◌, ◌^◌, ◌<◌, ◌≤◌, true, List, [], ◌∷◌, ◌++◌, Some, length, get_or, map, take, inl, inr, ap, refl, subst, sym, ◌∙◌, arith, zero-add}
 use Rattle.std.specs.Int.{w16, to_be_bytes, from_be_bytes}
 use Rattle.std.specs.List.{flat_map}
 use Rattle.std.specs.Simd.{first_chunks}
@@ -10,6 +10,8 @@ use Rattle.std.proofs.lemmas.List.FromFn.{get_or-map-range_with_len}
 use Rattle.std.proofs.lemmas.Nat.{from_be_bytes-to_be_bytes_2, pow_pos, shr_below}
 use Rattle.std.proofs.lemmas.Slice.Eq.{bytes_eq-Decides}
 use Rattle.std.proofs.Math.Nat.{pow-le-pow_right}
+use Rattle.lemmas.proofs.Bools.{bool_cases}
+use Rattle.lemmas.proofs.Numbers.{next_power}
 use Rattle.merkle.proofs.HeightLemmas.{height_below, height_room}
 use Rattle.merkle.proofs.PathLemmas.{sibling_below, siblings_of-lead}
 use Rattle.merkle.proofs.TreeLemmas.{length-tree_nodes, node-leaf, padded_to-leaf, tree_nodes_node}
@@ -23,13 +25,8 @@ use Rattle.merkle.specs.Tree.{sibling_number}
 use Rattle.share_verify.specs.TreeSection.{AreHashes}
 use Rattle.share_verify.proofs.ChunkLemmas.{first_chunks-joined, length-joined}
 use Rattle.share_verify.proofs.SectionLemmas.{tree_nodes_are_hashes}
-use Rattle.merkle.proofs.NodesLemmas.{next_power, node_below}
+use Rattle.merkle.proofs.NodesLemmas.{node_below}
 use Rattle.file_encoding.specs.Encoding.{share_hashes}
-
--- a test passes or fails
-bool_cases : (b : Bool) → (b ≡ true) ⊎ (b ≡ false)
-bool_cases true = inl refl
-bool_cases false = inr refl
 
 -- a number and its hash
 abbrev entry_of : (ℕ → List ℕ) → ℕ → List ℕ

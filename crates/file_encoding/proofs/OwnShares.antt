@@ -30,12 +30,12 @@ use Rattle.share_verify.specs.Verify.{AreSound, IsSound}
 use Rattle.share_verify.proofs.GeometryOfUeb.{is_geometry}
 use Rattle.share_verify.proofs.ChunkLemmas.{length-first_chunks, length-joined, pieces_are_chunks}
 use Rattle.share_verify.proofs.SectionLemmas.{root_of_tree, tree_nodes_are_hashes}
-use Rattle.merkle.proofs.NodesLemmas.{next_power}
 use Rattle.file_encoding.specs.Encoding.{block_of, blocks_of, ciphertext_encoding, encoding_of, extension_block_contents, share_hashes, share_leaves, share_of}
 use Rattle.proved_parts.specs.FileOf.{segment_hashes}
 use Rattle.ueb.specs.Limits.{max_length}
 use Rattle.share_verify.specs.CapBlock.{geometry_by}
 use Rattle.std.proofs.lemmas.List.{length-append}
+use Rattle.lemmas.proofs.Numbers.{next_power}
 use Rattle.share_layout.specs.Layout.{layout_of, spelled}
 use Rattle.share_verify.specs.TreeSection.{IsTreeWithRoot}
 use Rattle.file_encoding.specs.Laws.{AcceptedSharesPass, CiphertextSharesPass, FileSharesPass, SharesHaveOneLength}

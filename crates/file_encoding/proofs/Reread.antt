@@ -1,5 +1,5 @@
 -- Reading shares again that passed.
-use Rattle.std.proofs.Common.{◌≡◌, ℕ, ◌+◌, ◌<◌, List, [], ◌∷◌, ◌++◌, length, map, take, get_or, All, Bor, Ok, Err, Result, inl, inr, refl, ap, sym, subst, ◌∙◌, arith}
+use Rattle.std.proofs.Common.{◌≡◌, ℕ, ◌+◌, ◌<◌, List, [], ◌∷◌, ◌++◌, length, map, take, get_or, All, Bor, inl, inr, refl, ap, sym, subst, ◌∙◌, arith}
 use Rattle.std.proofs.lemmas.List.{ext_get_or, get_or-map, get_or_append_left, get_or_at, get_or-take, length-append, length-map, length-take, map-append}
 use Rattle.std.proofs.lemmas.Grind.{take_at_read}
 use Rattle.std.proofs.lemmas.Bool.{cases_lt}
@@ -8,7 +8,6 @@ use Rattle.share_layout.specs.Geometry.{Geometry, segment_count, tree_size}
 use Rattle.share_layout.specs.Share.{IsShare, Sections}
 use Rattle.share_layout.specs.Places.{LocatesUeb}
 use Rattle.ueb.specs.Shape.{Contents}
-use Rattle.std.specs.Result.{IfOk}
 use Rattle.aes_ctr.specs.CounterMode.{xored}
 use Rattle.tagged_hash.specs.TaggedHash.{tagged_hash}
 use Rattle.tagged_hash.specs.declared.tag.Tag.TheVariants.{CiphertextSegment}
@@ -172,11 +171,6 @@ module _ (cap : VerifyCapValue) (numbers : List ℕ) (strings : List (List ℕ))
 pub first_of : (taken : List TakenShare) → 0 < length taken → (t : TakenShare) × (rest : List TakenShare) × (taken ≡ t ∷ rest)
 first_of [] some = absurd (omega arith)
 first_of (t ∷ rest) some = (t, rest, refl)
-
--- an answer's clause, made a weaker one
-pub ok_map : {T E : Type 0} (P Q : T → Type 0) (r : Result T E) → ((x : T) → P x → Q x) → IfOk r P → IfOk r Q
-ok_map P Q (Ok x) weaker held = weaker x held
-ok_map P Q (Err e) weaker held = held
 
 -- the first of the shares that are taken
 module _ (cap : VerifyCapValue) (shares : List (ℕ × Bor (List ℕ))) (taken : List TakenShare)

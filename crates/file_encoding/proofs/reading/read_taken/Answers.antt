@@ -1,4 +1,5 @@
 use Rattle.std.proofs.Common.{◌≡◌, ◌-◌, ◌*◌, ◌^◌, ℕ, List, [], length, map, get_or, ap, sym, subst, ◌∙◌}
+use Rattle.std.proofs.lemmas.Result.{IfOk-weaker}
 use Rattle.merkle.specs.Tree.{height, tree_root}
 use Rattle.share_layout.specs.Geometry.{Geometry, segment_count, tree_size}
 use Rattle.share_layout.specs.Share.{IsShare, Sections}
@@ -7,7 +8,7 @@ use Rattle.share_verify.specs.CapBlock.{geometry_by}
 use Rattle.file_encoding.specs.Decoding.{AreBlocks}
 use Rattle.file_encoding.specs.LowestShares.{HaveBlocks}
 use Rattle.file_encoding.specs.Reading.{AreLeaves, HasWrongSegment, IsDecoded, blocks_in, disagree as shares_disagree, numbers_of, wrong_segment}
-use Rattle.file_encoding.proofs.Reread.{are_blocks, are_leaves, blocks_are_own, disagree, inside_shares, lowest, lowest_sound, numbers_are, ok_map, own_ueb, readable, taken_some, they_agree, tree_leaves, tree_long}
+use Rattle.file_encoding.proofs.Reread.{are_blocks, are_leaves, blocks_are_own, disagree, inside_shares, lowest, lowest_sound, numbers_are, own_ueb, readable, taken_some, they_agree, tree_leaves, tree_long}
 use Rattle.file_encoding.proofs.reading.read_taken.Goals as goal
 
 pub bounds-shares-places : goal.bounds-shares-places
@@ -127,7 +128,7 @@ own_root c =
 
 pub returns-clause-read : goal.returns-clause-read
 returns-clause-read c =
-    ok_map _ _ c.decode_all.result (λ file decoded. record {
+    IfOk-weaker c.decode_all.result _ _ (λ file decoded. record {
       taken = c.requires.takes.taken;
       takes = c.requires.takes.takes;
       extension_block = c.in-Ok.first.view.extension_block.now;

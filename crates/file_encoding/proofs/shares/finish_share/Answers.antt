@@ -1,4 +1,5 @@
 use Rattle.std.proofs.Common.{◌≡◌, ℕ, ◌<◌, ◌++◌, arith, List, length, get_or, subst, sym, ◌∙◌, ap}
+use Rattle.std.proofs.lemmas.Result.{IfOk-weaker}
 use Rattle.merkle.specs.Tree.{height, needed_numbers, tree_nodes}
 use Rattle.share_layout.specs.Layout.{places_of}
 use Rattle.share_layout.specs.Writing.{ending}
@@ -6,7 +7,6 @@ use Rattle.file_encoding.specs.Blocks.{numbered}
 use Rattle.file_encoding.specs.Drafts.{DraftState}
 use Rattle.file_encoding.proofs.Drafting.{hashes_fill}
 use Rattle.file_encoding.proofs.Numbers.{needed-inside, nodes-few}
-use Rattle.file_encoding.proofs.Reread.{ok_map}
 use Rattle.file_encoding.proofs.shares.finish_share.Goals as goal
 
 pub put_numbered-requires-clause-inside : goal.put_numbered-requires-clause-inside
@@ -49,7 +49,7 @@ returns c =
     let d : DraftState = c.args.begun.draft in
     let numbers : c.deref.result.now ≡ needed_numbers (height (length c.args.share_tree.now)) d.number =
     c.deref.ensures.value ∙ c.in_ok-numbers.ensures.numbers ∙ ap (needed_numbers (height (length c.args.share_tree.now))) c.number.ensures in
-    ok_map _ _ c.finish.result
+    IfOk-weaker c.finish.result _ _
     (λ share is.
     is ∙ ap (λ (w : DraftState). w.bytes ++ ending w.geometry c.args.extension_block.now) c.in_ok-put_numbered.ensures.bytes
     ∙ λ i. d.bytes ++ numbered (c.nodes.ensures i) (numbers i) ++ ending d.geometry c.args.extension_block.now) c.finish.ensures

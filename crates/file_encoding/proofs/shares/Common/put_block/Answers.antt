@@ -1,10 +1,10 @@
 use Rattle.std.proofs.Common.{◌≡◌, ◌*◌, ◌/◌, ◌<◌, ◌≤◌, ◌++◌, ℕ, List, length, get_or, ap, subst, sym, ◌∙◌, arith}
 use Rattle.std.proofs.Math.Nat.{mul-div_cancel}
+use Rattle.std.proofs.lemmas.Result.{IfOk-weaker}
 use Rattle.zfec_code.specs.ShareValue.{share_block}
 use Rattle.zfec_code.specs.Shares.{IsShareOf}
 use Rattle.file_encoding.specs.Blocks.{padded_block}
 use Rattle.file_encoding.specs.Drafts.{DraftState}
-use Rattle.file_encoding.proofs.Reread.{ok_map}
 use Rattle.file_encoding.proofs.ShareBlock.{share_block-is}
 use Rattle.file_encoding.proofs.shares.Common.put_block.Goals as goal
 
@@ -22,7 +22,7 @@ pub returns : goal.returns
 returns c =
     let valid = c.needed.ensures.valid in
     let d : DraftState = c.args.draft.now in
-    ok_map _ _ c.put.result
+    IfOk-weaker c.put.result _ _
     (λ _ put.
     put
     ∙ ap (λ (b : List ℕ). let after : DraftState = record d { bytes = d.bytes ++ b } in after)

@@ -4,6 +4,7 @@ use Rattle.std.proofs.lemmas.List.{append_assoc, append-nil, drop_at, length-app
 use Rattle.std.proofs.lemmas.List.FromFn.{length-map-range_with_len}
 use Rattle.std.proofs.lemmas.Nat.{div-add-mod'}
 use Rattle.std.proofs.lemmas.Nat.Gcd.{mod-eq-zero_of_dvd}
+use Rattle.std.proofs.lemmas.Result.{IfOk-weaker}
 use Rattle.tagged_hash.specs.TaggedHash.{tagged_hash}
 use Rattle.tagged_hash.specs.declared.tag.Tag.TheVariants.{Block}
 use Rattle.ueb.specs.Shape.{rounded_up}
@@ -15,7 +16,6 @@ use Rattle.file_encoding.specs.Drafts.{DraftState}
 use Rattle.file_encoding.proofs.Drafting.{length-padded_blocks, padded_blocks-again}
 use Rattle.file_encoding.proofs.Padding.{rounded_up-whole}
 use Rattle.file_encoding.proofs.Pieces.{pieces-from, piece-whole, values_of_pieces}
-use Rattle.file_encoding.proofs.Reread.{ok_map}
 use Rattle.file_encoding.proofs.shares.Common.put_blocks.Invariants.{Written, rest_of}
 use Rattle.file_encoding.proofs.shares.Common.put_blocks.Goals as goal
 
@@ -128,14 +128,14 @@ loop-number-preserved c =
 
 pub returns-clause-blocks : goal.returns-clause-blocks
 returns-clause-blocks c =
-    ok_map _ _ c.build_tree.result
+    IfOk-weaker c.build_tree.result _ _
     (λ tree is.
     (done c.args.self.now.geometry.now c.args.self.now.padded.now c.args.draft.now c.loop-number.draft c.loop-number.number
     c.of-segments.ensures.valid c.args.self.now.fit.padded c.requires.next c.loop-number.invariant (omega (arith, c.loop-number-test.false, c.of-segments.ensures.count))).draft) c.build_tree.ensures
 
 pub returns-clause-size : goal.returns-clause-size
 returns-clause-size c =
-    ok_map _ _ c.build_tree.result
+    IfOk-weaker c.build_tree.result _ _
     (λ tree is.
     (done c.args.self.now.geometry.now c.args.self.now.padded.now c.args.draft.now c.loop-number.draft c.loop-number.number
     c.of-segments.ensures.valid c.args.self.now.fit.padded c.requires.next c.loop-number.invariant (omega (arith, c.loop-number-test.false, c.of-segments.ensures.count))).size) c.build_tree.ensures
@@ -152,7 +152,7 @@ behind all before front rest same is =
 
 pub returns-clause-tree : goal.returns-clause-tree
 returns-clause-tree c =
-    ok_map _ _ c.build_tree.result
+    IfOk-weaker c.build_tree.result _ _
     (λ tree is.
     let g : Geometry = c.args.self.now.geometry.now in
     let text : List ℕ = c.args.self.now.padded.now in
