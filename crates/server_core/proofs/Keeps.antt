@@ -22,7 +22,7 @@ use Rattle.server_core.specs.Machine.{Machine, Outcome, Does, HasBuckets, is_ful
 use Rattle.server_core.specs.Machine.{Silent, Says, Touches, Opens, Ends, ListsHoldings, WritesBytes, ClosesShare, ReadsShare}
 use Rattle.server_core.specs.Sound.{ClosedStay, AreRight, AreSound, IsSound, IsWritten, is_request, Tells, IsAnswer, Answers, MessagesKeep, TicksKeep, RestartsKeep, StartsSound}
 use Rattle.server_core.proofs.Shares.{listed}
-use Rattle.server_core.proofs.Stays.{messages_leave_others, ticks_leave_closed, restarts_leave_closed}
+use Rattle.server_core.proofs.Stays.{messages_leave_others, same_closed, ticks_leave_closed, restarts_leave_closed}
 use Rattle.server_core.proofs.Kept.{changed_sound, ended_sound, filter_sound, push_sound, grown, others_same, closed_new, closed_stays, closing_sound}
 
 -- closed shares stay, the server is sound, and the answer is so
@@ -30,10 +30,6 @@ record Keeps (old : Machine Shelf) (request : Message) (outcome : Outcome) (new 
   stays : ClosedStay old.store new.store
   sound : IsSound new
   answers : Answers new.store request outcome
-
--- the same closed shares stay
-closed_same : (old new : Shelf) → new.closed ≡ old.closed → ClosedStay old new
-closed_same old new e id c h = ap (closed_at id) e ∙ h
 
 -- the same store, and sound buckets
 kept_at : (old new : Machine Shelf) (bs : List Bucket) (m : Message) (outcome : Outcome) → HasBuckets old bs new → AreSound old.store.closed old.store.opened bs → Answers old.store m outcome → Keeps old m outcome new
@@ -46,7 +42,7 @@ kept_at old new bs m outcome h s a = record {
 -- the same closed shares, and sound buckets
 kept_with : (old new : Machine Shelf) (bs : List Bucket) (m : Message) (outcome : Outcome) → new.store.closed ≡ old.store.closed → new.buckets ≡ bs → AreSound old.store.closed new.store.opened bs → Answers new.store m outcome → Keeps old m outcome new
 kept_with old new bs m outcome e b s a = record {
-  stays = closed_same old.store new.store e;
+  stays = same_closed old.store new.store e;
   sound = subst (λ (x : List (Place × ClosedShare)). AreSound x new.store.opened new.buckets) (sym e) (subst (λ (x : List Bucket). AreSound old.store.closed new.store.opened x) (sym b) s);
   answers = a;
 }

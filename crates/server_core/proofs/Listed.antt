@@ -3,14 +3,11 @@ use Rattle.std.proofs.Common.{◌≡◌, ◌≤◌, ℕ, suc, List, [], ◌∷�
 use Rattle.std.specs.Prelude.{◌&&◌, bytes_eq, nat_eq, filter}
 use Rattle.std.proofs.lemmas.Bool.Decides.{nat_tests}
 use Rattle.std.proofs.lemmas.Slice.Eq.{bytes_eq-Decides}
+use Rattle.lemmas.proofs.Bools.{both}
 use Rattle.wire.specs.declared.message.ShareId.{ShareId}
 use Rattle.server_core.specs.declared.bucket.Bucket.{Bucket}
 use Rattle.server_core.specs.Buckets.{same_id, bucket_at, changed, ended}
 use Rattle.server_core.specs.Sound.{AreApart}
-
-both : (a b : Bool) → (a && b) ≡ true → (a ≡ true) × (b ≡ true)
-both true b e = (refl, e)
-both false b e = absurd cc
 
 number_is : (m n : ℕ) → nat_eq m n ≡ true → m ≡ n
 number_is m n e = grind (arith, nat_tests)

@@ -1,6 +1,7 @@
 -- A bucket is changed for its owner alone.
 use Rattle.std.proofs.Common.{◌≡◌, ℕ, ◌+◌, List, [], ◌∷◌, ◌++◌, Bool, true, false, cond, not, Option, Some, None, Ok, Err, length, refl, sym, ◌∙◌, ap, subst}
 use Rattle.std.specs.Prelude.{◌==◌, ◌&&◌, ◌||◌, nat_lt}
+use Rattle.lemmas.proofs.Bools.{both}
 use Rattle.wire.specs.declared.message.Body.{Body}
 use Rattle.wire.specs.declared.message.Body.TheVariants.{Ask, Have, Allocate, Granted, Already, Busy, Full, Write, Wrote, WrongOffset, Close, Closed, NotComplete, Abort, Read, Data, NoShare}
 use Rattle.wire.specs.declared.message.Message.{Message}
@@ -20,15 +21,11 @@ use Rattle.server_core.proofs.Listed.{KeepsId, eq_of_same, other_of, changed_oth
 
 -- ---- the table
 
-both : (a b : Bool) → (a && b) ≡ true → a ≡ true
-both true b e = refl
-both false b e = absurd cc
-
 own_allocate : (from session : ℕ) (bs : List Bucket) (id : ShareId) (len : ℕ) (full : Bool) (told : Option (List ℕ)) (bucket : Option Bucket) → bucket_at id bs ≡ bucket → IsOwnLine from session bs (allocate_line from session id len full told bucket)
 own_allocate from session bs id len full (Some digest) bucket e = tt
 own_allocate from session bs id len full None (Some c) e = owned (is_owned from session c && (c.length == len)) refl where
   owned : (yes : Bool) → (is_owned from session c && (c.length == len)) ≡ yes → IsOwnLine from session bs (cond yes (Touches id Granted) (Says Busy))
-  owned true is = (c, e, both _ _ is)
+  owned true is = (c, e, (both _ _ is).0)
   owned false is = tt
 own_allocate from session bs id len true None None e = tt
 own_allocate from session bs id len false None None e = e
