@@ -1,10 +1,11 @@
 use Rattle.std.proofs.Common.{◌≡◌, ◌∙◌, ◌+◌, ◌-◌, ◌*◌, ◌<◌, ℕ, Ok, Some, arith, ap, subst, sym, length, slice_get, slice_set}
+use Rattle.lemmas.proofs.Options.{one_there}
+use Rattle.lemmas.proofs.Places.{got}
 use Rattle.share_layout.specs.Geometry.{Geometry, IsGeometry, segment_count}
 use Rattle.share_layout.specs.Pieces.{block_length, segment_length}
 use Rattle.download_segments.proofs.HandoutLemmas.{next_within}
 use Rattle.segment_groups.proofs.group.make_segment.Goals as goal
 use Rattle.segment_groups.specs.State.{GroupState, IsLast, with_end}
-use Rattle.segment_groups.proofs.ListLemmas.{got, one_there}
 
 last_is : (c : goal.After-index) → IsLast c.args.groups.now.items c.index.result.now
 last_is c =

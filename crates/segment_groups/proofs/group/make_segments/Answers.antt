@@ -1,12 +1,13 @@
 use Rattle.std.proofs.Common.{◌≡◌, ◌∙◌, ◌+◌, ◌-◌, ◌*◌, ◌<◌, ℕ, Ok, Some, map, arith, ap, subst, sym, refl, true, length, slice_get, slice_set}
 use Rattle.std.proofs.lemmas.Bool.{true≢false}
+use Rattle.lemmas.proofs.Options.{one_there}
+use Rattle.lemmas.proofs.Places.{got}
 use Rattle.share_layout.specs.Geometry.{Geometry, segment_count}
 use Rattle.share_layout.specs.Pieces.{block_length, segment_length}
 use Rattle.download_segments.proofs.HandoutLemmas.{valid_of}
 use Rattle.download_segments.proofs.RowLemmas.{row_length, row_there}
 use Rattle.segment_groups.proofs.group.make_segments.Goals as goal
 use Rattle.segment_groups.specs.State.{GroupState, IsLast, with_end}
-use Rattle.segment_groups.proofs.ListLemmas.{got, one_there}
 use Rattle.segment_groups.proofs.RowLemmas.{from_nth}
 
 last_is : (c : goal.After-index) → IsLast c.args.groups.now.items c.index.result.now
