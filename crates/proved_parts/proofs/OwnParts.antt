@@ -1,9 +1,10 @@
 -- The segments of a known ciphertext.
-use Rattle.std.proofs.Common.{◌≡◌, ◌⊎◌, ℕ, zero, suc, ◌-◌, ◌/◌, ◌^◌, ◌<◌, ◌≤◌, List, [], ◌∷◌, length, map, slice_index_or, Contains, inl, inr, sym, subst, ◌∙◌, arith}
+use Rattle.std.proofs.Common.{◌≡◌, ℕ, ◌-◌, ◌/◌, ◌^◌, ◌<◌, ◌≤◌, List, [], length, map, slice_index_or, Contains, inl, inr, sym, subst, ◌∙◌, arith}
 use Rattle.std.specs.List.{range_with_len}
 use Rattle.std.proofs.lemmas.List.{get_or-map, length-map}
 use Rattle.std.proofs.lemmas.List.FromFn.{length-map-range_with_len}
 use Rattle.std.proofs.lemmas.List.Elements.{All-append, Contains-append_left, Contains-append_right, Contains-get_or}
+use Rattle.lemmas.proofs.Members.{contains_cases}
 use Rattle.tagged_hash.specs.Clash.{HasNoClash}
 use Rattle.cap_text.specs.Cap.{VerifyCapValue, verify_cap_of}
 use Rattle.tagged_hash.specs.TaggedHash.{empty_leaf_hash, tagged_hash, tagged_input}
@@ -20,15 +21,11 @@ use Rattle.ueb.specs.Shape.{Contents}
 use Rattle.share_layout.specs.Geometry.{segment_count}
 use Rattle.share_layout.specs.Pieces.{segments_of}
 use Rattle.share_verify.specs.CapBlock.{IsUebFor, geometry_by}
-use Rattle.proved_parts.specs.Evidence.{segment_inputs, segments_inputs}
+use Rattle.proved_parts.specs.Evidence.{segments_inputs}
 use Rattle.proved_parts.specs.FileOf.{segment_hashes}
 use Rattle.proved_parts.specs.Laws.{IsPartAmong, OwnPartsAreWithin, PartsAreOfTheFile}
 use Rattle.proved_parts.proofs.Files.{length-pieces, mapped_are_hashes}
 use Rattle.proved_parts.proofs.Segments.{data_agrees, one_ueb, path_among, segment_among}
-
-member_cases : (x y : List ℕ) (xs : List (List ℕ)) → Contains (x ∷ xs) y → (x ≡ y) ⊎ Contains xs y
-member_cases x y xs (zero, low, e) = inl e
-member_cases x y xs (suc k, low, e) = inr (k, omega (arith, low), e)
 
 member_map : (f : List ℕ → List ℕ) (xs : List (List ℕ)) (i : ℕ) → i < length xs → Contains (map f xs) (f (slice_index_or xs i []))
 member_map f xs i inside =
@@ -47,7 +44,7 @@ own_parts_are_within g ciphertext number there input c =
     get_or-map (tagged_hash CiphertextSegment) segments number [] [] inside in
     let long : length (siblings_of leaves number) ≡ height (length leaves) =
     length-map-range_with_len (λ i. slice_index_or (tree_nodes leaves) (node_number (height (length leaves) - i) (sibling (number / 2 ^ i))) []) 0 (height (length leaves)) in
-    elim (member_cases _ input _ c) [
+    elim (contains_cases _ input _ c) [
       | inl e ↦
           Contains-append_left (map (tagged_input CiphertextSegment) segments) (tree_inputs leaves) input
           (subst (Contains (map (tagged_input CiphertextSegment) segments)) e (member_map (tagged_input CiphertextSegment) segments number inside))
