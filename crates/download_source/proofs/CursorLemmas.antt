@@ -1,10 +1,11 @@
 -- Cursors, one part further at a time.
-use Rattle.std.proofs.Common.{◌≡◌, ◌≢◌, ◌⊎◌, ◌↔◌, ℕ, zero, suc, ◌+◌, ◌<◌, List, [], ◌∷◌, ◌++◌, length, get_or, inl, inr, ap, refl, subst, sym, ◌∙◌, arith}
+use Rattle.std.proofs.Common.{◌≡◌, ◌≢◌, ◌⊎◌, ◌↔◌, ℕ, zero, suc, ◌+◌, ◌<◌, List, [], ◌∷◌, ◌++◌, inl, inr, ap, refl, subst, sym, ◌∙◌, arith}
 use Rattle.std.specs.Prelude.{AllPairs, Contains}
 use Rattle.std.proofs.lemmas.Bool.{cases_order, false≢true}
 use Rattle.std.proofs.lemmas.Grind.{get_or-set_at}
 use Rattle.std.proofs.lemmas.List.{get_or-set_other}
 use Rattle.std.proofs.lemmas.List.Elements.{Contains-get_or}
+use Rattle.lemmas.proofs.Members.{contains_cases, contains_head, contains_tail}
 use Rattle.download_plan.specs.declared.part.NodePiece.{NodePiece}
 use Rattle.download_plan.specs.declared.part.Part.{Part}
 use Rattle.download_plan.specs.declared.part.Part.TheVariants.{ShareHashes, BlockTree, CiphertextTree, Data}
@@ -108,20 +109,6 @@ pub lead_push : (from : Cursors) (parts : List Part) (to : Cursors) (part : Part
 lead_push from [] to part leads next = (subst (λ (c : Cursors). IsNext c part) (sym leads) next, ap (λ (c : Cursors). passed c part) leads)
 lead_push from (p ∷ ps) to part leads next = (leads.0, lead_push (passed from p) ps to part leads.1 next)
 
--- a list with one more in front
-contains_at : {X : Type 0} (p q : X) (ps : List X) (k : ℕ) → k < length (p ∷ ps) → get_or (p ∷ ps) k q ≡ q → (p ≡ q) ⊎ Contains ps q
-contains_at p q ps zero low is = inl is
-contains_at p q ps (suc k) low is = inr (k, omega (arith, low), is)
-
-contains_cases : {X : Type 0} (p q : X) (ps : List X) → Contains (p ∷ ps) q → (p ≡ q) ⊎ Contains ps q
-contains_cases p q ps has = contains_at p q ps has.0 has.1 has.2
-
-pub contains_first : {X : Type 0} (p : X) (ps : List X) → Contains (p ∷ ps) p
-contains_first p ps = (0, omega arith, refl)
-
-pub contains_more : {X : Type 0} (p q : X) (ps : List X) → Contains ps q → Contains (p ∷ ps) q
-contains_more p q ps has = let low = has.1 in (suc has.0, omega (arith, low), has.2)
-
 -- what parts that lead on leave passed
 pub lead_keeps : (from : Cursors) (parts : List Part) (to : Cursors) (q : Part) → LeadOn from parts to → IsPassed from q → IsPassed to q
 lead_keeps from [] to q leads is = subst (λ (c : Cursors). IsPassed c q) leads is
@@ -149,9 +136,9 @@ lead_only from (p ∷ ps) to q leads is =
     elim (lead_only (passed from p) ps to q leads.1 is) [
       | inl before ↦ elim ((part_next from p q leads.0).0 before) [
         | inl first ↦ inl first
-        | inr one ↦ inr (subst (λ (r : Part). Contains (p ∷ ps) r) one (contains_first p ps))
+        | inr one ↦ inr (subst (λ (r : Part). Contains (p ∷ ps) r) one (contains_head p ps))
       ]
-      | inr later ↦ inr (contains_more p q ps later)
+      | inr later ↦ inr (contains_tail p q ps later)
     ]
 
 pub lead_different : (from : Cursors) (parts : List Part) (to : Cursors) → LeadOn from parts to → AllPairs (λ part other. part ≢ other) parts

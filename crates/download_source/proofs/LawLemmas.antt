@@ -5,6 +5,7 @@ use Rattle.std.specs.Prelude.{Contains}
 use Rattle.std.proofs.Math.Nat.{mul-le-mul_right}
 use Rattle.std.proofs.lemmas.Bool.{cases_lt, false≢true}
 use Rattle.std.proofs.lemmas.List.{length-append, length-drop, length-take-le}
+use Rattle.lemmas.proofs.Members.{contains_head, contains_tail}
 use Rattle.merkle.specs.Partial.{PartialState, known_at}
 use Rattle.merkle.specs.Tree.{height, node_number}
 use Rattle.merkle.proofs.HeightLemmas.{height_room}
@@ -24,7 +25,7 @@ use Rattle.download_source.specs.Blocks.{block_end, block_first, block_offset}
 use Rattle.download_source.specs.Laws.{FirstIsDue, JoinedHasLength, KnowsPiece, LeadOnGiving, LeadOnTogether, LeavesAreKnown, LongerPlansHoldMore, SourcePartsAreApart, TakenIsReady, TakenNodesAreKnown}
 use Rattle.download_source.specs.Source.{IsSource, SourceState}
 use Rattle.download_source.specs.Taking.{known_hash}
-use Rattle.download_source.proofs.CursorLemmas.{contains_first, contains_more, lead_adds, lead_fresh}
+use Rattle.download_source.proofs.CursorLemmas.{lead_adds, lead_fresh}
 use Rattle.download_source.proofs.PlanLemmas.{end_grows, part_grows}
 use Rattle.download_source.specs.Cursors.{LeadOn, cursor_at, passed}
 use Rattle.download_source.specs.declared.cursors.Cursors.{Cursors}
@@ -33,7 +34,7 @@ use Rattle.download_source.proofs.TakingLemmas.{offered_known}
 pub first_due : FirstIsDue
 first_due s part parts leads = record {
   next = leads.0;
-  asked = lead_adds s.taken (part ∷ parts) s.asked part leads (contains_first part parts);
+  asked = lead_adds s.taken (part ∷ parts) s.asked part leads (contains_head part parts);
 }
 
 pub taken_known : TakenNodesAreKnown
@@ -195,12 +196,12 @@ lead_put : (from to : Cursors) (levels : List ℕ) (parts : List Part) → ((p :
     → LeadOn from parts to → LeadOn (record from { ciphertext_tree = levels }) parts (record to { ciphertext_tree = levels })
 lead_put from to levels [] none leads = ap (λ (c : Cursors). record c { ciphertext_tree = levels }) leads
 lead_put from to levels (ShareHashes ∷ ps) none leads =
-    (leads.0, lead_put (passed from ShareHashes) to levels ps (λ p has. none p (contains_more ShareHashes (CiphertextTree p) ps has)) leads.1)
+    (leads.0, lead_put (passed from ShareHashes) to levels ps (λ p has. none p (contains_tail ShareHashes (CiphertextTree p) ps has)) leads.1)
 lead_put from to levels (BlockTree q ∷ ps) none leads =
-    (leads.0, lead_put (passed from (BlockTree q)) to levels ps (λ p has. none p (contains_more (BlockTree q) (CiphertextTree p) ps has)) leads.1)
-lead_put from to levels (CiphertextTree q ∷ ps) none leads = absurd (none q (contains_first (CiphertextTree q) ps))
+    (leads.0, lead_put (passed from (BlockTree q)) to levels ps (λ p has. none p (contains_tail (BlockTree q) (CiphertextTree p) ps has)) leads.1)
+lead_put from to levels (CiphertextTree q ∷ ps) none leads = absurd (none q (contains_head (CiphertextTree q) ps))
 lead_put from to levels (Data i ∷ ps) none leads =
-    (leads.0, lead_put (passed from (Data i)) to levels ps (λ p has. none p (contains_more (Data i) (CiphertextTree p) ps has)) leads.1)
+    (leads.0, lead_put (passed from (Data i)) to levels ps (λ p has. none p (contains_tail (Data i) (CiphertextTree p) ps has)) leads.1)
 
 pub lead_giving : LeadOnGiving
 lead_giving s levels waiting is none leads =

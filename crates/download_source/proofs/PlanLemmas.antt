@@ -1,28 +1,23 @@
 -- Plans that end with different segments.
-use Rattle.std.proofs.Common.{ℕ, ◌-◌, ◌<◌, ◌≤◌, min, arith}
+use Rattle.std.proofs.Common.{ℕ, ◌-◌, ◌≤◌, min, arith}
 use Rattle.std.specs.Int.{div_ceil}
 use Rattle.std.proofs.Math.Nat.{mul-le-mul_right}
 use Rattle.std.proofs.lemmas.Nat.{pow_pos}
-use Rattle.std.proofs.lemmas.Grind.{div_ceil_times}
+use Rattle.lemmas.proofs.Numbers.{div_ceil_le}
 use Rattle.share_layout.specs.Geometry.{Geometry, block_size, segment_count}
 use Rattle.download_plan.specs.Level.{end_node, group_size, leaves_below, level_at, row_of, tree_height}
 use Rattle.download_plan.specs.Plan.{IsNodePiece, IsPart, block_place, data_end, data_pieces, max_nodes, max_read, pieces_of}
 use Rattle.download_plan.specs.declared.part.NodePiece.{NodePiece}
 use Rattle.download_plan.specs.declared.part.Part.{Part}
 use Rattle.download_plan.specs.declared.part.Part.TheVariants.{ShareHashes, BlockTree, CiphertextTree, Data}
-use Rattle.download_plan.proofs.NumberLemmas.{ceil_most}
-
--- more needs as many pieces at least
-pub ceil_le : (n m k : ℕ) → 0 < k → n ≤ m → div_ceil n k ≤ div_ceil m k
-ceil_le n m k some le = ceil_most n k (div_ceil m k) some (omega (arith, le, (div_ceil_times m k some).0))
 
 pub end_grows : (m row b c count : ℕ) → b ≤ c → end_node m row b count ≤ end_node m row c count
 unfolding end_node
 end_grows m row b c count le =
     let w = leaves_below m row in
     let k = group_size row in
-    let one : div_ceil b w ≤ div_ceil c w = ceil_le b c w (pow_pos (m - row)) le in
-    let two : div_ceil (div_ceil b w) k ≤ div_ceil (div_ceil c w) k = ceil_le (div_ceil b w) (div_ceil c w) k (pow_pos (min row 7)) one in
+    let one : div_ceil b w ≤ div_ceil c w = div_ceil_le b c w (pow_pos (m - row)) le in
+    let two : div_ceil (div_ceil b w) k ≤ div_ceil (div_ceil c w) k = div_ceil_le (div_ceil b w) (div_ceil c w) k (pow_pos (min row 7)) one in
     omega (arith, mul-le-mul_right {m = div_ceil (div_ceil b w) k} {n = div_ceil (div_ceil c w) k} k two)
 
 -- a level of the longer plan has each piece of the shorter one's
@@ -31,13 +26,13 @@ level_grows g a b c level le =
     let l = level_at g a b level in
     let o = level_at g a c level in
     let end : l.end ≤ o.end = end_grows (tree_height g) (row_of (tree_height g) level) b c (segment_count g) le in
-    ceil_le (l.end - l.first) (o.end - o.first) max_nodes (omega arith) (omega (arith, end))
+    div_ceil_le (l.end - l.first) (o.end - o.first) max_nodes (omega arith) (omega (arith, end))
 
 pub data_grows : (g : Geometry) (a b c : ℕ) → b ≤ c → data_pieces g a b ≤ data_pieces g a c
 data_grows g a b c le =
     let more = mul-le-mul_right {m = b} {n = c} (block_size g) le in
     let end : data_end g b ≤ data_end g c = omega (arith, more) in
-    ceil_le (data_end g b - block_place g a) (data_end g c - block_place g a) max_read (omega arith) (omega (arith, end))
+    div_ceil_le (data_end g b - block_place g a) (data_end g c - block_place g a) max_read (omega arith) (omega (arith, end))
 
 pub piece_grows : (g : Geometry) (a b c : ℕ) (p : NodePiece) → b ≤ c → IsNodePiece g a b p → IsNodePiece g a c p
 piece_grows g a b c p le is =

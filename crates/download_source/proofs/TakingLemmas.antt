@@ -1,8 +1,9 @@
 -- One part more is taken.
-use Rattle.std.proofs.Common.{◌≡◌, ◌≢◌, ℕ, zero, suc, ◌+◌, ◌-◌, ◌*◌, ◌/◌, ◌<◌, List, [], ◌∷◌, length, get_or, slice_get, Option, Some, None, is_some, true, inl, inr, ap, refl, subst, sym, ◌∙◌, arith}
+use Rattle.std.proofs.Common.{◌≡◌, ◌≢◌, ℕ, zero, suc, ◌+◌, ◌-◌, ◌*◌, ◌/◌, ◌<◌, List, [], ◌∷◌, length, get_or, slice_get, Some, is_some, true, inl, inr, ap, refl, subst, sym, ◌∙◌, arith}
 use Rattle.std.proofs.lemmas.Bool.{cases_order, false≢true}
 use Rattle.std.proofs.lemmas.Grind.{get_or-set_at}
 use Rattle.std.proofs.lemmas.List.{get_or-set_other, length-set}
+use Rattle.lemmas.proofs.Options.{some_of}
 use Rattle.merkle.specs.Partial.{PartialState, Takes, known_at}
 use Rattle.merkle.specs.Tree.{node_number}
 use Rattle.share_layout.specs.Geometry.{segment_count}
@@ -19,11 +20,6 @@ use Rattle.download_source.specs.Cursors.{IsPassed, cursor_at, passed}
 use Rattle.download_source.specs.Source.{IsPartOf, IsSource, KnowsNodes, SourceState}
 use Rattle.download_source.specs.Taking.{IsDue, with_taken}
 use Rattle.download_source.proofs.CursorLemmas.{part_next}
-
--- what is known has a hash
-some_of : (o : Option (List ℕ)) → is_some o ≡ true → (hash : List ℕ) × (o ≡ Some hash)
-some_of (Some hash) is = (hash, refl)
-some_of None is = absurd (false≢true is)
 
 pub kept_known : (old new : PartialState) (offers : List (ℕ × List ℕ)) (number : ℕ) → Takes old offers new → is_some (known_at old number) ≡ true
     → is_some (known_at new number) ≡ true
