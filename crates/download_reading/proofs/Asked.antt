@@ -3,6 +3,7 @@ use Rattle.std.proofs.Common.{◌≡◌, ℕ, ◌+◌, ◌<◌, ◌≤◌, ◌�
 use Rattle.std.specs.Prelude.{slice_get, slice_index_or, All}
 use Rattle.std.proofs.lemmas.Bool.{cases_eq}
 use Rattle.std.proofs.lemmas.List.{length-map}
+use Rattle.lemmas.proofs.Options.{one_there}
 use Rattle.share_layout.specs.Geometry.{Geometry}
 use Rattle.share_layout.specs.Layout.{header_size, layout_of, places_of}
 use Rattle.share_holdings.specs.Moves.{IsUnasked}
@@ -14,7 +15,6 @@ use Rattle.share_beginnings.specs.Reads.{IsBeside, IsReadAt}
 use Rattle.share_beginnings.specs.State.{BeginningsState, IsBegun}
 use Rattle.share_beginnings.specs.declared.begun.Begun.{Begun}
 use Rattle.share_beginnings.proofs.Asking.{distinct_places, unasked_by}
-use Rattle.share_beginnings.proofs.Entries.{same_of}
 use Rattle.download_plan.specs.Laws.{AreApart, section_end, section_start}
 use Rattle.download_plan.specs.Plan.{IsPlanned, length_of, place_of}
 use Rattle.download_plan.specs.Range.{IsRange}
@@ -76,7 +76,7 @@ module _ (s : BeginningsState) (r : ReadingState) (f : FileState) (reader holdin
   now = before.live reader live
 
   holding_is : now.holding ≡ holding
-  holding_is = same_of (slice_get r.holdings reader) now.holding holding now.of of
+  holding_is = one_there (slice_get r.holdings reader) now.holding holding now.of of
 
   pub held_is : IsHolding s.holdings.table holding now.held
   held_is = subst (λ p. IsHolding s.holdings.table p now.held) holding_is now.is
@@ -94,13 +94,13 @@ module _ (s : BeginningsState) (r : ReadingState) (f : FileState) (reader holdin
       by : (h : Holding) (i place len : ℕ) → IsHolding s.holdings.table holding h → IsReadAt s.holdings.requests.entries h i place len → IsBegun s holding (before.kept.forth reader holding of).begun
           → (place + len ≤ w.read.place) ⊎ (w.read.place + w.read.length ≤ place)
       by h i place len is read there =
-          let same : now.held ≡ h = same_of (slice_get s.holdings.table.holdings holding) now.held h held_is is in
+          let same : now.held ≡ h = one_there (slice_get s.holdings.table.holdings holding) now.held h held_is is in
           from (before.kept.reads holding i place len h (before.kept.forth reader holding of).begun is there (ap (λ (x : Holding). x.left) (sym same) ∙ now.left) read)
         where
           from : IsOfReader r.file (before.kept.forth reader holding of).begun place len → (place + len ≤ w.read.place) ⊎ (w.read.place + w.read.length ≤ place)
           from (inl beside) = beside_apart r.file.handout.geometry planned.from r.file.end place len w.read.place w.read.length (later r.file planned.from before.kept.right planned.begins planned.before) planned.planned beside
           from (inr a) =
-              let one : a.0 ≡ reader = same_of (before.kept.forth reader holding of).begun.reader a.0 reader a.1 (before.kept.forth reader holding of).of_reader in
+              let one : a.0 ≡ reader = one_there (before.kept.forth reader holding of).begun.reader a.0 reader a.1 (before.kept.forth reader holding of).of_reader in
               fresh place len (subst (λ q. HasAsked r.file q place len) one a.2)
 
   pub parts_unasked : All (λ (w : Wanted). IsUnasked s.holdings holding w.read.place w.read.length) wanted
@@ -157,7 +157,7 @@ module _ (s : BeginningsState) (r : ReadingState) (f : FileState) (reader holdin
               | inr ne ↦ absurd (distinct_places before.kept.known.right x holding g new.0.0 held new.0.1 (sym new.0.2) (sym new.0.3) ne)
             ] in
             let k = before.kept.forth reader holding of in
-            let same : b ≡ k.begun = same_of (slice_get s.begun holding) b k.begun (ap (slice_get s.begun) (sym one) ∙ there) k.there in
+            let same : b ≡ k.begun = one_there (slice_get s.begun holding) b k.begun (ap (slice_get s.begun) (sym one) ∙ there) k.there in
             inr (reader, ap (λ (c : Begun). c.reader) same ∙ k.of_reader, (asks.asked reader offset len).1 (inr (refl, new.1)))
 
     pub asked_reading : AreLinked t asked_state

@@ -4,12 +4,14 @@ use Rattle.std.specs.Prelude.{◌≢◌, slice_get}
 use Rattle.std.proofs.lemmas.Bool.{cases_eq}
 use Rattle.std.proofs.lemmas.List.Elements.{Contains-append_cases}
 use Rattle.std.proofs.lemmas.Option.{slice_get_within}
+use Rattle.lemmas.proofs.Members.{contains_tail}
+use Rattle.lemmas.proofs.Places.{get_pushed, get_push}
+use Rattle.lemmas.proofs.Options.{one_there}
 use Rattle.placement.proofs.Members.{Contains-head, Contains-nil, Contains-uncons}
 use Rattle.request_record.specs.declared.requests.Asked.{Asked}
 use Rattle.request_record.specs.declared.requests.Asked.TheVariants.{Reading}
 use Rattle.request_record.specs.declared.requests.Request.{Request}
 use Rattle.request_record.specs.Record.{RequestsState, asked_all, asked_more, first_request}
-use Rattle.request_record.proofs.RecordLaws.{get_push}
 use Rattle.share_holdings.specs.State.{TableState}
 use Rattle.share_holdings.specs.Table.{IsHolding}
 use Rattle.share_holdings.specs.declared.holding.Holding.{Holding}
@@ -17,12 +19,10 @@ use Rattle.share_holdings.proofs.Lists.{from_without}
 use Rattle.share_beginnings.specs.Moves.{GoesOn}
 use Rattle.share_beginnings.specs.Reads.{IsAnsweredBy, IsOutAt, IsReadAt}
 use Rattle.share_beginnings.specs.State.{BeginningsState}
-use Rattle.share_beginnings.proofs.Entries.{pushed, same_of}
 use Rattle.download_source.specs.declared.wanted.Wanted.{Wanted}
 use Rattle.download_file.specs.Changes.{OthersWait}
 use Rattle.download_file.specs.State.{FileState, IsLive, ReaderState, first_place, first_waiting, placed, waiting_at, waiting_in, without}
 use Rattle.download_file.specs.declared.reader.Waiting.{Waiting}
-use Rattle.download_file.proofs.ListLemmas.{more_in}
 use Rattle.download_reading.specs.Reading.{AreAwaited, AreKept, AreLinked, AreReadingBut, IsAskedOf, IsOf, IsReading}
 use Rattle.download_reading.specs.State.{ReadingState}
 use Rattle.download_reading.specs.Steps.{AsksParts}
@@ -129,7 +129,7 @@ ended_awaits but s r f reader before lives others =
 
 dropped : (ws : List Waiting) (w : Waiting) → Contains (drop 1 ws) w → Contains ws w
 dropped [] w among = among
-dropped (v ∷ ws) w among = more_in v w ws among
+dropped (v ∷ ws) w among = contains_tail v w ws among
 
 pub taken_awaits : (s : BeginningsState) (r : ReadingState) (f : FileState) (reader : ℕ) → AreAwaited (Some reader) s r → f.live ≡ r.file.live → OthersWait r.file reader f → waiting_at f reader ≡ drop 1 (waiting_at r.file reader)
     → AreAwaited (Some reader) s (record r { file = f })
@@ -205,7 +205,7 @@ begun_awaits s t r f holding linked before requests held lives waits = record {
         | inr new ↦ elim (Contains-uncons (length r.file.readers) [] q new) [ inl e ↦ absurd (nothing q some.0 (sym e) some.1) | inr none ↦ absurd (Contains-nil q none) ]
       ];
       holding = k.holding;
-      of = elim (pushed r.holdings holding k.holding q k.of) [
+      of = elim (get_pushed r.holdings holding k.holding q k.of) [
         | inl old ↦ old
         | inr last ↦ absurd (nothing q some.0 (last.0 ∙ linked.kept.linked) some.1)
       ];
@@ -234,7 +234,7 @@ module _ (s t : BeginningsState) (r : ReadingState) (f : FileState) (reader hold
 
   -- the holding of the reader that was asked
   own : (h : Holding) → IsReading s r reader h → IsHolding s.holdings.table holding h
-  own h k = subst (λ x. IsHolding s.holdings.table x h) (same_of (slice_get r.holdings reader) k.holding holding k.of of) k.is
+  own h k = subst (λ x. IsHolding s.holdings.table x h) (one_there (slice_get r.holdings reader) k.holding holding k.of of) k.is
 
   pub asked_awaits : AreAwaited None t asked_next
   asked_awaits = record {

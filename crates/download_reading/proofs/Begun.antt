@@ -5,21 +5,20 @@ use Rattle.std.proofs.lemmas.List.{length-append, length-map, length-set}
 use Rattle.share_layout.specs.Geometry.{Geometry}
 use Rattle.std.proofs.lemmas.List.Elements.{Contains-append_cases, Contains-append_left, Contains-append_right}
 use Rattle.std.proofs.lemmas.Option.{slice_get_within}
+use Rattle.lemmas.proofs.Places.{get_pushed, get_set, get_other, set_cases, get_last, get_push}
+use Rattle.lemmas.proofs.Options.{one_there}
 use Rattle.placement.proofs.Members.{Contains-head, Contains-nil, Contains-uncons}
-use Rattle.request_record.proofs.RecordLaws.{get_last, get_push}
 use Rattle.request_record.specs.Record.{RequestsState}
 use Rattle.share_holdings.specs.Numbers.{taken_up}
 use Rattle.share_holdings.specs.State.{HoldingsState, NumberState, TableState}
 use Rattle.share_holdings.specs.Table.{IsFree, IsHolding, TakesUp}
 use Rattle.share_holdings.specs.declared.holding.Holding.{Holding}
-use Rattle.share_holdings.proofs.Lists.{get_other, get_set, set_cases}
 use Rattle.share_beginnings.specs.Known.{AreBegun}
 use Rattle.share_beginnings.specs.Moves as moves
 use Rattle.share_beginnings.specs.Opening.{IsTaken}
 use Rattle.share_beginnings.specs.Reads.{IsBeside, IsReadAt}
 use Rattle.share_beginnings.specs.State.{BeginningsState, IsBegun}
 use Rattle.share_beginnings.specs.declared.begun.Begun.{Begun}
-use Rattle.share_beginnings.proofs.Entries.{pushed, same_of}
 use Rattle.download_file.specs.Answers.{IsRead}
 use Rattle.download_file.specs.Asked.{AsksNoMore}
 use Rattle.download_file.specs.Changes.{StaysRead}
@@ -32,14 +31,14 @@ use Rattle.download_reading.specs.State.{ReadingState}
 
 unread_of : (holding : ℕ) (t u : TableState) (h : Holding) → IsHolding t holding h → IsFree t h → (k : TakesUp holding t u) → (h ≡ k.0) × (k.3.number.reading ≡ None)
 unread_of holding t u h is free k =
-    let one : h ≡ k.0 = same_of (slice_get t.holdings holding) h k.0 is k.1 in
-    let number : free.number ≡ k.3.number = same_of (slice_get t.numbers h.share) free.number k.3.number free.there (ap (λ (x : Holding). slice_get t.numbers x.share) one ∙ k.3.is) in
+    let one : h ≡ k.0 = one_there (slice_get t.holdings holding) h k.0 is k.1 in
+    let number : free.number ≡ k.3.number = one_there (slice_get t.numbers h.share) free.number k.3.number free.there (ap (λ (x : Holding). slice_get t.numbers x.share) one ∙ k.3.is) in
     (one, sym (ap (λ (n : NumberState). n.reading) number) ∙ free.unread)
 
 -- one that is free is not taken
 pub free_not_taken : (t : TableState) (place : ℕ) (g : Holding) (h : Holding) → IsFree t h → h.share ≡ g.share → IsTaken t place g → ⊥
 free_not_taken t place g h free share taken =
-    let one : taken.number ≡ free.number = same_of (slice_get t.numbers g.share) taken.number free.number taken.there (ap (slice_get t.numbers) (sym share) ∙ free.there) in
+    let one : taken.number ≡ free.number = one_there (slice_get t.numbers g.share) taken.number free.number taken.there (ap (slice_get t.numbers) (sym share) ∙ free.there) in
     let two : Some place ≡ None = sym taken.reading ∙ ap (λ (n : NumberState). n.reading) one ∙ free.unread in
     absurd cc
 
@@ -77,8 +76,8 @@ module _ (s t : BeginningsState) (r : ReadingState) (f : FileState) (holding : �
       let alive = before.kept.alive holding q h b is there e free.left in
       let now = before.live q alive in
       let of = before.kept.back holding q b there e in
-      let same : now.holding ≡ holding = same_of (slice_get r.holdings q) now.holding holding now.of of in
-      let held : now.held ≡ h = same_of (slice_get s.holdings.table.holdings holding) now.held h (subst (λ p. IsHolding s.holdings.table p now.held) same now.is) is in
+      let same : now.holding ≡ holding = one_there (slice_get r.holdings q) now.holding holding now.of of in
+      let held : now.held ≡ h = one_there (slice_get s.holdings.table.holdings holding) now.held h (subst (λ p. IsHolding s.holdings.table p now.held) same now.is) is in
       free_not_taken s.holdings.table now.holding now.held h free (ap (λ (x : Holding). x.share) (sym held)) now.taken
 
   none_of : (o : Option ℕ) → ((q : ℕ) → o ≡ Some q → ⊥) → o ≡ None
@@ -115,7 +114,7 @@ module _ (s t : BeginningsState) (r : ReadingState) (f : FileState) (holding : �
         let d = length-map r.file.readers (λ (x : ReaderState). copy_of x) in
         let e = before.kept.linked in
         omega (arith, a, b, c, d, e));
-    forth = λ q x of. forth q x (pushed r.holdings holding x q of);
+    forth = λ q x of. forth q x (get_pushed r.holdings holding x q of);
     back = λ x q b there e. back x q b e (begun_cases x b there);
     alive = λ x q g b held there e left. alive x q g b (held_back x g held) e left (begun_cases x b there);
     reads = λ x i offset len g b held there left read. by_read x i offset len g b (held_back x g held) left (subst (λ (y : RequestsState). IsReadAt y.entries g i offset len) requests_are read) (begun_cases x b there);
@@ -149,7 +148,7 @@ module _ (s t : BeginningsState) (r : ReadingState) (f : FileState) (holding : �
 
       back : (x q : ℕ) (b : Begun) → b.reader ≡ Some q → ((x ≡ holding) × (b.reader ≡ Some reader)) ⊎ ((x ≡ holding → ⊥) × IsBegun s x b) → IsOf next q x
       back x q b e (inl k) =
-          let one : reader ≡ q = same_of b.reader reader q k.1 e in
+          let one : reader ≡ q = one_there b.reader reader q k.1 e in
           ap (slice_get (r.holdings ++ holding ∷ [])) (sym (linked_len ∙ one)) ∙ get_last r.holdings holding ∙ ap Some (sym k.0)
       back x q b e (inr k) = (
           let of = before.kept.back x q b k.1 e in
@@ -157,7 +156,7 @@ module _ (s t : BeginningsState) (r : ReadingState) (f : FileState) (holding : �
 
       alive : (x q : ℕ) (g : Holding) (b : Begun) → IsHolding s.holdings.table x g → b.reader ≡ Some q → g.left ≡ true → ((x ≡ holding) × (b.reader ≡ Some reader)) ⊎ ((x ≡ holding → ⊥) × IsBegun s x b) → IsLive f q
       alive x q g b held e left (inl k) =
-          let one : length r.file.readers ≡ q = sym place ∙ same_of b.reader reader q k.1 e in
+          let one : length r.file.readers ≡ q = sym place ∙ one_there b.reader reader q k.1 e in
           subst (λ (l : List ℕ). Contains l q) (sym lives) (Contains-append_right r.file.live (length r.file.readers ∷ []) q (subst (Contains (length r.file.readers ∷ [])) one (Contains-head (length r.file.readers) [])))
       alive x q g b held e left (inr k) = subst (λ (l : List ℕ). Contains l q) (sym lives) (Contains-append_left r.file.live (length r.file.readers ∷ []) q (before.kept.alive x q g b held k.1 e left))
 

@@ -3,14 +3,14 @@ use Rattle.std.proofs.Common.{◌≡◌, ℕ, zero, suc, ◌<◌, Bool, true, fa
 use Rattle.std.specs.Prelude.{slice_get, slice_set}
 use Rattle.std.proofs.lemmas.List.Sums.{sum_by-cons}
 use Rattle.std.proofs.lemmas.Option.{slice_get_within}
+use Rattle.lemmas.proofs.Places.{got}
+use Rattle.lemmas.proofs.Options.{one_there}
 use Rattle.share_holdings.specs.Moves.{Blames}
 use Rattle.share_holdings.specs.State.{HoldingsState, TableState}
 use Rattle.share_holdings.specs.Table.{IsHolding, Retires}
 use Rattle.share_holdings.specs.declared.holding.Holding.{Holding}
-use Rattle.share_holdings.proofs.Lists.{got}
 use Rattle.share_beginnings.specs.State.{BeginningsState}
 use Rattle.share_beginnings.specs.declared.begun.Begun.{Begun}
-use Rattle.share_beginnings.proofs.Entries.{same_of}
 use Rattle.share_beginnings.proofs.Falling.{falls_one, retired_left}
 use Rattle.share_verify.specs.declared.check.Check.{Check}
 use Rattle.download_file.specs.State.{IsLive}
@@ -32,7 +32,7 @@ pub own_blamed : (s : BeginningsState) (now r : ReadingState) (reader holding : 
 own_blamed s now r reader holding e linked live index =
     let k = linked.live reader live in
     let at : IsOf r reader k.holding = ap (λ (x : ReadingState). slice_get x.holdings reader) e ∙ k.of in
-    let one : k.holding ≡ holding = same_of (slice_get r.holdings reader) k.holding holding at (got r.holdings reader holding (slice_get_within r.holdings reader k.holding at) index) in
+    let one : k.holding ≡ holding = one_there (slice_get r.holdings reader) k.holding holding at (got r.holdings reader holding (slice_get_within r.holdings reader k.holding at) index) in
     record { of = k.of ∙ ap Some one; held = k.held; is = subst (λ x. IsHolding s.holdings.table x k.held) one k.is; left = k.left }
 
 module _ (s t : BeginningsState) (r : ReadingState) (holding : ℕ) (check : Check) (blames : Blames holding check s.holdings t.holdings) where
@@ -59,7 +59,7 @@ module _ (s t : BeginningsState) (r q : ReadingState) (reader holding : ℕ) (ch
   blamed_awaits = awaits_last t q reader (goes blamed_some)
       (λ place h k e.
       let at : IsOf r reader k.holding = sym (ap (λ (l : List ℕ). slice_get l reader) same) ∙ k.of in
-      let one : k.holding ≡ holding = same_of (slice_get r.holdings reader) k.holding holding at of in
+      let one : k.holding ≡ holding = one_there (slice_get r.holdings reader) k.holding holding at of in
       absurd (retired_left holding s.holdings.table t.holdings.table h blames.retired (subst (λ x. IsHolding t.holdings.table x h) one k.is) k.left))
 
 -- ---- fewer are left

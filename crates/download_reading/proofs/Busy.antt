@@ -3,17 +3,16 @@ use Rattle.std.proofs.Common.{◌≡◌, ℕ, ◌⊎◌, inl, inr, true, List, [
 use Rattle.std.specs.Prelude.{slice_get, slice_set}
 use Rattle.std.proofs.lemmas.Bool.{cases_eq}
 use Rattle.std.proofs.lemmas.Option.{slice_get_within}
-use Rattle.request_record.proofs.RecordLaws.{get_last, get_push}
+use Rattle.lemmas.proofs.Places.{get_set, get_other, set_cases, get_last, get_push}
+use Rattle.lemmas.proofs.Options.{one_there}
 use Rattle.share_holdings.specs.Numbers.{taken_up}
 use Rattle.share_holdings.specs.State.{HoldingsState, NumberState, TableState}
 use Rattle.share_holdings.specs.Table.{IsHolding, IsNumber}
 use Rattle.share_holdings.specs.declared.holding.Holding.{Holding}
-use Rattle.share_holdings.proofs.Lists.{get_other, get_set, set_cases}
 use Rattle.share_beginnings.specs.Moves.{GoesOn, IsReaderOf}
 use Rattle.share_beginnings.specs.Opening.{IsOut}
 use Rattle.share_beginnings.specs.State.{BeginningsState}
 use Rattle.share_beginnings.specs.declared.begun.Begun.{Begun}
-use Rattle.share_beginnings.proofs.Entries.{same_of}
 use Rattle.share_beginnings.proofs.Falling.{Falls}
 use Rattle.download_reading.specs.Reading.{AreBusy, IsOf}
 use Rattle.download_reading.specs.State.{ReadingState}
@@ -69,7 +68,7 @@ busy_begun s t r q holding reader before reads place pushed = record {
     out : (x : ℕ) → IsOut s x → (x ≡ holding) ⊎ (x ≡ holding → ⊥) → IsOut t x
     out x o (inr other) = still_out s t x (ap (λ (l : List Begun). slice_get l x) reads.is ∙ get_other s.begun holding x (record reads.begun { reader = Some reader }) other) stays o
     out x o (inl here) =
-        let one : reads.begun ≡ o.begun = same_of (slice_get s.begun x) reads.begun o.begun (ap (slice_get s.begun) here ∙ reads.there) o.is in
+        let one : reads.begun ≡ o.begun = one_there (slice_get s.begun x) reads.begun o.begun (ap (slice_get s.begun) here ∙ reads.there) o.is in
         record {
           begun = record reads.begun { reader = Some reader };
           is = ap (λ (l : List Begun). slice_get l x) reads.is ∙ ap (slice_get (slice_set s.begun holding (record reads.begun { reader = Some reader }))) here

@@ -2,6 +2,8 @@
 use Rattle.std.proofs.Common.{◌≡◌, ℕ, inl, inr, List, [], ◌∷◌, Some, None, refl, sym, ap, subst, ◌∙◌}
 use Rattle.std.specs.Prelude.{Option, option_map, slice_get, Contains}
 use Rattle.std.proofs.lemmas.Option.{slice_get-map}
+use Rattle.lemmas.proofs.Options.{one_there}
+use Rattle.download_file.proofs.GrowLemmas.{same_itself}
 use Rattle.placement.proofs.Members.{Contains-head}
 use Rattle.request_record.specs.declared.requests.Asked.TheVariants.{Reading}
 use Rattle.request_record.specs.declared.requests.Request.{Request}
@@ -15,7 +17,6 @@ use Rattle.share_beginnings.specs.Causes.{AddsBlames}
 use Rattle.share_beginnings.proofs.Caused.{adds_as, adds_trans}
 use Rattle.share_beginnings.specs.Reads.{IsAnsweredBy}
 use Rattle.share_beginnings.specs.State.{BeginningsState}
-use Rattle.share_beginnings.proofs.Entries.{same_of}
 use Rattle.download_plan.specs.Plan.{length_of, place_of}
 use Rattle.download_plan.specs.declared.part.Part.TheVariants.{Data}
 use Rattle.download_file.specs.Answers.{AnswersFirst}
@@ -34,7 +35,6 @@ use Rattle.download_reading.specs.State.{ReadingState}
 use Rattle.download_reading.specs.Steps.{Continues}
 use Rattle.request_record.specs.Record.{RequestsState, is_outstanding}
 use Rattle.download_reading.proofs.Awaited.{goes_stays}
-use Rattle.download_reading.proofs.Ended.{file_none}
 
 -- ---- the same file
 
@@ -48,7 +48,7 @@ alike_trans : (f g h : FileState) → IsFileAlike f g → IsFileAlike g h → Is
 alike_trans f g h a b = record { key = b.key ∙ a.key; ueb = b.ueb ∙ a.ueb; geometry = b.geometry ∙ a.geometry; to = b.to ∙ a.to; first = b.first ∙ a.first; end = b.end ∙ a.end }
 
 pub alike_none : (f : FileState) → IsFileAlike f f
-alike_none f = alike_of f f (file_none f)
+alike_none f = alike_of f f (same_itself f)
 
 -- ---- what stays of a cause
 
@@ -94,7 +94,7 @@ waits_first f reader place bytes check k e =
 copy_at : (f : FileState) (reader server share : ℕ) (r : ReaderState) → slice_get f.readers reader ≡ Some r → slice_get (copies f) reader ≡ Some (copy server share) → copy_of r ≡ copy server share
 copy_at f reader server share r there is =
     let at : slice_get (copies f) reader ≡ Some (copy_of r) = slice_get-map (λ (y : ReaderState). copy_of y) f.readers reader ∙ ap (λ o. option_map (λ (y : ReaderState). copy_of y) o) there in
-    same_of (slice_get (copies f) reader) (copy_of r) (copy server share) at is
+    one_there (slice_get (copies f) reader) (copy_of r) (copy server share) at is
 
 -- ---- the answer to the first part
 
@@ -118,12 +118,12 @@ answers_first but s r reader place bytes reading live first answered =
     let w = first_of r.file reader place (slice_get r.file.readers reader) (waiting_at r.file reader) refl refl first in
     let now = reading.linked.live reader live in
     let own = reading.linked.kept.forth reader now.holding now.of in
-    let held : own.held ≡ now.held = same_of (slice_get s.holdings.table.holdings now.holding) own.held now.held own.is now.is in
+    let held : own.held ≡ now.held = one_there (slice_get s.holdings.table.holdings now.holding) own.held now.held own.is now.is in
     let one : copy_of w.r ≡ copy own.held.server own.held.share = copy_at r.file reader own.held.server own.held.share w.r w.there own.reads in
     let same : waiting_at r.file reader ≡ w.first ∷ w.others = ap waiting_in w.there ∙ w.waits in
     let a = (reading.awaits.asked reader now.held w.first (record { live = live; holding = now.holding; of = now.of; is = now.is; left = now.left })
     (subst (λ (l : List Waiting). Contains l w.first) (sym same) (Contains-head w.first w.others))).read in
-    let request : a.request ≡ answered.request = same_of (slice_get s.holdings.requests.entries place) a.request answered.request (ap (slice_get s.holdings.requests.entries) (sym w.at) ∙ a.there) answered.there in
+    let request : a.request ≡ answered.request = one_there (slice_get s.holdings.requests.entries place) a.request answered.request (ap (slice_get s.holdings.requests.entries) (sym w.at) ∙ a.there) answered.there in
     record {
       r = w.r;
       there = w.there;
@@ -145,14 +145,14 @@ pub part_fault : (but : Option ℕ) (s : BeginningsState) (r : ReadingState) (re
     → IsAnsweredBy s.holdings.requests.entries place bytes → IsRefused r.file reader bytes check → IsBlameOf s r reader check b → IsPartFault s.holdings.requests.entries r.file b
 part_fault but s r reader place check bytes b reading live first answered refused blame =
     let now = reading.linked.live reader live in
-    let one : now.holding ≡ blame.holding = same_of (slice_get r.holdings reader) now.holding blame.holding now.of blame.of in
-    let held : now.held ≡ blame.held = same_of (slice_get s.holdings.table.holdings now.holding) now.held blame.held now.is (subst (λ x. IsHolding s.holdings.table x blame.held) (sym one) blame.is) in
+    let one : now.holding ≡ blame.holding = one_there (slice_get r.holdings reader) now.holding blame.holding now.of blame.of in
+    let held : now.held ≡ blame.held = one_there (slice_get s.holdings.table.holdings now.holding) now.held blame.held now.is (subst (λ x. IsHolding s.holdings.table x blame.held) (sym one) blame.is) in
     let k : IsRefused r.file reader bytes b.check = subst (IsRefused r.file reader bytes) (sym blame.check_is) refused in
     let w = waits_first r.file reader place bytes b.check k first in
     let own = reading.linked.kept.forth reader blame.holding blame.of in
-    let own_held : own.held ≡ blame.held = same_of (slice_get s.holdings.table.holdings blame.holding) own.held blame.held own.is blame.is in
+    let own_held : own.held ≡ blame.held = one_there (slice_get s.holdings.table.holdings blame.holding) own.held blame.held own.is blame.is in
     let a = (reading.awaits.asked reader now.held k.first (record { live = live; holding = now.holding; of = now.of; is = now.is; left = now.left }) w.0).read in
-    let same : a.request ≡ answered.request = same_of (slice_get s.holdings.requests.entries place) a.request answered.request (ap (slice_get s.holdings.requests.entries) (sym w.1) ∙ a.there) answered.there in
+    let same : a.request ≡ answered.request = one_there (slice_get s.holdings.requests.entries place) a.request answered.request (ap (slice_get s.holdings.requests.entries) (sym w.1) ∙ a.there) answered.there in
     record {
       file = r.file;
       right = reading.linked.kept.right;
@@ -173,7 +173,7 @@ part_fault but s r reader place check bytes b reading live first answered refuse
 pub block_fault : (but : Option ℕ) (s : BeginningsState) (r : ReadingState) (reader : ℕ) (b : Blame) → AreReadingBut but s r → RefutesReader s.holdings.requests.entries r.file reader → IsBlameOf s r reader checks.Data b → IsBlockFault s.holdings.requests.entries r.file b
 block_fault but s r reader b reading refuted blame =
     let f = reading.linked.kept.forth reader blame.holding blame.of in
-    let held : f.held ≡ blame.held = same_of (slice_get s.holdings.table.holdings blame.holding) f.held blame.held f.is blame.is in
+    let held : f.held ≡ blame.held = one_there (slice_get s.holdings.table.holdings blame.holding) f.held blame.held f.is blame.is in
     record {
       file = r.file;
       right = reading.linked.kept.right;

@@ -2,19 +2,19 @@
 use Rattle.std.proofs.Common.{◌≡◌, ℕ, ◌⊎◌, inl, inr, true, false, List, Option, Some, None, refl, sym, ap, subst, ◌∙◌, true≢false}
 use Rattle.std.specs.Prelude.{slice_get, slice_set}
 use Rattle.std.proofs.lemmas.Bool.{cases_eq}
+use Rattle.lemmas.proofs.Places.{get_set, get_other, set_cases}
+use Rattle.lemmas.proofs.Options.{one_there}
 use Rattle.request_record.specs.Record.{RequestsState}
 use Rattle.share_opening.specs.declared.opening.Opening.{Opening}
 use Rattle.share_holdings.specs.State.{HoldingsState}
 use Rattle.share_holdings.specs.Table.{IsHolding}
 use Rattle.share_holdings.specs.declared.holding.Holding.{Holding}
-use Rattle.share_holdings.proofs.Lists.{get_other, get_set, set_cases}
 use Rattle.share_holdings.proofs.Records.{AskedAlike}
 use Rattle.share_beginnings.specs.Known.{AreBegun, IsNextAt}
 use Rattle.share_beginnings.specs.Moves.{Awaits, Compares, WaitsAt, rested}
 use Rattle.share_beginnings.specs.Opening.{IsOut}
 use Rattle.share_beginnings.specs.State.{BeginningsState}
 use Rattle.share_beginnings.specs.declared.begun.Begun.{Begun}
-use Rattle.share_beginnings.proofs.Entries.{same_of}
 use Rattle.share_beginnings.proofs.Falling.{Falls, falls_none, falls_one, retired_left}
 use Rattle.download_file.specs.Answers.{IsRead}
 use Rattle.download_file.specs.State.{IsLive}
@@ -94,11 +94,11 @@ module _ (s t : BeginningsState) (r : ReadingState) (holding : ℕ) (told : IsTo
   -- it may be chosen, or is not left
   quiet_now : (g : Holding) → IsHolding t.holdings.table holding g → g.left ≡ true → g.suspended ≡ true → ⊥
   quiet_now g is left busy = elim done.settles [
-    | inl gone ↦ true≢false (sym left ∙ ap (λ (y : Holding). y.left) (same_of (slice_get s.holdings.table.holdings holding) g gone.0 (sym (ap (λ (y : HoldingsState). slice_get y.table.holdings holding) gone.3) ∙ is) gone.1) ∙ gone.2)
+    | inl gone ↦ true≢false (sym left ∙ ap (λ (y : Holding). y.left) (one_there (slice_get s.holdings.table.holdings holding) g gone.0 (sym (ap (λ (y : HoldingsState). slice_get y.table.holdings holding) gone.3) ∙ is) gone.1) ∙ gone.2)
     | inr (inl blamed) ↦ retired_left holding s.holdings.table t.holdings.table g blamed.1.retired is left
     | inr (inr chosen) ↦ (
         let now = ap (λ (l : List Holding). slice_get l holding) chosen.0.1.1.holdings ∙ get_set s.holdings.table.holdings holding (record chosen.0.1.0 { suspended = false }) chosen.0.1.0 chosen.0.1.1.is in
-        let same : record chosen.0.1.0 { suspended = false } ≡ g = same_of (slice_get t.holdings.table.holdings holding) (record chosen.0.1.0 { suspended = false }) g now is in
+        let same : record chosen.0.1.0 { suspended = false } ≡ g = one_there (slice_get t.holdings.table.holdings holding) (record chosen.0.1.0 { suspended = false }) g now is in
         true≢false (sym busy ∙ sym (ap (λ (y : Holding). y.suspended) same)))
   ]
 
@@ -120,6 +120,6 @@ module _ (s t : BeginningsState) (r : ReadingState) (holding : ℕ) (told : IsTo
       begun = rested old;
       there = ap (λ (l : List Begun). slice_get l holding) begun_is ∙ get_set s.begun holding (rested old) old done.rested_first.1.there;
       linked = linked;
-      awaits = subst (λ (b : Begun). AreAwaited b.reader t q) (same_of (slice_get s.begun holding) told.begun old told.there done.rested_first.1.there) (awaits told.begun.reader compared_awaits);
+      awaits = subst (λ (b : Begun). AreAwaited b.reader t q) (one_there (slice_get s.begun holding) told.begun old told.there done.rested_first.1.there) (awaits told.begun.reader compared_awaits);
       busy = busy_file None t r q same compared_busy;
     }

@@ -5,6 +5,9 @@ use Rattle.std.proofs.lemmas.Bool.{eq-eqb}
 use Rattle.std.proofs.lemmas.List.{append-nil, append_assoc, length-map, take_more}
 use Rattle.std.proofs.lemmas.List.Elements.{All-contains, Contains-push_cases}
 use Rattle.std.proofs.lemmas.Option.{slice_get-get_or}
+use Rattle.lemmas.proofs.Options.{one_there}
+use Rattle.download_file.proofs.LiveLemmas.{length-without}
+use Rattle.download_file.proofs.RowFileLemmas.{same_two}
 use Rattle.placement.proofs.Members.{Contains-nil, Contains-uncons}
 use Rattle.share_layout.specs.Geometry.{Geometry}
 use Rattle.download_segments.specs.State.{HandoutState}
@@ -16,7 +19,6 @@ use Rattle.share_beginnings.specs.Reads.{AddsReads, IsBeside}
 use Rattle.share_beginnings.specs.State.{BeginningsState}
 use Rattle.share_beginnings.specs.declared.begun.Begun.{Begun}
 use Rattle.share_beginnings.proofs.Caused.{reads_none, reads_trans}
-use Rattle.share_beginnings.proofs.Entries.{same_of}
 use Rattle.share_beginnings.proofs.Opened.{goes_none, goes_trans}
 use Rattle.download_plan.specs.Plan.{IsPlanned}
 use Rattle.download_file.specs.Asked.{AsksNoMore, IsOneOf, IsPlannedRead}
@@ -29,20 +31,6 @@ use Rattle.download_reading.specs.Reading.{AreKept, AreLinked, IsGone, IsOf, IsO
 use Rattle.download_reading.specs.State.{ReadingState}
 use Rattle.download_reading.specs.Steps.{AddsPieces, Continues, IsReadFor}
 use Rattle.download_reading.proofs.Awaited.{goes_stays}
-
-pub file_none : (f : FileState) → IsSameFile f f
-file_none f = same_itself f
-
-pub file_trans : (f g h : FileState) → IsSameFile f g → IsSameFile g h → IsSameFile f h
-file_trans f g h a b = record {
-  key = b.key ∙ a.key;
-  ueb = b.ueb ∙ a.ueb;
-  geometry = b.geometry ∙ a.geometry;
-  to = b.to ∙ a.to;
-  first = b.first ∙ a.first;
-  end = b.end ∙ a.end;
-  given = λ entries p known. b.given entries p (a.given entries p known);
-}
 
 -- the plan of the same file
 planned_alike : (f g : FileState) (offset len : ℕ) → IsSameFile f g → IsPlannedRead g offset len → IsPlannedRead f offset len
@@ -74,12 +62,12 @@ pub asks_none : (f : FileState) (s t : BeginningsState) → t.holdings.requests 
 asks_none f s t e = reads_none (IsReadFor f) s.holdings.requests.entries t.holdings.requests.entries (ap (λ (q : RequestsState). q.entries) e)
 
 pub continues_none : (s : BeginningsState) (r : ReadingState) → Continues s r s r
-continues_none s r = record { goes = goes_none s s refl refl; same = file_none r.file; pieces = adds_none r.file.handout r.file.handout refl; answers = λ a. a; reads = asks_none r.file s s refl }
+continues_none s r = record { goes = goes_none s s refl refl; same = same_itself r.file; pieces = adds_none r.file.handout r.file.handout refl; answers = λ a. a; reads = asks_none r.file s s refl }
 
 pub continues_trans : (s t u : BeginningsState) (r q p : ReadingState) → Continues s r t q → Continues t q u p → Continues s r u p
 continues_trans s t u r q p f g = record {
   goes = goes_trans s t u f.goes g.goes;
-  same = file_trans r.file q.file p.file f.same g.same;
+  same = same_two r.file q.file p.file f.same g.same;
   pieces = adds_trans r.file.handout q.file.handout p.file.handout f.pieces g.pieces;
   answers = λ a. g.answers (f.answers a);
   reads = reads_trans (IsReadFor r.file) s.holdings.requests.entries t.holdings.requests.entries u.holdings.requests.entries (goes_stays t u g.goes) f.reads
@@ -110,8 +98,8 @@ module _ (s : BeginningsState) (r : ReadingState) (f : FileState) (reader : ℕ)
         subst (λ (l : List ℕ). Contains l q) (sym lives) (without_keeps reader q r.file.live (before.alive x q h b is there e left)
         (λ same.
         let of : IsOf r reader x = ap (slice_get r.holdings) (sym same) ∙ before.back x q b there e in
-        let one : x ≡ gone.holding = same_of (slice_get r.holdings reader) x gone.holding of gone.of in
-        let held : h ≡ gone.held = same_of (slice_get s.holdings.table.holdings x) h gone.held is (ap (slice_get s.holdings.table.holdings) one ∙ gone.is) in
+        let one : x ≡ gone.holding = one_there (slice_get r.holdings reader) x gone.holding of gone.of in
+        let held : h ≡ gone.held = one_there (slice_get s.holdings.table.holdings x) h gone.held is (ap (slice_get s.holdings.table.holdings) one ∙ gone.is) in
         true≢false (sym left ∙ ap (λ (y : Holding). y.left) held ∙ gone.gone)));
     reads = λ x i offset len h b is there left read. more b offset len (before.reads x i offset len h b is there left read);
     answers = stays s.holdings.requests.entries before.answers;
@@ -133,18 +121,9 @@ all_live s r kept live none = record {
   live = λ q alive. elim (live q alive) [ inl k ↦ k | inr k ↦ absurd (none q alive k) ];
 }
 
--- what is removed leaves fewer
-shorter : (x : ℕ) (xs : List ℕ) → length (without x xs) ≤ length xs
-shorter x [] = omega arith
-shorter x (y ∷ ys) = by (not (y == x)) (shorter x ys)
-  where
-    by : (b : Bool) → length (without x ys) ≤ length ys → length (cond b (y ∷ without x ys) (without x ys)) ≤ length (y ∷ ys)
-    by true k = omega (arith, k)
-    by false k = omega (arith, k)
-
 pub fewer : (x : ℕ) (xs : List ℕ) → Contains xs x → length (without x xs) < length xs
 fewer x [] h = absurd (Contains-nil x h)
-fewer x (y ∷ ys) h = by (y == x) refl (Contains-uncons y ys x h) (shorter x ys) (fewer x ys)
+fewer x (y ∷ ys) h = by (y == x) refl (Contains-uncons y ys x h) (length-without x ys) (fewer x ys)
   where
     by : (b : Bool) → (y == x) ≡ b → (y ≡ x) ⊎ Contains ys x → length (without x ys) ≤ length ys → (Contains ys x → length (without x ys) < length ys) → length (cond (not b) (y ∷ without x ys) (without x ys)) < length (y ∷ ys)
     by true e k low rest = omega (arith, low)

@@ -4,6 +4,8 @@ use Rattle.std.specs.Prelude.{slice_get, slice_index_or}
 use Rattle.std.proofs.lemmas.List.{length-map}
 use Rattle.std.proofs.lemmas.List.Sums.{sum_by-cons}
 use Rattle.std.proofs.lemmas.Option.{slice_get-get_or}
+use Rattle.lemmas.proofs.Members.{contains_map}
+use Rattle.lemmas.proofs.Options.{one_there}
 use Rattle.request_record.specs.declared.requests.Request.{Request}
 use Rattle.request_record.specs.Record.{is_outstanding, outstanding_count}
 use Rattle.share_holdings.specs.Left.{IsBlamed, IsGone, IsLeft, IsOffered}
@@ -12,10 +14,9 @@ use Rattle.share_holdings.specs.Table.{IsHolding, IsNumber, IsTable, NoneIsFree}
 use Rattle.share_holdings.specs.declared.holding.Holding.{Holding}
 use Rattle.share_beginnings.specs.Reads.{IsOutAt}
 use Rattle.share_beginnings.specs.State.{BeginningsState}
-use Rattle.share_beginnings.proofs.Entries.{same_of}
 use Rattle.download_file.specs.Making.{SomeWaits}
 use Rattle.download_file.specs.State.{CopyState, ReaderState, copy, copy_of, numbers_of, share_in}
-use Rattle.download_file.proofs.ListLemmas.{contains_map, get_unmapped}
+use Rattle.download_file.proofs.ListLemmas.{get_unmapped}
 use Rattle.download_reading.specs.Reading.{AreReading}
 use Rattle.download_reading.specs.State.{ReadingState}
 use Rattle.download_reading.specs.Steps.{IsAtEnd, IsStuck}
@@ -57,7 +58,7 @@ module _ (s : BeginningsState) (r : ReadingState) (reading : AreReading s r) (ta
             let k = reading.busy.taken h.share p _ number reads in
             let f = reading.linked.kept.forth k.0 p k.1 in
             let own = table.places h.share p _ number (table.reading h.share p _ number reads) in
-            let same : f.held ≡ own.0 = same_of (slice_get s.holdings.table.holdings p) f.held own.0 f.is own.1 in
+            let same : f.held ≡ own.0 = one_there (slice_get s.holdings.table.holdings p) f.held own.0 f.is own.1 in
             let live = reading.linked.kept.alive p k.0 f.held f.begun f.is f.there f.of_reader (ap (λ (x : Holding). x.left) same ∙ own.3) in
             let at = get_unmapped (λ (x : ReaderState). copy_of x) r.file.readers k.0 (copy f.held.server f.held.share) f.reads in
             let share : share_in (slice_get r.file.readers k.0) ≡ h.share = ap share_in at.1 ∙ ap (λ (x : CopyState). x.share) at.2 ∙ ap (λ (x : Holding). x.share) same ∙ own.2 in

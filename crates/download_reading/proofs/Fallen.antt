@@ -9,6 +9,7 @@ use Rattle.download_file.proofs.ManyLemmas.{gets_pieces}
 use Rattle.download_file.specs.declared.file.Made.{Made}
 use Rattle.download_file.specs.declared.file.Made.TheVariants as made_as
 use Rattle.std.proofs.lemmas.List.{length-map}
+use Rattle.download_file.proofs.GrowLemmas.{same_itself}
 use Rattle.request_record.specs.Record.{RequestsState}
 use Rattle.share_holdings.specs.State.{HoldingsState}
 use Rattle.share_layout.specs.Geometry.{Geometry}
@@ -26,7 +27,7 @@ use Rattle.download_file.specs.Changes.{IsSameFile}
 use Rattle.share_holdings.specs.Moves.{Blames}
 use Rattle.share_verify.specs.declared.check.Check.{Check}
 use Rattle.download_reading.specs.Steps.{AddsPieces, Continues}
-use Rattle.download_reading.proofs.Ended.{adds_none, asks_none, file_none}
+use Rattle.download_reading.proofs.Ended.{adds_none, asks_none}
 use Rattle.download_reading.proofs.Follows.{Follows, KeepsReaders, WasHeld, follows_falls, none_asked_behind, readers_same}
 use Rattle.download_file.specs.Answers.{IsRead}
 use Rattle.download_file.specs.Asked.{AsksNoMore}
@@ -175,7 +176,7 @@ module _ (s t : BeginningsState) (r : ReadingState) (holding : ℕ) (check : Che
   pub blamed_continues : Continues s r t r
   blamed_continues = record {
     goes = goes_blamed s t holding check blames;
-    same = file_none r.file;
+    same = same_itself r.file;
     pieces = adds_none r.file.handout r.file.handout refl;
     answers = λ a. subst (λ (q : RequestsState). IsRead q.entries r.file) (sym requests_are) a;
     reads = asks_none r.file s t requests_are;

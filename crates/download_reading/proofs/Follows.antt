@@ -3,21 +3,22 @@ use Rattle.std.proofs.Common.{◌≡◌, ℕ, zero, suc, ◌+◌, ◌-◌, ◌<�
 use Rattle.std.specs.Prelude.{Bool, slice_get, slice_set, slice_index_or}
 use Rattle.std.proofs.lemmas.Bool.{cases_eq, cases_lt}
 use Rattle.std.proofs.lemmas.Option.{slice_get-get_or, slice_get_within}
+use Rattle.lemmas.proofs.Places.{get_set, get_other, set_cases, get_left}
+use Rattle.lemmas.proofs.Options.{one_there}
 use Rattle.request_record.specs.declared.requests.Asked.TheVariants.{Holdings, Reading}
 use Rattle.request_record.specs.declared.requests.Request.{Request}
 use Rattle.share_holdings.specs.Right.{IsRight}
 use Rattle.share_holdings.specs.State.{HoldingsState, NumberState, TableState}
 use Rattle.share_holdings.specs.Table.{IsHolding, IsNumber, Suspends}
 use Rattle.share_holdings.specs.declared.holding.Holding.{Holding}
-use Rattle.share_holdings.proofs.Lists.{get_other, get_set, set_cases}
 use Rattle.share_holdings.proofs.Records.{AskedAlike}
-use Rattle.share_holdings.proofs.Telling.{append_cases, append_front}
+use Rattle.share_holdings.proofs.Telling.{append_cases}
 use Rattle.share_beginnings.specs.Moves.{rested}
 use Rattle.share_beginnings.specs.Reads.{IsReadAt}
 use Rattle.share_beginnings.specs.State.{unbegun}
 use Rattle.share_beginnings.specs.declared.begun.Begun.{Begun}
 use Rattle.share_beginnings.proofs.Asking.{distinct_places}
-use Rattle.share_beginnings.proofs.Entries.{read_alike, same_of}
+use Rattle.share_beginnings.proofs.Entries.{read_alike}
 use Rattle.share_beginnings.proofs.Falling.{Falls, IsReadOn}
 use Rattle.share_beginnings.proofs.Hearing.{Becomes, becomes_falls}
 use Rattle.share_beginnings.proofs.Knowing.{shares_suspended}
@@ -100,7 +101,7 @@ repeated (suc count) (suc i) x y e = repeated count i x y e
 
 pub readers_more : (count : ℕ) (old new : List Begun) → new ≡ old ++ replicate count unbegun → KeepsReaders old new
 readers_more count old new e = record {
-  forth = λ x b is. (b, ap (λ (l : List Begun). slice_get l x) e ∙ append_front old (replicate count unbegun) x b is, refl);
+  forth = λ x b is. (b, ap (λ (l : List Begun). slice_get l x) e ∙ get_left old (replicate count unbegun) x b is, refl);
   back = λ x c is. elim (append_cases old (replicate count unbegun) x c (sym (ap (λ (l : List Begun). slice_get l x) e) ∙ is)) [
     | inl was ↦ inl (c, was, refl)
     | inr none ↦ inr (none.0, sym (ap (λ (b : Begun). b.reader) (repeated count (x - length old) unbegun c none.1)))
@@ -120,7 +121,7 @@ readers_rested holding b old new there e = record {
     forth x c is (inl here) = (
       rested b,
       ap (λ (l : List Begun). slice_get l x) e ∙ ap (slice_get (slice_set old holding (rested b))) here ∙ get_set old holding (rested b) b there,
-      ap (λ (y : Begun). y.reader) (same_of (slice_get old x) b c (ap (slice_get old) here ∙ there) is),
+      ap (λ (y : Begun). y.reader) (one_there (slice_get old x) b c (ap (slice_get old) here ∙ there) is),
     )
     forth x c is (inr other) = (c, ap (λ (l : List Begun). slice_get l x) e ∙ get_other old holding x (rested b) other ∙ is, refl)
 
@@ -150,7 +151,7 @@ read_of_some s g i offset len right read = elim (cases_lt i s.servers) [
         let own : slice_get s.owners (i - s.servers) ≡ Some (slice_index_or s.owners (i - s.servers) 0) = slice_get-get_or s.owners (i - s.servers) 0 lt in
         let o = right.owned (i - s.servers) (slice_index_or s.owners (i - s.servers) 0) own in
         let at : s.servers + (i - s.servers) ≡ i = omega (arith, high) in
-        let same : o.request ≡ read.request = same_of (slice_get s.requests.entries i) o.request read.request (ap (slice_get s.requests.entries) (sym at) ∙ o.there) read.there in
+        let same : o.request ≡ read.request = one_there (slice_get s.requests.entries i) o.request read.request (ap (slice_get s.requests.entries) (sym at) ∙ o.there) read.there in
         let asks : Reading o.held.share o.read.offset o.read.len ≡ Reading g.share offset len = sym o.read.asked ∙ ap (λ (q : Request). q.asked) same ∙ read.asked in
         let shares : o.held.share ≡ g.share = cc in
         record {

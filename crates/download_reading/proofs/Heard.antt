@@ -2,6 +2,8 @@
 use Rattle.std.proofs.Common.{◌≡◌, ℕ, ◌-◌, ◌≤◌, ◌⊎◌, inl, inr, true, false, List, length, Option, Some, None, refl, sym, ap, subst, ◌∙◌, arith, true≢false}
 use Rattle.std.specs.Prelude.{◌≢◌, slice_get, slice_index_or}
 use Rattle.std.proofs.lemmas.Option.{slice_get-get_or, slice_get_within}
+use Rattle.lemmas.proofs.Places.{get_left}
+use Rattle.lemmas.proofs.Options.{one_there}
 use Rattle.request_record.specs.declared.requests.Asked.TheVariants.{Holdings, Reading}
 use Rattle.request_record.specs.declared.requests.Outcome.TheVariants.{Answered}
 use Rattle.request_record.specs.declared.requests.Request.{Request}
@@ -17,7 +19,6 @@ use Rattle.share_holdings.specs.declared.holdings.Heard.{Heard}
 use Rattle.share_holdings.specs.declared.holdings.Heard.TheVariants as heard
 use Rattle.share_holdings.proofs.Goes.{message_cases, message_goes, only_owner}
 use Rattle.share_holdings.proofs.Records.{AskedAlike}
-use Rattle.share_holdings.proofs.Telling.{append_front}
 use Rattle.share_beginnings.specs.Known.{AreBegun, IsNextAt}
 use Rattle.share_beginnings.specs.Moves.{BringsBytes, HearsNews, IsNewsOf, WaitsAt}
 use Rattle.share_beginnings.specs.Opening.{IsOut, IsTaken}
@@ -26,7 +27,7 @@ use Rattle.share_beginnings.specs.State.{BeginningsState, IsBegun, unbegun}
 use Rattle.share_beginnings.specs.declared.begun.Begun.{Begun}
 use Rattle.share_beginnings.specs.declared.beginnings.News.{News}
 use Rattle.share_beginnings.specs.declared.beginnings.News.TheVariants as news
-use Rattle.share_beginnings.proofs.Entries.{Grows, grows_goes, read_grows, same_of}
+use Rattle.share_beginnings.proofs.Entries.{Grows, grows_goes, read_grows}
 use Rattle.share_beginnings.proofs.Falling.{WasHolding, retired_left}
 use Rattle.share_beginnings.proofs.Hearing as hearing
 use Rattle.download_file.specs.Answers.{IsRead}
@@ -108,7 +109,7 @@ module _ (s u : BeginningsState) (r : ReadingState) (from : ℕ) (m : Message) (
 
       by : (k : (n : Request) × (slice_get ns i ≡ Some n) × (n.asked ≡ out.request.asked) × (n.server ≡ out.request.server))
           → (slice_get es i ≡ Some k.0) ⊎ ((counts_at from m s.holdings.requests ≡ Some i) × (k.0.outcome ≡ Answered m.body)) → IsOutAt ns i ⊎ (what ≡ heard.Bytes holding i)
-      by k (inl same) = inl (record { request = k.0; there = k.1; waits = ap (λ (q : Request). is_outstanding q.outcome) (same_of (slice_get es i) k.0 out.request same out.there) ∙ out.waits })
+      by k (inl same) = inl (record { request = k.0; there = k.1; waits = ap (λ (q : Request). is_outstanding q.outcome) (one_there (slice_get es i) k.0 out.request same out.there) ∙ out.waits })
       by k (inr counts) = brings what refl (subst (λ (p : Option ℕ). HearsAt p m s.holdings u.holdings what) counts.0 hears.hears.heard)
 
   -- the bytes that came
@@ -132,7 +133,7 @@ module _ (s u : BeginningsState) (r : ReadingState) (from : ℕ) (m : Message) (
       moved : (reader : ℕ) (g : Holding) (w : Waiting) → IsReading u r reader g → IsAskedOf es g w → IsOutAt es w.place → (holding : ℕ) × IsOf r reader holding × (IsOutAt ns w.place ⊎ (what ≡ heard.Bytes holding w.place))
       moved reader g w k a o =
           let h = read_back s u r reading.linked.kept follows reader g k in
-          let one : h.1.holding ≡ k.holding = same_of (slice_get r.holdings reader) h.1.holding k.holding h.1.of k.of in (
+          let one : h.1.holding ≡ k.holding = one_there (slice_get r.holdings reader) h.1.holding k.holding h.1.of k.of in (
             k.holding,
             k.of,
             out_or_told k.holding h.0 g w.place w.wanted.read.place w.wanted.read.length (subst (λ x. IsHolding s.holdings.table x h.0) one h.1.is) k.is k.left
@@ -166,7 +167,7 @@ module _ (s u : BeginningsState) (r : ReadingState) (from : ℕ) (m : Message) (
           own holding of b =
               let f = reading.linked.kept.forth reader holding of in
               let c = readers.forth holding f.begun f.there in
-              let same : b.0 ≡ c.0 = same_of (slice_get u.begun holding) b.0 c.0 b.1 c.1 in
+              let same : b.0 ≡ c.0 = one_there (slice_get u.begun holding) b.0 c.0 b.1 c.1 in
               b.2 ∙ ap (λ (x : Begun). x.reader) same ∙ c.2 ∙ f.of_reader
 
   -- a header that is out still is, or came
@@ -178,7 +179,7 @@ module _ (s u : BeginningsState) (r : ReadingState) (from : ℕ) (m : Message) (
       read_of (Some p) w = (_, _, w)
 
       there : IsBegun u holding o.begun
-      there = ap (λ (l : List Begun). slice_get l holding) hears.begun ∙ append_front s.begun _ holding o.begun o.is
+      there = ap (λ (l : List Begun). slice_get l holding) hears.begun ∙ get_left s.begun _ holding o.begun o.is
 
       by : IsNewsOf u (heard.Bytes holding o.request) told → IsOut u holding ⊎ (told ≡ news.Beginning holding o.request)
       by (inl t) = inr t.0

@@ -4,13 +4,14 @@ use Rattle.std.specs.Prelude.{slice_get, slice_index_or, All, AllPairs}
 use Rattle.std.proofs.lemmas.List.{get_or-take, length-append, length-take, take_more}
 use Rattle.std.proofs.lemmas.List.Elements.{Contains-append_left, Contains-append_right, Contains-push_cases}
 use Rattle.std.proofs.lemmas.Option.{slice_get_within}
+use Rattle.lemmas.proofs.Places.{get_last, get_push}
+use Rattle.lemmas.proofs.Options.{one_there}
 use Rattle.placement.proofs.Members.{Contains-head, Contains-nil}
 use Rattle.request_record.specs.declared.requests.Asked.{Asked}
 use Rattle.request_record.specs.declared.requests.Asked.TheVariants.{Reading}
 use Rattle.request_record.specs.Asking.{AreApart as AsksApart}
 use Rattle.request_record.specs.Record.{RequestsState, first_request}
 use Rattle.request_record.specs.declared.requests.Request.{Request}
-use Rattle.request_record.proofs.RecordLaws.{get_last, get_push}
 use Rattle.share_holdings.specs.Moves.{Asks, IsUnasked}
 use Rattle.share_holdings.specs.State.{HoldingsState, TableState}
 use Rattle.share_holdings.specs.Table.{IsHolding}
@@ -19,7 +20,7 @@ use Rattle.share_beginnings.specs.Known.{AreBegun}
 use Rattle.share_beginnings.specs.Reads.{IsReadAt}
 use Rattle.share_beginnings.specs.State.{BeginningsState}
 use Rattle.share_beginnings.proofs.Asking.{unasked_by}
-use Rattle.share_beginnings.proofs.Entries.{read_pushed, same_of}
+use Rattle.share_beginnings.proofs.Entries.{read_pushed}
 use Rattle.download_plan.specs.Laws.{AreApart}
 use Rattle.download_source.specs.declared.wanted.Wanted.{Wanted}
 use Rattle.download_file.specs.Asked.{IsOneOf}
@@ -162,7 +163,7 @@ module _ (holding : ℕ) (wanted : List Wanted) (s t : BeginningsState) (i : ℕ
         ]
       where
         same : a.0 ≡ h
-        same = same_of (slice_get s.holdings.table.holdings holding) a.0 h (sym (ap (λ (x : TableState). slice_get x.holdings holding) before.table) ∙ a.1) is
+        same = one_there (slice_get s.holdings.table.holdings holding) a.0 h (sym (ap (λ (x : TableState). slice_get x.holdings holding) before.table) ∙ a.1) is
 
   pub next_asked : (u : BeginningsState) → AreBegun u → Asks holding w.read.place w.read.length t.holdings u.holdings → u.begun ≡ t.begun → AsksParts holding (take (i + 1) wanted) s u
   next_asked u known a same = record {

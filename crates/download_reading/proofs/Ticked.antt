@@ -1,6 +1,7 @@
 -- A second passed while a file is read.
 use Rattle.std.proofs.Common.{◌≡◌, ℕ, ◌+◌, ◌⊎◌, inl, inr, true, List, Contains, max, Some, None, refl, sym, ap, subst, ◌∙◌, arith}
 use Rattle.std.specs.Prelude.{slice_get}
+use Rattle.lemmas.proofs.Options.{one_there}
 use Rattle.request_record.specs.declared.requests.Request.{Request}
 use Rattle.request_record.specs.Record.{RequestsState, is_lost_at, is_outstanding, ticked_one}
 use Rattle.request_record.specs.Asking.{lost_by_tick}
@@ -12,7 +13,7 @@ use Rattle.share_holdings.proofs.Ticking.{get_map, listed, ticked_cases}
 use Rattle.share_beginnings.specs.Known.{AreBegun}
 use Rattle.share_beginnings.specs.Reads.{IsAnsweredBy, IsOutAt, IsReadAt}
 use Rattle.share_beginnings.specs.State.{BeginningsState}
-use Rattle.share_beginnings.proofs.Entries.{read_grows, same_of}
+use Rattle.share_beginnings.proofs.Entries.{read_grows}
 use Rattle.share_beginnings.proofs.Ticking.{alike_ticked, grows_ticked, out_ticked, ticked_falls}
 use Rattle.download_file.specs.Answers.{IsRead}
 use Rattle.download_file.specs.State.{IsLive}
@@ -69,7 +70,7 @@ module _ (s u : BeginningsState) (r : ReadingState) (now : ℕ) (reading : AreRe
   moved : (reader : ℕ) (g : Holding) (w : Waiting) → IsReading u r reader g → IsAskedOf es g w → IsOutAt es w.place → IsOutAt ns w.place
   moved reader g w k a o =
       let h = read_back s u r reading.linked.kept follows reader g k in
-      let one : h.1.holding ≡ k.holding = same_of (slice_get r.holdings reader) h.1.holding k.holding h.1.of k.of in
+      let one : h.1.holding ≡ k.holding = one_there (slice_get r.holdings reader) h.1.holding k.holding h.1.of k.of in
       out_at k.holding h.0 g w.place w.wanted.read.place w.wanted.read.length (subst (λ x. IsHolding s.holdings.table x h.0) one h.1.is) k.is k.left
       (read_as es g h.0 w.place w.wanted.read.place w.wanted.read.length (sym h.2) (sym h.3) a.read) o
 

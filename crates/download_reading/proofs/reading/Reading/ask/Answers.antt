@@ -3,10 +3,10 @@ use Rattle.request_record.specs.Record.{RequestsState}
 use Rattle.share_holdings.specs.State.{HoldingsState}
 use Rattle.std.specs.Prelude.{All, AllPairs}
 use Rattle.std.proofs.lemmas.Option.{slice_get_within}
+use Rattle.lemmas.proofs.Results.{on_ok_then}
+use Rattle.lemmas.proofs.Places.{got}
 use Rattle.share_holdings.specs.Moves.{IsUnasked}
-use Rattle.share_holdings.proofs.Lists.{got}
 use Rattle.share_beginnings.proofs.Opened.{goes_none}
-use Rattle.share_beginnings.proofs.Results.{on_ok}
 use Rattle.download_source.specs.declared.wanted.Wanted.{Wanted}
 use Rattle.download_file.specs.State.{IsLive, placed, waiting_at}
 use Rattle.download_reading.specs.Reading.{AreLinked, AreReading, IsOf}
@@ -82,7 +82,7 @@ returns-clause-reading c =
     let k = c.in_ok-wanted.ensures in
     let before : AreReading bs r = subst (AreReading bs) (sym c.self.view_is) c.requires.reading in
     let place : length c.entries-place.result.now ≡ length bs.holdings.requests.entries = ap length (c.entries-place.ensures.value ∙ ap (λ (x : RequestsState). x.entries) (c.requests.ensures.value ∙ ap (λ (x : HoldingsState). x.requests) c.holdings.ensures)) in
-    on_ok c.ask_parts.result _ (AreReading t q) c.ask_parts.ensures.asks
+    on_ok_then c.ask_parts.result _ (AreReading t q) c.ask_parts.ensures.asks
     (λ done.
     let asks = subst (λ (l : List Wanted). steps.AsksParts c.index.result.now l bs t) c.deref.ensures.value done in
     record {
@@ -93,16 +93,16 @@ returns-clause-reading c =
     })
 
 pub returns-clause-asked_up : goal.returns-clause-asked_up
-returns-clause-asked_up c = on_ok c.ask_parts.result _ (IsAskedUp c.wanted.new.self c.args.reader) c.ask_parts.ensures.asks (λ done. c.in_ok-wanted.ensures.asked_up)
+returns-clause-asked_up c = on_ok_then c.ask_parts.result _ (IsAskedUp c.wanted.new.self c.args.reader) c.ask_parts.ensures.asks (λ done. c.in_ok-wanted.ensures.asked_up)
 
 pub returns-clause-others : goal.returns-clause-others
 returns-clause-others c =
-    on_ok c.ask_parts.result _ ((other : ℕ) → StaysAskedUp c.args.self.now.file c.wanted.new.self other) c.ask_parts.ensures.asks
+    on_ok_then c.ask_parts.result _ ((other : ℕ) → StaysAskedUp c.args.self.now.file c.wanted.new.self other) c.ask_parts.ensures.asks
     (λ done other. subst (λ (x : ReadingState). StaysAskedUp x.file c.wanted.new.self other) c.self.view_is (c.in_ok-wanted.ensures.others_asked_up other))
 
 pub returns-clause-table : goal.returns-clause-table
 returns-clause-table c =
-    on_ok c.ask_parts.result _ (c.ask_parts.new.beginnings.holdings.table ≡ c.args.beginnings.now.holdings.table) c.ask_parts.ensures.asks (λ done. done.table)
+    on_ok_then c.ask_parts.result _ (c.ask_parts.new.beginnings.holdings.table ≡ c.args.beginnings.now.holdings.table) c.ask_parts.ensures.asks (λ done. done.table)
 
 pub returns-clause-continues : goal.returns-clause-continues
 returns-clause-continues c =

@@ -2,11 +2,11 @@ use Rattle.std.proofs.Common.{◌≡◌, ◌∙◌, ℕ, List, [], ◌∷◌, �
 use Rattle.std.specs.Prelude.{option_map, slice_get}
 use Rattle.std.proofs.lemmas.Option.{get_or_from_slice_get, slice_get-map}
 use Rattle.std.proofs.lemmas.List.{length-append}
+use Rattle.lemmas.proofs.Options.{one_there}
 use Rattle.share_holdings.specs.State.{HoldingsState}
 use Rattle.share_holdings.specs.Table.{IsHolding, IsTable}
 use Rattle.share_holdings.specs.declared.holding.Holding.{Holding}
 use Rattle.share_beginnings.specs.State.{BeginningsState}
-use Rattle.share_beginnings.proofs.Entries.{same_of}
 use Rattle.share_beginnings.proofs.Opened.{goes_none}
 use Rattle.download_file.specs.Answers.{IsRead}
 use Rattle.download_file.specs.State.{CopyState, ReaderState, copies, copy, copy_of}
@@ -48,9 +48,9 @@ begin-requires-clause-unread c reader x alive is same =
     let h = c.requires.free.0 in
     let now = reading.live reader alive in
     let k = reading.kept.forth reader now.holding now.of in
-    let held : k.held ≡ now.held = same_of (slice_get bs.holdings.table.holdings now.holding) k.held now.held k.is now.is in
+    let held : k.held ≡ now.held = one_there (slice_get bs.holdings.table.holdings now.holding) k.held now.held k.is now.is in
     let at : slice_get (copies r.file) reader ≡ Some (copy_of x) = slice_get-map (λ (y : ReaderState). copy_of y) r.file.readers reader ∙ ap (λ o. option_map (λ (y : ReaderState). copy_of y) o) is in
-    let two : copy k.held.server k.held.share ≡ copy_of x = same_of (slice_get (copies r.file) reader) (copy k.held.server k.held.share) (copy_of x) k.reads at in
+    let two : copy k.held.server k.held.share ≡ copy_of x = one_there (slice_get (copies r.file) reader) (copy k.held.server k.held.share) (copy_of x) k.reads at in
     let one : k.held.share ≡ x.share = ap (λ (y : CopyState). y.share) two in
     free_not_taken bs.holdings.table now.holding now.held h c.requires.free.2
     (sym (share_of bs c.holdings.result.now c.holdings-2.result.now c.args.holding h c.holdings.ensures c.holdings-2.ensures.value c.requires.free.1) ∙ sym same ∙ sym one ∙ ap (λ (y : Holding). y.share) held) now.taken

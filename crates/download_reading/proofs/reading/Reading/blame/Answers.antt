@@ -4,9 +4,9 @@ use Rattle.download_reading.specs.Causes.{IsBlameOf}
 use Rattle.std.proofs.Common.{refl, ap, ◌≡◌, ℕ, ◌<◌, length, get_or, Some, None, sym, subst, arith}
 use Rattle.std.specs.Prelude.{slice_get}
 use Rattle.std.proofs.lemmas.Option.{slice_get_within}
-use Rattle.share_holdings.proofs.Lists.{got}
+use Rattle.lemmas.proofs.Places.{got}
+use Rattle.lemmas.proofs.Options.{one_there}
 use Rattle.share_beginnings.specs.State.{BeginningsState}
-use Rattle.share_beginnings.proofs.Entries.{same_of}
 use Rattle.download_file.specs.State.{IsLive}
 use Rattle.download_reading.specs.Reading.{AreLinked}
 use Rattle.download_reading.specs.State.{ReadingState}
@@ -21,7 +21,7 @@ use Rattle.download_reading.proofs.reading.Reading.blame.Goals as goal
 there : (bs : BeginningsState) (now r : ReadingState) (reader holding : ℕ) → r ≡ now → AreLinked bs now → IsLive now.file reader → holding ≡ get_or r.holdings reader holding → holding < length bs.holdings.table.holdings
 there bs now r reader holding e reading live index =
     let o : OwnHolding bs r reader = subst (λ (x : ReadingState). OwnHolding bs x reader) (sym e) (own_holding bs now reader reading.kept live) in
-    let one : o.holding ≡ holding = same_of (slice_get r.holdings reader) o.holding holding o.of (got r.holdings reader holding (slice_get_within r.holdings reader o.holding o.of) index) in
+    let one : o.holding ≡ holding = one_there (slice_get r.holdings reader) o.holding holding o.of (got r.holdings reader holding (slice_get_within r.holdings reader o.holding o.of) index) in
     slice_get_within bs.holdings.table.holdings holding o.held (subst (λ n. slice_get bs.holdings.table.holdings n ≡ Some o.held) one o.is)
 
 pub index-requires : goal.index-requires

@@ -2,11 +2,12 @@ use Rattle.std.proofs.Common.{◌∙◌, ap}
 use Rattle.share_beginnings.specs.Causes.{AddsBlames, IsBeginningFault}
 use Rattle.download_reading.specs.State.{ReadingState}
 use Rattle.std.proofs.Common.{refl, sym, subst}
+use Rattle.download_file.proofs.GrowLemmas.{same_itself}
 use Rattle.request_record.specs.Record.{RequestsState}
 use Rattle.download_file.specs.Answers.{IsRead}
 use Rattle.download_reading.specs.Steps.{Continues}
 use Rattle.download_reading.proofs.Compared.{awaited, compared_kept, compared_live, compared_told}
-use Rattle.download_reading.proofs.Ended.{adds_none, asks_none, continues_trans, file_none}
+use Rattle.download_reading.proofs.Ended.{adds_none, asks_none, continues_trans}
 use Rattle.download_reading.proofs.reading.Reading.compare.Goals as goal
 
 pub compare-requires-clause-awaits : goal.compare-requires-clause-awaits
@@ -15,7 +16,7 @@ compare-requires-clause-awaits c = awaited c.args.beginnings.now c.args.holding 
 pub returns-in_err-compare-clause-continues : goal.returns-in_err-compare-clause-continues
 returns-in_err-compare-clause-continues c = record {
   goes = c.in_err-compare.ensures.goes;
-  same = file_none c.args.self.now.file;
+  same = same_itself c.args.self.now.file;
   pieces = adds_none c.args.self.now.file.handout c.args.self.now.file.handout refl;
   answers = λ a. subst (λ (q : RequestsState). IsRead q.entries c.args.self.now.file) (sym c.in_err-compare.ensures.requests) a;
   reads = asks_none c.args.self.now.file c.args.beginnings.now c.compare.new.self c.in_err-compare.ensures.requests;
@@ -43,7 +44,7 @@ returns-clause-continues c =
     let t = c.compare.new.self in
     let first : Continues c.args.beginnings.now c.args.self.now t c.args.self.now = record {
       goes = k.goes;
-      same = file_none c.args.self.now.file;
+      same = same_itself c.args.self.now.file;
       pieces = adds_none c.args.self.now.file.handout c.args.self.now.file.handout refl;
       answers = λ a. subst (λ (q : RequestsState). IsRead q.entries c.args.self.now.file) (sym k.requests) a;
       reads = asks_none c.args.self.now.file c.args.beginnings.now t k.requests;

@@ -4,8 +4,8 @@ use Rattle.share_beginnings.specs.Causes.{AddsBlames}
 use Rattle.share_beginnings.proofs.Caused.{adds_as, adds_none}
 use Rattle.download_reading.specs.Causes.{IsBlockFault}
 use Rattle.download_reading.proofs.Causes.{alike_of, block_moved}
-use Rattle.download_reading.proofs.Ended.{file_trans}
 use Rattle.std.proofs.Common.{◌≡◌, ◌∙◌, ◌<◌, inl, inr, sym, subst, ap}
+use Rattle.download_file.proofs.RowFileLemmas.{same_two}
 use Rattle.share_holdings.specs.State.{TableState}
 use Rattle.download_segments.specs.NoCodeWord.{IsNoCodeWord}
 use Rattle.download_segments.specs.State.{HandoutState}
@@ -90,7 +90,7 @@ returns-clause-causes c =
     let t = c.ask_all.new.beginnings in
     let f = c.ask_all.new.self.file in
     let g = c.args.self.now.file in
-    let same = file_trans g c.begin_more.new.self.file f c.begin_more.ensures.continues.same c.ask_all.ensures.continues.same in
+    let same = same_two g c.begin_more.new.self.file f c.begin_more.ensures.continues.same c.ask_all.ensures.continues.same in
     subst (λ (l : List Blame). AddsBlames (IsBlockFault u.holdings.requests.entries g) l u.holdings.blamed) (c.ask_all.ensures.blamed ∙ c.begin_more.ensures.blamed)
     (adds_as (IsBlockFault u.holdings.requests.entries f) (IsBlockFault u.holdings.requests.entries g) t.holdings.blamed u.holdings.blamed
     (λ b k. block_moved u.holdings.requests.entries u.holdings.requests.entries g f b (λ i x e quiet. e) (alike_of g f same) k) c.make.ensures.causes)

@@ -2,11 +2,11 @@ use Rattle.std.proofs.Common.{◌≡◌, ◌∙◌, ℕ, ◌<◌, List, length, 
 use Rattle.std.specs.Prelude.{slice_get}
 use Rattle.std.proofs.lemmas.Bool.{false≢true}
 use Rattle.std.proofs.lemmas.Option.{get_or_from_slice_get, slice_get_within}
+use Rattle.lemmas.proofs.Places.{got}
+use Rattle.lemmas.proofs.Options.{one_there}
 use Rattle.share_holdings.specs.State.{HoldingsState}
 use Rattle.share_holdings.specs.declared.holding.Holding.{Holding}
-use Rattle.share_holdings.proofs.Lists.{got}
 use Rattle.share_beginnings.specs.State.{BeginningsState}
-use Rattle.share_beginnings.proofs.Entries.{same_of}
 use Rattle.download_file.specs.State.{IsLive}
 use Rattle.download_reading.specs.Reading.{AreKept, IsGone}
 use Rattle.download_reading.specs.State.{ReadingState}
@@ -32,7 +32,7 @@ index-requires c =
 module _ (bs : BeginningsState) (r : ReadingState) (hs : HoldingsState) (list : List Holding) (reader holding : ℕ) (o : OwnHolding bs r reader) (e : hs ≡ bs.holdings) (f : list ≡ hs.table.holdings)
     (index : holding ≡ get_or r.holdings reader holding) where
   pub holding_is : o.holding ≡ holding
-  holding_is = same_of (slice_get r.holdings reader) o.holding holding o.of (got r.holdings reader holding (slice_get_within r.holdings reader o.holding o.of) index)
+  holding_is = one_there (slice_get r.holdings reader) o.holding holding o.of (got r.holdings reader holding (slice_get_within r.holdings reader o.holding o.of) index)
 
   pub list_is : list ≡ bs.holdings.table.holdings
   list_is = f ∙ ap (λ (x : HoldingsState). x.table.holdings) e
@@ -80,8 +80,8 @@ returns-clause-left c e gone =
     let o = own c.args.beginnings.now c.args.self.now r c.args.reader c.self.view_is c.requires.kept c.requires.live in
     let left = left_is c.args.beginnings.now r c.holdings.result.now c.holdings-2.result.now c.args.reader c.index.result.now o c.holdings.ensures c.holdings-2.ensures.value c.index.ensures in
     let g : IsGone c.args.beginnings.now r c.args.reader = subst (λ (x : ReadingState). IsGone c.args.beginnings.now x c.args.reader) (sym c.self.view_is) gone in
-    let one : g.holding ≡ o.holding = same_of (slice_get r.holdings c.args.reader) g.holding o.holding g.of o.of in
-    let held : g.held ≡ o.held = same_of (slice_get c.args.beginnings.now.holdings.table.holdings g.holding) g.held o.held g.is (ap (slice_get c.args.beginnings.now.holdings.table.holdings) one ∙ o.is) in
+    let one : g.holding ≡ o.holding = one_there (slice_get r.holdings c.args.reader) g.holding o.holding g.of o.of in
+    let held : g.held ≡ o.held = one_there (slice_get c.args.beginnings.now.holdings.table.holdings g.holding) g.held o.held g.is (ap (slice_get c.args.beginnings.now.holdings.table.holdings) one ∙ o.is) in
     clash (get_or c.holdings-2.result.now c.index.result.now nobody).left e (left ∙ ap (λ (x : Holding). x.left) (sym held) ∙ g.gone)
   where
     clash : (b : Bool) → not b ≡ false → b ≡ false → ⊥

@@ -3,12 +3,12 @@ use Rattle.download_reading.specs.Causes.{IsPartFault}
 use Rattle.std.proofs.Common.{◌≡◌, ◌∙◌, ℕ, ◌<◌, List, length, get_or, refl, Option, Some, None, false, true≢false, sym, subst, ap, arith}
 use Rattle.std.specs.Prelude.{slice_get}
 use Rattle.std.proofs.lemmas.Option.{get_or_from_slice_get, slice_get_within}
+use Rattle.lemmas.proofs.Options.{one_there}
 use Rattle.share_holdings.specs.State.{HoldingsState}
 use Rattle.share_holdings.specs.Table.{IsHolding}
 use Rattle.share_holdings.specs.declared.holding.Holding.{Holding}
 use Rattle.share_beginnings.specs.State.{BeginningsState, IsBegun}
 use Rattle.share_beginnings.specs.declared.begun.Begun.{Begun}
-use Rattle.share_beginnings.proofs.Entries.{same_of}
 use Rattle.download_reading.specs.Reading.{AreAwaited}
 use Rattle.download_reading.specs.State.{ReadingState}
 use Rattle.download_reading.specs.Steps.{IsTold}
@@ -81,8 +81,8 @@ returns-else-holdings-holding-clause-reading c =
       linked = told.linked;
       awaits = awaits_last bs r c.in-Some.reader (subst (λ o. AreAwaited o bs r) e told.awaits)
           (λ place g k first. (
-          let one : k.holding ≡ c.args.holding = same_of (slice_get r.holdings c.in-Some.reader) k.holding c.args.holding k.of (told.linked.kept.back c.args.holding c.in-Some.reader told.begun told.there e) in
-          let same : g ≡ h.0 = same_of (slice_get bs.holdings.table.holdings c.args.holding) g h.0 (subst (λ x. IsHolding bs.holdings.table x g) one k.is) h.1 in
+          let one : k.holding ≡ c.args.holding = one_there (slice_get r.holdings c.in-Some.reader) k.holding c.args.holding k.of (told.linked.kept.back c.args.holding c.in-Some.reader told.begun told.there e) in
+          let same : g ≡ h.0 = one_there (slice_get bs.holdings.table.holdings c.args.holding) g h.0 (subst (λ x. IsHolding bs.holdings.table x g) one k.is) h.1 in
           absurd (true≢false (sym k.left ∙ ap (λ (x : Holding). x.left) same ∙ gone))));
       busy = told.busy;
     }

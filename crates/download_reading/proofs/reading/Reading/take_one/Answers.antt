@@ -5,11 +5,11 @@ use Rattle.download_reading.specs.Causes.{IsBlameOf, IsPartFault}
 use Rattle.download_reading.proofs.Causes.{answers_first, part_fault}
 use Rattle.std.proofs.Common.{◌≡◌, ◌∙◌, ℕ, List, [], Contains, Some, None, refl, sym, subst, ap}
 use Rattle.std.proofs.lemmas.List.{append-nil}
+use Rattle.lemmas.proofs.Options.{one_there}
 use Rattle.request_record.specs.Record.{RequestsState}
 use Rattle.share_holdings.specs.State.{HoldingsState}
 use Rattle.share_beginnings.specs.Reads.{IsAnsweredBy}
 use Rattle.share_beginnings.specs.State.{BeginningsState}
-use Rattle.share_beginnings.proofs.Entries.{same_of}
 use Rattle.share_beginnings.proofs.Opened.{goes_none}
 use Rattle.download_segments.specs.State.{HandoutState}
 use Rattle.download_file.specs.Answers.{AnswersFirst}
@@ -44,7 +44,7 @@ returns-in_default-clause-last c e =
       awaits = awaits_last bs r c.args.reader before.awaits (λ place h k first.
           unanswered bs r (Some c.args.reader) c.args.reader place h before.awaits k first
           (λ bytes a. c.in_default.ensures.none bytes
-          (subst (λ p. IsAnsweredBy c.requests.result.now.entries p bytes) (same_of (first_waiting r.file c.args.reader) place c.args.place first c.requires.waits)
+          (subst (λ p. IsAnsweredBy c.requests.result.now.entries p bytes) (one_there (first_waiting r.file c.args.reader) place c.args.place first c.requires.waits)
           (subst (λ (q : RequestsState). IsAnsweredBy q.entries place bytes) (sym (c.requests.ensures.value ∙ ap (λ (x : HoldingsState). x.requests) c.holdings.ensures)) a))));
       busy = before.busy;
     }
