@@ -9,7 +9,6 @@ use Rattle.proved_parts.specs.declared.evidence.EvidencePart.{EvidencePart}
 use Rattle.wire.specs.declared.message.Body.TheVariants.{Data}
 use Rattle.request_record.specs.declared.requests.Outcome.TheVariants.{Answered}
 use Rattle.share_beginnings.specs.Reads.{IsAnsweredBy}
-use Rattle.share_beginnings.proofs.Entries.{same_of}
 use Rattle.download_file.specs.Answers.{IsMadeSegment}
 use Rattle.download_file.specs.Right.{made_end}
 use Rattle.download_file.specs.State.{FileState}
@@ -25,6 +24,7 @@ use Rattle.download_core.specs.Steps.{IsComplete, entries_of, found_of}
 use Rattle.std.specs.Int.{div_ceil}
 use Rattle.std.specs.Prelude.{nat_lt, unwrap_or}
 use Rattle.std.proofs.lemmas.Bool.{ltb-true}
+use Rattle.lemmas.proofs.Options.{one_there}
 use Rattle.proved_parts.specs.declared.evidence.Evidence.{Evidence}
 use Rattle.download_core.specs.Evidence.{HasAllParts, IsEvidenceOf}
 use Rattle.share_layout.specs.Geometry.{segment_count}
@@ -37,7 +37,7 @@ head_answers h = record { request = h.request; there = h.there; answer = h.answe
 -- the answer at the place is the extension block
 same_text : (cap : VerifyCapValue) (entries : List Request) (place : ℕ) (u : Contents) (h : IsHead cap entries place u) (text : List ℕ) → IsAnsweredBy entries place text → h.text ≡ text
 same_text cap entries place u h text a =
-    let one : h.request ≡ a.request = same_of (slice_get entries place) h.request a.request h.there a.there in
+    let one : h.request ≡ a.request = one_there (slice_get entries place) h.request a.request h.there a.there in
     let two : Answered (Data h.text) ≡ Answered (Data text) = sym h.answer ∙ ap (λ (r : Request). r.outcome) one ∙ a.answer in
     cc
 

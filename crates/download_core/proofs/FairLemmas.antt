@@ -3,6 +3,7 @@ use Rattle.std.proofs.Common.{◌≡◌, ℕ, ◌<◌, inl, inr, List, length, O
 use Rattle.std.specs.Prelude.{slice_get, slice_index_or}
 use Rattle.std.proofs.lemmas.Bool.{cases_lt}
 use Rattle.std.proofs.lemmas.Option.{slice_get-get_or}
+use Rattle.lemmas.proofs.Options.{one_there}
 use Rattle.cap_text.specs.Cap.{VerifyCapValue}
 use Rattle.request_record.specs.declared.requests.Asked.TheVariants.{Reading}
 use Rattle.request_record.specs.declared.requests.Request.{Request}
@@ -16,7 +17,6 @@ use Rattle.share_beginnings.specs.Moves.{GoesOn}
 use Rattle.share_beginnings.specs.Reads.{AddsReads, IsInBeginning}
 use Rattle.share_beginnings.specs.State.{BeginningsState}
 use Rattle.share_beginnings.proofs.Caused.{adds_as, beginning_stays, fault_stays, opening_fault_stays, reads_none}
-use Rattle.share_beginnings.proofs.Entries.{same_of}
 use Rattle.download_plan.specs.Plan.{IsPlanned}
 use Rattle.download_file.specs.Asked.{IsPlannedRead}
 use Rattle.download_file.specs.State.{FileState}
@@ -76,7 +76,7 @@ fair_grows cap s t f goes blames reads k = record {
         let es = s.holdings.requests.entries in
         let old = slice_index_or es place r in
         let was : slice_get es place ≡ Some old = slice_get-get_or es place r lt in
-        let same : old ≡ r = same_of (slice_get t.holdings.requests.entries place) old r (goes_stays s t goes place old was) there in
+        let same : old ≡ r = one_there (slice_get t.holdings.requests.entries place) old r (goes_stays s t goes place old was) there in
         may_stay es t.holdings.requests.entries f r.server share offset len stays (k.reads place r share offset len (was ∙ ap Some same) asked)
 
 -- shares are opened

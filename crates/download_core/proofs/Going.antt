@@ -4,6 +4,7 @@ use Rattle.std.specs.Prelude.{slice_get, slice_index_or}
 use Rattle.std.proofs.lemmas.Bool.{cases_lt}
 use Rattle.std.proofs.lemmas.Option.{slice_get-get_or, slice_get_within}
 use Rattle.std.proofs.lemmas.List.{append-nil, append_assoc}
+use Rattle.download_file.proofs.RowFileLemmas.{same_two}
 use Rattle.cap_text.specs.Cap.{ReadCapValue, VerifyCapValue, verify_cap_of}
 use Rattle.ueb.specs.Shape.{Contents}
 use Rattle.share_layout.specs.Geometry.{Geometry}
@@ -27,14 +28,13 @@ use Rattle.share_opening.specs.declared.block.Opened.{Opened}
 use Rattle.download_file.specs.Answers as file
 use Rattle.download_file.specs.Answers.{IsRead}
 use Rattle.download_file.specs.State.{FileState, new_file}
-use Rattle.download_file.proofs.GrowLemmas.{given_keep}
+use Rattle.download_file.proofs.GrowLemmas.{given_keep, same_itself}
 use Rattle.download_reading.specs.Reading.{AreReading}
 use Rattle.download_reading.specs.State.{ReadingState}
 use Rattle.download_reading.specs.Steps.{AddsPieces, Continues}
 use Rattle.download_file.specs.Asked.{IsPlannedRead}
 use Rattle.download_reading.proofs.Awaited.{goes_stays}
 use Rattle.download_reading.proofs.Causes.{alike_back, alike_of}
-use Rattle.download_reading.proofs.Ended.{file_none, file_trans}
 use Rattle.download_core.specs.declared.machine.FoundFile.{FoundFile}
 use Rattle.download_core.specs.declared.machine.Machine.{Machine}
 use Rattle.download_core.specs.declared.status.DownloadStatus.{DownloadStatus}
@@ -66,7 +66,7 @@ pieces_trans x y z first second = record {
 
 pub grows_none : (from : ℕ) (f : Option FoundFile) → FoundGrows from f f
 grows_none from None = tt
-grows_none from (Some f) = record { place = refl; same = file_none f.reading.file; pieces = pieces_none f.reading.file.handout }
+grows_none from (Some f) = record { place = refl; same = same_itself f.reading.file; pieces = pieces_none f.reading.file.handout }
 
 pub grows_trans : (from : ℕ) (x y z : Option FoundFile) → FoundGrows from x y → FoundGrows from y z → FoundGrows from x z
 grows_trans from None None None first second = tt
@@ -77,7 +77,7 @@ grows_trans from (Some a) None z first second = absurd first
 grows_trans from (Some a) (Some b) None first second = absurd second
 grows_trans from (Some a) (Some b) (Some c) first second = record {
   place = second.place ∙ first.place;
-  same = file_trans a.reading.file b.reading.file c.reading.file first.same second.same;
+  same = same_two a.reading.file b.reading.file c.reading.file first.same second.same;
   pieces = pieces_trans a.reading.file.handout b.reading.file.handout c.reading.file.handout first.pieces second.pieces;
 }
 

@@ -1,19 +1,14 @@
 -- What a message or a second brings to a download that runs.
-use Rattle.std.proofs.Common.{◌≡◌, ℕ, inl, inr, false, Option, Some, None, refl, sym, subst, ◌∙◌, arith}
-use Rattle.std.specs.Prelude.{slice_index_or}
-use Rattle.std.proofs.lemmas.Option.{slice_get-get_or, slice_get_within}
+use Rattle.std.proofs.Common.{◌≡◌, ℕ, inl, inr, Option, Some, None, sym, subst, ◌∙◌}
+use Rattle.download_reading.proofs.Compared.{awaited}
 use Rattle.wire.specs.declared.message.Message.{Message}
-use Rattle.share_opening.specs.declared.opening.Opening.{Opening}
 use Rattle.share_holdings.specs.Moves.{Ticks}
-use Rattle.share_holdings.specs.Table.{IsHolding}
-use Rattle.share_holdings.specs.declared.holding.Holding.{Holding}
 use Rattle.share_holdings.specs.declared.holdings.Heard.{Heard}
 use Rattle.share_holdings.specs.declared.holdings.Heard.TheVariants as heard
-use Rattle.share_beginnings.specs.Known.{AreBegun, IsNextAt}
-use Rattle.share_beginnings.specs.Moves.{Awaits, BringsBytes, HearsNews, IsNewsOf, WaitsAt}
+use Rattle.share_beginnings.specs.Known.{AreBegun}
+use Rattle.share_beginnings.specs.Moves.{BringsBytes, HearsNews, IsNewsOf, WaitsAt}
 use Rattle.share_beginnings.specs.Opening.{AreOpening, IsToldOf, nobody}
-use Rattle.share_beginnings.specs.State.{BeginningsState, IsBegun}
-use Rattle.share_beginnings.specs.declared.begun.Begun.{Begun}
+use Rattle.share_beginnings.specs.State.{BeginningsState}
 use Rattle.share_beginnings.specs.declared.beginnings.News.{News}
 use Rattle.share_beginnings.specs.declared.beginnings.News.TheVariants as news
 use Rattle.share_beginnings.proofs.Hearing.{becomes}
@@ -23,20 +18,6 @@ use Rattle.download_core.specs.Steps.{AwaitsNews, HasNews, HasPassed, HearsOf, I
 use Rattle.download_core.proofs.Records.{GoesFrom, file_stays}
 
 -- ---- the opening that waits for the answer
-
-held_of : (s : BeginningsState) (holding : ℕ) (b : Begun) → AreBegun s → IsBegun s holding b → (h : Holding) × IsHolding s.holdings.table holding h
-held_of s holding b known there =
-    let none : Holding = record { server = 0; share = 0; left = false; suspended = false } in
-    (slice_index_or s.holdings.table.holdings holding none, slice_get-get_or s.holdings.table.holdings holding none (let w = slice_get_within s.begun holding b there in let c = known.counted in omega (arith, w, c)))
-
-awaits_at : (s : BeginningsState) (holding place : ℕ) → AreBegun s → WaitsAt s holding place → (o : Opening) × Awaits s holding place o
-awaits_at s holding place known w =
-    let h = held_of s holding w.0 known w.1 in
-    by h.0 h.1 w.0.opening refl ((known.each holding h.0 w.0 h.1 w.1).waits place w.2)
-  where
-    by : (h : Holding) → IsHolding s.holdings.table holding h → (opening : Option Opening) → w.0.opening ≡ opening → IsNextAt s.holdings.requests.entries h opening place → (o : Opening) × Awaits s holding place o
-    by h is None e next = absurd next
-    by h is (Some o) e next = (o, record { held = h; is = is; begun = w.0; there = w.1; of_opening = e; waiting = w.2 })
 
 waits_of : (s : BeginningsState) (what : Heard) (holding place : ℕ) → IsNewsOf s what (news.Beginning holding place) → WaitsAt s holding place
 waits_of s heard.Nothing holding place e = absurd cc
@@ -53,7 +34,7 @@ awaits_news : (s : BeginningsState) (what : Heard) (told : News) → AreBegun s 
 awaits_news s what news.Nothing known tells = tt
 awaits_news s what (news.Gone holding) known tells = tt
 awaits_news s what (news.Bytes holding place) known tells = tt
-awaits_news s what (news.Beginning holding place) known tells = awaits_at s holding place known (waits_of s what holding place tells)
+awaits_news s what (news.Beginning holding place) known tells = awaited s holding place known (waits_of s what holding place tells)
 
 -- ---- a message
 

@@ -1,33 +1,26 @@
 -- Each piece that a download gave is a slice of a part of its evidence.
-use Rattle.std.proofs.Common.{◌≡◌, ℕ, ◌+◌, ◌-◌, ◌<◌, ◌≤◌, inl, inr, Contains, List, [], ◌∷◌, map, Option, Some, subst, sym, ◌∙◌, arith}
+use Rattle.std.proofs.Common.{◌≡◌, ℕ, ◌-◌, inl, inr, Contains, List, [], ◌∷◌, map, Option, Some, subst, sym, arith}
 use Rattle.std.specs.List.{range_with_len}
 use Rattle.std.proofs.lemmas.List.Elements.{All-contains}
-use Rattle.std.proofs.lemmas.List.FromFn.{get_or-range_with_len, length-range_with_len}
+use Rattle.lemmas.proofs.Members.{contains_head, contains_tail, contains_cases, contains_none}
+use Rattle.lemmas.proofs.Ranges.{range_has}
 use Rattle.cap_text.specs.Cap.{verify_cap_of}
 use Rattle.proved_parts.specs.declared.evidence.EvidencePart.{EvidencePart}
 use Rattle.download_segments.specs.Pieces.{IsSlice}
 use Rattle.download_file.specs.Answers.{IsMadeSegment}
 use Rattle.download_file.specs.Right.{made_end}
 use Rattle.download_file.proofs.EvidenceLemmas.{groups_within}
-use Rattle.download_file.proofs.ListLemmas.{first_in, more_in}
-use Rattle.download_file.proofs.LiveLemmas.{cons_cases, none_in}
 use Rattle.download_file.proofs.WholeLemmas.{made_once}
 use Rattle.download_core.specs.Evidence.{IsEvidenceOf, ProvesMade}
 use Rattle.download_core.specs.Proving.{EvidenceIsOfTheGiven}
 use Rattle.download_core.specs.State.{Found}
 use Rattle.download_core.proofs.HashedLemmas.{file_of, right_of}
 
-number_in : (a n k : ℕ) → a ≤ k → k < a + n → Contains (range_with_len a n) k
-number_in a n k from before =
-    let low : k - a < n = omega (arith, from, before) in
-    let is : a + (k - a) ≡ k = omega (arith, from) in
-    (k - a, subst (λ (m : ℕ). k - a < m) (sym (length-range_with_len a n)) low, get_or-range_with_len a n (k - a) k low ∙ is)
-
 mapped_in : {X : Type 0} (f : X → ℕ) (xs : List X) (n : ℕ) → Contains (map f xs) n → (x : X) × Contains xs x × (f x ≡ n)
-mapped_in f [] n among = absurd (none_in n among)
-mapped_in f (x ∷ xs) n among = elim (cons_cases (f x) n (map f xs) among) [
-  | inl is ↦ (x, first_in x xs, is)
-  | inr more ↦ let y = mapped_in f xs n more in (y.0, more_in x y.0 xs y.1, y.2)
+mapped_in f [] n among = absurd (contains_none n among)
+mapped_in f (x ∷ xs) n among = elim (contains_cases (f x) n (map f xs) among) [
+  | inl is ↦ (x, contains_head x xs, is)
+  | inr more ↦ let y = mapped_in f xs n more in (y.0, contains_tail x y.0 xs y.1, y.2)
 ]
 
 pub evidence_is_of_the_given : EvidenceIsOfTheGiven
@@ -44,7 +37,7 @@ evidence_is_of_the_given d e p right evidence g =
     let from = m.from in
     let before = m.before in
     let there : Contains (range_with_len f.file.first (made_end f.file - f.file.first)) number =
-    number_in f.file.first (made_end f.file - f.file.first) number (omega (arith, begins, from)) (omega (arith, upto, begins, from, before)) in
+    range_has f.file.first (made_end f.file - f.file.first) number (omega (arith, begins, from)) (omega (arith, upto, begins, from, before)) in
     let found = mapped_in (λ (q : EvidencePart). q.number) e.parts number (subst (λ (l : List ℕ). Contains l number) (sym made.parts) there) in
     let part : EvidencePart = found.0 in
     let own : IsMadeSegment entries f.file part.number part.segment =

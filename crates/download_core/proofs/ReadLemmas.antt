@@ -3,6 +3,7 @@ use Rattle.std.proofs.Common.{◌≡◌, ℕ, ◌+◌, ◌-◌, ◌<◌, ◌≤�
 use Rattle.std.specs.Prelude.{slice_get, slice_index_or}
 use Rattle.std.proofs.lemmas.Bool.{cases_lt}
 use Rattle.std.proofs.lemmas.Option.{slice_get-get_or, slice_get_within}
+use Rattle.lemmas.proofs.Options.{one_there}
 use Rattle.share_layout.specs.Geometry.{Geometry}
 use Rattle.download_plan.specs.Plan.{IsPlanned}
 use Rattle.download_plan.specs.declared.part.Part.{Part}
@@ -23,7 +24,6 @@ use Rattle.share_beginnings.specs.Opening.{nobody}
 use Rattle.share_beginnings.specs.Reads.{IsBeginning, IsInBeginning, IsReadAt, brought_of}
 use Rattle.share_beginnings.specs.State.{BeginningsState, IsBegun, unbegun}
 use Rattle.share_beginnings.specs.declared.begun.Begun.{Begun}
-use Rattle.share_beginnings.proofs.Entries.{same_of}
 use Rattle.download_file.specs.Asked.{HasAsked, IsPlannedRead}
 use Rattle.download_file.specs.Right.{IsFile}
 use Rattle.download_file.specs.State.{FileState}
@@ -70,7 +70,7 @@ asked_of s right place r there = elim (cases_lt place s.servers) [
         let own : slice_get s.owners (place - s.servers) ≡ Some (slice_index_or s.owners (place - s.servers) 0) = slice_get-get_or s.owners (place - s.servers) 0 (omega (arith, le, w, c)) in
         let o = right.owned (place - s.servers) (slice_index_or s.owners (place - s.servers) 0) own in
         let at : s.servers + (place - s.servers) ≡ place = omega (arith, le) in
-        let same : o.request ≡ r = same_of (slice_get s.requests.entries place) o.request r (ap (slice_get s.requests.entries) (sym at) ∙ o.there) there in
+        let same : o.request ≡ r = one_there (slice_get s.requests.entries place) o.request r (ap (slice_get s.requests.entries) (sym at) ∙ o.there) there in
         record {
           holding = slice_index_or s.owners (place - s.servers) 0;
           held = o.held;
@@ -194,7 +194,7 @@ asks_or_reads s k place r there = elim (cases_lt place s.servers) [
   where
     by : (holding : ℕ) → IsOwned s place holding → IsReadOfOffered s.requests.entries r
     by holding o =
-        let same : o.request ≡ r = same_of (slice_get s.requests.entries place) o.request r o.there there in
+        let same : o.request ≡ r = one_there (slice_get s.requests.entries place) o.request r o.there there in
         record {
           share = o.held.share;
           offset = o.read.offset;

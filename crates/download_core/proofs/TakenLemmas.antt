@@ -1,5 +1,6 @@
 -- A request is sent, or a piece is taken.
 use Rattle.std.proofs.Common.{◌≡◌, ℕ, ◌/◌, inl, inr, List, Option, Some, None, refl, sym, ap, subst, ◌∙◌, arith, Contains, length, ◌+◌}
+use Rattle.lemmas.proofs.Members.{contains_tail}
 use Rattle.ueb.specs.Shape.{Contents}
 use Rattle.download_file.specs.State.{FileState}
 use Rattle.cap_text.specs.Cap.{verify_cap_of}
@@ -8,7 +9,6 @@ use Rattle.share_layout.specs.Geometry.{Geometry}
 use Rattle.download_segments.specs.NoCodeWord.{IsNoCodeWord}
 use Rattle.download_reading.specs.Reading.{AreReading}
 use Rattle.download_reading.specs.State.{ReadingState}
-use Rattle.download_file.proofs.ListLemmas.{more_in}
 use Rattle.download_core.proofs.HashedLemmas.{handed_given}
 use Rattle.download_core.specs.declared.machine.FoundFile.{FoundFile}
 use Rattle.download_core.specs.declared.machine.Machine.{Machine}
@@ -76,7 +76,7 @@ reads_taken f h (Some p) t =
           let o = k.made group number has from before in
           record { held = o.held; segment = o.segment; decodes = o.decodes; proved = record { size = o.proved.size; known = o.proved.known } });
       ready = λ q among. handed_given es h.ready (p.place + length p.bytes) (record { place = 0; file = f }) q
-          (k.ready q (subst (λ (l : List Piece). Contains l q) (sym t.0) (more_in p q h.ready among)));
+          (k.ready q (subst (λ (l : List Piece). Contains l q) (sym t.0) (contains_tail p q h.ready among)));
     })
 
 module _ (m : Machine) (f : FoundFile) (r : ReadingState) (p : Option Piece) (status : DownloadStatus) (is : m.found ≡ Some f) (takes : TakesPiece f.reading.file.handout p r.file.handout)

@@ -1,5 +1,5 @@
 use Rattle.std.proofs.Common.{◌≡◌, IfOk, subst}
-use Rattle.share_beginnings.proofs.Results.{if_ok_then}
+use Rattle.lemmas.proofs.Results.{if_ok_then}
 use Rattle.download_core.specs.declared.status.DownloadStatus.TheVariants.{Done}
 use Rattle.download_core.specs.Evidence.{HasAllParts}
 use Rattle.download_core.specs.State.{DownloadState}

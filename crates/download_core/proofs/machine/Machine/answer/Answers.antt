@@ -1,10 +1,10 @@
 use Rattle.std.proofs.Common.{◌∙◌, ℕ, inl, List, sym, true≢false}
+use Rattle.lemmas.proofs.Results.{if_ok_then}
 use Rattle.request_record.specs.Record.{RequestsState}
 use Rattle.request_record.specs.Asking.{after_message}
 use Rattle.download_core.specs.declared.status.DownloadStatus.TheVariants.{Failed}
 use Rattle.download_core.specs.Moves.{GoesOn}
 use Rattle.download_core.specs.Steps.{EndsAs, IsKept, state_of}
-use Rattle.share_beginnings.proofs.Results.{if_ok_then}
 use Rattle.download_core.proofs.EndLemmas.{fair_still, kept_ends, kept_fails, kept_still}
 use Rattle.download_core.proofs.Results.{if_any, on_any}
 use Rattle.download_core.proofs.Going.{goes_on, moves_none, moves_trans, stands_still}

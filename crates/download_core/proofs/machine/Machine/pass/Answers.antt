@@ -1,11 +1,11 @@
 use Rattle.std.proofs.Common.{◌≡◌, ◌∙◌, ℕ, inl, inr, List, ap, sym, true≢false}
+use Rattle.lemmas.proofs.Results.{if_ok_then}
 use Rattle.request_record.specs.Record.{RequestsState, asked_all}
 use Rattle.request_record.specs.Asking.{after_tick}
 use Rattle.share_beginnings.specs.State.{BeginningsState}
 use Rattle.download_core.specs.declared.status.DownloadStatus.TheVariants.{Failed}
 use Rattle.download_core.specs.Moves.{GoesOn, StopsAt}
 use Rattle.download_core.specs.Steps.{entries_of, EndsAs, found_of, IsKept, state_of}
-use Rattle.share_beginnings.proofs.Results.{if_ok_then}
 use Rattle.download_core.proofs.EndLemmas.{fair_still, kept_ends, kept_fails, kept_still}
 use Rattle.download_core.proofs.Results.{if_any, on_any}
 use Rattle.download_core.proofs.Going.{goes_on, moves_none, moves_trans, plans_from, plans_none, same_on, stands_still}

@@ -1,7 +1,7 @@
 use Rattle.std.proofs.Common.{Some, subst}
+use Rattle.lemmas.proofs.Results.{on_ok_then}
 use Rattle.cap_text.specs.Cap.{VerifyCapValue, verify_cap_of}
 use Rattle.share_beginnings.specs.Causes.{AddsBlames}
-use Rattle.share_beginnings.proofs.Results.{on_ok}
 use Rattle.download_reading.specs.Causes.{HasCause}
 use Rattle.download_core.specs.Causes.{IsCause}
 use Rattle.download_core.specs.Steps.{entries_of, found_of}
@@ -21,7 +21,7 @@ caused c =
 pub returns-in-Some-clause-way : goal.returns-in-Some-clause-way
 returns-in-Some-clause-way c =
     let m = c.args.self.now in
-    on_ok c.hear.result _ _ c.hear.ensures.reading (λ reading. read_on m c.in-Some.found c.hear.new.beginnings c.hear.new.self c.in-Some.is c.requires.wanted c.requires.file c.hear.ensures.continues (caused (goal.at.returns-in-Some-clause-way c).After-hear) reading)
+    on_ok_then c.hear.result _ _ c.hear.ensures.reading (λ reading. read_on m c.in-Some.found c.hear.new.beginnings c.hear.new.self c.in-Some.is c.requires.wanted c.requires.file c.hear.ensures.continues (caused (goal.at.returns-in-Some-clause-way c).After-hear) reading)
 
 pub returns-in-Some-clause-moves : goal.returns-in-Some-clause-moves
 returns-in-Some-clause-moves c =
