@@ -3,14 +3,11 @@ use Rattle.std.proofs.Common.{◌≡◌, ℕ, zero, suc, ◌+◌, ◌*◌, ◌<�
 use Rattle.std.proofs.Math.Nat.{suc-mul}
 use Rattle.std.proofs.lemmas.List.{drop-drop, length-drop, length-take}
 use Rattle.std.proofs.lemmas.List.Elements.{All-cons, All-nil, All-weaker}
+use Rattle.proved_parts.proofs.Files.{length-pieces}
 use Rattle.zfec_code.specs.Shares.{HaveSize}
 use Rattle.zfec_code.proofs.ShareBlocks.{primaries_unique}
 use Rattle.share_layout.specs.Pieces.{pieces, segment_length}
 use Rattle.download_segments.specs.Laws.{SegmentsAreUnique}
-
-pub length-pieces : (n size : ℕ) (text : List ℕ) → length (pieces n size text) ≡ n
-length-pieces zero size text = refl
-length-pieces (suc n) size text = ap suc (length-pieces n size (drop size text))
 
 -- one more block
 pub pieces_more : (n size : ℕ) (text : List ℕ) → pieces (suc n) size text ≡ pieces n size text ++ take size (drop (n * size) text) ∷ []

@@ -1,12 +1,13 @@
 -- Pieces for which all that is hashed is of a kind without a clash.
-use Rattle.std.proofs.Common.{◌≡◌, ◌⊎◌, ℕ, List, ◌∷◌, ◌++◌, inl, inr, Some, Contains, subst}
+use Rattle.std.proofs.Common.{◌≡◌, ℕ, List, ◌∷◌, ◌++◌, inl, inr, Some, Contains, subst}
 use Rattle.std.specs.Prelude.{slice_get}
 use Rattle.std.proofs.lemmas.List.Elements.{Contains-append_cases, Contains-append_left, Contains-append_right}
+use Rattle.lemmas.proofs.Members.{contains_cases}
 use Rattle.tagged_hash.specs.Clash.{HasNoClashIn}
 use Rattle.tagged_hash.specs.TaggedHash.{tagged_input}
 use Rattle.tagged_hash.specs.declared.tag.Tag.TheVariants.{ExtensionBlock}
 use Rattle.tagged_hash.proofs.ClashLemmas.{no_clash_of}
-use Rattle.merkle.proofs.InputLemmas.{member_cases, member_here, member_there}
+use Rattle.merkle.proofs.InputLemmas.{member_here, member_there}
 use Rattle.cap_text.specs.Cap.{ReadCapValue}
 use Rattle.ueb.specs.Shape.{Contents}
 use Rattle.share_layout.specs.Pieces.{segments_of}
@@ -32,7 +33,7 @@ module _ (P : List ℕ → Type 0) (cap : ReadCapValue) (block : List ℕ) (u : 
   hashed_for = tagged_input ExtensionBlock block ∷ segment_inputs f.given.number f.given.segment f.given.siblings
 
   pub hashed_are : (input : List ℕ) → Contains hashed_for input → P input
-  hashed_are input among = elim (member_cases (tagged_input ExtensionBlock block) input (segment_inputs f.given.number f.given.segment f.given.siblings) among) [
+  hashed_are input among = elim (contains_cases (tagged_input ExtensionBlock block) input (segment_inputs f.given.number f.given.segment f.given.siblings) among) [
     | inl is ↦ subst P is f.block_hashed
     | inr rest ↦ f.segment_hashed input rest
   ]
@@ -72,7 +73,7 @@ file_agrees_in P none cap block other u v ciphertext file p whole hashed own f =
     pieces_of_file (these ++ those)
     (no_clash_of P (these ++ those) none (λ input among. elim (Contains-append_cases these those input among) [
       | inl here ↦ hashed_are P cap other v p f input here
-      | inr there ↦ elim (member_cases (tagged_input ExtensionBlock block) input tree there) [
+      | inr there ↦ elim (contains_cases (tagged_input ExtensionBlock block) input tree there) [
         | inl is ↦ subst P is hashed
         | inr rest ↦ own input rest
       ]

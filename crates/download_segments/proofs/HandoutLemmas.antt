@@ -6,6 +6,7 @@ use Rattle.std.proofs.Math.Nat.{add-mul, mod-lt, mul-div_cancel}
 use Rattle.std.proofs.lemmas.List.{length-drop, length-take}
 use Rattle.std.proofs.lemmas.List.Elements.{All-push, All-tail}
 use Rattle.std.proofs.lemmas.Nat.{div-add-mod'}
+use Rattle.lemmas.proofs.Options.{chosen}
 use Rattle.aes_ctr.specs.CounterMode.{xored_from}
 use Rattle.aes_ctr.proofs.StreamLemmas.{length-xored_from}
 use Rattle.merkle.proofs.PaddingLemmas.{lt_from_true}
@@ -49,15 +50,10 @@ pub next_there : (seg size to reached divisor : ℕ) → divisor ≡ seg → 0 <
 next_there seg size to reached divisor same some wanted inside =
     subst (λ (n : ℕ). reached / n < div_ceil size seg) (sym same) (below_ceil size seg reached some (omega (arith, wanted, inside)))
 
--- what it says that a segment is the next
-of_if : (t : Bool) (n number : ℕ) → (if t then Some n else None) ≡ Some number → (t ≡ true) × (n ≡ number)
-of_if true n number e = (refl, cc)
-of_if false n number e = absurd cc
-
 pub next_is : (h : HandoutState) (number : ℕ) → next_segment h ≡ Some number
     → (h.reached < h.to) × (h.reached / h.geometry.segment_size ≡ number)
 next_is h number e =
-    let k = of_if (nat_lt h.reached h.to) (h.reached / h.geometry.segment_size) number e in
+    let k = chosen (nat_lt h.reached h.to) (h.reached / h.geometry.segment_size) number e in
     (lt_from_true h.reached h.to k.0, k.1)
 
 pub valid_of : (h : HandoutState) → IsHandout h → IsGeometry h.geometry

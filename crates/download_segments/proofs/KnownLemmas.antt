@@ -1,11 +1,11 @@
 -- Segments whose hashes are known: the siblings that prove them are known nodes.
-use Rattle.std.proofs.Common.{◌≡◌, ◌⊎◌, ℕ, ◌<◌, inl, inr, List, length, Contains, Some, ap, subst, sym, ◌∙◌}
+use Rattle.std.proofs.Common.{◌≡◌, ◌⊎◌, ℕ, ◌<◌, inl, inr, List, length, Contains, ap, subst, sym, ◌∙◌}
+use Rattle.lemmas.proofs.Members.{contains_cases}
 use Rattle.tagged_hash.specs.TaggedHash.{tagged_hash, tagged_input}
 use Rattle.tagged_hash.specs.declared.tag.Tag.TheVariants.{CiphertextSegment}
 use Rattle.merkle.specs.Inputs.{path_inputs}
 use Rattle.merkle.specs.Known.{IsKnownInput}
 use Rattle.merkle.specs.Partial.{PartialState, known_siblings}
-use Rattle.merkle.proofs.InputLemmas.{member_cases}
 use Rattle.merkle.proofs.KnownLemmas.{known_paths, siblings_long}
 use Rattle.merkle.proofs.StateLemmas.{known-lead}
 use Rattle.share_layout.specs.Geometry.{Geometry, segment_count}
@@ -37,7 +37,7 @@ module _ (h : HandoutState) (number : ℕ) (segment : List ℕ) (k : IsHandout h
   pub known_inputs : (input : List ℕ) → Contains (segment_inputs number segment (known_siblings tree number)) input
       → (tagged_input CiphertextSegment segment ≡ input) ⊎ IsKnownInput tree input
   known_inputs input among =
-      elim (member_cases (tagged_input CiphertextSegment segment) input (path_inputs (length (known_siblings tree number)) number leaf (known_siblings tree number)) among) [
+      elim (contains_cases (tagged_input CiphertextSegment segment) input (path_inputs (length (known_siblings tree number)) number leaf (known_siblings tree number)) among) [
         | inl is ↦ inl is
         | inr rest ↦ inr (known_paths tree number leaf input k.trees.ciphertext.sound inside proves.known
             (subst (λ (n : ℕ). Contains (path_inputs n number leaf (known_siblings tree number)) input) (known-lead tree number leaf k.trees.ciphertext.sound inside proves.known).1 rest))

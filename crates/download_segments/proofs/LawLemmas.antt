@@ -1,5 +1,6 @@
 -- Blocks and leaves that lead to the roots of an extension block, and files that are no code words.
 use Rattle.std.proofs.Common.{◌≡◌, ℕ, ◌<◌, List, Some, subst, sym, ◌∙◌}
+use Rattle.proved_parts.proofs.Files.{length-pieces}
 use Rattle.tagged_hash.specs.TaggedHash.{tagged_hash}
 use Rattle.tagged_hash.specs.declared.tag.Tag.TheVariants.{Block}
 use Rattle.merkle.specs.Partial.{known_siblings}
@@ -13,7 +14,6 @@ use Rattle.download_trees.specs.Trees.{known_leaf}
 use Rattle.download_segments.specs.Decoding.{AreShareNumbers, blocks_in}
 use Rattle.download_segments.specs.Laws.{BlocksLead, NoCodeWords}
 use Rattle.download_segments.specs.State.{HandoutState, IsHandout}
-use Rattle.download_segments.proofs.DecodingLemmas.{length-pieces}
 
 pub blocks_lead : BlocksLead
 blocks_lead u tree share number block there inside root leads proves long =
