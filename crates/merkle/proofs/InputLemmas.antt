@@ -1,14 +1,15 @@
 -- Without a clash one hash alone leads from a place to a root, and to the root of a tree leads the leaf that stands there.
-use Rattle.std.proofs.Common.{◌≡◌, ℕ, zero, suc, ◌+◌, ◌-◌, ◌^◌, ◌<◌, ◌≤◌, List, [], ◌∷◌, ◌++◌, length, ◌⊎◌, inl, inr, slice_index_or, Contains, ap, refl, sym, subst, ◌∙◌, arith}
+use Rattle.std.proofs.Common.{◌≡◌, ℕ, zero, suc, ◌+◌, ◌-◌, ◌^◌, ◌<◌, ◌≤◌, List, [], ◌∷◌, ◌++◌, length, inl, inr, slice_index_or, Contains, ap, refl, sym, subst, ◌∙◌, arith}
 use Rattle.std.specs.Prelude.{decimal, take, drop}
 use Rattle.std.proofs.lemmas.Bool.{cases_lt}
 use Rattle.std.proofs.lemmas.List.{append_assoc, append_cancel_left, take_at, get_or-drop, get_or-take, length-drop, length-take-le}
 use Rattle.std.proofs.lemmas.List.Elements.{All-drop, All-take, Contains-append_left, Contains-append_right}
+use Rattle.lemmas.proofs.Numbers.{lt_false}
 use Rattle.tagged_hash.specs.Tag.{tag_text}
 use Rattle.tagged_hash.specs.TaggedHash.{netstring, node_hash, pair_input}
 use Rattle.tagged_hash.specs.declared.tag.Tag.TheVariants.{TreeNode}
 use Rattle.tagged_hash.proofs.HashLemmas.{length-double_sha256}
-use Rattle.merkle.proofs.HeightLemmas.{lt_false, lt_true}
+use Rattle.merkle.proofs.HeightLemmas.{lt_true}
 use Rattle.merkle.specs.Path.{path_root}
 use Rattle.merkle.specs.Tree.{root}
 use Rattle.merkle.specs.Inputs.{AreAmong, AreHashes, LeafAgrees, PathsAgree, path_inputs, root_inputs}
@@ -19,10 +20,6 @@ member_here x xs = (0, omega arith, refl)
 
 pub member_there : (x y : List ℕ) (xs : List (List ℕ)) → Contains xs y → Contains (x ∷ xs) y
 member_there x y xs c = (suc c.0, omega (arith, c.1), c.2)
-
-pub member_cases : (x y : List ℕ) (xs : List (List ℕ)) → Contains (x ∷ xs) y → (x ≡ y) ⊎ Contains xs y
-member_cases x y xs (zero, low, e) = inl e
-member_cases x y xs (suc k, low, e) = inr (k, omega (arith, low), e)
 
 -- ---- the input of a pair tells the two hashes
 

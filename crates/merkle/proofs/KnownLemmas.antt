@@ -6,6 +6,8 @@ use Rattle.std.proofs.lemmas.List.Elements.{All-from_get_or}
 use Rattle.std.proofs.lemmas.List.FromFn.{get_or-map-range_with_len, length-map-range_with_len}
 use Rattle.std.proofs.lemmas.Nat.{mod-pow-add, mod_below, pow_pos}
 use Rattle.std.proofs.lemmas.Option.{none-some, same_Some}
+use Rattle.lemmas.proofs.Members.{contains_cases}
+use Rattle.lemmas.proofs.Numbers.{next_power}
 use Rattle.tagged_hash.specs.TaggedHash.{node_hash}
 use Rattle.tagged_hash.proofs.HashLemmas.{length-double_sha256}
 use Rattle.merkle.specs.Inputs.{AreHashes, node_input, path_inputs}
@@ -14,8 +16,7 @@ use Rattle.merkle.specs.Partial.{IsExtended, IsPartial, Known, PartialState, Tak
 use Rattle.merkle.specs.Path.{path_root}
 use Rattle.merkle.specs.Tree.{height, node, node_count, padded_to, root, sibling_number}
 use Rattle.merkle.proofs.HeightLemmas.{height_below, height_room}
-use Rattle.merkle.proofs.InputLemmas.{inputs_left, inputs_right, member_cases}
-use Rattle.merkle.proofs.NodesLemmas.{next_power}
+use Rattle.merkle.proofs.InputLemmas.{inputs_left, inputs_right}
 use Rattle.merkle.proofs.PaddingLemmas.{place_inside, row_low}
 use Rattle.merkle.proofs.PartialLemmas.{known-untold, one_value}
 use Rattle.merkle.proofs.StateLemmas.{children_left, children_right, only_root-none, sibling_known}
@@ -111,7 +112,7 @@ module _ (p : PartialState) (leaf : ℕ) (hash input : List ℕ) (sound : IsPart
         let next : suc t ≡ 1 + t = omega arith in
         let place : leaf % 2 ^ suc t ≡ leaf % 2 ^ t = rw (next, mod-pow-add leaf 1 t, even) (omega arith) in
         let inputs = ap (λ (k : ℕ). path_inputs (suc t) k hash siblings) place ∙ inputs_left t (leaf % 2 ^ t) hash siblings (mod_below leaf (2 ^ t) (pow_pos t)) in
-        elim (member_cases _ input _ (subst (λ (l : List (List ℕ)). Contains l input) inputs among)) [
+        elim (contains_cases _ input _ (subst (λ (l : List (List ℕ)). Contains l input) inputs among)) [
           | inl is ↦
               let c = children_left p leaf hash sound inside knows t low even in
               record { number = _; left = _; right = _; knows_left = c.0; knows_right = c.1; is = sym is }
@@ -124,7 +125,7 @@ module _ (p : PartialState) (leaf : ℕ) (hash input : List ℕ) (sound : IsPart
         let back : 2 ^ t + leaf % 2 ^ t - 2 ^ t ≡ leaf % 2 ^ t = omega arith in
         let split = ap (λ (k : ℕ). path_inputs (suc t) k hash siblings) place ∙ inputs_right t (2 ^ t + leaf % 2 ^ t) hash siblings (omega arith) in
         let inputs = split ∙ ap (λ (k : ℕ). node_input (slice_index_or siblings t []) (path_root t k hash siblings) ∷ path_inputs t k hash siblings) back in
-        elim (member_cases _ input _ (subst (λ (l : List (List ℕ)). Contains l input) inputs among)) [
+        elim (contains_cases _ input _ (subst (λ (l : List (List ℕ)). Contains l input) inputs among)) [
           | inl is ↦
               let c = children_right p leaf hash sound inside knows t low odd in
               record { number = _; left = _; right = _; knows_left = c.0; knows_right = c.1; is = sym is }

@@ -1,18 +1,15 @@
 -- Hashes that are the nodes of a tree.
-use Rattle.std.proofs.Common.{◌≡◌, ℕ, zero, suc, ◌+◌, ◌-◌, ◌*◌, ◌^◌, ◌<◌, ◌≤◌, List, [], length, get_or, take, drop, inl, inr, ap, sym, ◌∙◌, arith, add-one}
+use Rattle.std.proofs.Common.{◌≡◌, ℕ, zero, suc, ◌+◌, ◌-◌, ◌*◌, ◌^◌, ◌<◌, ◌≤◌, List, [], length, get_or, take, drop, inl, inr, ap, sym, ◌∙◌, arith}
 use Rattle.std.proofs.Math.Nat.{pow-le-pow_right, pow-suc}
 use Rattle.std.proofs.lemmas.Bool.{cases_lt}
 use Rattle.std.proofs.lemmas.List.{ext_get_or, get_or-drop, get_or-take, length-drop, length-take-le}
 use Rattle.std.proofs.lemmas.Nat.{pow_pos}
+use Rattle.lemmas.proofs.Numbers.{next_power}
 use Rattle.tagged_hash.specs.TaggedHash.{node_hash}
 use Rattle.merkle.proofs.HeightLemmas.{height_room}
 use Rattle.merkle.proofs.TreeLemmas.{all_built, last_row, length-padded_to, node-leaf, node_split, padded_to-empty, padded_to-leaf, tree_nodes_node}
 use Rattle.merkle.specs.Tree.{height, leaves_among, node, node_number, padded_to, rows, tree_nodes}
 use Rattle.merkle.specs.Nodes.{ArePairs, AreTreeNodes, IsPadded}
-
--- twice a power of two
-pub next_power : (m : ℕ) → 2 ^ (m + 1) ≡ 2 ^ m + 2 ^ m
-next_power m = rw add-one (omega (arith, pow-suc 2 m))
 
 -- the number of a node is below the number of nodes
 pub node_below : (row m place : ℕ) → row ≤ m → place < 2 ^ row → node_number row place + 1 < 2 ^ m + 2 ^ m

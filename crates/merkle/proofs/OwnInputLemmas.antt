@@ -6,11 +6,13 @@ use Rattle.std.proofs.lemmas.List.{drop-drop, drop-take, length-drop, length-tak
 use Rattle.std.proofs.lemmas.List.Elements.{Contains-append_left, Contains-append_right}
 use Rattle.std.proofs.lemmas.List.FromFn.{get_or-map-range_with_len}
 use Rattle.std.proofs.lemmas.Nat.{mod-pow-add, mod_below, pow-add, pow_pos, shr_below}
+use Rattle.lemmas.proofs.Members.{contains_cases}
+use Rattle.lemmas.proofs.Numbers.{lt_false}
 use Rattle.merkle.specs.Inputs.{AreAmong, OwnPathsAreWithin, node_input, path_inputs, root_inputs}
 use Rattle.merkle.specs.Path.{path_root, siblings_of}
 use Rattle.merkle.specs.Tree.{height, node, padded, root, sibling, sibling_number, tree_nodes}
-use Rattle.merkle.proofs.HeightLemmas.{height_room, lt_false, lt_true}
-use Rattle.merkle.proofs.InputLemmas.{member_cases, member_here, member_there}
+use Rattle.merkle.proofs.HeightLemmas.{height_room, lt_true}
+use Rattle.merkle.proofs.InputLemmas.{member_here, member_there}
 use Rattle.merkle.proofs.PathLemmas.{path_climbs, sibling_below}
 use Rattle.merkle.proofs.TreeLemmas.{length-padded_to, padded_to-leaf, tree_nodes_node}
 
@@ -161,7 +163,7 @@ module _ (m : ℕ) (hashes : List (List ℕ)) (leaf : ℕ) (siblings : List (Lis
   path_among full inside (suc t) within x c =
       let sum : m - suc t + suc t ≡ m = omega arith in
       let place : leaf / 2 ^ suc t < 2 ^ (m - suc t) = shr_below leaf (m - suc t) (suc t) (rw sum inside) in
-      elim (member_cases _ x _ (subst (λ (l : List (List ℕ)). Contains l x) (step_input t within) c)) [
+      elim (contains_cases _ x _ (subst (λ (l : List (List ℕ)). Contains l x) (step_input t within) c)) [
         | inl head ↦ subst (Contains (root_inputs m hashes)) head (children_among m hashes (m - suc t) (leaf / 2 ^ suc t) full (omega arith) place)
         | inr rest ↦ path_among full inside t (omega arith) x rest
       ]

@@ -6,6 +6,7 @@ use Rattle.std.proofs.lemmas.Bool.Decides.{Decides-eqb}
 use Rattle.std.proofs.lemmas.Slice.Eq.{slice_eq-Decides}
 use Rattle.std.proofs.lemmas.Option.{none-some, same_Some}
 use Rattle.std.proofs.lemmas.List.{get_or_append_left, get_or-append_right, length-append}
+use Rattle.lemmas.proofs.Options.{some_of}
 use Rattle.tagged_hash.specs.TaggedHash.{node_hash}
 use Rattle.merkle.specs.Partial.{IsExtended, IsJoined, IsTouched, Known, ancestor, known_by, parent, told_or}
 use Rattle.merkle.specs.Tree.{node_count}
@@ -131,18 +132,10 @@ grown_more first old added number new added' g (grows_one none apart list) = rec
   ];
 }
 
--- what is there already
-pub some_from_is_some : (o : Option (List ℕ)) → is_some o ≡ true → (hash : List ℕ) × (o ≡ Some hash)
-some_from_is_some o h =
-    elim (some_or_none o) [
-      | inl some ↦ some
-      | inr none ↦ absurd (true≢false (sym h ∙ ap (λ (x : Option (List ℕ)). is_some x) none))
-    ]
-
 pub adds_nothing : (padding told : Known) (number : ℕ) (hash : List ℕ) → is_some (told number) ≡ true → known_by padding told number ≡ Some hash
     → Adds padding told number hash told
 adds_nothing padding told number hash there knows =
-    let some = some_from_is_some (told number) there in
+    let some = some_of (told number) there in
     let same = one_value (known_by padding told number) some.0 hash (known-told padding told number some.0 some.1) knows in
     let here : told number ≡ Some hash = some.1 ∙ ap (λ (x : List ℕ). Some x) same in record {
       here = here;
@@ -153,7 +146,7 @@ adds_nothing padding told number hash there knows =
 
 pub nothing_there : (padding told : Known) (number : ℕ) → is_some (told number) ≡ true → known_by padding told number ≡ None → ⊥
 nothing_there padding told number there none =
-    let some = some_from_is_some (told number) there in
+    let some = some_of (told number) there in
     not_both (told number) some.0 (unknown padding told number none).0 some.1
 
 -- equal hashes, as the code compares them

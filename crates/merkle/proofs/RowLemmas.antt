@@ -1,9 +1,10 @@
 -- One row of nodes, whose parents are told one after another.
 use Rattle.std.proofs.Common.{◌≡◌, ◌≢◌, ◌⊎◌, ℕ, suc, ◌+◌, ◌-◌, ◌*◌, ◌/◌, ◌%◌, ◌^◌, ◌<◌, ◌≤◌, List, [], ◌∷◌, ◌++◌, length, Some, inl, inr, slice_get, slice_index_or, ap, sym, subst, ◌∙◌, arith}
-use Rattle.std.proofs.Math.Nat.{div-lt_iff_lt-mul, pow-suc}
+use Rattle.std.proofs.Math.Nat.{div-lt_iff_lt-mul}
 use Rattle.std.proofs.lemmas.Bool.{cases_eq, cases_lt}
 use Rattle.std.proofs.lemmas.List.{get_or_append_left, length-append}
 use Rattle.std.proofs.lemmas.Nat.{pow_pos}
+use Rattle.lemmas.proofs.Numbers.{next_power}
 use Rattle.tagged_hash.specs.TaggedHash.{node_hash}
 use Rattle.merkle.specs.Partial.{IsExtended, IsTouched, Known, known_by, parent}
 use Rattle.merkle.specs.Tree.{node_count}
@@ -38,12 +39,8 @@ row_is n row low high =
       | inr some ↦ omega (arith, less)
     ]
 
--- the numbers of the next row
-pub next_row : (row : ℕ) → 2 ^ (row + 1) ≡ 2 ^ row + 2 ^ row
-next_row row = let e : row + 1 ≡ suc row = omega arith in ap (λ (k : ℕ). 2 ^ k) e ∙ pow-suc 2 row ∙ omega arith
-
 twice : (row : ℕ) → 0 < row → 2 ^ row ≡ 2 ^ (row - 1) + 2 ^ (row - 1)
-twice row some = let e : row ≡ row - 1 + 1 = omega arith in ap (λ (k : ℕ). 2 ^ k) e ∙ next_row (row - 1)
+twice row some = let e : row ≡ row - 1 + 1 = omega arith in ap (λ (k : ℕ). 2 ^ k) e ∙ next_power (row - 1)
 
 -- a list that grew by one number at most
 longer : (old new : Known) (added added' : List ℕ) (number : ℕ) → GrowsBy old added number new added' → length added ≤ length added'
@@ -173,7 +170,7 @@ module _ (leaf_count : ℕ) (padding first : Known) (offers : List (ℕ × List 
     pub row_refused : IsUnjoinable padding told number → (new : Known) → ¬ IsExtended leaf_count (known_by padding first) offers new
     row_refused bad =
         refused_join leaf_count padding first offers told added s.under s.taken (2 ^ (row + 1)) s.done number number_some number_touched
-        (omega (arith, next_row row, number_begins)) (omega (arith, next_row row, twice row some, number_begins)) bad
+        (omega (arith, next_power row, number_begins)) (omega (arith, next_power row, twice row some, number_begins)) bad
 
     -- the node above it is told
     module _ (new : Known) (added' : List ℕ) (joins : Joins padding told number new) (grows : GrowsBy told added (parent number) new added') where
@@ -205,7 +202,7 @@ module _ (leaf_count : ℕ) (padding first : Known) (offers : List (ℕ × List 
         under = more_under;
         taken = λ k q hash here. stays q hash (s.taken k q hash here);
         done = λ q hash high positive e.
-            let apart : q ≢ parent number = λ same. omega (arith, same, high, parent_before, next_row row) in
+            let apart : q ≢ parent number = λ same. omega (arith, same, high, parent_before, next_power row) in
             stays_told q (s.done q hash high positive (sym (joins.adds.apart q apart) ∙ e));
         joined = λ k low one'.
             let there : k < length added = omega (arith, s.long) in
@@ -229,7 +226,7 @@ module _ (leaf_count : ℕ) (padding first : Known) (offers : List (ℕ × List 
       → (number : ℕ) (hash : List ℕ) → 2 ^ row ≤ number + 1 → 0 < number → told number ≡ Some hash → IsTold padding told number
   row_done all root kept number hash high some e =
       elim (cases_lt (number + 1) (2 ^ row + 2 ^ row)) [
-        | inr above ↦ s.done number hash (omega (arith, next_row row, above)) some e
+        | inr above ↦ s.done number hash (omega (arith, next_power row, above)) some e
         | inl inside ↦ elim (s.under.grown.rest number) [
           | inl before ↦
               told_more padding first told s.under.kept s.under.empty number (kept.joined number hash some (sym before ∙ e))

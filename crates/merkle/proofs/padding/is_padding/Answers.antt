@@ -1,8 +1,8 @@
 use Rattle.std.proofs.Common.{◌≡◌, ◌+◌, ◌^◌, ℕ, ap, sym, arith}
 use Rattle.std.proofs.lemmas.Nat.{one_shl}
+use Rattle.lemmas.proofs.Numbers.{next_power}
 use Rattle.merkle.specs.Tree.{height}
 use Rattle.merkle.proofs.HeightLemmas.{height_low}
-use Rattle.merkle.proofs.NodesLemmas.{next_power}
 use Rattle.merkle.proofs.PaddingLemmas.{begins_computed, is_padding-outside, tested}
 use Rattle.merkle.proofs.padding.is_padding.Goals as goal
 

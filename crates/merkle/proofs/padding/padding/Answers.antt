@@ -1,9 +1,9 @@
 use Rattle.std.proofs.Common.{◌≡◌, ◌+◌, ℕ, List, Some, true, ap, sym, ◌∙◌, arith}
 use Rattle.std.proofs.Math.Nat.{pow-le-pow_right}
+use Rattle.lemmas.proofs.Numbers.{next_power}
 use Rattle.merkle.specs.Partial.{is_padding}
 use Rattle.merkle.specs.Tree.{height}
 use Rattle.merkle.proofs.HeightLemmas.{height_below, height_low}
-use Rattle.merkle.proofs.NodesLemmas.{next_power}
 use Rattle.merkle.proofs.PaddingLemmas.{begins_computed, below_computed, hash_computed, inside_computed, is_padding-inside, padding-false, padding-true, row_below}
 use Rattle.merkle.proofs.padding.padding.Goals as goal
 

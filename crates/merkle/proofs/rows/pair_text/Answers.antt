@@ -1,5 +1,5 @@
 use Rattle.std.proofs.Common.{◌∙◌, refl}
-use Rattle.merkle.proofs.RowTexts.{put_behind}
+use Rattle.lemmas.proofs.Bytes.{put_behind}
 use Rattle.merkle.proofs.rows.pair_text.Goals as goal
 
 pub returns : goal.returns

@@ -1,9 +1,9 @@
 use Rattle.std.proofs.Common.{◌≡◌, ◌+◌, ◌*◌, ℕ, List, [], get_or, ap, ◌∙◌}
 use Rattle.std.specs.Fmt.{digits}
+use Rattle.lemmas.proofs.Eights.{by_eight}
 use Rattle.tagged_hash.specs.Tag.{tag_text}
 use Rattle.tagged_hash.specs.TaggedHash.{node_hash, tagged_hash}
 use Rattle.tagged_hash.specs.declared.tag.Tag.TheVariants.{TreeNode}
-use Rattle.merkle.proofs.RowTexts.{by_eight}
 use Rattle.merkle.proofs.rows.parents_of.Goals as goal
 
 pub returns : goal.returns

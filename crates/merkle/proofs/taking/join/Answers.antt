@@ -1,11 +1,11 @@
 use Rattle.std.proofs.Common.{◌+◌, nat_eq, subst, sym, ◌∙◌, arith}
 use Rattle.std.proofs.Math.Nat.{pow-le-pow_right}
 use Rattle.std.specs.HashMap.{get}
+use Rattle.lemmas.proofs.Numbers.{next_power}
 use Rattle.merkle.specs.Partial.{padding, parent}
 use Rattle.merkle.specs.Taking.{IsOther, has_other}
 use Rattle.merkle.specs.Tree.{height}
 use Rattle.merkle.proofs.HeightLemmas.{height_below}
-use Rattle.merkle.proofs.NodesLemmas.{next_power}
 use Rattle.merkle.proofs.taking.join.Goals as goal
 
 pub overflow_add-above-2 : goal.overflow_add-above-2

@@ -1,8 +1,9 @@
 use Rattle.std.proofs.Common.{◌≡◌, ◌+◌, ◌-◌, ◌%◌, ◌<◌, ℕ, nat_eq, ap, sym, ◌∙◌, arith}
 use Rattle.std.specs.HashMap.{get}
+use Rattle.lemmas.proofs.Options.{some_of}
 use Rattle.merkle.specs.Partial.{parent}
 use Rattle.merkle.proofs.KeptLemmas.{none_from_is_none, same_known}
-use Rattle.merkle.proofs.PartialLemmas.{grown_more, some_from_is_some}
+use Rattle.merkle.proofs.PartialLemmas.{grown_more}
 use Rattle.merkle.proofs.taking.keep_sibling.Goals as goal
 use Rattle.merkle.proofs.taking.keep_sibling.Goals.{then-number-eq1, else-number-eq1}
 
@@ -28,7 +29,7 @@ returns-in_ok-keep-clause-same c =
       | then-number-eq1 w ↦ ap parent w.other-is ∙ parent_up number w.if-number-eq1.true
       | else-number-eq1 w ↦ ap parent w.other-is ∙ parent_down number c.requires.below w.if-number-eq1.false
     ] in
-    let own = some_from_is_some (old number) (sym c.contains_key.ensures ∙ c.if-not-contains_key.false) in
+    let own = some_of (old number) (sym c.contains_key.ensures ∙ c.if-not-contains_key.false) in
     let none = none_from_is_none (old other) (sym c.contains_key-else-not-contains_key.ensures ∙ c.if-contains_key.false) in
     same_known c.args.leaf_count old (get nat_eq c.keep.new.nodes) number other own.0 c.in-Some.hash same c.requires.below own.1
     (sym c.padding.ensures ∙ c.in-Some.is) none c.in_ok-keep.ensures.here c.keep.ensures.apart

@@ -4,13 +4,13 @@ use Rattle.std.proofs.lemmas.Bool.{cases_eq}
 use Rattle.std.proofs.lemmas.Option.{get_or_from_slice_get, slice_get-get_or, slice_get_read, slice_get_within, some_pair_parts}
 use Rattle.std.proofs.lemmas.Nat.{one_shl, pow_pos}
 use Rattle.std.specs.HashMap.{get}
+use Rattle.lemmas.proofs.Numbers.{next_power}
 use Rattle.merkle.specs.Tree.{height}
 use Rattle.merkle.specs.Partial.{IsExtended, IsTouched, Known, known_by, padding}
 use Rattle.merkle.specs.Tree.{node_count}
 use Rattle.merkle.specs.Taking.{Adds, Joins}
 use Rattle.merkle.specs.declared.error.OfferError.TheVariants.{NotConsistent}
 use Rattle.merkle.proofs.HeightLemmas.{height_low}
-use Rattle.merkle.proofs.NodesLemmas.{next_power}
 use Rattle.merkle.proofs.PartialLemmas.{IsUnderway, adds_keeps, refused_offer, underway_more, all_kept, all_taken, grown_more, underway-begins}
 use Rattle.merkle.proofs.RowLemmas.{number_inside, number_some, row_done, row_follows, row_joins, row_refused, row_skips}
 use Rattle.merkle.proofs.taking.take.Goals as goal

@@ -1,11 +1,11 @@
 use Rattle.std.proofs.Common.{◌≡◌, ◌^◌, ◌<◌, ◌≤◌, ℕ, List, [], Option, Some, Bool, false, true, is_some, not, unwrap_or, map, ap, subst, sym, ◌∙◌, arith}
 use Rattle.std.specs.List.{range_with_len}
+use Rattle.lemmas.proofs.Options.{some_of}
 use Rattle.merkle.specs.Path.{LeadsBy}
 use Rattle.merkle.specs.Tree.{height, node_number, sibling_number}
 use Rattle.merkle.specs.Partial.{IsPartial, PartialState, known_at, known_siblings, leaf_number}
 use Rattle.merkle.proofs.PathLemmas.{siblings_more}
 use Rattle.merkle.proofs.HeightLemmas.{height_low, height_room}
-use Rattle.merkle.proofs.PartialLemmas.{some_from_is_some}
 use Rattle.merkle.proofs.StateLemmas.{known-lead, sibling_known}
 use Rattle.merkle.proofs.partial.Partial.path.Goals as goal
 
@@ -28,7 +28,7 @@ module _ (p : PartialState) (h n leaf : ℕ) (is : h ≡ height n) (count : n �
       → found ≡ known_at p (node_number h leaf) → (i : ℕ) → i < h
       → (hash : List ℕ) × (known_at p (sibling_number h leaf i) ≡ Some hash)
   sibling_there inside sound found there value i below =
-      let leaf_hash = some_from_is_some found there in
+      let leaf_hash = some_of found there in
       let knows : known_at p (leaf_number p.leaf_count leaf) ≡ Some leaf_hash.0 = ap (known_at p) (sym number_is) ∙ sym value ∙ leaf_hash.1 in
       let t = sibling_known p leaf leaf_hash.0 sound inside knows i (omega (arith, same_height, below)) in
       (t.0, ap (known_at p) (sibling_is i) ∙ t.1)
