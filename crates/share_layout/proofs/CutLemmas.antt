@@ -8,10 +8,11 @@ use Rattle.std.proofs.lemmas.Bool.Decides.{nat_tests}
 use Rattle.std.proofs.lemmas.Grind.{div_ceil_times}
 use Rattle.std.proofs.lemmas.List.{drop-drop}
 use Rattle.std.proofs.lemmas.Nat.{div-add-mod'}
+use Rattle.lemmas.proofs.Numbers.{div_ceil_le}
 use Rattle.ueb.specs.Shape.{tail_size}
 use Rattle.share_layout.specs.Geometry.{Geometry, IsGeometry, block_size, segment_count, share_data_size, tail_length}
 use Rattle.share_layout.specs.Pieces.{HaveCutLengths, block_length, pieces, segment_length}
-use Rattle.share_layout.proofs.GeometryLemmas.{div_ceil_le, rounded_up-div}
+use Rattle.share_layout.proofs.GeometryLemmas.{rounded_up-div}
 
 -- so many whole segments are fewer bytes than the file has
 pub whole_segments : (size segment number : ℕ) → 0 < segment → number < div_ceil size segment → number * segment < size

@@ -1,21 +1,14 @@
 -- Sizes rounded up, and which geometries there are.
-use Rattle.std.proofs.Common.{◌≡◌, ℕ, ◌+◌, ◌*◌, ◌/◌, ◌%◌, ◌<◌, ◌≤◌, min, inl, inr, ap, sym, subst, ◌∙◌, arith}
+use Rattle.std.proofs.Common.{◌≡◌, ℕ, ◌*◌, ◌/◌, ◌%◌, ◌<◌, ◌≤◌, min, inl, inr, ap, sym, subst, ◌∙◌, arith}
 use Rattle.std.specs.Int.{div_ceil}
 use Rattle.std.proofs.Math.Nat.{mul-le-mul_right, mul-mod_left, mul-div_cancel, min-eq_left}
 use Rattle.std.proofs.lemmas.Bool.{cases_lt}
 use Rattle.std.proofs.lemmas.Nat.{div-add-mod'}
 use Rattle.std.proofs.lemmas.Grind.{div_ceil_times}
+use Rattle.lemmas.proofs.Numbers.{div_ceil_le}
 use Rattle.ueb.specs.Shape.{rounded_up}
 use Rattle.ueb.specs.Limits.{max_file_size, max_segment_size, max_segments}
 use Rattle.share_layout.specs.Geometry.{Geometry, geometry_of, segment_count, AreParameters, HasGeometry, IsGeometry}
-
--- more is rounded up to no less
-pub div_ceil_le : (m n k : ℕ) → 0 < k → m ≤ n → div_ceil m k ≤ div_ceil n k
-div_ceil_le m n k some le =
-    elim (cases_lt (div_ceil n k) (div_ceil m k)) [
-      | inl above ↦ absurd (omega (arith, mul-le-mul_right {m = div_ceil n k + 1} {n = div_ceil m k} k (omega arith), (div_ceil_times m k some).1, (div_ceil_times n k some).0))
-      | inr below ↦ below
-    ]
 
 pub rounded_up_le : (m n k : ℕ) → 0 < k → m ≤ n → rounded_up m k ≤ rounded_up n k
 rounded_up_le m n k some le = mul-le-mul_right k (div_ceil_le m n k some le)

@@ -1,16 +1,17 @@
 -- The two layouts: numbers in four bytes or eight, the header, and which layout a geometry has.
-use Rattle.std.proofs.Common.{◌≡◌, ◌↔◌, ℕ, zero, suc, ◌+◌, ◌-◌, ◌*◌, ◌^◌, ◌<◌, ◌≤◌, Bool, true, false, List, [], ◌∷◌, ◌++◌, length, take, drop, get_or, ◌⊎◌, inl, inr, ap, sym, refl, ◌∙◌, ◌&&◌, length-append, length-drop, arith}
+use Rattle.std.proofs.Common.{◌≡◌, ◌↔◌, ℕ, zero, suc, ◌+◌, ◌-◌, ◌*◌, ◌^◌, ◌<◌, ◌≤◌, Bool, true, false, List, [], ◌∷◌, ◌++◌, length, take, drop, get_or, inl, inr, ap, sym, refl, ◌∙◌, ◌&&◌, length-append, length-drop, arith}
 use Rattle.std.specs.Prelude.{nat_lt, nat_eq, IsTrue}
 use Rattle.std.specs.Int.{w32, to_be_bytes}
 use Rattle.std.specs.List.{flat_map, list_all, starts_with}
 use Rattle.std.proofs.lemmas.Bool.{cases_lt}
-use Rattle.std.proofs.lemmas.Bool.Decides.{nat_tests}
 use Rattle.std.proofs.Math.Nat.{mul-add}
 use Rattle.std.proofs.lemmas.List.{take_at, drop_at, drop-drop, flat_map_more, length-take-le, take-append-drop, take_more}
 use Rattle.std.proofs.lemmas.Slice.{drop-put_mid, take-put_mid}
 use borrow.Rule.Slice.PartMut.{put_mid}
 use Rattle.std.proofs.lemmas.Nat.{be_bytes_4, be_bytes_8, from_be_bytes-to_be_bytes_4, from_be_bytes-to_be_bytes_8}
 use Rattle.std.proofs.lemmas.Slice.Eq.{bytes_eq-Decides}
+use Rattle.lemmas.proofs.Numbers.{lt_false}
+use Rattle.lemmas.proofs.Bools.{bool_cases}
 use Rattle.share_layout.specs.declared.layout.Layout.{Layout}
 use Rattle.share_layout.specs.declared.layout.Layout.TheVariants.{One, Two}
 use Rattle.share_layout.specs.Geometry.{Geometry, block_size, share_data_size}
@@ -71,10 +72,6 @@ spelled_at l (n ∷ ns) (suc i) inside =
     ∙ ap (drop (width l * i)) (drop_at (spelled l n) (flat_map (spelled l) ns) (width l) (length-spelled l n)))
     ∙ spelled_at l ns i (omega arith)
 
-bool_cases : (b : Bool) → (b ≡ true) ⊎ (b ≡ false)
-bool_cases true = inl refl
-bool_cases false = inr refl
-
 one_not_two : to_be_bytes w32 1 ≡ to_be_bytes w32 2 → ⊥
 one_not_two e = absurd (cc (ap (λ (l : List ℕ). get_or l 3 0) e))
 
@@ -86,10 +83,6 @@ layout_is One bytes is =
       | inl two ↦ absurd (one_not_two (sym is ∙ sym ((bytes_eq-Decides (to_be_bytes w32 2) (take 4 bytes)).0 two)))
       | inr other ↦ rw other refl
     ]
-
--- numbers that do not fit four bytes
-lt_false : (a b : ℕ) → b ≤ a → nat_lt a b ≡ false
-lt_false a b h = grind (arith, nat_tests)
 
 and_false : (b : Bool) → (b && false) ≡ false
 and_false true = refl
