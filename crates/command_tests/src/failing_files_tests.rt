@@ -5,9 +5,9 @@
 // never does another answer come, or a part of one. Files are read and written in short pieces, so
 // that calls fail in mid-stream too.
 
-use crate::grid_commands_tests::{
-    CAP_56, CLOSED, ONES, ZEROS_CAP, ZEROS_PUT, counted, counted_goes_round, get_gives, get_line,
-    has_share, makes_file, put_gives, put_line, removes_all, words_of, zeros_go_round,
+use crate::runs::{
+    CAP_56, CLOSED, ONES, ZEROS_CAP, ZEROS_PUT, begins_with_56, begins_with_zeros, cap_line,
+    counted, has_share, makes_file, put_line, puts_zeros, removes_all, words_of, zeros_come,
 };
 use grid_commands::grid;
 use std::alloc::{Allocator, Global};
@@ -309,7 +309,7 @@ fn put_ending(rt: &HostRuntime, calls: &Calls, left: u64) -> Ending {
 
 // How `get` of a cap, whose file has these bytes, ends so.
 fn get_ending(rt: &HostRuntime, calls: &Calls, left: u64, cap: &str, file: &[u8]) -> Ending {
-    match get_line(rt, cap) {
+    match cap_line(rt, "get", cap) {
         Ok(line) => ending_of(rt, calls, left, line.as_str(), file),
         Err(_) => Ending::Other,
     }
@@ -317,7 +317,7 @@ fn get_ending(rt: &HostRuntime, calls: &Calls, left: u64, cap: &str, file: &[u8]
 
 // Whether `put` goes well where no call fails.
 fn puts_again(rt: &HostRuntime) -> bool {
-    put_gives(rt, ONES, 0, ZEROS_PUT, "") && has_share(rt, CLOSED, true)
+    puts_zeros(rt) && has_share(rt, CLOSED, true)
 }
 
 // Whether `put` may end so: a fault of its file or of its server leaves no closed share, and
@@ -351,19 +351,14 @@ fn put_tells_each_failed_call(rt: HostRuntime) {
 // More calls than `get` makes here on the grid's folder, those of 256 servers and the share's file.
 const GET_CALLS: u64 = 340;
 
-// Whether `get` goes well where no call fails.
-fn gets_again(rt: &HostRuntime) -> bool {
-    get_gives(rt, ZEROS_CAP, 0, &[0; 56], "")
-}
-
 #[test]
 fn get_gives_the_whole_file_or_none(rt: HostRuntime) {
-    assert!(rt; zeros_go_round(&rt));
+    assert!(rt; begins_with_zeros(&rt));
     let calls = Calls::new();
     let (mut has_fault, mut has_missed, mut is_whole) = (false, false, false);
     for left in 0..GET_CALLS {
         let ending = get_ending(&rt, &calls, left, ZEROS_CAP, &[0; 56]);
-        assert!(rt; ending != Ending::Other && gets_again(&rt), "{left}");
+        assert!(rt; ending != Ending::Other && zeros_come(&rt), "{left}");
         has_fault |= ending == Ending::FileFault;
         has_missed |= ending == Ending::NotEnoughShares;
         is_whole = ending == Ending::Whole;
@@ -379,7 +374,7 @@ const SEVENTHS_OF_TEN: u64 = 100;
 // fault is one of the grid's folder. Each seventh call fails in turn.
 #[test]
 fn get_goes_on_without_a_failed_server(rt: HostRuntime) {
-    assert!(rt; counted_goes_round(&rt, 56, "", CAP_56, 10));
+    assert!(rt; begins_with_56(&rt));
     let file = counted(&rt, 56).unwrap_or(Vec::new(rt.alloc()));
     let calls = Calls::new();
     let mut is_whole = false;

@@ -1,12 +1,12 @@
-//! The tests of the program's commands: what no contract says, values from outside, and calls on
-//! their happy paths.
+//! The tests of the program's commands that no row of `grid_rows` can have: a call on a file that
+//! fails in mid-stream, a writer that fails, memory that is refused, and words that are none.
 #![tactic(auto)]
 
 #[cfg(test)]
 mod failing_files_tests;
 #[cfg(test)]
-mod grid_commands_tests;
+mod failing_writers_tests;
 #[cfg(test)]
-mod grid_folders_tests;
+mod refused_memory_tests;
 #[cfg(test)]
-mod grid_refusals_tests;
+mod runs;
