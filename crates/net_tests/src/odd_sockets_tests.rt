@@ -131,3 +131,31 @@ fn no_listener(rt: HostRuntime) {
     let outcome = tells_no_listener(&rt);
     assert!(rt; matches!(outcome, Ok(true)) && remove(&rt).is_ok());
 }
+
+// How many listeners a command on the file's cap makes.
+fn listeners_of(rt: &HostRuntime, command: &str, options: &str) -> Result<u64, AllocError> {
+    let plan = Plan::new(Odd::Nothing);
+    of_cap(rt, &plan, (command, CAP_131074, options))?;
+    Ok(plan.listeners.get())
+}
+
+// The same of a put of the file.
+fn put_listeners(rt: &HostRuntime, options: &str) -> Result<u64, AllocError> {
+    let plan = Plan::new(Odd::Nothing);
+    put(rt, &plan, options)?;
+    Ok(plan.listeners.get())
+}
+
+// In memory no socket is made, and with `--net` each of ten servers listens.
+#[test]
+fn servers_listen_with_net_alone(rt: HostRuntime) {
+    assert!(rt; begin(&rt, 131_074).is_ok());
+    for (options, wanted) in [("", 0), (" --net", 10)] {
+        assert!(rt; matches!(put_listeners(&rt, options), Ok(made) if made == wanted));
+        for command in ["get", "check"] {
+            let made = listeners_of(&rt, command, options);
+            assert!(rt; matches!(made, Ok(made) if made == wanted), "{command}");
+        }
+    }
+    assert!(rt; remove(&rt).is_ok());
+}

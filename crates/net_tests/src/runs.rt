@@ -6,16 +6,10 @@ use std::alloc::AllocError;
 use std::{fs, io};
 use test_writers::Told;
 
-// The caps of the files whose byte i is i modulo 251, at 3 of 10, by a program that shares no code
-// with these crates.
-pub(crate) const CAP_56: &str = "URI:CHK:5ervuplwjtqf5caeknmrecgz54:\
-    24yuguv5na3h27x2i5w2i77yy5yujv6vcnbabzeljhzb4gaqqzyq:3:10:56";
-
+// The cap of the file of 131,074 bytes whose byte i is i modulo 251, at 3 of 10, by a program that
+// shares no code with these crates.
 pub(crate) const CAP_131074: &str = "URI:CHK:x45opozjlsd45uhibsv2apw46e:\
     upsh3wg4mj5hhojd7qv6ug2rqe7zphsxgbnniumsdns2twtt3vyq:3:10:131074";
-
-pub(crate) const VERIFY_56: &str = "URI:CHK-Verifier:btqtqeoqjcl3aeqkqmueqgjgiy:\
-    24yuguv5na3h27x2i5w2i77yy5yujv6vcnbabzeljhzb4gaqqzyq:3:10:56";
 
 // A path in that folder.
 pub(crate) fn path(rt: &HostRuntime, rest: &str) -> Result<String, AllocError> {
@@ -95,10 +89,4 @@ pub(crate) fn of_cap(
     let root = path(rt, "")?;
     let line = format!(in rt.alloc(); "grid {command} {cap} --grid {root}/grid{options}")?;
     run(&OddHost { rt: *rt, plan }, line.as_str(), false)
-}
-
-// The folder of a server.
-pub(crate) fn server_path(rt: &HostRuntime, server: u16) -> Result<String, AllocError> {
-    let grid = path(rt, "/grid")?;
-    format!(in rt.alloc(); "{grid}/server-{server:03}")
 }
