@@ -1,13 +1,13 @@
 //! Downloads from servers in memory that hold given bytes, and what they ask for.
 
-use cap_text::{Cap, ReadCap};
+use crate::grid::{Grid, Place, Wrong};
+use cap_text::VerifyCap;
 use download_core::Download;
-use download_core::status::DownloadStatus;
-use file_encoding::{Encoded, Params, encode_all};
+use download_core::status::{Blame, DownloadStatus, Piece};
 use proved_parts::Evidence;
 use share_verify::Check;
-use std::alloc::{AllocError, Global};
-use test_shares::held::{Held, answer};
+use std::alloc::Global;
+use test_shares::held::answer;
 use wire::message::{Body, Message, NodeId};
 
 // Bytes of a share that a server was asked for.
@@ -19,75 +19,34 @@ pub(crate) struct Asked {
     pub(crate) length: u64,
 }
 
-// What a download did.
+// A download, and what it did so far.
 #[derive(Drop)]
 pub(crate) struct Course {
-    pub(crate) status: DownloadStatus,
+    alloc: Global,
+    grid: Grid,
+    download: Download,
+    from: usize,
+    now: u64,
+    // How many answers servers gave that are silent at some time.
+    answers: usize,
     // How many bytes it handed out, all of them right.
     pub(crate) bytes: usize,
-    // The server, share and check of each blame.
-    pub(crate) blamed: Vec<(NodeId, u8, Check)>,
+    // How many pieces it handed out each time that it handed some out.
+    pub(crate) pieces: Vec<usize>,
     pub(crate) reads: Vec<Asked>,
-    // What proves them.
-    pub(crate) evidence: Option<Evidence>,
 }
 
 // The servers, of which not all need to hold a share.
-pub(crate) const SERVERS: [NodeId; 10] = [0, 1, 2, 3, 4, 5, 6, 7, 8, 9];
+const SERVERS: [NodeId; 10] = [0, 1, 2, 3, 4, 5, 6, 7, 8, 9];
 
-// Bytes that differ by their place and by `mark`.
-pub(crate) fn text_of(alloc: Global, size: usize, mark: u8) -> Result<Vec<u8>, AllocError> {
-    let mut bytes = Vec::with_capacity(alloc, size)?;
-    for i in 0..size {
-        bytes.push((i % 251) as u8 ^ mark)?;
-    }
-    Ok(bytes)
-}
-
-// The encoding of a file of so many bytes, 3 of 10, with segments of 4,098 bytes.
-pub(crate) fn encoded(alloc: Global, size: usize, mark: u8) -> Option<Encoded> {
-    let file = text_of(alloc, size, mark).ok()?;
-    let params = Params::new(3, 1, 10, 4_096).ok()?;
-    encode_all(alloc, &file, &[], &params).ok()
-}
-
-pub(crate) fn cap_of(encoded: &Encoded) -> Option<ReadCap> {
-    match encoded.cap {
-        Cap::Chk(cap) => Some(cap),
-        _ => None,
-    }
-}
-
-// Share n at server n.
-pub(crate) fn one_each(alloc: Global, encoded: &Encoded) -> Option<Vec<Held>> {
-    let mut all = Vec::new(alloc);
-    for (i, share) in encoded.shares.iter().enumerate() {
-        let held = Held {
-            server: u16::try_from(i).ok()?,
-            share: u8::try_from(i).ok()?,
-            bytes: Vec::from_slice(alloc, share.as_slice()).ok()?,
-        };
-        all.push(held).ok()?;
-    }
-    Some(all)
-}
-
-// The number of four bytes at a place of a header.
-pub(crate) fn number_at(bytes: &[u8], place: usize) -> Option<usize> {
-    let mut number: usize = 0;
-    for byte in bytes.get(place..place.checked_add(4)?)? {
-        number = number.checked_mul(256)?.checked_add(usize::from(*byte))?;
-    }
-    Some(number)
-}
-
-// Changes a byte, so far behind the beginning of a section.
-pub(crate) fn damage(held: &mut [Held], which: usize, section: usize, behind: usize) -> Option<()> {
-    let bytes = &mut held.get_mut(which)?.bytes;
-    let place = number_at(bytes, section)?.checked_add(behind)?;
-    let byte = bytes.get_mut(place)?;
-    *byte ^= 1;
-    Some(())
+// How a download ended: its status, how many bytes it handed out, for how many segments it had
+// proof, and how many shares it blamed.
+#[derive(Clone, Copy)]
+pub(crate) struct Ending {
+    pub(crate) status: DownloadStatus,
+    pub(crate) bytes: usize,
+    pub(crate) parts: usize,
+    pub(crate) blamed: usize,
 }
 
 // What a request reads.
@@ -103,105 +62,207 @@ fn asked_of(node: NodeId, request: &Message) -> Option<Asked> {
     }
 }
 
-// Takes what is handed out, from this place of the file on, and tells how many bytes that were.
-// `None` where a byte is not the file's.
-fn taken(download: &mut Download, file: &[u8], place: usize) -> Option<usize> {
-    let mut bytes: usize = 0;
-    for _ in 0..1000 {
-        let Some(piece) = download.take_bytes() else {
-            break;
-        };
-        let from = place.saturating_add(bytes);
-        let piece_bytes = piece.bytes.as_slice();
-        let right = file.get(from..from.saturating_add(piece_bytes.len()))?;
-        if piece.place != from as u64 || right != piece_bytes {
-            return None;
-        }
-        bytes = bytes.saturating_add(piece_bytes.len());
+// Is a server silent, once so many answers were given?
+fn is_silent(wrong: &Wrong, node: NodeId, answers: usize) -> bool {
+    match wrong {
+        Wrong::Silent(first, last, most) => *first <= node && node <= *last && *most <= answers,
+        _ => false,
     }
-    Some(bytes)
-}
-
-// Downloads a range to its end. One server may be silent after so many answers.
-pub(crate) fn course_of(
-    alloc: Global,
-    cap: ReadCap,
-    file: &[u8],
-    range: (usize, usize),
-    held: &[Held],
-    quiet: Option<(NodeId, usize)>,
-) -> Option<Course> {
-    let (from, to) = range;
-    let quiet_node = match quiet {
-        Some((node, _)) => Some(node),
-        None => None,
-    };
-    let mut download = Download::start(alloc, cap, from as u64, to as u64, &SERVERS, 7, 0).ok()?;
-    let mut reads = Vec::new(alloc);
-    let mut now: u64 = 0;
-    let mut answers: usize = 0;
-    let mut bytes: usize = 0;
-    for _ in 0..100_000 {
-        if download.status() != DownloadStatus::Running {
-            break;
-        }
-        match download.take_outgoing() {
-            Some((node, request)) => {
-                if let Some(asked) = asked_of(node, &request) {
-                    reads.push(asked).ok()?;
-                }
-                if Some((node, answers)) != quiet {
-                    if Some(node) == quiet_node {
-                        answers = answers.saturating_add(1);
-                    }
-                    let message = answer(alloc, held, node, &request)?;
-                    download.on_message(node, message, now).ok()?;
-                }
-            }
-            None => {
-                now = now.saturating_add(5);
-                download.tick(now).ok()?;
-            }
-        }
-        bytes = bytes.saturating_add(taken(&mut download, file, from.saturating_add(bytes))?);
-    }
-    ended(alloc, &cap, &download, bytes, reads)
-}
-
-// What a download that ended did.
-fn ended(
-    alloc: Global,
-    cap: &ReadCap,
-    download: &Download,
-    bytes: usize,
-    reads: Vec<Asked>,
-) -> Option<Course> {
-    let mut blamed = Vec::new(alloc);
-    for blame in download.blamed() {
-        blamed.push((blame.server, blame.share, blame.check)).ok()?;
-    }
-    let evidence = download.evidence(alloc).ok()?;
-    if let Some(evidence) = &evidence {
-        if !evidence.proves(&cap.to_verify()) {
-            return None;
-        }
-    }
-    Some(Course {
-        status: download.status(),
-        bytes,
-        blamed,
-        reads,
-        evidence,
-    })
 }
 
 impl Course {
-    // For how many segments it has proof.
-    pub(crate) fn parts(&self) -> usize {
-        match &self.evidence {
-            Some(evidence) => evidence.parts.as_slice().len(),
-            None => 0,
+    // A download of a range, to its end.
+    pub(crate) fn of(
+        alloc: Global,
+        grid: Grid,
+        wrong: &Wrong,
+        range: (usize, usize),
+    ) -> Option<Course> {
+        let mut course = Course::begin(alloc, grid, range)?;
+        if course.go_on(wrong) {
+            Some(course)
+        } else {
+            None
         }
+    }
+
+    fn begin(alloc: Global, grid: Grid, range: (usize, usize)) -> Option<Course> {
+        let (from, to) = range;
+        let servers = &SERVERS;
+        Some(Course {
+            alloc,
+            download: Download::start(alloc, grid.cap, from as u64, to as u64, servers, 7, 0).ok()?,
+            grid,
+            from,
+            now: 0,
+            answers: 0,
+            bytes: 0,
+            pieces: Vec::new(alloc),
+            reads: Vec::new(alloc),
+        })
+    }
+
+    // Goes on to the end. `false` where a call found no memory, or a byte is not the file's.
+    fn go_on(&mut self, wrong: &Wrong) -> bool {
+        for _ in 0..100_000 {
+            if self.status() != DownloadStatus::Running {
+                return true;
+            }
+            if !self.turn(wrong) || !self.take_all() {
+                return false;
+            }
+        }
+        false
+    }
+
+    pub(crate) fn status(&self) -> DownloadStatus {
+        self.download.status()
+    }
+
+    // The next message goes to its server, and the answer comes back. Where there is none five
+    // seconds pass.
+    fn turn(&mut self, wrong: &Wrong) -> bool {
+        match self.download.take_outgoing() {
+            Some((node, request)) => {
+                self.note(node, &request) && self.deliver(wrong, node, &request)
+            }
+            None => {
+                self.now = self.now.saturating_add(5);
+                self.download.tick(self.now).is_ok()
+            }
+        }
+    }
+
+    // Notes what is asked for.
+    fn note(&mut self, node: NodeId, request: &Message) -> bool {
+        match asked_of(node, request) {
+            Some(asked) => self.reads.push(asked).is_ok(),
+            None => true,
+        }
+    }
+
+    // The answer of a server, if there is one, comes.
+    fn deliver(&mut self, wrong: &Wrong, node: NodeId, request: &Message) -> bool {
+        if is_silent(wrong, node, self.answers) {
+            return true;
+        }
+        if is_silent(wrong, node, usize::MAX) {
+            self.answers = self.answers.saturating_add(1);
+        }
+        match answer(self.alloc, &self.grid.held, node, request) {
+            Some(message) => hand(&mut self.download, node, message, self.now),
+            None => false,
+        }
+    }
+
+    // Takes what is handed out. `false` where a byte is not the file's.
+    fn take_all(&mut self) -> bool {
+        let mut count: usize = 0;
+        for _ in 0..1000 {
+            match self.download.take_bytes() {
+                Some(piece) => {
+                    if !self.take(&piece) {
+                        return false;
+                    }
+                }
+                None => break,
+            }
+            count = count.saturating_add(1);
+        }
+        count == 0 || self.pieces.push(count).is_ok()
+    }
+
+    fn take(&mut self, piece: &Piece) -> bool {
+        let from = self.from.saturating_add(self.bytes);
+        let bytes = piece.bytes.as_slice();
+        let right = self.grid.file.get(from..from.saturating_add(bytes.len()));
+        self.bytes = self.bytes.saturating_add(bytes.len());
+        piece.place == from as u64 && (self.grid.file.is_empty() || right == Some(bytes))
+    }
+
+    // How many pieces were handed out.
+    pub(crate) fn piece_count(&self) -> usize {
+        let mut count: usize = 0;
+        for pieces in &self.pieces {
+            count = count.saturating_add(*pieces);
+        }
+        count
+    }
+
+    pub(crate) fn blamed(&self) -> &[Blame] {
+        self.download.blamed()
+    }
+
+    // What proves the segments.
+    pub(crate) fn evidence(&self) -> Option<Evidence> {
+        self.download.evidence(self.alloc).ok()?
+    }
+
+    // For how many segments it has proof, which is one.
+    pub(crate) fn parts(&self) -> Option<usize> {
+        match self.download.evidence(self.alloc).ok()? {
+            Some(evidence) => parts_of(&evidence, &self.grid.cap.to_verify()),
+            None => Some(0),
+        }
+    }
+
+    // Did it end so, with so many bytes, segments that were proved and shares that were blamed?
+    pub(crate) fn ended_as(&self, ending: &Ending) -> bool {
+        self.status() == ending.status
+            && self.bytes == ending.bytes
+            && self.parts() == Some(ending.parts)
+            && self.blamed().len() == ending.blamed
+    }
+
+    // Was this share blamed at this server for this, and nothing else?
+    pub(crate) fn blames_only(&self, server: NodeId, share: u8, check: Check) -> bool {
+        self.blamed()
+            == [Blame {
+                server,
+                share,
+                check,
+            }]
+            .as_slice()
+    }
+
+    // Is nothing of this share asked for from this place on?
+    pub(crate) fn reads_end_by(&self, share: usize, place: &Place) -> bool {
+        let Some(place) = self.grid.place(share, place) else {
+            return false;
+        };
+        for read in &self.reads {
+            let end = read.offset.saturating_add(read.length);
+            if usize::from(read.share) == share && (place as u64) < end {
+                return false;
+            }
+        }
+        true
+    }
+
+    // Was some byte asked for twice? A request that is sent again is the same request.
+    pub(crate) fn asks_twice(&self) -> bool {
+        for (i, one) in self.reads.iter().enumerate() {
+            for other in &self.reads[..i] {
+                if meet(one, other) {
+                    return true;
+                }
+            }
+        }
+        false
+    }
+}
+
+// Hands a message to a download. `false` where there is no memory.
+fn hand(download: &mut Download, node: NodeId, message: Message, now: u64) -> bool {
+    download.on_message(node, message, now).is_ok()
+}
+
+// How many segments are proved, if all of them are.
+fn parts_of(evidence: &Evidence, cap: &VerifyCap) -> Option<usize> {
+    if evidence.proves(cap) {
+        Some(evidence.parts.as_slice().len())
+    } else {
+        None
     }
 }
 
@@ -211,16 +272,4 @@ fn meet(one: &Asked, other: &Asked) -> bool {
         && one.share == other.share
         && one.offset < other.offset.saturating_add(other.length)
         && other.offset < one.offset.saturating_add(one.length)
-}
-
-// Whether some byte was asked for twice. A request that is sent again is the same request.
-pub(crate) fn asks_twice(reads: &[Asked]) -> bool {
-    for (i, one) in reads.iter().enumerate() {
-        for other in &reads[..i] {
-            if meet(one, other) {
-                return true;
-            }
-        }
-    }
-    false
 }

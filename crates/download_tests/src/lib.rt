@@ -7,6 +7,10 @@ mod course;
 #[cfg(test)]
 mod download_core_tests;
 #[cfg(test)]
+mod grid;
+#[cfg(test)]
 mod lying_servers_tests;
 #[cfg(test)]
 mod rows_tests;
+#[cfg(test)]
+mod shapes;

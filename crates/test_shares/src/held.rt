@@ -12,24 +12,37 @@ pub struct Held {
     pub share: u8,
     /// The share's bytes, whatever they are.
     pub bytes: Vec<u8>,
+    /// Whether it says that it has none where it is asked for a part.
+    pub gone: bool,
 }
 
 /// What a server that holds these shares answers to a download. A server's shares stand by rising
 /// number.
 pub fn answer(alloc: Global, held: &[Held], node: NodeId, request: &Message) -> Option<Message> {
-    let body = match &request.body {
-        Body::Ask(_) => have(alloc, held, node)?,
-        Body::Read(id, offset, length) => {
-            let bytes = bytes_of(held, node, id.share)?;
-            data(alloc, bytes, *offset, length.get())?
-        }
-        _ => return None,
-    };
     Some(Message {
         session: request.session,
         number: request.number,
-        body,
+        body: body_of(alloc, held, node, &request.body)?,
     })
+}
+
+fn body_of(alloc: Global, held: &[Held], node: NodeId, request: &Body) -> Option<Body> {
+    match request {
+        Body::Ask(_) => have(alloc, held, node),
+        Body::Read(id, offset, length) => match held_by(held, node, id.share) {
+            Some(held) => read(alloc, held, *offset, length.get()),
+            None => None,
+        },
+        _ => None,
+    }
+}
+
+// What a server says that is asked for a part of a share which it offers.
+fn read(alloc: Global, held: &Held, offset: u64, length: u32) -> Option<Body> {
+    if held.gone {
+        return Some(Body::NoShare);
+    }
+    data(alloc, held.bytes.as_slice(), offset, length)
 }
 
 // The shares that a server offers.
@@ -47,11 +60,11 @@ fn have(alloc: Global, held: &[Held], node: NodeId) -> Option<Body> {
     Some(Body::Have(false, HeldList::from_vec(list)?))
 }
 
-// The bytes of a share that a server offers.
-fn bytes_of(held: &[Held], node: NodeId, share: u8) -> Option<&[u8]> {
+// A share that a server offers.
+fn held_by(held: &[Held], node: NodeId, share: u8) -> Option<&Held> {
     for one in held {
         if one.server == node && one.share == share {
-            return Some(one.bytes.as_slice());
+            return Some(one);
         }
     }
     None
@@ -59,8 +72,8 @@ fn bytes_of(held: &[Held], node: NodeId, share: u8) -> Option<&[u8]> {
 
 // So many bytes of a share from a place on, or fewer where it ends before.
 fn data(alloc: Global, bytes: &[u8], offset: u64, length: u32) -> Option<Body> {
-    let from = usize::try_from(offset).ok()?.min(bytes.len());
+    let from = offset.min(bytes.len() as u64) as usize;
     let end = from.saturating_add(length as usize).min(bytes.len());
-    let read = Vec::from_slice(alloc, bytes.get(from..end)?).ok()?;
+    let read = Vec::from_slice(alloc, &bytes[from..end]).ok()?;
     Some(Body::Data(ReadData::from_vec(read)?))
 }

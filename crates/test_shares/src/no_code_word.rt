@@ -56,33 +56,19 @@ impl NoCodeWord {
     /// The share of a number below 4.
     pub fn share(&self, alloc: Global, number: u8) -> Result<Vec<u8>, AllocError> {
         let half = usize::from(number / 2 % 2);
-        let mut share = Vec::new(alloc);
-        for word in HEADER {
-            share.extend_from_slice(&word.to_be_bytes())?;
-        }
-        self.put_sections(&mut share, half)?;
-        for (node, hash) in NODES[half].iter().zip(share_hashes(half).iter()) {
-            share.extend_from_slice(&node.to_be_bytes())?;
-            share.extend_from_slice(hash)?;
-        }
-        let length = (self.extension_block.len() % 5000) as u32;
-        share.extend_from_slice(&length.to_be_bytes())?;
-        share.extend_from_slice(&self.extension_block)?;
-        Ok(share)
-    }
-
-    // The blocks, the section that is not used, and the two trees.
-    fn put_sections(&self, share: &mut Vec<u8>, half: usize) -> Result<(), AllocError> {
-        share.extend_from_slice(&[7; 28])?;
-        share.extend_from_slice(&second_block(half))?;
-        share.extend_from_slice(&[0; 96])?;
-        for node in ciphertext_tree(self.told)
-            .iter()
-            .chain(block_tree(half).iter())
-        {
-            share.extend_from_slice(node)?;
-        }
-        Ok(())
+        let mut draft = Draft {
+            bytes: Vec::new(alloc),
+            has_failed: false,
+        };
+        draft.put_header();
+        draft.put(&[7; 28]);
+        draft.put(&second_block(half));
+        draft.put(&[0; 96]);
+        draft.put_tree(&ciphertext_tree(self.told));
+        draft.put_tree(&block_tree(half));
+        draft.put_hashes(half);
+        draft.put_block(&self.extension_block);
+        draft.finish()
     }
 
     /// Shares of these numbers at these servers.
@@ -93,10 +79,62 @@ impl NoCodeWord {
                 server: *server,
                 share: *share,
                 bytes: self.share(alloc, *share).ok()?,
+                gone: false,
             })
             .ok()?;
         }
         Some(all)
+    }
+}
+
+// A share in the making, which may have found no memory.
+#[derive(Drop)]
+struct Draft {
+    bytes: Vec<u8>,
+    has_failed: bool,
+}
+
+impl Draft {
+    fn put(&mut self, text: &[u8]) {
+        if self.bytes.extend_from_slice(text).is_err() {
+            self.has_failed = true;
+        }
+    }
+
+    fn put_header(&mut self) {
+        for number in &HEADER {
+            self.put(&number.to_be_bytes());
+        }
+    }
+
+    fn put_tree(&mut self, tree: &[[u8; 32]; 3]) {
+        for node in tree {
+            self.put(node);
+        }
+    }
+
+    // The share hashes of a half, each after the number of its node.
+    fn put_hashes(&mut self, half: usize) {
+        let hashes = share_hashes(half);
+        for i in 0..3 {
+            self.put(&NODES[half % 2][i].to_be_bytes());
+            self.put(&hashes[i]);
+        }
+    }
+
+    // The extension block, after its length.
+    fn put_block(&mut self, block: &[u8]) {
+        let length = (block.len() % 5000) as u32;
+        self.put(&length.to_be_bytes());
+        self.put(block);
+    }
+
+    fn finish(self) -> Result<Vec<u8>, AllocError> {
+        if self.has_failed {
+            Err(AllocError)
+        } else {
+            Ok(self.bytes)
+        }
     }
 }
 
