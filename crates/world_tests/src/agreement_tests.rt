@@ -2,14 +2,13 @@
 //! no code word: downloads from other servers decode other segments. Each ends Inconsistent, or
 //! hands out what all others do: no place has two bytes.
 
-use crate::honest::{handed_out, happiness, read_cap, upload};
-use crate::keepers::Run;
+use crate::honest::{end_of, handed_out, happiness};
+use crate::keepers::kept;
+use crate::run::{Run, Step};
 use download_core::status::{DownloadStatus, Piece};
 use proved_parts::{Evidence, find_clash};
 use std::alloc::Global;
-use test_shares::no_code_word::{NoCodeWord, SEGMENT_SIZE, SIZE};
-use world::World;
-use world_operations::job::Job;
+use test_shares::no_code_word::{SEGMENT_SIZE, SIZE};
 use world_operations::operation::Operation;
 use world_operations::task::Task;
 
@@ -23,28 +22,21 @@ const HALVES: [(u8, u8); 2] = [(0, 1), (2, 3)];
 // give that segment: for byte 9 there are none.
 const TOLD: [(u8, Option<(u8, u8)>); 3] = [(7, Some((0, 1))), (8, Some((2, 3))), (9, None)];
 
-// How a download ended, and how many bytes it handed out.
-fn end_of(operation: &Operation) -> Option<(DownloadStatus, usize)> {
-    let mut count: usize = 0;
-    for piece in operation.given.as_slice() {
-        count = count.saturating_add(piece.bytes.as_slice().len());
-    }
-    match &operation.task {
-        Task::Downloading(download) => Some((download.status(), count)),
-        _ => None,
-    }
+// Did a download end as it has to? From the right pair all of the file comes, and from any other
+// its first segment, which is a code word, and no more.
+fn ends_well(operation: &Operation, is_right: bool) -> bool {
+    let (status, size) = if is_right {
+        (DownloadStatus::Done, SIZE)
+    } else {
+        (DownloadStatus::Inconsistent, SEGMENT_SIZE)
+    };
+    end_of(operation) == Some(status) && handed_out(operation) == size
 }
 
-// Do the downloads from these pairs of servers end as they have to? From the right pair all of the
-// file comes, and from any other its first segment, which is a code word, and no more.
-fn end_well(world: &World, pairs: &[(u8, u8)], right: Option<(u8, u8)>) -> bool {
-    for (operation, pair) in world.operations().iter().zip(pairs.iter()) {
-        let expected = if right == Some(*pair) {
-            (DownloadStatus::Done, SIZE)
-        } else {
-            (DownloadStatus::Inconsistent, SEGMENT_SIZE)
-        };
-        if end_of(operation) != Some(expected) {
+// Do the downloads from these pairs of servers end as they have to?
+fn end_well(operations: &[Operation], pairs: &[(u8, u8)], right: Option<(u8, u8)>) -> bool {
+    for (operation, pair) in operations.iter().zip(pairs.iter()) {
+        if !ends_well(operation, right == Some(*pair)) {
             return false;
         }
     }
@@ -55,8 +47,7 @@ fn end_well(world: &World, pairs: &[(u8, u8)], right: Option<(u8, u8)>) -> bool 
 fn byte_at(pieces: &[Piece], place: u64) -> Option<u8> {
     for piece in pieces {
         if let Some(offset) = place.checked_sub(piece.place) {
-            let offset = usize::try_from(offset).ok()?;
-            if let Some(byte) = piece.bytes.as_slice().get(offset) {
+            if let Some(byte) = piece.bytes.as_slice().get(offset as usize) {
                 return Some(*byte);
             }
         }
@@ -90,37 +81,42 @@ fn all_agree(operations: &[Operation]) -> bool {
 }
 
 // Do downloads of one cap by these pairs of servers end as they have to, and agree?
-fn ends_and_agrees(
-    alloc: Global,
-    told: &(u8, Option<(u8, u8)>),
-    pairs: &[(u8, u8)],
-) -> Option<bool> {
-    let (byte, right) = *told;
-    let file = NoCodeWord::new(alloc, byte)?;
-    let mut run = Run::new(alloc, &file, pairs)?;
-    run.settle()?;
-    let world = &run.world;
-    Some(end_well(world, pairs, right) && all_agree(world.operations()))
+fn ends_and_agrees(alloc: Global, told: &(u8, Option<(u8, u8)>), pairs: &[(u8, u8)]) -> bool {
+    let Some(run) = settled(alloc, told.0, pairs) else {
+        return false;
+    };
+    let operations = run.world.operations();
+    end_well(operations, pairs, told.1) && all_agree(operations)
+}
+
+// Those downloads at their ends.
+fn settled(alloc: Global, told: u8, pairs: &[(u8, u8)]) -> Option<Run> {
+    let mut run = kept(alloc, told, pairs)?;
+    if run.play(&[Step::Settle]) {
+        Some(run)
+    } else {
+        None
+    }
 }
 
 #[test]
 fn a_download_of_no_code_word_is_inconsistent(rt: HostRuntime) {
     for pair in &PAIRS {
-        assert!(rt; ends_and_agrees(rt.alloc(), &(9, None), &[*pair]) == Some(true));
+        assert!(rt; ends_and_agrees(rt.alloc(), &(9, None), &[*pair]));
     }
 }
 
 #[test]
 fn downloads_from_two_sets_of_servers_agree(rt: HostRuntime) {
     for told in &TOLD {
-        assert!(rt; ends_and_agrees(rt.alloc(), told, &HALVES) == Some(true));
+        assert!(rt; ends_and_agrees(rt.alloc(), told, &HALVES));
     }
 }
 
 #[test]
 fn downloads_from_any_two_servers_agree(rt: HostRuntime) {
     for told in &TOLD {
-        assert!(rt; ends_and_agrees(rt.alloc(), told, &PAIRS) == Some(true));
+        assert!(rt; ends_and_agrees(rt.alloc(), told, &PAIRS));
     }
 }
 
@@ -134,60 +130,85 @@ fn evidence_of(alloc: Global, operation: &Operation) -> Option<Evidence> {
 
 // Have two downloads of one file evidence without a clash?
 fn are_without_clash(alloc: Global, first: &Operation, second: &Operation) -> Option<bool> {
-    let (one, other) = (evidence_of(alloc, first)?, evidence_of(alloc, second)?);
-    let clash = find_clash(alloc, &one, &other).ok()?;
-    Some(clash.is_none())
+    let one = evidence_of(alloc, first)?;
+    let other = evidence_of(alloc, second)?;
+    Some(find_clash(alloc, &one, &other).ok()?.is_none())
+}
+
+// Has no evidence of these downloads a clash with another?
+fn are_all_without_clash(alloc: Global, operations: &[Operation]) -> bool {
+    for first in operations {
+        for second in operations {
+            if are_without_clash(alloc, first, second) != Some(true) {
+                return false;
+            }
+        }
+    }
+    true
+}
+
+// Have the downloads from all pairs of servers such evidence?
+fn pairs_are_without_clash(alloc: Global) -> bool {
+    match settled(alloc, 7, &PAIRS) {
+        Some(run) => are_all_without_clash(alloc, run.world.operations()),
+        None => false,
+    }
 }
 
 #[test]
 fn evidence_has_no_clash(rt: HostRuntime) {
-    assert!(rt; are_all_without_clash(rt.alloc()) == Some(true));
+    assert!(rt; pairs_are_without_clash(rt.alloc()));
 }
 
-// Has no evidence of downloads of that file a clash with another?
-fn are_all_without_clash(alloc: Global) -> Option<bool> {
-    let file = NoCodeWord::new(alloc, 7)?;
-    let mut run = Run::new(alloc, &file, &PAIRS)?;
-    run.settle()?;
-    let mut without = true;
-    for first in run.world.operations() {
-        for second in run.world.operations() {
-            without = without && are_without_clash(alloc, first, second)?;
-        }
-    }
-    Some(without)
-}
+// Beside those downloads, which are begun, a node uploads a file of zeros, and two others download
+// it. So many seconds pass that what was not answered is lost.
+const HONEST_BESIDE: [Step; 16] = [
+    Step::Upload(6, 1, 3, 3),
+    Step::Settle,
+    Step::Pass(20),
+    Step::Tick(0),
+    Step::Tick(1),
+    Step::Tick(2),
+    Step::Tick(3),
+    Step::Tick(4),
+    Step::Tick(5),
+    Step::Tick(6),
+    Step::Tick(7),
+    Step::Tick(8),
+    Step::Settle,
+    Step::Download(7, 0, 56),
+    Step::Download(8, 0, 56),
+    Step::Settle,
+];
 
-// Beside those downloads a node uploads a file of zeros, and two others download it: how many pairs
-// the upload names, whether the downloads handed out zeros, and whether their evidence has no
-// clash.
+// How many pairs the upload names, whether all downloads end as they have to, and whether the
+// evidence of the last two has no clash.
 fn honest_beside(alloc: Global) -> Option<(usize, bool, bool)> {
-    let file = NoCodeWord::new(alloc, 7)?;
-    let mut run = Run::new(alloc, &file, &PAIRS)?;
-    run.start(0, upload(alloc, 1, 3, 3)?)?;
-    run.settle()?;
-    run.wait()?;
-    run.settle()?;
-    let cap = read_cap(alloc)?;
-    run.start(1, Job::Download(cap, 0, 56))?;
-    run.start(2, Job::Download(cap, 0, 56))?;
-    run.settle()?;
-    let [.., up, first, second] = run.world.operations() else {
+    let mut run = kept(alloc, 7, &PAIRS)?;
+    if !run.play(&HONEST_BESIDE) {
+        return None;
+    }
+    honest_ends(alloc, run.world.operations())
+}
+
+fn honest_ends(alloc: Global, operations: &[Operation]) -> Option<(usize, bool, bool)> {
+    let [.., up, first, second] = operations else {
         return None;
     };
-    let zeros = gave_zeros(first)? && gave_zeros(second)?;
-    let ends = end_well(&run.world, &PAIRS, Some((0, 1)));
+    let zeros = gave_zeros(first) && gave_zeros(second);
+    let ends = end_well(operations, &PAIRS, Some((0, 1)));
     let clear = are_without_clash(alloc, first, second)?;
     Some((happiness(up)?, zeros && ends, clear))
 }
 
 // Did a download that is done hand out 56 zeros?
-fn gave_zeros(operation: &Operation) -> Option<bool> {
-    let mut zeros = handed_out(operation)? == 56;
+fn gave_zeros(operation: &Operation) -> bool {
     for place in 0..56 {
-        zeros = zeros && byte_at(operation.given.as_slice(), place) == Some(0);
+        if byte_at(operation.given.as_slice(), place) != Some(0) {
+            return false;
+        }
     }
-    Some(zeros)
+    end_of(operation) == Some(DownloadStatus::Done) && handed_out(operation) == 56
 }
 
 #[test]

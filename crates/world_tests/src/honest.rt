@@ -6,40 +6,25 @@ use file_encoding::{Encoded, Params, encode_all};
 use proved_parts::Bytes;
 use std::alloc::Global;
 use upload_core::status::UploadStatus;
-use world::World;
-use world::event::Event;
 use world_operations::job::Job;
 use world_operations::operation::Operation;
 use world_operations::task::Task;
 
 // The upload of 56 zero bytes, with an empty secret.
 pub(crate) fn upload(alloc: Global, needed: u64, happy: u64, total: u64) -> Option<Job> {
-    let file = Bytes::from_vec(vec![in alloc; 0u8; 56].ok()?);
-    let secret = Bytes::from_vec(Vec::new(alloc));
     let params = Params::new(needed, happy, total, 131_072).ok()?;
-    Some(Job::Upload(file, secret, params))
+    let file = Bytes::from_vec(vec![in alloc; 0u8; 56].ok()?);
+    Some(Job::Upload(file, Bytes::from_vec(Vec::new(alloc)), params))
 }
 
 // The read cap of that file.
 pub(crate) fn read_cap(alloc: Global) -> Option<ReadCap> {
     let params = Params::new(1, 3, 3, 131_072).ok()?;
-    let file = vec![in alloc; 0u8; 56].ok()?;
-    let Encoded { cap, shares: _ } = encode_all(alloc, &file, &[], &params).ok()?;
+    let Encoded { cap, shares: _ } = encode_all(alloc, &[0; 56], &[], &params).ok()?;
     match cap {
         Cap::Chk(cap) => Some(cap),
         Cap::Verify(_) | Cap::Lit(_) => None,
     }
-}
-
-// Delivers each message from this one on, oldest first, until none is left.
-pub(crate) fn drain(world: &mut World, from: usize) -> Option<usize> {
-    for place in from..1_000_000 {
-        if place >= world.sent().len() {
-            return Some(place);
-        }
-        world.step(&Event::Deliver(place)).ok()?;
-    }
-    None
 }
 
 // How many pairs a happy upload names.
@@ -53,16 +38,19 @@ pub(crate) fn happiness(operation: &Operation) -> Option<usize> {
     }
 }
 
-// How many bytes a download that is done handed out.
-pub(crate) fn handed_out(operation: &Operation) -> Option<usize> {
+// How a download ended.
+pub(crate) fn end_of(operation: &Operation) -> Option<DownloadStatus> {
     match &operation.task {
-        Task::Downloading(download) if download.status() == DownloadStatus::Done => {
-            let mut count: usize = 0;
-            for piece in operation.given.as_slice() {
-                count = count.checked_add(piece.bytes.as_slice().len())?;
-            }
-            Some(count)
-        }
+        Task::Downloading(download) => Some(download.status()),
         _ => None,
     }
+}
+
+// How many bytes an operation handed out.
+pub(crate) fn handed_out(operation: &Operation) -> usize {
+    let mut count: usize = 0;
+    for piece in operation.given.as_slice() {
+        count = count.saturating_add(piece.bytes.as_slice().len());
+    }
+    count
 }

@@ -1,13 +1,13 @@
 //! Worlds with four servers of a file that is no code word. Whoever made its cap gave each of them
 //! one of its shares.
 
+use crate::run::Run;
 use proved_parts::Bytes;
 use std::alloc::Global;
 use test_shares::held::{Held, answer};
 use test_shares::no_code_word::{NoCodeWord, SIZE};
 use wire::decoding::decode;
 use wire::message::NodeId;
-use world::World;
 use world::event::Event;
 use world::liar::{Liar, LiarFault};
 use world_operations::job::Job;
@@ -23,9 +23,19 @@ struct Keeper {
     seen: usize,
 }
 
+// The downloads that a keeper of a share answers: those that it is one of two servers of.
+fn answered_by(alloc: Global, share: u8, pairs: &[(u8, u8)]) -> Option<Vec<NodeId>> {
+    let mut answered = Vec::new(alloc);
+    for (downloader, pair) in pairs.iter().enumerate() {
+        if pair.0 == share || pair.1 == share {
+            answered.push((downloader % 1000) as u16).ok()?;
+        }
+    }
+    Some(answered)
+}
+
 impl Keeper {
-    // The keeper of a share at a node, which answers the downloads that it is one of two servers
-    // of.
+    // The keeper of a share at a node.
     fn new(
         alloc: Global,
         file: &NoCodeWord,
@@ -33,16 +43,10 @@ impl Keeper {
         share: u8,
         pairs: &[(u8, u8)],
     ) -> Option<Keeper> {
-        let mut answered = Vec::new(alloc);
-        for (downloader, pair) in pairs.iter().enumerate() {
-            if pair.0 == share || pair.1 == share {
-                answered.push(u16::try_from(downloader).ok()?).ok()?;
-            }
-        }
         Some(Keeper {
             alloc,
             held: file.held(alloc, &[(node, share)])?,
-            answered,
+            answered: answered_by(alloc, share, pairs)?,
             seen: 0,
         })
     }
@@ -70,75 +74,43 @@ impl Liar for Keeper {
     }
 }
 
-// A world whose first honest nodes download the file, each from its own two servers. Three more
-// honest nodes follow, and then the four servers.
-#[derive(Drop)]
-pub(crate) struct Run {
-    pub(crate) world: World,
-    honest: NodeId,
-    delivered: usize,
+// The keepers of the four shares, at the nodes from this one on.
+fn keepers(
+    alloc: Global,
+    file: &NoCodeWord,
+    first: NodeId,
+    pairs: &[(u8, u8)],
+) -> Option<Vec<Box<dyn Liar>>> {
+    let mut liars: Vec<Box<dyn Liar>> = Vec::new(alloc);
+    for share in 0..4u8 {
+        let node = first.saturating_add(u16::from(share));
+        let keeper = Keeper::new(alloc, file, node, share, pairs)?;
+        liars.push(Box::new(alloc, keeper).ok()?).ok()?;
+    }
+    Some(liars)
 }
 
-impl Run {
-    // The downloads are begun, and nothing is delivered.
-    pub(crate) fn new(alloc: Global, file: &NoCodeWord, pairs: &[(u8, u8)]) -> Option<Run> {
-        let downloaders = u16::try_from(pairs.len()).ok()?;
-        let honest = downloaders.checked_add(3)?;
-        let mut liars: Vec<Box<dyn Liar>> = Vec::new(alloc);
-        for share in 0..4u8 {
-            let node = honest.checked_add(u16::from(share))?;
-            let keeper = Keeper::new(alloc, file, node, share, pairs)?;
-            liars.push(Box::new(alloc, keeper).ok()?).ok()?;
-        }
-        if honest > 100 || liars.len() > 100 {
-            return None;
-        }
-        let mut world = World::new(alloc, honest, liars).ok()?;
-        for node in 0..downloaders {
-            let job = Job::Download(file.cap, 0, SIZE as u64);
-            world.step(&Event::Start(node, job)).ok()?;
-        }
-        Some(Run {
-            world,
-            honest,
-            delivered: 0,
-        })
-    }
-
-    // An honest node that did nothing yet starts an operation: 0, 1 or 2.
-    pub(crate) fn start(&mut self, which: NodeId, job: Job) -> Option<()> {
-        let node = self.honest.checked_sub(3)?.checked_add(which)?;
-        self.world.step(&Event::Start(node, job)).ok()
-    }
-
-    // Messages are delivered and servers have their turns until nobody says anything more.
-    pub(crate) fn settle(&mut self) -> Option<()> {
-        for _ in 0..100_000 {
-            if self.delivered < self.world.sent().len() {
-                self.world.step(&Event::Deliver(self.delivered)).ok()?;
-                self.delivered += 1;
-            } else if !self.turns()? {
-                return Some(());
-            }
-        }
+// A world whose first honest nodes download the file, each from its own two servers, which are not
+// heard yet. Three more honest nodes follow, and then the four servers.
+pub(crate) fn kept(alloc: Global, told: u8, pairs: &[(u8, u8)]) -> Option<Run> {
+    let file = NoCodeWord::new(alloc, told)?;
+    let downloaders = (pairs.len() % 90) as u16;
+    let liars = keepers(alloc, &file, downloaders + 3, pairs)?;
+    let mut run = Run::of(alloc, downloaders + 3, liars)?;
+    if begin(&mut run, &file, downloaders) {
+        Some(run)
+    } else {
         None
     }
+}
 
-    // Each server has its turn. Did any say something?
-    fn turns(&mut self) -> Option<bool> {
-        let before = self.world.sent().len();
-        for liar in self.honest..self.honest.checked_add(4)? {
-            self.world.step(&Event::Turn(liar)).ok()?;
+// So many nodes begin to download the file.
+fn begin(run: &mut Run, file: &NoCodeWord, downloaders: NodeId) -> bool {
+    for node in 0..downloaders {
+        let job = Job::Download(file.cap, 0, SIZE as u64);
+        if !run.take(&Event::Start(node, job)) {
+            return false;
         }
-        Some(before < self.world.sent().len())
     }
-
-    // So many seconds pass that what was not answered is lost.
-    pub(crate) fn wait(&mut self) -> Option<()> {
-        self.world.step(&Event::Pass(20)).ok()?;
-        for node in 0..self.honest {
-            self.world.step(&Event::Tick(node)).ok()?;
-        }
-        Some(())
-    }
+    true
 }

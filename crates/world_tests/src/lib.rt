@@ -8,6 +8,8 @@ mod honest;
 #[cfg(test)]
 mod keepers;
 #[cfg(test)]
+mod run;
+#[cfg(test)]
 mod turns_tests;
 #[cfg(test)]
 mod world_runs_tests;

@@ -1,12 +1,11 @@
 //! What comes of a liar's turn: it is handed all that came to it, and what it says is sent under
 //! its own name.
 
-use crate::honest::upload;
+use crate::run::{Run, Step};
 use proved_parts::Bytes;
 use std::alloc::Global;
 use wire::message::NodeId;
 use world::World;
-use world::event::Event;
 use world::liar::{Liar, LiarFault};
 use world_operations::message::Sent;
 
@@ -35,19 +34,26 @@ impl Liar for Counter {
     }
 }
 
-// What the third message of a world is, whose liar has a turn once the Ask of an upload came to it:
-// who sent it, to whom, and its bytes. The first two are the Asks to both nodes.
-fn said(alloc: Global, says: Says) -> Option<Option<(NodeId, NodeId, usize, Option<u8>)>> {
+// The liar has a turn once the Ask of an upload came to it twice. The first two messages are the
+// Asks to both nodes.
+const STEPS: [Step; 4] = [
+    Step::Upload(0, 1, 1, 1),
+    Step::Deliver(1),
+    Step::Deliver(1),
+    Step::Turn(1),
+];
+
+fn run_with(alloc: Global, says: Says) -> Option<Run> {
     let mut liars: Vec<Box<dyn Liar>> = Vec::new(alloc);
     liars
         .push(Box::new(alloc, Counter { alloc, says }).ok()?)
         .ok()?;
-    let mut world = World::new(alloc, 1, liars).ok()?;
-    world.step(&Event::Start(0, upload(alloc, 1, 1, 1)?)).ok()?;
-    world.step(&Event::Deliver(1)).ok()?;
-    world.step(&Event::Deliver(1)).ok()?;
-    world.step(&Event::Turn(1)).ok()?;
-    Some(third_message(&world))
+    Run::played(alloc, 1, liars, &STEPS)
+}
+
+// What the third message of that world is: who sent it, to whom, and its bytes.
+fn said(alloc: Global, says: Says) -> Option<Option<(NodeId, NodeId, usize, Option<u8>)>> {
+    Some(third_message(&run_with(alloc, says)?.world))
 }
 
 fn third_message(world: &World) -> Option<(NodeId, NodeId, usize, Option<u8>)> {
