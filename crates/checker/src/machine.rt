@@ -245,10 +245,7 @@ impl Machine {
         let Some(bytes) = bytes_at(&self.requests, place) else {
             return Err(Verdict::Lost);
         };
-        match reading.take(&self.cap, bytes) {
-            Ok(progress) => Ok(progress),
-            Err(check) => Err(Verdict::Corrupt(check)),
-        }
+        reading.take(&self.cap, bytes).map_err(Verdict::Corrupt)
     }
 
     // Asks for the next bytes of a share.
