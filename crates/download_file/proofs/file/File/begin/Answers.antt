@@ -1,9 +1,14 @@
-use Rattle.std.proofs.Common.{◌≡◌, ◌≢◌, ◌∙◌, ◌++◌, ◌∷◌, ◌<◌, [], ℕ, List, true, ap, subst, sym, length, rules}
+use Rattle.std.proofs.Common.{◌≡◌, ◌≢◌, ◌∙◌, ◌++◌, ◌∷◌, ◌<◌, [], ℕ, List, OnErr, Result, Ok, Err, true, ap, subst, sym, length, rules}
+use Rattle.std.specs.declared.alloc.AllocError.{AllocError}
 use Rattle.std.proofs.lemmas.Bool.{eq-eqb}
 use Rattle.share_layout.specs.Geometry.{Geometry}
-use Rattle.download_file.specs.State.{FileState, IsLive, IsReader, ReaderState}
+use Rattle.download_file.specs.Asked.{AsksNoMore}
+use Rattle.download_file.specs.Changes.{IsSameFile, StaysAskedUp, StaysRead}
+use Rattle.download_file.specs.Right.{IsFile}
+use Rattle.download_file.specs.State.{FileState, IsLive, IsReader, ReaderState, waiting_at}
 use Rattle.download_file.specs.Steps.{IsBegun}
 use Rattle.download_file.proofs.BeginLemmas.{HasBegun, has_begun}
+use Rattle.download_file.proofs.GrowLemmas.{same_itself}
 use Rattle.download_file.proofs.file.File.begin.Goals as goal
 
 abbrev then : goal.After-push_reserved → FileState
@@ -64,3 +69,113 @@ returns-clause-reads c = (begun c).reads
 
 pub returns-clause-same : goal.returns-clause-same
 returns-clause-same c = (begun c).same
+
+-- ---- memory is refused
+
+on_err : (r : Result ℕ AllocError) (P : Type 0) → P → OnErr r P
+on_err (Ok n) P is = tt
+on_err (Err e) P is = is
+
+abbrev unreserved_state : goal.After-drop-begun-inside-in_err-reserve-2 → FileState
+unreserved_state c = record {
+  handout = c.self.inside.handout;
+  first = c.self.inside.plan.first;
+  end = c.self.inside.plan.end;
+  taken = c.self.inside.taken;
+  readers = c.reserve.new.self.items;
+  live = c.self.inside.live.items;
+  groups = c.self.inside.groups.items;
+}
+
+unreserved : (c : goal.After-drop-begun-inside-in_err-reserve-2) → unreserved_state c ≡ c.args.self.now
+unreserved c =
+    let f : FileState = record {
+      handout = c.self.inside.handout;
+      first = c.self.inside.plan.first;
+      end = c.self.inside.plan.end;
+      taken = c.self.inside.taken;
+      readers = c.self.inside.readers.items;
+      live = c.self.inside.live.items;
+      groups = c.self.inside.groups.items;
+    } in
+    ap (λ (l : List ReaderState). record f { readers = l }) c.in_err-reserve.ensures.items ∙ c.self.view_is
+
+pub invariant_of-self : goal.invariant_of-self
+invariant_of-self c = (subst IsFile (sym (unreserved c)) (subst IsFile c.self.view_is c.self.invariant.0), c.self.invariant.1)
+
+pub returns-in_err-reserve-clause-waiting : goal.returns-in_err-reserve-clause-waiting
+returns-in_err-reserve-clause-waiting c = λ reader. ap (λ (s : FileState). waiting_at s reader) (unreserved c)
+
+pub returns-in_err-reserve-clause-asked : goal.returns-in_err-reserve-clause-asked
+returns-in_err-reserve-clause-asked c = subst (AsksNoMore c.args.self.now) (sym (unreserved c)) (λ reader offset len. ((λ h. h), (λ h. h)))
+
+pub returns-in_err-reserve-clause-asked_up : goal.returns-in_err-reserve-clause-asked_up
+returns-in_err-reserve-clause-asked_up c = λ reader live.
+    subst (λ (s : FileState). StaysAskedUp c.args.self.now s reader) (sym (unreserved c)) (λ h. h)
+
+pub returns-in_err-reserve-clause-reads : goal.returns-in_err-reserve-clause-reads
+returns-in_err-reserve-clause-reads c = subst (StaysRead c.args.self.now) (sym (unreserved c)) (λ entries h. h)
+
+pub returns-in_err-reserve-clause-handout : goal.returns-in_err-reserve-clause-handout
+returns-in_err-reserve-clause-handout c = ap (λ (s : FileState). s.handout) (unreserved c)
+
+pub returns-in_err-reserve-clause-same : goal.returns-in_err-reserve-clause-same
+returns-in_err-reserve-clause-same c = subst (IsSameFile c.args.self.now) (sym (unreserved c)) (same_itself c.args.self.now)
+
+pub returns-in_err-reserve-clause-unchanged : goal.returns-in_err-reserve-clause-unchanged
+returns-in_err-reserve-clause-unchanged c = on_err c.from_residual.result _ (unreserved c)
+
+pub returns-in_err-reserve-clause-right : goal.returns-in_err-reserve-clause-right
+returns-in_err-reserve-clause-right c = subst IsFile (sym (unreserved c)) (subst IsFile c.self.view_is c.self.invariant.0)
+
+abbrev unpushed_state : goal.After-drop-begun-inside-in_err-push-3 → FileState
+unpushed_state c = record {
+  handout = c.self.inside.handout;
+  first = c.self.inside.plan.first;
+  end = c.self.inside.plan.end;
+  taken = c.self.inside.taken;
+  readers = c.reserve.new.self.items;
+  live = c.push.new.self.items;
+  groups = c.self.inside.groups.items;
+}
+
+unpushed : (c : goal.After-drop-begun-inside-in_err-push-3) → unpushed_state c ≡ c.args.self.now
+unpushed c =
+    let f : FileState = record {
+      handout = c.self.inside.handout;
+      first = c.self.inside.plan.first;
+      end = c.self.inside.plan.end;
+      taken = c.self.inside.taken;
+      readers = c.self.inside.readers.items;
+      live = c.self.inside.live.items;
+      groups = c.self.inside.groups.items;
+    } in
+    (λ i. record f { readers = c.in_ok-reserve.ensures.items i; live = c.in_err-push.ensures.items i }) ∙ c.self.view_is
+
+pub invariant_of-self-in_err-push : goal.invariant_of-self-in_err-push
+invariant_of-self-in_err-push c = (subst IsFile (sym (unpushed c)) (subst IsFile c.self.view_is c.self.invariant.0), c.self.invariant.1)
+
+pub returns-in_err-push-clause-waiting : goal.returns-in_err-push-clause-waiting
+returns-in_err-push-clause-waiting c = λ reader. ap (λ (s : FileState). waiting_at s reader) (unpushed c)
+
+pub returns-in_err-push-clause-asked : goal.returns-in_err-push-clause-asked
+returns-in_err-push-clause-asked c = subst (AsksNoMore c.args.self.now) (sym (unpushed c)) (λ reader offset len. ((λ h. h), (λ h. h)))
+
+pub returns-in_err-push-clause-asked_up : goal.returns-in_err-push-clause-asked_up
+returns-in_err-push-clause-asked_up c = λ reader live.
+    subst (λ (s : FileState). StaysAskedUp c.args.self.now s reader) (sym (unpushed c)) (λ h. h)
+
+pub returns-in_err-push-clause-reads : goal.returns-in_err-push-clause-reads
+returns-in_err-push-clause-reads c = subst (StaysRead c.args.self.now) (sym (unpushed c)) (λ entries h. h)
+
+pub returns-in_err-push-clause-handout : goal.returns-in_err-push-clause-handout
+returns-in_err-push-clause-handout c = ap (λ (s : FileState). s.handout) (unpushed c)
+
+pub returns-in_err-push-clause-same : goal.returns-in_err-push-clause-same
+returns-in_err-push-clause-same c = subst (IsSameFile c.args.self.now) (sym (unpushed c)) (same_itself c.args.self.now)
+
+pub returns-in_err-push-clause-unchanged : goal.returns-in_err-push-clause-unchanged
+returns-in_err-push-clause-unchanged c = on_err c.from_residual-in_err-push.result _ (unpushed c)
+
+pub returns-in_err-push-clause-right : goal.returns-in_err-push-clause-right
+returns-in_err-push-clause-right c = subst IsFile (sym (unpushed c)) (subst IsFile c.self.view_is c.self.invariant.0)

@@ -3,9 +3,10 @@ use Rattle.std.specs.List.{flat_map, range_with_len}
 use Rattle.lemmas.proofs.Results.{if_ok_then}
 use Rattle.segment_groups.specs.State.{GroupState, segments_in}
 use Rattle.download_file.specs.State.{FileState, ReaderState}
+use Rattle.proved_parts.specs.Parts.{IsSegmentBy}
 use Rattle.proved_parts.specs.declared.evidence.EvidencePart.{EvidencePart}
 use Rattle.download_file.specs.Answers.{IsMadeSegment, IsRead}
-use Rattle.download_file.specs.Right.{made_end}
+use Rattle.download_file.specs.Right.{IsFile, made_end}
 use Rattle.download_file.specs.Steps.{AreOfFile, IsMadeGroup}
 use Rattle.download_file.proofs.EvidenceLemmas.{all_made, all_segments, made_segments, readers_of}
 use Rattle.download_file.proofs.file.File.evidence_parts.Goals as goal
@@ -70,3 +71,10 @@ returns-clause-made c =
     if_ok_then c.evidence_of.result _ _ c.evidence_of.ensures.made (λ parts made.
     subst (λ (s : FileState). All (λ (p : EvidencePart). IsMadeSegment entries s p.number p.segment) parts.items) c.self.view_is
     (made_segments entries f c.self.inside.handout c.deref.result.now c.deref-2.result.now parts.items refl c.deref.ensures.value c.deref-2.ensures.value made))
+
+pub returns-clause-by : goal.returns-clause-by
+returns-clause-by c =
+    subst (λ (s : FileState). IfOk c.evidence_of.result (λ parts. All (λ (p : EvidencePart). IsSegmentBy s.handout.ueb p.number p.segment p.path) parts.items)) c.self.view_is c.evidence_of.ensures.by
+
+pub returns-clause-right : goal.returns-clause-right
+returns-clause-right c = subst IsFile c.self.view_is c.self.invariant.0

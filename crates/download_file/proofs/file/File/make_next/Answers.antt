@@ -14,7 +14,8 @@ use Rattle.segment_groups.specs.Making.{RefutesBlocks}
 use Rattle.segment_groups.specs.State.{GroupState}
 use Rattle.download_file.specs.State.{FileState, IsComplete, ReaderState, numbers_of}
 use Rattle.download_file.specs.Answers.{IsRead, blocks_of}
-use Rattle.download_file.specs.Changes.{IsSameFile}
+use Rattle.download_file.specs.Asked.{AsksNoMore}
+use Rattle.download_file.specs.Changes.{IsSameFile, StaysAskedUp}
 use Rattle.download_file.specs.Making.{CanNotGoOn, LacksNext, RefutesReader}
 use Rattle.download_file.specs.Right.{IsFile, IsGroup}
 use Rattle.download_file.specs.Steps.{AreProved, AreReady, BeginsGroup, HasAll, HasBlock, IsWrong, LacksSome}
@@ -591,3 +592,186 @@ returns-in_err-begin_group-clause-same c =
     let unchanged : c.begin_group.new.groups.items ≡ f.groups = c.in_err-begin_group.ensures.unchanged in
     subst (λ (s : FileState). IsSameFile s (record f { groups = c.begin_group.new.groups.items })) c.self.view_is
     (subst (λ (gs : List GroupState). IsSameFile f (record f { groups = gs })) (sym unchanged) (same_itself f))
+
+-- ---- nothing is touched
+
+pub returns-in_default-clause-same_handout : goal.returns-in_default-clause-same_handout
+returns-in_default-clause-same_handout c = λ _. refl
+
+pub returns-in_default-clause-asked_up : goal.returns-in_default-clause-asked_up
+returns-in_default-clause-asked_up c = λ _ reader h. h
+
+pub returns-in_default-clause-reads : goal.returns-in_default-clause-reads
+returns-in_default-clause-reads c = c.requires.reads
+
+pub returns-in_default-clause-live : goal.returns-in_default-clause-live
+returns-in_default-clause-live c = refl
+
+pub returns-in_default-clause-readers : goal.returns-in_default-clause-readers
+returns-in_default-clause-readers c = refl
+
+pub returns-in_default-clause-asked : goal.returns-in_default-clause-asked
+returns-in_default-clause-asked c = λ reader offset len. ((λ h. h), (λ h. h))
+
+pub returns-in_default-clause-same : goal.returns-in_default-clause-same
+returns-in_default-clause-same c = same_itself c.args.self.now
+
+pub returns-in_default-clause-right : goal.returns-in_default-clause-right
+returns-in_default-clause-right c = subst IsFile c.self.view_is c.self.invariant.0
+
+pub returns-then-not-has_all-clause-same_handout : goal.returns-then-not-has_all-clause-same_handout
+returns-then-not-has_all-clause-same_handout c = λ _. refl
+
+pub returns-then-not-has_all-clause-asked_up : goal.returns-then-not-has_all-clause-asked_up
+returns-then-not-has_all-clause-asked_up c = λ _ reader h. h
+
+pub returns-then-not-has_all-clause-reads : goal.returns-then-not-has_all-clause-reads
+returns-then-not-has_all-clause-reads c = c.requires.reads
+
+pub returns-then-not-has_all-clause-live : goal.returns-then-not-has_all-clause-live
+returns-then-not-has_all-clause-live c = refl
+
+pub returns-then-not-has_all-clause-readers : goal.returns-then-not-has_all-clause-readers
+returns-then-not-has_all-clause-readers c = refl
+
+pub returns-then-not-has_all-clause-asked : goal.returns-then-not-has_all-clause-asked
+returns-then-not-has_all-clause-asked c = λ reader offset len. ((λ h. h), (λ h. h))
+
+pub returns-then-not-has_all-clause-same : goal.returns-then-not-has_all-clause-same
+returns-then-not-has_all-clause-same c = same_itself c.args.self.now
+
+pub returns-then-not-has_all-clause-right : goal.returns-then-not-has_all-clause-right
+returns-then-not-has_all-clause-right c = subst IsFile c.self.view_is c.self.invariant.0
+
+pub returns-in_err-joined-clause-same_handout : goal.returns-in_err-joined-clause-same_handout
+returns-in_err-joined-clause-same_handout c = λ _. refl
+
+pub returns-in_err-joined-clause-asked_up : goal.returns-in_err-joined-clause-asked_up
+returns-in_err-joined-clause-asked_up c = λ _ reader h. h
+
+pub returns-in_err-joined-clause-reads : goal.returns-in_err-joined-clause-reads
+returns-in_err-joined-clause-reads c = c.requires.reads
+
+pub returns-in_err-joined-clause-live : goal.returns-in_err-joined-clause-live
+returns-in_err-joined-clause-live c = refl
+
+pub returns-in_err-joined-clause-readers : goal.returns-in_err-joined-clause-readers
+returns-in_err-joined-clause-readers c = refl
+
+pub returns-in_err-joined-clause-asked : goal.returns-in_err-joined-clause-asked
+returns-in_err-joined-clause-asked c = λ reader offset len. ((λ h. h), (λ h. h))
+
+pub returns-in_err-joined-clause-same : goal.returns-in_err-joined-clause-same
+returns-in_err-joined-clause-same c = same_itself c.args.self.now
+
+pub returns-in_err-joined-clause-right : goal.returns-in_err-joined-clause-right
+returns-in_err-joined-clause-right c = subst IsFile c.self.view_is c.self.invariant.0
+
+pub returns-in-Some-find_wrong-clause-same_handout : goal.returns-in-Some-find_wrong-clause-same_handout
+returns-in-Some-find_wrong-clause-same_handout c = λ _. refl
+
+pub returns-in-Some-find_wrong-clause-asked_up : goal.returns-in-Some-find_wrong-clause-asked_up
+returns-in-Some-find_wrong-clause-asked_up c = λ _ reader h. h
+
+pub returns-in-Some-find_wrong-clause-reads : goal.returns-in-Some-find_wrong-clause-reads
+returns-in-Some-find_wrong-clause-reads c = c.requires.reads
+
+pub returns-in-Some-find_wrong-clause-live : goal.returns-in-Some-find_wrong-clause-live
+returns-in-Some-find_wrong-clause-live c = refl
+
+pub returns-in-Some-find_wrong-clause-readers : goal.returns-in-Some-find_wrong-clause-readers
+returns-in-Some-find_wrong-clause-readers c = refl
+
+pub returns-in-Some-find_wrong-clause-asked : goal.returns-in-Some-find_wrong-clause-asked
+returns-in-Some-find_wrong-clause-asked c = λ reader offset len. ((λ h. h), (λ h. h))
+
+pub returns-in-Some-find_wrong-clause-same : goal.returns-in-Some-find_wrong-clause-same
+returns-in-Some-find_wrong-clause-same c = same_itself c.args.self.now
+
+pub returns-in-Some-find_wrong-clause-right : goal.returns-in-Some-find_wrong-clause-right
+returns-in-Some-find_wrong-clause-right c = subst IsFile c.self.view_is c.self.invariant.0
+
+-- ---- no group is begun, and what the other ends do not touch
+
+pub returns-in_err-begin_group-clause-same_handout : goal.returns-in_err-begin_group-clause-same_handout
+returns-in_err-begin_group-clause-same_handout c = λ _. ap (λ (s : FileState). s.handout) c.self.view_is
+
+pub returns-in_err-begin_group-clause-asked_up : goal.returns-in_err-begin_group-clause-asked_up
+returns-in_err-begin_group-clause-asked_up c = λ _ reader.
+    let f : FileState = record {
+      handout = c.self.inside.handout;
+      first = c.self.inside.plan.first;
+      end = c.self.inside.plan.end;
+      taken = c.self.inside.taken;
+      readers = c.self.inside.readers.items;
+      live = c.self.inside.live.items;
+      groups = c.self.inside.groups.items;
+    } in
+    let kept : record f { groups = c.begin_group.new.groups.items } ≡ c.args.self.now = ap (λ (gs : List GroupState). record f { groups = gs }) c.in_err-begin_group.ensures.unchanged ∙ c.self.view_is in
+    subst (λ (s : FileState). StaysAskedUp c.args.self.now s reader) (sym kept) (λ h. h)
+
+pub returns-in_err-begin_group-clause-reads : goal.returns-in_err-begin_group-clause-reads
+returns-in_err-begin_group-clause-reads c =
+    let f : FileState = record {
+      handout = c.self.inside.handout;
+      first = c.self.inside.plan.first;
+      end = c.self.inside.plan.end;
+      taken = c.self.inside.taken;
+      readers = c.self.inside.readers.items;
+      live = c.self.inside.live.items;
+      groups = c.self.inside.groups.items;
+    } in
+    let kept : record f { groups = c.begin_group.new.groups.items } ≡ c.args.self.now = ap (λ (gs : List GroupState). record f { groups = gs }) c.in_err-begin_group.ensures.unchanged ∙ c.self.view_is in
+    subst (IsRead c.args.requests.now.entries) (sym kept) c.requires.reads
+
+pub returns-in_err-begin_group-clause-live : goal.returns-in_err-begin_group-clause-live
+returns-in_err-begin_group-clause-live c = ap (λ (s : FileState). s.live) c.self.view_is
+
+pub returns-in_err-begin_group-clause-readers : goal.returns-in_err-begin_group-clause-readers
+returns-in_err-begin_group-clause-readers c = ap (λ (s : FileState). s.readers) c.self.view_is
+
+pub returns-in_err-begin_group-clause-asked : goal.returns-in_err-begin_group-clause-asked
+returns-in_err-begin_group-clause-asked c =
+    let f : FileState = record {
+      handout = c.self.inside.handout;
+      first = c.self.inside.plan.first;
+      end = c.self.inside.plan.end;
+      taken = c.self.inside.taken;
+      readers = c.self.inside.readers.items;
+      live = c.self.inside.live.items;
+      groups = c.self.inside.groups.items;
+    } in
+    let kept : record f { groups = c.begin_group.new.groups.items } ≡ c.args.self.now = ap (λ (gs : List GroupState). record f { groups = gs }) c.in_err-begin_group.ensures.unchanged ∙ c.self.view_is in
+    subst (AsksNoMore c.args.self.now) (sym kept) (λ reader offset len. ((λ h. h), (λ h. h)))
+
+pub returns-in_err-begin_group-clause-right : goal.returns-in_err-begin_group-clause-right
+returns-in_err-begin_group-clause-right c =
+    let f : FileState = record {
+      handout = c.self.inside.handout;
+      first = c.self.inside.plan.first;
+      end = c.self.inside.plan.end;
+      taken = c.self.inside.taken;
+      readers = c.self.inside.readers.items;
+      live = c.self.inside.live.items;
+      groups = c.self.inside.groups.items;
+    } in
+    let kept : record f { groups = c.begin_group.new.groups.items } ≡ c.args.self.now = ap (λ (gs : List GroupState). record f { groups = gs }) c.in_err-begin_group.ensures.unchanged ∙ c.self.view_is in
+    subst IsFile (sym kept) (subst IsFile c.self.view_is c.self.invariant.0)
+
+pub returns-in_err-make_segment-clause-live : goal.returns-in_err-make_segment-clause-live
+returns-in_err-make_segment-clause-live c = ap (λ (s : FileState). s.live) c.self.view_is
+
+pub returns-in_err-make_segment-clause-readers : goal.returns-in_err-make_segment-clause-readers
+returns-in_err-make_segment-clause-readers c = ap (λ (s : FileState). s.readers) c.self.view_is
+
+pub returns-then-not-branch-clause-live : goal.returns-then-not-branch-clause-live
+returns-then-not-branch-clause-live c = ap (λ (s : FileState). s.live) c.self.view_is
+
+pub returns-then-not-branch-clause-readers : goal.returns-then-not-branch-clause-readers
+returns-then-not-branch-clause-readers c = ap (λ (s : FileState). s.readers) c.self.view_is
+
+pub returns-clause-live : goal.returns-clause-live
+returns-clause-live c = ap (λ (s : FileState). s.live) c.self.view_is
+
+pub returns-clause-readers : goal.returns-clause-readers
+returns-clause-readers c = ap (λ (s : FileState). s.readers) c.self.view_is

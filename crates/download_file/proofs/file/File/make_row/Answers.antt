@@ -1,4 +1,4 @@
-use Rattle.std.proofs.Common.{◌≡◌, ◌↔◌, ◌∙◌, false, None, ◌+◌, ◌*◌, ◌<◌, ℕ, All, List, Some, Vec, Global, ap, arith, length, map, subst, sym}
+use Rattle.std.proofs.Common.{refl, ◌≡◌, ◌↔◌, ◌∙◌, false, None, ◌+◌, ◌*◌, ◌<◌, ℕ, All, List, Some, Vec, Global, ap, arith, length, map, subst, sym}
 use Rattle.std.specs.Prelude.{IfOk, IsTrue}
 use Rattle.std.proofs.lemmas.Bool.{true≢false}
 use Rattle.std.proofs.lemmas.List.Elements.{All-contains}
@@ -14,7 +14,8 @@ use Rattle.segment_groups.proofs.RowLemmas.{from_nth}
 use Rattle.download_file.specs.State.{FileState, ReaderState, numbers_of}
 use Rattle.download_file.specs.declared.file.File.TheInside.{Inside}
 use Rattle.download_file.specs.Answers.{IsRead, blocks_of}
-use Rattle.download_file.specs.Changes.{IsSameFile}
+use Rattle.download_file.specs.Asked.{AsksNoMore}
+use Rattle.download_file.specs.Changes.{IsSameFile, StaysAskedUp}
 use Rattle.download_file.specs.Making.{CanMakeRow}
 use Rattle.download_file.specs.Right.{IsFile, IsGroup}
 use Rattle.download_file.specs.Rows.{AreRowsProved, HasRow, HaveRow, IsRow}
@@ -294,3 +295,174 @@ returns-clause-exact c =
     subst (λ (s : FileState). IfOk c.make_segments.result (λ made. IsTrue made ↔ CanMakeRow entries s)) c.self.view_is
     (exact_row entries f number size k (map (λ r. r.items) c.deref-10.result.now) joined c.make_segments.result c.begin_group.new.groups.items c.make_segments.new.groups.items
     c.make_segments.new.handout last right c.make_segments.ensures.made c.make_segments.ensures.refuted)
+
+-- ---- nothing is touched
+
+pub returns-in_default-clause-same_handout : goal.returns-in_default-clause-same_handout
+returns-in_default-clause-same_handout c = λ _. refl
+
+pub returns-in_default-clause-asked_up : goal.returns-in_default-clause-asked_up
+returns-in_default-clause-asked_up c = λ _ reader h. h
+
+pub returns-in_default-clause-reads : goal.returns-in_default-clause-reads
+returns-in_default-clause-reads c = c.requires.reads
+
+pub returns-in_default-clause-live : goal.returns-in_default-clause-live
+returns-in_default-clause-live c = refl
+
+pub returns-in_default-clause-readers : goal.returns-in_default-clause-readers
+returns-in_default-clause-readers c = refl
+
+pub returns-in_default-clause-asked : goal.returns-in_default-clause-asked
+returns-in_default-clause-asked c = λ reader offset len. ((λ h. h), (λ h. h))
+
+pub returns-in_default-clause-same : goal.returns-in_default-clause-same
+returns-in_default-clause-same c = same_itself c.args.self.now
+
+pub returns-in_default-clause-right : goal.returns-in_default-clause-right
+returns-in_default-clause-right c = subst IsFile c.self.view_is c.self.invariant.0
+
+pub returns-then-not-has_row-clause-same_handout : goal.returns-then-not-has_row-clause-same_handout
+returns-then-not-has_row-clause-same_handout c = λ _. refl
+
+pub returns-then-not-has_row-clause-asked_up : goal.returns-then-not-has_row-clause-asked_up
+returns-then-not-has_row-clause-asked_up c = λ _ reader h. h
+
+pub returns-then-not-has_row-clause-reads : goal.returns-then-not-has_row-clause-reads
+returns-then-not-has_row-clause-reads c = c.requires.reads
+
+pub returns-then-not-has_row-clause-live : goal.returns-then-not-has_row-clause-live
+returns-then-not-has_row-clause-live c = refl
+
+pub returns-then-not-has_row-clause-readers : goal.returns-then-not-has_row-clause-readers
+returns-then-not-has_row-clause-readers c = refl
+
+pub returns-then-not-has_row-clause-asked : goal.returns-then-not-has_row-clause-asked
+returns-then-not-has_row-clause-asked c = λ reader offset len. ((λ h. h), (λ h. h))
+
+pub returns-then-not-has_row-clause-same : goal.returns-then-not-has_row-clause-same
+returns-then-not-has_row-clause-same c = same_itself c.args.self.now
+
+pub returns-then-not-has_row-clause-right : goal.returns-then-not-has_row-clause-right
+returns-then-not-has_row-clause-right c = subst IsFile c.self.view_is c.self.invariant.0
+
+pub returns-in_err-rows-clause-same_handout : goal.returns-in_err-rows-clause-same_handout
+returns-in_err-rows-clause-same_handout c = λ _. refl
+
+pub returns-in_err-rows-clause-asked_up : goal.returns-in_err-rows-clause-asked_up
+returns-in_err-rows-clause-asked_up c = λ _ reader h. h
+
+pub returns-in_err-rows-clause-reads : goal.returns-in_err-rows-clause-reads
+returns-in_err-rows-clause-reads c = c.requires.reads
+
+pub returns-in_err-rows-clause-live : goal.returns-in_err-rows-clause-live
+returns-in_err-rows-clause-live c = refl
+
+pub returns-in_err-rows-clause-readers : goal.returns-in_err-rows-clause-readers
+returns-in_err-rows-clause-readers c = refl
+
+pub returns-in_err-rows-clause-asked : goal.returns-in_err-rows-clause-asked
+returns-in_err-rows-clause-asked c = λ reader offset len. ((λ h. h), (λ h. h))
+
+pub returns-in_err-rows-clause-same : goal.returns-in_err-rows-clause-same
+returns-in_err-rows-clause-same c = same_itself c.args.self.now
+
+pub returns-in_err-rows-clause-right : goal.returns-in_err-rows-clause-right
+returns-in_err-rows-clause-right c = subst IsFile c.self.view_is c.self.invariant.0
+
+pub returns-then-not-are_right-clause-same_handout : goal.returns-then-not-are_right-clause-same_handout
+returns-then-not-are_right-clause-same_handout c = λ _. refl
+
+pub returns-then-not-are_right-clause-asked_up : goal.returns-then-not-are_right-clause-asked_up
+returns-then-not-are_right-clause-asked_up c = λ _ reader h. h
+
+pub returns-then-not-are_right-clause-reads : goal.returns-then-not-are_right-clause-reads
+returns-then-not-are_right-clause-reads c = c.requires.reads
+
+pub returns-then-not-are_right-clause-live : goal.returns-then-not-are_right-clause-live
+returns-then-not-are_right-clause-live c = refl
+
+pub returns-then-not-are_right-clause-readers : goal.returns-then-not-are_right-clause-readers
+returns-then-not-are_right-clause-readers c = refl
+
+pub returns-then-not-are_right-clause-asked : goal.returns-then-not-are_right-clause-asked
+returns-then-not-are_right-clause-asked c = λ reader offset len. ((λ h. h), (λ h. h))
+
+pub returns-then-not-are_right-clause-same : goal.returns-then-not-are_right-clause-same
+returns-then-not-are_right-clause-same c = same_itself c.args.self.now
+
+pub returns-then-not-are_right-clause-right : goal.returns-then-not-are_right-clause-right
+returns-then-not-are_right-clause-right c = subst IsFile c.self.view_is c.self.invariant.0
+
+-- ---- no group is begun, and what the last end does not touch
+
+pub returns-in_err-begin_group-clause-same_handout : goal.returns-in_err-begin_group-clause-same_handout
+returns-in_err-begin_group-clause-same_handout c = λ _. ap (λ (s : FileState). s.handout) c.self.view_is
+
+pub returns-in_err-begin_group-clause-asked_up : goal.returns-in_err-begin_group-clause-asked_up
+returns-in_err-begin_group-clause-asked_up c = λ _ reader.
+    let f : FileState = record {
+      handout = c.self.inside.handout;
+      first = c.self.inside.plan.first;
+      end = c.self.inside.plan.end;
+      taken = c.self.inside.taken;
+      readers = c.self.inside.readers.items;
+      live = c.self.inside.live.items;
+      groups = c.self.inside.groups.items;
+    } in
+    let kept : record f { groups = c.begin_group.new.groups.items } ≡ c.args.self.now = ap (λ (gs : List GroupState). record f { groups = gs }) c.in_err-begin_group.ensures.unchanged ∙ c.self.view_is in
+    subst (λ (s : FileState). StaysAskedUp c.args.self.now s reader) (sym kept) (λ h. h)
+
+pub returns-in_err-begin_group-clause-reads : goal.returns-in_err-begin_group-clause-reads
+returns-in_err-begin_group-clause-reads c =
+    let f : FileState = record {
+      handout = c.self.inside.handout;
+      first = c.self.inside.plan.first;
+      end = c.self.inside.plan.end;
+      taken = c.self.inside.taken;
+      readers = c.self.inside.readers.items;
+      live = c.self.inside.live.items;
+      groups = c.self.inside.groups.items;
+    } in
+    let kept : record f { groups = c.begin_group.new.groups.items } ≡ c.args.self.now = ap (λ (gs : List GroupState). record f { groups = gs }) c.in_err-begin_group.ensures.unchanged ∙ c.self.view_is in
+    subst (IsRead c.args.requests.now.entries) (sym kept) c.requires.reads
+
+pub returns-in_err-begin_group-clause-live : goal.returns-in_err-begin_group-clause-live
+returns-in_err-begin_group-clause-live c = ap (λ (s : FileState). s.live) c.self.view_is
+
+pub returns-in_err-begin_group-clause-readers : goal.returns-in_err-begin_group-clause-readers
+returns-in_err-begin_group-clause-readers c = ap (λ (s : FileState). s.readers) c.self.view_is
+
+pub returns-in_err-begin_group-clause-asked : goal.returns-in_err-begin_group-clause-asked
+returns-in_err-begin_group-clause-asked c =
+    let f : FileState = record {
+      handout = c.self.inside.handout;
+      first = c.self.inside.plan.first;
+      end = c.self.inside.plan.end;
+      taken = c.self.inside.taken;
+      readers = c.self.inside.readers.items;
+      live = c.self.inside.live.items;
+      groups = c.self.inside.groups.items;
+    } in
+    let kept : record f { groups = c.begin_group.new.groups.items } ≡ c.args.self.now = ap (λ (gs : List GroupState). record f { groups = gs }) c.in_err-begin_group.ensures.unchanged ∙ c.self.view_is in
+    subst (AsksNoMore c.args.self.now) (sym kept) (λ reader offset len. ((λ h. h), (λ h. h)))
+
+pub returns-in_err-begin_group-clause-right : goal.returns-in_err-begin_group-clause-right
+returns-in_err-begin_group-clause-right c =
+    let f : FileState = record {
+      handout = c.self.inside.handout;
+      first = c.self.inside.plan.first;
+      end = c.self.inside.plan.end;
+      taken = c.self.inside.taken;
+      readers = c.self.inside.readers.items;
+      live = c.self.inside.live.items;
+      groups = c.self.inside.groups.items;
+    } in
+    let kept : record f { groups = c.begin_group.new.groups.items } ≡ c.args.self.now = ap (λ (gs : List GroupState). record f { groups = gs }) c.in_err-begin_group.ensures.unchanged ∙ c.self.view_is in
+    subst IsFile (sym kept) (subst IsFile c.self.view_is c.self.invariant.0)
+
+pub returns-clause-live : goal.returns-clause-live
+returns-clause-live c = ap (λ (s : FileState). s.live) c.self.view_is
+
+pub returns-clause-readers : goal.returns-clause-readers
+returns-clause-readers c = ap (λ (s : FileState). s.readers) c.self.view_is

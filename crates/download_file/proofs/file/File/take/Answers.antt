@@ -1,14 +1,14 @@
-use Rattle.std.proofs.Common.{◌≡◌, ◌∙◌, ◌<◌, inr, ℕ, List, Err, Some, ap, subst, sym, length, slice_get, slice_set, rules}
+use Rattle.std.proofs.Common.{refl, ◌≡◌, ◌∙◌, ◌<◌, inr, ℕ, List, Err, Some, ap, subst, sym, length, slice_get, slice_set, rules}
 use Rattle.std.proofs.lemmas.List.Elements.{All-contains}
 use Rattle.lemmas.proofs.Options.{one_there}
 use Rattle.lemmas.proofs.Places.{got}
 use Rattle.request_record.specs.declared.requests.Request.{Request}
 use Rattle.download_trees.specs.declared.error.TreeFault.TheVariants as faults
 use Rattle.download_segments.specs.State.{HandoutState}
-use Rattle.download_file.specs.State.{FileState, IsLive, ReaderState}
+use Rattle.download_file.specs.State.{FileState, IsLive, ReaderState, copies, waiting_at}
 use Rattle.download_file.specs.Answers.{AnswersFirst, IsRead}
 use Rattle.download_file.specs.Asked.{AsksNoMore}
-use Rattle.download_file.specs.Changes.{IsSameFile, StaysAskedUp}
+use Rattle.download_file.specs.Changes.{HandsNothing, IsSameFile, StaysAskedUp}
 use Rattle.download_file.specs.Right.{IsFile}
 use Rattle.download_file.specs.Taking.{IsRefused}
 use Rattle.download_file.proofs.GrowLemmas.{same_itself}
@@ -178,3 +178,52 @@ returns-clause-same c = (taken c).same
 
 pub returns-in_err-take_part-clause-same : goal.returns-in_err-take_part-clause-same
 returns-in_err-take_part-clause-same c = subst (IsSameFile c.args.self.now) (sym (same c)) (same_itself c.args.self.now)
+
+-- ---- bytes of another length
+
+pub returns-then-bytes-first-clause-right : goal.returns-then-bytes-first-clause-right
+returns-then-bytes-first-clause-right c = subst IsFile c.self.view_is c.self.invariant.0
+
+pub returns-then-bytes-first-clause-same : goal.returns-then-bytes-first-clause-same
+returns-then-bytes-first-clause-same c = same_itself c.args.self.now
+
+pub returns-then-bytes-first-clause-asked : goal.returns-then-bytes-first-clause-asked
+returns-then-bytes-first-clause-asked c = λ reader offset len. ((λ h. h), (λ h. h))
+
+pub returns-then-bytes-first-clause-asked_up : goal.returns-then-bytes-first-clause-asked_up
+returns-then-bytes-first-clause-asked_up c = λ other h. h
+
+pub returns-then-bytes-first-clause-reads : goal.returns-then-bytes-first-clause-reads
+returns-then-bytes-first-clause-reads c = λ entries read answered. read
+
+pub returns-then-bytes-first-clause-live : goal.returns-then-bytes-first-clause-live
+returns-then-bytes-first-clause-live c = refl
+
+pub returns-then-bytes-first-clause-copies : goal.returns-then-bytes-first-clause-copies
+returns-then-bytes-first-clause-copies c = refl
+
+pub returns-then-bytes-first-clause-others : goal.returns-then-bytes-first-clause-others
+returns-then-bytes-first-clause-others c = λ other not. refl
+
+pub returns-then-bytes-first-clause-handout : goal.returns-then-bytes-first-clause-handout
+returns-then-bytes-first-clause-handout c = record { handout = refl; first = refl; end = refl }
+
+pub returns-then-bytes-first-clause-unchanged : goal.returns-then-bytes-first-clause-unchanged
+returns-then-bytes-first-clause-unchanged c = refl
+
+-- ---- what a refusal does not touch
+
+pub returns-in_err-take_part-clause-live : goal.returns-in_err-take_part-clause-live
+returns-in_err-take_part-clause-live c = ap (λ (s : FileState). s.live) (same c)
+
+pub returns-in_err-take_part-clause-copies : goal.returns-in_err-take_part-clause-copies
+returns-in_err-take_part-clause-copies c = ap copies (same c)
+
+pub returns-in_err-take_part-clause-others : goal.returns-in_err-take_part-clause-others
+returns-in_err-take_part-clause-others c = λ other not. ap (λ (s : FileState). waiting_at s other) (same c)
+
+pub returns-in_err-take_part-clause-handout : goal.returns-in_err-take_part-clause-handout
+returns-in_err-take_part-clause-handout c = subst (HandsNothing c.args.self.now) (sym (same c)) (record { handout = refl; first = refl; end = refl })
+
+pub returns-clause-live : goal.returns-clause-live
+returns-clause-live c = ap (λ (s : FileState). s.live) c.self.view_is
