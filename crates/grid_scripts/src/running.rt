@@ -32,8 +32,5 @@ fn run(alloc: Global, script: &Script) -> Result<Ending, Fault>
     ensures ended { IfOk result (IsEnding script.now) }
     ensures refused { IfErr result (IsWorldFault script.now) }
 {
-    match run_script(alloc, script) {
-        Ok(ending) => Ok(ending),
-        Err(error) => Err(fault_of_world(error)),
-    }
+    run_script(alloc, script).map_err(fault_of_world)
 }
