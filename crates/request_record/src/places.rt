@@ -14,37 +14,46 @@ use crate::requests::{Outcome, Request};
 use std::alloc::{AllocError, Global};
 use std::collections::VecDeque;
 
-/// What a tick finds due: the places of the requests that are sent again, and of the lost ones.
-#[derive(Drop)]
-pub(crate) struct Due {
-    pub(crate) resent: VecDeque<usize>,
-    pub(crate) lost: Vec<usize>,
-}
-
-/// What a tick at this second finds due among these requests, the first of them at this place.
-pub(crate) fn find_due(
+/// The places of the requests that a tick at this second sends again, the first of these requests
+/// at this place.
+pub(crate) fn find_resent(
     alloc: Global,
     entries: &[Request],
     from: usize,
     now: u64,
-) -> Result<Due, AllocError>
+) -> Result<VecDeque<usize>, AllocError>
     requires { from + length entries.now < 2 ^ 64 }
-    ensures resent { IfOk result
-        (λ due. due.resent.items ≡ places_from (is_resent_at now) from entries.now) }
-    ensures lost { IfOk result
-        (λ due. due.lost.items ≡ places_from (is_lost_at now) from entries.now) }
+    ensures { IfOk result
+        (λ places. places.items ≡ places_from (is_resent_at now) from entries.now) }
 {
-    let mut resent = VecDeque::new(alloc);
-    let mut lost = Vec::new(alloc);
+    let mut places = VecDeque::new(alloc);
     for (at, request) in entries.iter().enumerate() {
-        if request.is_lost_at(now) {
-            lost.push(from + at)?;
-        }
         if request.is_resent_at(now) {
-            resent.push_back(from + at)?;
+            places.push_back(from + at)?;
         }
     }
-    Ok(Due { resent, lost })
+    Ok(places)
+}
+
+/// The places of the requests that a tick at this second finds lost, the first of these requests at
+/// this place.
+pub(crate) fn find_lost(
+    alloc: Global,
+    entries: &[Request],
+    from: usize,
+    now: u64,
+) -> Result<Vec<usize>, AllocError>
+    requires { from + length entries.now < 2 ^ 64 }
+    ensures { IfOk result
+        (λ places. places.items ≡ places_from (is_lost_at now) from entries.now) }
+{
+    let mut places = Vec::new(alloc);
+    for (at, request) in entries.iter().enumerate() {
+        if request.is_lost_at(now) {
+            places.push(from + at)?;
+        }
+    }
+    Ok(places)
 }
 
 /// Each request takes note of a tick at this second.

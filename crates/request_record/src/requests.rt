@@ -16,7 +16,9 @@ ghost use Rattle.request_record.specs.Asking.{lost_by_tick, HasWork};
 ghost use Rattle.request_record.specs.Asking.{Spells, IsWriting, message_at};
 ghost use Rattle.request_record.specs.declared.requests.Request.{Request};
 
-use crate::places::{Due, drop_lost, find_due, first_waiting, sent_to, settle, tick_from, unqueue};
+use crate::places::{
+    drop_lost, find_lost, find_resent, first_waiting, sent_to, settle, tick_from, unqueue,
+};
 use std::alloc::{AllocError, Global};
 use std::collections::VecDeque;
 use std::marker::Model;
@@ -388,14 +390,14 @@ impl Requests {
         let now = self.clock.max(now);
         let alloc = *self.entries.allocator();
         let waiting = &self.entries.as_slice()[self.settled..];
-        let mut due = find_due(alloc, waiting, self.settled, now)?;
-        self.outgoing.append(&mut due.resent)?;
+        let mut resent = find_resent(alloc, waiting, self.settled, now)?;
+        let lost = find_lost(alloc, waiting, self.settled, now)?;
+        self.outgoing.append(&mut resent)?;
         drop_lost(&mut self.outgoing, self.entries.as_slice(), now);
         tick_from(self.entries.as_mut_slice(), self.settled, now);
         self.settled = first_waiting(self.entries.as_slice(), self.settled);
-        self.outstanding -= due.lost.len();
+        self.outstanding -= lost.len();
         self.clock = now;
-        let Due { resent: _, lost } = due;
         Ok(lost)
     }
 
