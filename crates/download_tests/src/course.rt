@@ -12,11 +12,11 @@ use wire::message::{Body, Message, NodeId};
 
 // Bytes of a share that a server was asked for.
 #[derive(Clone, Copy)]
-pub(crate) struct Asked {
-    pub(crate) server: NodeId,
-    pub(crate) share: u8,
-    pub(crate) offset: u64,
-    pub(crate) length: u64,
+struct Asked {
+    server: NodeId,
+    share: u8,
+    offset: u64,
+    length: u64,
 }
 
 // A download, and what it did so far.
@@ -30,23 +30,49 @@ pub(crate) struct Course {
     // How many answers servers gave that are silent at some time.
     answers: usize,
     // How many bytes it handed out, all of them right.
-    pub(crate) bytes: usize,
+    bytes: usize,
     // How many pieces it handed out each time that it handed some out.
     pub(crate) pieces: Vec<usize>,
-    pub(crate) reads: Vec<Asked>,
+    reads: Vec<Asked>,
 }
 
 // The servers, of which not all need to hold a share.
 const SERVERS: [NodeId; 10] = [0, 1, 2, 3, 4, 5, 6, 7, 8, 9];
 
-// How a download ended: its status, how many bytes it handed out, for how many segments it had
-// proof, and how many shares it blamed.
+// What is wanted of a download at its end.
 #[derive(Clone, Copy)]
-pub(crate) struct Ending {
+pub(crate) struct Wanted {
     pub(crate) status: DownloadStatus,
+    // How many bytes it handed out.
     pub(crate) bytes: usize,
-    pub(crate) parts: usize,
-    pub(crate) blamed: usize,
+    // For how many segments it has proof, if that is looked at.
+    pub(crate) parts: Option<usize>,
+    pub(crate) blamed: Blamed,
+    pub(crate) reads: Reads,
+}
+
+// What is blamed.
+#[derive(Clone, Copy)]
+pub(crate) enum Blamed {
+    Any,
+    // So many shares.
+    Count(usize),
+    // This share, at the server of its number, for this, and nothing else.
+    Only(u8, Check),
+    These([Blame; 3]),
+}
+
+// What is asked for.
+#[derive(Clone, Copy)]
+pub(crate) enum Reads {
+    Any,
+    // No byte is asked for twice.
+    Once,
+    // Nothing of this share from this place on, nor a byte twice.
+    Before(usize, Place),
+    // Of the bytes of the shares from this one on up to before that one the last alone, of three
+    // shares, and no byte twice.
+    LastOf(u64, u64),
 }
 
 // What a request reads.
@@ -115,7 +141,7 @@ impl Course {
         false
     }
 
-    pub(crate) fn status(&self) -> DownloadStatus {
+    fn status(&self) -> DownloadStatus {
         self.download.status()
     }
 
@@ -189,44 +215,53 @@ impl Course {
         count
     }
 
-    pub(crate) fn blamed(&self) -> &[Blame] {
-        self.download.blamed()
-    }
-
-    // What proves the segments.
-    pub(crate) fn evidence(&self) -> Option<Evidence> {
-        self.download.evidence(self.alloc).ok()?
+    // What proves the segments, if there are so many of them.
+    pub(crate) fn proved(&self, parts: usize) -> Option<Evidence> {
+        if self.parts() == Some(parts) {
+            self.download.evidence(self.alloc).ok()?
+        } else {
+            None
+        }
     }
 
     // For how many segments it has proof, which is one.
-    pub(crate) fn parts(&self) -> Option<usize> {
+    fn parts(&self) -> Option<usize> {
         match self.download.evidence(self.alloc).ok()? {
             Some(evidence) => parts_of(&evidence, &self.grid.cap.to_verify()),
             None => Some(0),
         }
     }
 
-    // Did it end so, with so many bytes, segments that were proved and shares that were blamed?
-    pub(crate) fn ended_as(&self, ending: &Ending) -> bool {
-        self.status() == ending.status
-            && self.bytes == ending.bytes
-            && self.parts() == Some(ending.parts)
-            && self.blamed().len() == ending.blamed
+    // Did it end so?
+    pub(crate) fn ended(&self, wanted: &Wanted) -> bool {
+        self.status() == wanted.status
+            && self.bytes == wanted.bytes
+            && (wanted.parts.is_none() || self.parts() == wanted.parts)
+            && self.blames(&wanted.blamed)
+            && self.has_read(&wanted.reads)
     }
 
-    // Was this share blamed at this server for this, and nothing else?
-    pub(crate) fn blames_only(&self, server: NodeId, share: u8, check: Check) -> bool {
-        self.blamed()
-            == [Blame {
-                server,
-                share,
-                check,
-            }]
-            .as_slice()
+    fn blames(&self, wanted: &Blamed) -> bool {
+        let blamed = self.download.blamed();
+        match wanted {
+            Blamed::Any => true,
+            Blamed::Count(count) => blamed.len() == *count,
+            Blamed::Only(share, check) => is_only(blamed, *share, *check),
+            Blamed::These(blames) => blamed == blames.as_slice(),
+        }
+    }
+
+    fn has_read(&self, wanted: &Reads) -> bool {
+        match wanted {
+            Reads::Any => true,
+            Reads::Once => !self.asks_twice(),
+            Reads::Before(share, place) => self.reads_end_by(*share, place) && !self.asks_twice(),
+            Reads::LastOf(from, to) => self.reads_last_of(*from, *to) && !self.asks_twice(),
+        }
     }
 
     // Is nothing of this share asked for from this place on?
-    pub(crate) fn reads_end_by(&self, share: usize, place: &Place) -> bool {
+    fn reads_end_by(&self, share: usize, place: &Place) -> bool {
         let Some(place) = self.grid.place(share, place) else {
             return false;
         };
@@ -239,8 +274,22 @@ impl Course {
         true
     }
 
+    // Is of these bytes the last alone asked for, of three shares?
+    fn reads_last_of(&self, from: u64, to: u64) -> bool {
+        let mut count: usize = 0;
+        for read in &self.reads {
+            if from <= read.offset && read.offset < to {
+                if read.offset.saturating_add(1) != to || read.length != 1 {
+                    return false;
+                }
+                count = count.saturating_add(1);
+            }
+        }
+        count == 3
+    }
+
     // Was some byte asked for twice? A request that is sent again is the same request.
-    pub(crate) fn asks_twice(&self) -> bool {
+    fn asks_twice(&self) -> bool {
         for (i, one) in self.reads.iter().enumerate() {
             for other in &self.reads[..i] {
                 if meet(one, other) {
@@ -255,6 +304,24 @@ impl Course {
 // Hands a message to a download. `false` where there is no memory.
 fn hand(download: &mut Download, node: NodeId, message: Message, now: u64) -> bool {
     download.on_message(node, message, now).is_ok()
+}
+
+// Was this share blamed at the server of its number for this, and nothing else?
+fn is_only(blamed: &[Blame], share: u8, check: Check) -> bool {
+    match blamed {
+        [blame] => {
+            blame.server == u16::from(share) && blame.share == share && blame.check == check
+        }
+        _ => false,
+    }
+}
+
+// Did a download that came to its end end so?
+pub(crate) fn ends(course: Option<Course>, wanted: &Wanted) -> bool {
+    match course {
+        Some(course) => course.ended(wanted),
+        None => false,
+    }
 }
 
 // How many segments are proved, if all of them are.

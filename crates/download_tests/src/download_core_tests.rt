@@ -1,6 +1,6 @@
 //! Downloads from servers in memory, some of which do not do as they should.
 
-use crate::course::Ending;
+use crate::course::{Blamed, Reads, Wanted, ends};
 use crate::grid::{Fault, Place, Shape, Wrong};
 use crate::shapes::{SMALL, TWO, course_of};
 use download_core::status::DownloadStatus;
@@ -68,45 +68,45 @@ fn ends_so(
     shape: &Shape,
     wrong: &Wrong,
     range: (usize, usize),
-    ending: &Ending,
+    wanted: &Wanted,
 ) -> bool {
-    match course_of(alloc, shape, wrong, range) {
-        Some(course) => course.ended_as(ending),
-        None => false,
-    }
+    ends(course_of(alloc, shape, wrong, range), wanted)
 }
 
 // Does a range come, of so many segments?
 fn comes(alloc: Global, shape: &Shape, from: usize, to: usize, parts: usize) -> bool {
-    let ending = Ending {
+    let wanted = Wanted {
         status: DownloadStatus::Done,
         bytes: to.saturating_sub(from),
-        parts,
-        blamed: 0,
+        parts: Some(parts),
+        blamed: Blamed::Count(0),
+        reads: Reads::Any,
     };
-    ends_so(alloc, shape, &Wrong::Nothing, (from, to), &ending)
+    ends_so(alloc, shape, &Wrong::Nothing, (from, to), &wanted)
 }
 
 // Does all of the small file come, with so many shares blamed?
 fn comes_all_the_same(alloc: Global, wrong: &Wrong, blamed: usize) -> bool {
-    let ending = Ending {
+    let wanted = Wanted {
         status: DownloadStatus::Done,
         bytes: 30_000,
-        parts: 8,
-        blamed,
+        parts: Some(8),
+        blamed: Blamed::Count(blamed),
+        reads: Reads::Any,
     };
-    ends_so(alloc, &SMALL, wrong, (0, 30_000), &ending)
+    ends_so(alloc, &SMALL, wrong, (0, 30_000), &wanted)
 }
 
 // Does a download of a whole file end without enough shares?
 fn lacks_shares(alloc: Global, shape: &Shape, wrong: &Wrong, bytes: usize, parts: usize) -> bool {
-    let ending = Ending {
+    let wanted = Wanted {
         status: DownloadStatus::NotEnoughShares,
         bytes,
-        parts,
-        blamed: 0,
+        parts: Some(parts),
+        blamed: Blamed::Count(0),
+        reads: Reads::Any,
     };
-    ends_so(alloc, shape, wrong, (0, shape.size), &ending)
+    ends_so(alloc, shape, wrong, (0, shape.size), &wanted)
 }
 
 #[test]

@@ -171,10 +171,9 @@ impl Grid {
         }
     }
 
-    // Puts the last share of another file in the place of this one.
-    pub(crate) fn take_share(&mut self, share: usize, other: Grid) -> bool {
-        let mut others = other.held;
-        match (self.held.get_mut(share), others.pop()) {
+    // Puts the last share of another file, if there is one, in the place of this one.
+    pub(crate) fn take_share(&mut self, share: usize, other: Option<Grid>) -> bool {
+        match (self.held.get_mut(share), last_of(other)) {
             (Some(held), Some(other)) => {
                 *held = other;
                 true
@@ -190,6 +189,10 @@ impl Grid {
             None => None,
         }
     }
+}
+
+fn last_of(grid: Option<Grid>) -> Option<Held> {
+    grid?.held.pop()
 }
 
 // Makes a share wrong at a place, if there is such a place.

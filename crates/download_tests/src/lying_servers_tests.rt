@@ -1,12 +1,12 @@
 //! Downloads from servers that hold wrong bytes: each wrong share is blamed for its own fault, at
 //! its own server, and the others give the file.
 
-use crate::course::{Asked, Course, Ending};
+use crate::course::{Blamed, Course, Reads, Wanted, ends};
 use crate::grid::{
     BLOCK_TREE, BLOCKS, CIPHERTEXT_TREE, EXTENSION_BLOCK, Fault, Grid, Place, Placed, SHARE_HASHES,
     Shape, Wrong,
 };
-use crate::shapes::{SMALL, SMALL_BUT_ONE, SMALL_SIZE, TWO, course_from, course_of};
+use crate::shapes::{SMALL, SMALL_SIZE, TWO, course_from, course_of, small_but_one};
 use download_core::status::{Blame, DownloadStatus};
 use proved_parts::{Evidence, find_clash};
 use share_verify::Check;
@@ -41,16 +41,8 @@ const CUTS: [(usize, usize); 11] = [
 
 // Is this share blamed alone, and no byte asked for twice?
 fn is_blamed(alloc: Global, wrong: &Wrong, share: u8, check: Check) -> bool {
-    match course_of(alloc, &SMALL, wrong, (0, SMALL_SIZE)) {
-        Some(course) => is_blamed_in(&course, &SMALL_BUT_ONE, share, check),
-        None => false,
-    }
-}
-
-fn is_blamed_in(course: &Course, ending: &Ending, share: u8, check: Check) -> bool {
-    course.ended_as(ending)
-        && course.blames_only(u16::from(share), share, check)
-        && !course.asks_twice()
+    let course = course_of(alloc, &SMALL, wrong, (0, SMALL_SIZE));
+    ends(course, &small_but_one(share, check))
 }
 
 // Is share 0 blamed for what is wrong in a section?
@@ -97,40 +89,34 @@ const OTHER: Shape = Shape {
 // A server whose share is of another file of the same size, with an extension block of its own.
 fn with_share_of_other(alloc: Global) -> Option<Course> {
     let mut grid = Grid::whole(alloc, &SMALL)?;
-    let other = Grid::new(alloc, &OTHER, &[(2, 2, 2)])?;
-    if !grid.take_share(2, other) {
-        return None;
-    }
-    Course::of(alloc, grid, &Wrong::Nothing, (0, SMALL_SIZE))
-}
-
-fn is_other_file_blamed(alloc: Global) -> bool {
-    match with_share_of_other(alloc) {
-        Some(course) => is_blamed_in(&course, &SMALL_BUT_ONE, 2, Check::Ueb),
-        None => false,
+    if grid.take_share(2, Grid::new(alloc, &OTHER, &[(2, 2, 2)])) {
+        Course::of(alloc, grid, &Wrong::Nothing, (0, SMALL_SIZE))
+    } else {
+        None
     }
 }
 
 #[test]
 fn a_share_of_another_file_is_blamed(rt: HostRuntime) {
-    assert!(rt; is_other_file_blamed(rt.alloc()));
+    let course = with_share_of_other(rt.alloc());
+    assert!(rt; ends(course, &small_but_one(2, Check::Ueb)));
 }
 
 // A share whose extension block has the length 4,294,967,295: no byte behind that is asked for.
-fn is_long_block_blamed(alloc: Global) -> bool {
-    let wrong = Wrong::Share(0, Fault::Full, Place::In(EXTENSION_BLOCK, 0));
-    match course_of(alloc, &SMALL, &wrong, (0, SMALL_SIZE)) {
-        Some(course) => {
-            is_blamed_in(&course, &SMALL_BUT_ONE, 0, Check::Layout)
-                && course.reads_end_by(0, &Place::In(EXTENSION_BLOCK, 4))
-        }
-        None => false,
-    }
-}
+const LONG_BLOCK: Wrong = Wrong::Share(0, Fault::Full, Place::In(EXTENSION_BLOCK, 0));
+
+const LONG_BLOCK_BLAMED: Wanted = Wanted {
+    status: DownloadStatus::Done,
+    bytes: SMALL_SIZE,
+    parts: Some(8),
+    blamed: Blamed::Only(0, Check::Layout),
+    reads: Reads::Before(0, Place::In(EXTENSION_BLOCK, 4)),
+};
 
 #[test]
 fn no_byte_of_a_long_block_is_asked_for(rt: HostRuntime) {
-    assert!(rt; is_long_block_blamed(rt.alloc()));
+    let course = course_of(rt.alloc(), &SMALL, &LONG_BLOCK, (0, SMALL_SIZE));
+    assert!(rt; ends(course, &LONG_BLOCK_BLAMED));
 }
 
 // A server that offers share 3 as the numbers 0, 1 and 2 too.
@@ -167,20 +153,18 @@ const OTHER_NUMBERS: [Blame; 3] = [
     },
 ];
 
-fn is_other_number_blamed(alloc: Global) -> bool {
-    match course_from(alloc, &NUMBERS, &Wrong::Nothing) {
-        Some(course) => {
-            course.status() == DownloadStatus::Done
-                && course.bytes == SMALL_SIZE
-                && course.blamed() == OTHER_NUMBERS.as_slice()
-        }
-        None => false,
-    }
-}
+const OTHER_NUMBERS_BLAMED: Wanted = Wanted {
+    status: DownloadStatus::Done,
+    bytes: SMALL_SIZE,
+    parts: None,
+    blamed: Blamed::These(OTHER_NUMBERS),
+    reads: Reads::Any,
+};
 
 #[test]
 fn a_share_counts_under_its_own_number(rt: HostRuntime) {
-    assert!(rt; is_other_number_blamed(rt.alloc()));
+    let course = course_from(rt.alloc(), &SMALL, &NUMBERS, &Wrong::Nothing);
+    assert!(rt; ends(course, &OTHER_NUMBERS_BLAMED));
 }
 
 // The least file that is not held by its cap.
@@ -193,11 +177,12 @@ const SMALLEST: Shape = Shape {
     mark: 0,
 };
 
-const SMALLEST_BUT_ONE: Ending = Ending {
+const SMALLEST_BUT_ONE: Wanted = Wanted {
     status: DownloadStatus::Done,
     bytes: 56,
-    parts: 1,
-    blamed: 1,
+    parts: Some(1),
+    blamed: Blamed::Only(0, Check::Layout),
+    reads: Reads::Once,
 };
 
 // How long its shares are.
@@ -207,15 +192,11 @@ fn smallest_length(alloc: Global) -> Option<usize> {
 
 // A share of it that ends here: the share is blamed, and the file comes.
 fn is_cut_blamed(alloc: Global, cut: usize) -> bool {
-    match course_of(
-        alloc,
-        &SMALLEST,
-        &Wrong::Share(0, Fault::Cut, Place::At(cut)),
-        (0, 56),
-    ) {
-        Some(course) => is_blamed_in(&course, &SMALLEST_BUT_ONE, 0, Check::Layout),
-        None => false,
-    }
+    let wrong = Wrong::Share(0, Fault::Cut, Place::At(cut));
+    ends(
+        course_of(alloc, &SMALLEST, &wrong, (0, 56)),
+        &SMALLEST_BUT_ONE,
+    )
 }
 
 #[test]
@@ -230,17 +211,12 @@ fn shares_that_end_anywhere_are_blamed(rt: HostRuntime) {
 const COPIES: [Placed; 4] = [(0, 0, 0), (0, 1, 1), (5, 0, 0), (6, 2, 2)];
 
 // 0 is blamed at server 0 and good at server 5: neither the server nor the number is given up.
-fn is_one_copy_blamed(alloc: Global) -> bool {
-    let wrong = Wrong::Share(0, Fault::Flipped, Place::In(SHARE_HASHES, 2));
-    match course_from(alloc, &COPIES, &wrong) {
-        Some(course) => is_blamed_in(&course, &SMALL_BUT_ONE, 0, Check::ShareHashes),
-        None => false,
-    }
-}
+const WRONG_COPY: Wrong = Wrong::Share(0, Fault::Flipped, Place::In(SHARE_HASHES, 2));
 
 #[test]
 fn a_blamed_copy_costs_nothing_else(rt: HostRuntime) {
-    assert!(rt; is_one_copy_blamed(rt.alloc()));
+    let course = course_from(rt.alloc(), &SMALL, &COPIES, &WRONG_COPY);
+    assert!(rt; ends(course, &small_but_one(0, Check::ShareHashes)));
 }
 
 const FIRST: [Placed; 3] = [(0, 0, 0), (1, 1, 1), (2, 2, 2)];
@@ -257,39 +233,26 @@ const LONG: Shape = Shape {
 };
 
 // Of three shares that are there, the server of the last is silent after so many answers: what was
-// proved is handed out, and it is not enough for more.
-const BEFORE_SILENCE: Ending = Ending {
+// proved is handed out, and it is not enough for more. It told what it holds, three reads of its
+// beginning, two of its trees, and one of its blocks: 32,768 bytes, which are 23 blocks and a part
+// of the next.
+const BEFORE_SILENCE: Wanted = Wanted {
     status: DownloadStatus::NotEnoughShares,
     bytes: 94_254,
-    parts: 23,
-    blamed: 0,
+    parts: Some(23),
+    blamed: Blamed::Count(0),
+    reads: Reads::Any,
 };
-
-// What it holds, three reads of its beginning, two of its trees, and one of its blocks: 32,768
-// bytes, which are 23 blocks and a part of the next.
-fn comes_before_silence(alloc: Global) -> bool {
-    let Some(grid) = Grid::new(alloc, &LONG, &FIRST) else {
-        return false;
-    };
-    match Course::of(alloc, grid, &Wrong::Silent(2, 2, 7), (0, 300_000)) {
-        Some(course) => course.ended_as(&BEFORE_SILENCE),
-        None => false,
-    }
-}
 
 #[test]
 fn what_is_proved_is_handed_out_before_silence(rt: HostRuntime) {
-    assert!(rt; comes_before_silence(rt.alloc()));
+    let course = course_from(rt.alloc(), &LONG, &FIRST, &Wrong::Silent(2, 2, 7));
+    assert!(rt; ends(course, &BEFORE_SILENCE));
 }
 
 // What proves all of the small file, from these shares.
 fn evidence_from(alloc: Global, placed: &[Placed]) -> Option<Evidence> {
-    let course = course_from(alloc, placed, &Wrong::Nothing)?;
-    if course.parts() == Some(8) {
-        course.evidence()
-    } else {
-        None
-    }
+    course_from(alloc, &SMALL, placed, &Wrong::Nothing)?.proved(8)
 }
 
 // Whether downloads of one file from other shares have one segment for each number.
@@ -304,36 +267,20 @@ fn downloads_from_other_shares_agree(rt: HostRuntime) {
     assert!(rt; downloads_agree(rt.alloc()) == Some(true));
 }
 
-// How many of these read the last byte of the data section, where none reads other bytes of it.
-fn reads_of_last_byte(reads: &[Asked]) -> Option<usize> {
-    let mut count: usize = 0;
-    for read in reads {
-        if 36 <= read.offset && read.offset < 43_728 {
-            if read.offset != 43_727 || read.length != 1 {
-                return None;
-            }
-            count = count.saturating_add(1);
-        }
-    }
-    Some(count)
-}
-
 // For one byte of a file of two segments, of 131,073 bytes and of one, no other byte of the data
 // section is read.
-fn reads_one_byte(alloc: Global) -> bool {
-    match course_of(alloc, &TWO, &Wrong::Nothing, (131_073, 131_074)) {
-        Some(course) => {
-            course.bytes == 1
-                && reads_of_last_byte(course.reads.as_slice()) == Some(3)
-                && !course.asks_twice()
-        }
-        None => false,
-    }
-}
+const LAST_BYTE: Wanted = Wanted {
+    status: DownloadStatus::Done,
+    bytes: 1,
+    parts: Some(1),
+    blamed: Blamed::Count(0),
+    reads: Reads::LastOf(36, 43_728),
+};
 
 #[test]
 fn nothing_but_the_range_is_read(rt: HostRuntime) {
-    assert!(rt; reads_one_byte(rt.alloc()));
+    let course = course_of(rt.alloc(), &TWO, &Wrong::Nothing, (131_073, 131_074));
+    assert!(rt; ends(course, &LAST_BYTE));
 }
 
 // The byte of which the second segment is made, by the ciphertext tree, the two shares that are
@@ -348,23 +295,32 @@ const ENDS: [(u8, (u8, u8), bool); 7] = [
     (9, (2, 3), false),
 ];
 
-// Does all of the file come from right shares, and from others its first segment alone?
-fn ends_so(alloc: Global, told: u8, shares: (u8, u8), right: bool) -> bool {
-    let Some(grid) = Grid::no_code_word(alloc, told, shares) else {
-        return false;
+// A download of it from these shares.
+fn course_of_no_code_word(alloc: Global, told: u8, shares: (u8, u8)) -> Option<Course> {
+    let grid = Grid::no_code_word(alloc, told, shares)?;
+    Course::of(alloc, grid, &Wrong::Nothing, (0, SIZE))
+}
+
+// All of the file comes from right shares, and from others its first segment alone.
+fn wanted_of(right: bool) -> Wanted {
+    let (status, bytes) = if right {
+        (DownloadStatus::Done, SIZE)
+    } else {
+        (DownloadStatus::Inconsistent, SEGMENT_SIZE)
     };
-    match Course::of(alloc, grid, &Wrong::Nothing, (0, SIZE)) {
-        Some(course) if right => { course.status() == DownloadStatus::Done && course.bytes == SIZE }
-        Some(course) => {
-            course.status() == DownloadStatus::Inconsistent && course.bytes == SEGMENT_SIZE
-        }
-        None => false,
+    Wanted {
+        status,
+        bytes,
+        parts: None,
+        blamed: Blamed::Any,
+        reads: Reads::Any,
     }
 }
 
 #[test]
 fn no_code_word_is_inconsistent(rt: HostRuntime) {
     for (told, shares, right) in &ENDS {
-        assert!(rt; ends_so(rt.alloc(), *told, *shares, *right));
+        let course = course_of_no_code_word(rt.alloc(), *told, *shares);
+        assert!(rt; ends(course, &wanted_of(*right)));
     }
 }

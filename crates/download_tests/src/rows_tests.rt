@@ -1,6 +1,6 @@
 //! Downloads whose segments are made eight side by side.
 
-use crate::course::{Course, Ending};
+use crate::course::{Blamed, Course, Reads, Wanted};
 use crate::grid::{BLOCKS, Fault, Place, Shape, Wrong};
 use crate::shapes::course_of;
 use download_core::status::DownloadStatus;
@@ -22,11 +22,12 @@ const ROWS: Shape = Shape {
 
 // Does all of the file come, with so many shares blamed?
 fn is_whole(course: &Course, blamed: usize) -> bool {
-    course.ended_as(&Ending {
+    course.ended(&Wanted {
         status: DownloadStatus::Done,
         bytes: SIZE,
-        parts: 27,
-        blamed,
+        parts: Some(27),
+        blamed: Blamed::Count(blamed),
+        reads: Reads::Any,
     })
 }
 

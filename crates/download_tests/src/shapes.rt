@@ -1,8 +1,9 @@
 //! The files that are downloaded, and downloads of them.
 
-use crate::course::{Course, Ending};
+use crate::course::{Blamed, Course, Reads, Wanted};
 use crate::grid::{Grid, Placed, Shape, Wrong};
 use download_core::status::DownloadStatus;
+use share_verify::Check;
 use std::alloc::Global;
 
 // Eight segments of 4,098 bytes at most.
@@ -16,14 +17,6 @@ pub(crate) const SMALL: Shape = Shape {
 };
 
 pub(crate) const SMALL_SIZE: usize = 30_000;
-
-// How a download of all of it ends where one share is blamed.
-pub(crate) const SMALL_BUT_ONE: Ending = Ending {
-    status: DownloadStatus::Done,
-    bytes: SMALL_SIZE,
-    parts: 8,
-    blamed: 1,
-};
 
 // Two segments, of 131,073 bytes and of one.
 pub(crate) const TWO: Shape = Shape {
@@ -45,10 +38,26 @@ pub(crate) fn course_of(
     spoilt(alloc, Grid::whole(alloc, shape)?, wrong, range)
 }
 
-// A download of all of the small file from these shares.
-pub(crate) fn course_from(alloc: Global, placed: &[Placed], wrong: &Wrong) -> Option<Course> {
-    let grid = Grid::new(alloc, &SMALL, placed)?;
-    spoilt(alloc, grid, wrong, (0, SMALL_SIZE))
+// A download of all of a file from these shares.
+pub(crate) fn course_from(
+    alloc: Global,
+    shape: &Shape,
+    placed: &[Placed],
+    wrong: &Wrong,
+) -> Option<Course> {
+    let grid = Grid::new(alloc, shape, placed)?;
+    spoilt(alloc, grid, wrong, (0, shape.size))
+}
+
+// All of the small file comes, and this share alone is blamed.
+pub(crate) fn small_but_one(share: u8, check: Check) -> Wanted {
+    Wanted {
+        status: DownloadStatus::Done,
+        bytes: SMALL_SIZE,
+        parts: Some(8),
+        blamed: Blamed::Only(share, check),
+        reads: Reads::Once,
+    }
 }
 
 fn spoilt(alloc: Global, grid: Grid, wrong: &Wrong, range: (usize, usize)) -> Option<Course> {
