@@ -1,4 +1,4 @@
-use Rattle.std.proofs.Common.{refl, ◌≡◌, ◌∙◌, ◌-◌, All, List, ap, subst, sym}
+use Rattle.std.proofs.Common.{refl, IfOk, ◌≡◌, ◌∙◌, ◌-◌, All, List, ap, subst, sym}
 use Rattle.std.specs.List.{flat_map, range_with_len}
 use Rattle.lemmas.proofs.Results.{if_ok_then}
 use Rattle.segment_groups.specs.State.{GroupState, segments_in}
