@@ -1,9 +1,10 @@
--- Words of the private clauses about a partial tree: what it keeps, and how that grows.
-use Rattle.std.specs.Prelude.{◌≡◌, ◌≢◌, ◌⊎◌, ℕ, ◌+◌, ◌*◌, ◌<◌, List, [], ◌∷◌, ◌++◌, length}
-use Rattle.std.specs.Prelude.{Some, None, slice_index_or}
-use Rattle.tagged_hash.specs.TaggedHash.{node_hash}
-use Rattle.merkle.specs.Partial.{Known, known_by, padding, parent}
-use Rattle.merkle.specs.Tree.{node_count}
+-- Words of the private clauses about a partial tree: what it keeps, how that grows, and its padding.
+use Rattle.std.specs.Prelude.{◌≡◌, ◌≢◌, ◌⊎◌, ℕ, ◌+◌, ◌-◌, ◌*◌, ◌/◌, ◌^◌, ◌<◌, List, [], ◌∷◌}
+use Rattle.std.specs.Prelude.{◌++◌, length, map, Option, Some, None, slice_index_or}
+use Rattle.std.specs.List.{range_with_len}
+use Rattle.tagged_hash.specs.TaggedHash.{empty_leaf_hash, node_hash}
+use Rattle.merkle.specs.Partial.{Known, known_by, parent}
+use Rattle.merkle.specs.Tree.{height, node, node_count, padded_to}
 
 -- both children of the parent of this node are known, and the parent was told
 pub record IsTold (padding told : Known) (number : ℕ) : Type 0 where
@@ -71,9 +72,18 @@ pub data IsUnjoinable (padding old : Known) (number : ℕ) : Type 0 where
       → known_by padding old (2 * parent number + 2) ≡ Some right
       → IsOther padding old (parent number) (node_hash left right) → IsUnjoinable padding old number
 
--- of each node the same is known as before, and what was told is sound still
-pub record KnowsTheSame (leaf_count : ℕ) (old new : Known) : Type 0 where
-  pub known : (number : ℕ)
-      → known_by (padding leaf_count) new number ≡ known_by (padding leaf_count) old number
-  pub kept : (root : List ℕ) → IsKept leaf_count (padding leaf_count) root old
-      → IsKept leaf_count (padding leaf_count) root new
+-- so many empty leaves, from this one on
+unfoldable pub empty_leaves : ℕ → ℕ → List (List ℕ)
+empty_leaves first count = map empty_leaf_hash (range_with_len first count)
+
+-- the node over empty leaves alone at a place of a row of a tree of so many leaves
+abbrev pub empty_node : ℕ → ℕ → ℕ → List ℕ
+empty_node leaf_count row place =
+    let m = height leaf_count in node m (padded_to (2 ^ m) []) row place
+
+-- These are nodes over empty leaves alone: each that is there is the one behind the last that has a
+-- leaf below it, as many rows above the leaves as is its place here.
+abbrev pub AreBeside : ℕ → List (Option (List ℕ)) → Type 0
+AreBeside leaf_count beside =
+    (rows : ℕ) (hash : List ℕ) → slice_index_or beside rows None ≡ Some hash
+    → hash ≡ empty_node leaf_count (height leaf_count - rows) ((leaf_count - 1) / 2 ^ rows + 1)

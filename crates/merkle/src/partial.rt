@@ -10,7 +10,8 @@ ghost use Rattle.merkle.specs.Partial.{known_siblings, leaf_number, missing_numb
 ghost use Rattle.merkle.specs.Tree.{max_leaves};
 
 use crate::error::{OfferError, TreeError};
-use crate::numbers::{height, node_number, sibling_number};
+use crate::numbers::{node_number, sibling_number};
+use crate::padding::Padding;
 use crate::taking::{is_known, known_node, take, take_out};
 use crate::tree::needed_in;
 use std::alloc::Global;
@@ -18,16 +19,13 @@ use std::collections::HashMap;
 use std::marker::Model;
 
 /// A hash tree of which the root is given, and other nodes as they are offered. Each node that is
-/// known leads to the root. It takes memory for the nodes that were offered, those above them and
-/// at most one a row beside these, and none for others.
+/// known leads to the root. It takes memory for the nodes that were offered and those above them.
 #[derive(Drop)]
 pub struct Partial {
     root: [u8; 32],
-    leaf_count: u32,
+    padded: Padding,
     alloc: Global,
-    // The root, the nodes that were offered, those above them, and the nodes over empty leaves
-    // alone that stand beside these. Other nodes over empty leaves alone are computed where they
-    // are wanted.
+    // The root, the nodes that were offered and those above them.
     nodes: HashMap<u32, [u8; 32]>,
 }
 
@@ -42,46 +40,51 @@ impl Model for Partial {
 
     ghost view = { λ p. record {
       root = p.root;
-      leaf_count = p.leaf_count;
-      nodes = all_known p.leaf_count (known_by (padding p.leaf_count) (get nat_eq p.nodes));
+      leaf_count = p.padded;
+      nodes = all_known p.padded (known_by (padding p.padded) (get nat_eq p.nodes));
     } };
 
-    ghost invariant = { λ p. (0 < p.leaf_count) × (p.leaf_count ≤ max_leaves)
-        × IsKept p.leaf_count (padding p.leaf_count) p.root (get nat_eq p.nodes) };
+    ghost invariant = { λ p. (0 < p.padded) × (p.padded ≤ max_leaves)
+        × IsKept p.padded (padding p.padded) p.root (get nat_eq p.nodes) };
 }
 
 impl Partial {
-    /// The tree with this root over `leaves` leaves, which are 1 to 2^20.
-    pub fn new(alloc: Global, root: &[u8; 32], leaves: u32) -> Result<Partial, TreeError>
-        requires some { 0 < leaves }
-        requires few { leaves ≤ max_leaves }
-        ensures tree { IfOk result (λ p. p ≡ starting root.now leaves) }
+    /// The tree with this root over as many leaves as the padding is of.
+    pub fn new(alloc: Global, root: &[u8; 32], padding: &Padding) -> Result<Partial, TreeError>
+        ensures tree { IfOk result (λ p. p ≡ starting root.now padding.now) }
         ensures refused { IsOkUnless result TreeError.OutOfMemory }
     {
         let mut nodes = HashMap::new(alloc);
         nodes.insert(0, *root)?;
         Ok(Partial {
             root: *root,
-            leaf_count: leaves,
+            padded: padding.copy(),
             alloc,
             nodes,
         })
     }
 
-    /// What is known of the node of this number. A node over empty leaves alone is computed from
-    /// them, unless it stands beside a node that was offered or one above such a node.
+    /// The padding, which other trees of as many leaves can share.
+    pub fn padding(&self) -> &Padding
+        ensures { result.now ≡ self.now.leaf_count }
+    {
+        &self.padded
+    }
+
+    /// What is known of the node of this number. A node over empty leaves alone that does not stand
+    /// beside the way from the last leaf to the root is computed from its leaves.
     pub fn node(&self, number: u32) -> Option<[u8; 32]>
         ensures value { result ≡ known_at self.now number }
         ensures right { IsPartial self.now }
     {
-        known_node(&self.nodes, self.leaf_count, number)
+        known_node(&self.nodes, &self.padded, number)
     }
 
     // Whether the node of this number is known.
     fn knows(&self, number: u32) -> bool
         ensures { result ≡ is_some (known_at self.now number) }
     {
-        is_known(&self.nodes, self.leaf_count, number)
+        is_known(&self.nodes, &self.padded, number)
     }
 
     /// Takes nodes, each a number and a hash, where they and the nodes above them go with what is
@@ -95,7 +98,7 @@ impl Partial {
         ensures unchanged { OnErr result (self.new ≡ self.old) }
     {
         let mut added = Vec::new(self.alloc);
-        match take(&mut self.nodes, self.leaf_count, offers, &mut added) {
+        match take(&mut self.nodes, &self.padded, offers, &mut added) {
             Ok(()) => Ok(()),
             Err(error) => {
                 take_out(&mut self.nodes, &added);
@@ -111,7 +114,7 @@ impl Partial {
         ensures numbers { IfOk result (λ numbers. numbers.items ≡ missing_numbers self.now leaf) }
         ensures refused { IsOkUnless result TreeError.OutOfMemory }
     {
-        let numbers = needed_in(self.alloc, height(self.leaf_count), leaf)?;
+        let numbers = needed_in(self.alloc, self.padded.height(), leaf)?;
         let mut missing = Vec::new(self.alloc);
         for number in &numbers {
             if !self.knows(*number) {
@@ -134,7 +137,7 @@ impl Partial {
             → LeadsBy self.now.leaf_count self.now.root leaf hash siblings.items)) }
         ensures refused { IsOkUnless result TreeError.OutOfMemory }
     {
-        let height = height(self.leaf_count);
+        let height = self.padded.height();
         if self.node(node_number(height, leaf)).is_none() {
             return Ok(None);
         }

@@ -1,10 +1,11 @@
-//! Nodes of a row, eight side by side.
+//! Nodes of a row and empty leaves, eight side by side.
 
-ghost use Rattle.std.specs.Prelude.{◌≡◌, ◌+◌, ◌*◌, ◌<◌, ◌≤◌, ◌++◌, ℕ, [], length};
-ghost use Rattle.std.specs.Prelude.{slice_index_or};
-ghost use Rattle.tagged_hash.specs.TaggedHash.{netstring, node_hash};
+ghost use Rattle.std.specs.Prelude.{◌≡◌, ◌+◌, ◌*◌, ◌^◌, ◌<◌, ◌≤◌, ◌++◌, ℕ, [], length};
+ghost use Rattle.std.specs.Prelude.{All, IsTrue, decimal, slice_index_or};
+ghost use Rattle.tagged_hash.specs.TaggedHash.{empty_leaf_hash, netstring, node_hash, tagged_hash};
+ghost use Rattle.tagged_hash.specs.declared.tag.Tag.TheVariants.{EmptyLeaf};
 
-use tagged_hash::{Tag, tagged_eight};
+use tagged_hash::{DecimalText, Tag, empty_leaf, tagged_eight};
 
 /// The hashes that eight nodes of a tree should have, from this one on, by their children.
 pub(crate) fn parents_from(nodes: &[[u8; 32]], first: usize) -> [[u8; 32]; 8]
@@ -36,6 +37,71 @@ fn parents_of(nodes: &[[u8; 32]]) -> [[u8; 32]; 8]
         &texts[0], &texts[1], &texts[2], &texts[3], &texts[4], &texts[5], &texts[6], &texts[7],
     ];
     tagged_eight(Tag::TreeNode, &messages, 72)
+}
+
+/// Eight empty leaves, from this one on.
+pub(crate) fn empty_leaves_from(first: u32) -> [[u8; 32]; 8]
+    requires { first + 8 ≤ 2 ^ 32 }
+    ensures { (k : ℕ) → k < 8 → slice_index_or result k [] ≡ empty_leaf_hash (first + k) }
+{
+    let places = [
+        decimal(first),
+        decimal(first + 1),
+        decimal(first + 2),
+        decimal(first + 3),
+        decimal(first + 4),
+        decimal(first + 5),
+        decimal(first + 6),
+        decimal(first + 7),
+    ];
+    let digits = places[0].len();
+    if have_length(&places, digits) {
+        return empty_leaves_of(&places, digits);
+    }
+    [
+        empty_leaf(first),
+        empty_leaf(first + 1),
+        empty_leaf(first + 2),
+        empty_leaf(first + 3),
+        empty_leaf(first + 4),
+        empty_leaf(first + 5),
+        empty_leaf(first + 6),
+        empty_leaf(first + 7),
+    ]
+}
+
+// A place in decimal.
+fn decimal(place: u32) -> DecimalText
+    ensures { result ≡ decimal place }
+{
+    DecimalText::new(u64::from(place))
+}
+
+// Whether all of these have so many digits.
+fn have_length(places: &[DecimalText; 8], digits: usize) -> bool
+    ensures { IsTrue result → All (λ place. length place ≡ digits) places.now }
+{
+    places.iter().all(|place| place.len() == digits)
+}
+
+// The empty leaves of eight places, which have so many digits.
+fn empty_leaves_of(places: &[DecimalText; 8], digits: usize) -> [[u8; 32]; 8]
+    requires short { digits ≤ 20 }
+    requires long { All (λ place. length place ≡ digits) places.now }
+    ensures { (k : ℕ) → k < 8
+        → slice_index_or result k [] ≡ tagged_hash EmptyLeaf (slice_index_or places.now k []) }
+{
+    let messages: [&[u8]; 8] = [
+        places[0].as_bytes(),
+        places[1].as_bytes(),
+        places[2].as_bytes(),
+        places[3].as_bytes(),
+        places[4].as_bytes(),
+        places[5].as_bytes(),
+        places[6].as_bytes(),
+        places[7].as_bytes(),
+    ];
+    tagged_eight(Tag::EmptyLeaf, &messages, digits)
 }
 
 // What is hashed of two nodes behind the tag: the netstring of each.

@@ -89,7 +89,7 @@ impl Tree {
 }
 
 // Fills all nodes of a tree with `width` places for leaves.
-fn fill(nodes: &mut [[u8; 32]], leaves: &[[u8; 32]], width: usize)
+pub(crate) fn fill(nodes: &mut [[u8; 32]], leaves: &[[u8; 32]], width: usize)
     requires wide { width ≤ max_leaves }
     requires power { width ≡ 2 ^ height (length leaves.now) }
     requires room { length leaves.now ≤ width }

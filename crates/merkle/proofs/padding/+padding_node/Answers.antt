@@ -1,6 +1,7 @@
 use Rattle.std.proofs.Common.{◌≡◌, ◌^◌, ◌<◌, ℕ, [], ap, sym, ◌∙◌, arith}
 use Rattle.tagged_hash.specs.TaggedHash.{node_hash}
 use Rattle.merkle.specs.Tree.{node, padded_to}
+use Rattle.merkle.proofs.PaddingLemmas.{node-run, run_inside}
 use Rattle.merkle.proofs.TreeLemmas.{node-leaf, node_split, padded_to-empty}
 use Rattle.merkle.proofs.padding.+padding_node.Goals as goal
 
@@ -13,6 +14,13 @@ returns-then-row-height t c =
     let below : place < 2 ^ m = rw same at c.requires.there in
     c.empty_leaf.ensures ∙ sym (padded_to-empty (2 ^ m) [] place (omega arith) below) ∙ sym (node-leaf m hashes place)
     ∙ ap (λ (r : ℕ). node m hashes r place) (sym same)
+
+pub node_over_run-requires : goal.node_over_run-requires
+node_over_run-requires t c = run_inside 7 c.args.height c.args.row c.args.place c.if-row-height-2.true c.requires.there c.requires.low
+
+pub returns-then-row-height-2 : goal.returns-then-row-height-2
+returns-then-row-height-2 t c =
+    c.node_over_run.ensures ∙ sym (node-run 7 c.args.height c.args.row c.args.place c.if-row-height-2.true c.requires.there)
 
 pub returns : goal.returns
 returns t c =

@@ -12,7 +12,7 @@ returns-else-not-contains_key-clause-adds c =
     elim c.match-known_node.branch [
       | in-Some+else-ne w ↦
           let same = same_hash w.in-Some.known c.args.hash.now w.ne.result w.ne.ensures w.if-ne.false in
-          adds_nothing (padding c.args.leaf_count) told c.args.number c.args.hash.now there
+          adds_nothing (padding c.args.padded.now) told c.args.number c.args.hash.now there
           (sym c.known_node.ensures ∙ w.in-Some.is ∙ ap (λ (x : List ℕ). Some x) same)
-      | in_default w ↦ absurd (nothing_there (padding c.args.leaf_count) told c.args.number there (sym c.known_node.ensures ∙ w.in_default.is))
+      | in_default w ↦ absurd (nothing_there (padding c.args.padded.now) told c.args.number there (sym c.known_node.ensures ∙ w.in_default.is))
     ]

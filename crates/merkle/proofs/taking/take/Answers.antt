@@ -6,7 +6,7 @@ use Rattle.std.proofs.lemmas.Nat.{one_shl, pow_pos}
 use Rattle.std.specs.HashMap.{get}
 use Rattle.lemmas.proofs.Numbers.{next_power}
 use Rattle.merkle.specs.Tree.{height}
-use Rattle.merkle.specs.Partial.{IsExtended, IsTouched, Known, known_by, padding}
+use Rattle.merkle.specs.Partial.{IsTouched, padding}
 use Rattle.merkle.specs.Tree.{node_count}
 use Rattle.merkle.specs.Taking.{Adds, Joins}
 use Rattle.merkle.specs.declared.error.OfferError.TheVariants.{NotConsistent}
@@ -22,7 +22,7 @@ number_at items i number below is = get_or_from_slice_get items i number 0 (slic
 
 pub loop-offer-init : goal.loop-offer-init
 loop-offer-init c =
-    let n = c.args.leaf_count in
+    let n = c.args.padded.now in
     let first = get nat_eq c.args.nodes.now in record {
       under = subst (IsUnderway n (padding n) first c.args.offers.now first) (sym c.requires.none) (underway-begins n (padding n) first c.args.offers.now c.requires.kept.0 c.requires.kept.1);
       taken = λ k number hash none. absurd (omega arith);
@@ -38,7 +38,7 @@ overflow_sub-height c =
 
 pub returns-then-number-height-clause-refused : goal.returns-then-number-height-clause-refused
 returns-then-number-height-clause-refused c = λ e new extended.
-    let n = c.args.leaf_count in
+    let n = c.args.padded.now in
     let item = get_or c.args.offers.now c.loop-offer.offer-index (0, []) in
     let here = slice_get-get_or c.args.offers.now c.loop-offer.offer-index (0, []) c.loop-offer-test.true in
     let low = height_low _ c.height-height.result 20 c.requires.few c.height-height.ensures.least in
@@ -59,7 +59,7 @@ returns-in_err-add-clause-refused c = λ e.
 
 pub loop-offer-preserved : goal.loop-offer-preserved
 loop-offer-preserved c =
-    let n = c.args.leaf_count in
+    let n = c.args.padded.now in
     let first = get nat_eq c.args.nodes.now in
     let offers = c.args.offers.now in
     let i = c.loop-offer.offer-index in
@@ -88,7 +88,7 @@ loop-offer-preserved c =
 
 pub loop-row-init : goal.loop-row-init
 loop-row-init c =
-    let n = c.args.leaf_count in record {
+    let n = c.args.padded.now in record {
       low = omega arith;
       under = c.loop-offer.invariant.under;
       taken = λ k number hash is. c.loop-offer.invariant.taken k number hash (omega (arith, slice_get_within c.args.offers.now k (number, hash) is)) is;
@@ -99,7 +99,7 @@ loop-row-init c =
 
 pub overflow_add-number : goal.overflow_add-number
 overflow_add-number c =
-    let n = c.args.leaf_count in
+    let n = c.args.padded.now in
     let items = c.loop-i.added.items in
     let i = c.loop-i.i in
     let inside = let t = c.loop-i.invariant.under.listed c.index-number.result.now (i, omega (arith, c.loop-i.invariant.long), number_at items i c.index-number.result.now (omega (arith, c.loop-i.invariant.long)) c.index-number.ensures) in c.loop-i.invariant.under.inside c.index-number.result.now t.0 t.1 in
@@ -148,7 +148,7 @@ loop-i-preserved c =
     let at = number_at c.loop-i.added.items c.loop-i.i c.index-number.result.now (omega (arith, c.loop-i.invariant.long)) c.index-number.ensures in
     elim c.if-number-row-eq1.branch [
       | then-number-row-eq1+then-not-follows_sibling+in_ok-join w ↦
-          let joins : Joins (padding c.args.leaf_count) (get nat_eq c.loop-i.nodes) c.index-number.result.now (get nat_eq w.join.new.nodes) = search rules in
+          let joins : Joins (padding c.args.padded.now) (get nat_eq c.loop-i.nodes) c.index-number.result.now (get nat_eq w.join.new.nodes) = search rules in
           rw (w.nodes-is, w.added-is)
           (row_joins _ _ _ _ _ _ _ _ _ c.loop-i.invariant c.loop-i-test.true (omega arith) c.index-number.result.now (sym at)
           w.if-number-row-eq1.true _ _ joins w.join.ensures.grows)
@@ -180,15 +180,11 @@ returns-clause-taken c =
     let none : c.loop-row.row ≡ 0 = omega arith in
     let last : 2 ^ (c.loop-row.row + 1) ≤ 2 = rw none (omega arith) in
     let s = c.loop-row.invariant in
-    let n = c.args.leaf_count in
-    let alike : known_by (padding n) (get nat_eq c.loop-row.nodes) ≡ known_by (padding n) (get nat_eq c.keep_padding.new.nodes) =
-    λ i q. sym (c.in_ok-keep_padding.ensures.same.known q) i in
-    subst (λ (k : Known). IsExtended n (known_by (padding n) (get nat_eq c.args.nodes.now)) c.args.offers.now k) alike
-    (all_taken _ _ _ _ _ _ s.under s.taken (2 ^ (c.loop-row.row + 1)) s.done last)
+    all_taken _ _ _ _ _ _ s.under s.taken (2 ^ (c.loop-row.row + 1)) s.done last
 
 pub returns-clause-kept : goal.returns-clause-kept
 returns-clause-kept c root kept =
     let none : c.loop-row.row ≡ 0 = omega arith in
     let last : 2 ^ (c.loop-row.row + 1) ≤ 2 = rw none (omega arith) in
     let s = c.loop-row.invariant in
-    c.in_ok-keep_padding.ensures.same.kept root (all_kept _ _ _ _ _ _ s.under s.taken (2 ^ (c.loop-row.row + 1)) s.done last root kept)
+    all_kept _ _ _ _ _ _ s.under s.taken (2 ^ (c.loop-row.row + 1)) s.done last root kept

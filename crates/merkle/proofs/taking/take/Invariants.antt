@@ -8,17 +8,17 @@ use Rattle.merkle.proofs.taking.take.Given as goal
 
 abbrev pub invariant-loop-offer : goal.invariant-loop-offer
 invariant-loop-offer l = record {
-  under : IsUnderway l.leaf_count (padding l.leaf_count) (get nat_eq l.fn.nodes) l.offers (get nat_eq l.nodes) l.added.items;
+  under : IsUnderway l.padded (padding l.padded) (get nat_eq l.fn.nodes) l.offers (get nat_eq l.nodes) l.added.items;
   taken : (k number : ℕ) (hash : List ℕ) → k < l.offer-index → slice_get l.offers k ≡ Some (number, hash) → get nat_eq l.nodes number ≡ Some hash;
 }
 
 abbrev pub invariant-loop-row : goal.invariant-loop-row
 invariant-loop-row l = record {
   low : l.row ≤ l.height;
-  under : IsUnderway l.leaf_count (padding l.leaf_count) (get nat_eq l.fn.nodes) l.offers (get nat_eq l.nodes) l.added.items;
+  under : IsUnderway l.padded (padding l.padded) (get nat_eq l.fn.nodes) l.offers (get nat_eq l.nodes) l.added.items;
   taken : (k number : ℕ) (hash : List ℕ) → slice_get l.offers k ≡ Some (number, hash) → get nat_eq l.nodes number ≡ Some hash;
   done : (number : ℕ) (hash : List ℕ) → 2 ^ (l.row + 1) ≤ number + 1 → 0 < number → get nat_eq l.nodes number ≡ Some hash
-      → IsTold (padding l.leaf_count) (get nat_eq l.nodes) number;
+      → IsTold (padding l.padded) (get nat_eq l.nodes) number;
 }
 
 abbrev pub decreases-loop-row : goal.decreases-loop-row
@@ -26,4 +26,4 @@ decreases-loop-row l = l.row
 
 abbrev pub invariant-loop-i : goal.invariant-loop-i
 invariant-loop-i l =
-    IsRow l.leaf_count (padding l.leaf_count) (get nat_eq l.fn.nodes) l.offers l.row l.listed l.i (get nat_eq l.nodes) l.added.items
+    IsRow l.padded (padding l.padded) (get nat_eq l.fn.nodes) l.offers l.row l.listed l.i (get nat_eq l.nodes) l.added.items

@@ -9,5 +9,5 @@ returns c =
     let p = c.self.inside in
     c.is_known.ensures
     ∙ ap (λ (o : Option (List ℕ)). is_some o)
-    (sym (known_at-state p.root p.leaf_count (get nat_eq p.nodes) c.self.invariant.2 c.args.number)
+    (sym (known_at-state p.root p.padded (get nat_eq p.nodes) c.self.invariant.2 c.args.number)
     ∙ ap (λ (s : PartialState). known_at s c.args.number) c.self.view_is)

@@ -14,14 +14,14 @@ module _ (first told after : Known) (added items : List ℕ) (same : items ≡ a
 
 pub invariant_of-self : goal.invariant_of-self
 invariant_of-self c =
-    let kept : (root : List ℕ) → IsKept c.self.inside.leaf_count (padding c.self.inside.leaf_count) root (get nat_eq c.self.inside.nodes)
-    → IsKept c.self.inside.leaf_count (padding c.self.inside.leaf_count) root (get nat_eq c.take.new.nodes) = search rules in
+    let kept : (root : List ℕ) → IsKept c.self.inside.padded (padding c.self.inside.padded) root (get nat_eq c.self.inside.nodes)
+    → IsKept c.self.inside.padded (padding c.self.inside.padded) root (get nat_eq c.take.new.nodes) = search rules in
     (c.self.invariant.0, c.self.invariant.1, kept c.self.inside.root c.self.invariant.2)
 
 pub returns-in-Ok-clause-taken : goal.returns-in-Ok-clause-taken
 returns-in-Ok-clause-taken c =
     let p = c.self.inside in
-    let n = p.leaf_count in
+    let n = p.padded in
     let old = get nat_eq p.nodes in
     let new = get nat_eq c.take.new.nodes in
     let kept : (root : List ℕ) → IsKept n (padding n) root old → IsKept n (padding n) root new = search rules in
@@ -38,12 +38,12 @@ invariant_of-self-in-Err c =
     let p = c.self.inside in
     let back = restored (get nat_eq p.nodes) (get nat_eq c.take.new.nodes) (get nat_eq c.take_out.new.nodes) c.take.new.added.items c.deref.result.now
     c.deref.ensures.value c.take.ensures.grown c.take_out.ensures.out c.take_out.ensures.rest in
-    (c.self.invariant.0, c.self.invariant.1, subst (λ (k : Known). IsKept p.leaf_count (padding p.leaf_count) p.root k) (sym back) c.self.invariant.2)
+    (c.self.invariant.0, c.self.invariant.1, subst (λ (k : Known). IsKept p.padded (padding p.padded) p.root k) (sym back) c.self.invariant.2)
 
 pub returns-clause-not_consistent : goal.returns-clause-not_consistent
 returns-clause-not_consistent c = λ e.
     let p = c.self.inside in
-    let n = p.leaf_count in
+    let n = p.padded in
     let refused : c.take.result ≡ Err NotConsistent = c.in-Err.is ∙ e in
     let before = known-state p.root n (get nat_eq p.nodes) c.self.invariant.2 in
     subst (λ (s : PartialState). IsNotConsistent s c.args.offers.now) c.self.view_is
@@ -54,4 +54,4 @@ returns-clause-unchanged c =
     let p = c.self.inside in
     let back = restored (get nat_eq p.nodes) (get nat_eq c.take.new.nodes) (get nat_eq c.take_out.new.nodes) c.take.new.added.items c.deref.result.now
     c.deref.ensures.value c.take.ensures.grown c.take_out.ensures.out c.take_out.ensures.rest in
-    ap (state_of p.root p.leaf_count) back ∙ c.self.view_is
+    ap (state_of p.root p.padded) back ∙ c.self.view_is

@@ -49,7 +49,7 @@ unreachable-requires c =
     let p = c.args.self.now in
     let count = ap (λ (s : PartialState). s.leaf_count) c.self.view_is in
     let there = there_from_not (is_some c.node.result) c.is_none.result c.is_none.ensures c.if-is_none.false in
-    let t = sibling_there p c.height-height.result c.self.inside.leaf_count c.args.leaf c.height-height.ensures.value count
+    let t = sibling_there p c.height-height.result c.self.inside.padded c.args.leaf c.height-height.ensures.value count
     c.requires c.node.ensures.right c.node.result there (c.node.ensures.value ∙ ap (known_at p) c.node_number.ensures.value) c.loop-i.i c.loop-i-test.true in
     c.in_default.not-Some t.0 (c.node-in-loop-i.ensures.value ∙ ap (known_at p) c.sibling_number.ensures.value ∙ t.1)
 
@@ -57,7 +57,7 @@ pub loop-i-preserved : goal.loop-i-preserved
 loop-i-preserved c =
     let p = c.args.self.now in
     let count = ap (λ (s : PartialState). s.leaf_count) c.self.view_is in
-    let number = sibling_is p c.height-height.result c.self.inside.leaf_count c.args.leaf c.height-height.ensures.value count c.loop-i.i in
+    let number = sibling_is p c.height-height.result c.self.inside.padded c.args.leaf c.height-height.ensures.value count c.loop-i.i in
     let value = sym c.in-Some.is ∙ c.node-in-loop-i.ensures.value ∙ ap (known_at p) (c.sibling_number.ensures.value ∙ number) in
     siblings_more _ c.loop-i.i c.in-Some.hash c.loop-i.siblings.items _ c.loop-i.invariant (ap (λ (o : Option (List ℕ)). unwrap_or o []) value) c.in_ok-push.ensures.items
 
@@ -75,13 +75,13 @@ all_siblings p leaf i h n items held whole is count =
 
 pub returns-clause-siblings : goal.returns-clause-siblings
 returns-clause-siblings c =
-    all_siblings c.args.self.now c.args.leaf c.loop-i.i c.height-height.result c.self.inside.leaf_count c.loop-i.siblings.items c.loop-i.invariant
+    all_siblings c.args.self.now c.args.leaf c.loop-i.i c.height-height.result c.self.inside.padded c.loop-i.siblings.items c.loop-i.invariant
     (same_count c.loop-i.i c.height-height.result (omega arith) (omega arith)) c.height-height.ensures.value (ap (λ (s : PartialState). s.leaf_count) c.self.view_is)
 
 pub returns-clause-leads : goal.returns-clause-leads
 returns-clause-leads c = λ hash knows.
     let p = c.args.self.now in
     let items =
-    all_siblings p c.args.leaf c.loop-i.i c.height-height.result c.self.inside.leaf_count c.loop-i.siblings.items c.loop-i.invariant
+    all_siblings p c.args.leaf c.loop-i.i c.height-height.result c.self.inside.padded c.loop-i.siblings.items c.loop-i.invariant
     (same_count c.loop-i.i c.height-height.result (omega arith) (omega arith)) c.height-height.ensures.value (ap (λ (s : PartialState). s.leaf_count) c.self.view_is) in
     subst (LeadsBy p.leaf_count p.root c.args.leaf hash) (sym items) (known-lead p c.args.leaf hash c.node.ensures.right c.requires knows)
