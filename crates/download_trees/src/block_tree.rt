@@ -3,14 +3,13 @@
 ghost use Rattle.std.specs.Prelude.{◌≡◌, ◌+◌, ◌*◌, ◌^◌, ◌<◌, ◌≤◌, ◌↔◌, IfOk, OnErr, OnOk, Err};
 ghost use Rattle.std.specs.Prelude.{Some, None, true, false, length};
 ghost use Rattle.merkle.specs.Partial.{IsNotConsistent, IsPartial, Takes, starting};
-ghost use Rattle.merkle.specs.Tree.{max_leaves};
 ghost use Rattle.download_trees.specs.Offers.{nodes_offered};
 ghost use Rattle.download_trees.specs.Trees.{ProvesBlock, RefutesBlock, known_leaf};
 
 use crate::error::TreeFault;
 use crate::partial::{leaf_of, offer_nodes, tree_with};
 use download_plan::Nodes;
-use merkle::Partial;
+use merkle::{Padding, Partial};
 use share_verify::Check;
 use std::alloc::{AllocError, Global};
 use std::marker::Model;
@@ -36,15 +35,19 @@ impl Model for BlockTree {
 }
 
 impl BlockTree {
-    /// The tree of which the root alone is known, over so many segments.
-    pub(crate) fn new(alloc: Global, root: &[u8; 32], leaves: u32) -> Result<BlockTree, AllocError>
-        requires some { 0 < leaves }
-        requires few { leaves ≤ max_leaves }
+    /// The tree of which the root alone is known, over so many segments, with their padding.
+    pub(crate) fn new(
+        alloc: Global,
+        root: &[u8; 32],
+        leaves: u32,
+        padding: &Padding,
+    ) -> Result<BlockTree, AllocError>
+        requires { padding.now ≡ leaves }
         ensures tree { IfOk result (λ tree. tree ≡ starting root.now leaves) }
         ensures right { IfOk result IsPartial }
     {
         Ok(BlockTree {
-            tree: tree_with(alloc, root, leaves)?,
+            tree: tree_with(alloc, root, padding)?,
             leaves,
         })
     }

@@ -16,7 +16,7 @@ use crate::error::TreeFault;
 use crate::offers::{chained, own_place};
 use crate::partial::{leaf_of, offer, offer_nodes, tree_with};
 use download_plan::Nodes;
-use merkle::{Partial, height};
+use merkle::{Padding, Partial, height};
 use share_layout::{Geometry, carries_numbers};
 use share_verify::Check;
 use std::alloc::{AllocError, Global};
@@ -56,11 +56,12 @@ impl FileTrees {
         ensures trees { IfOk result (λ trees. trees ≡ starting_trees ueb.now geometry.now) }
         ensures right { IfOk result AreTrees }
     {
-        let places = share_places(geometry);
+        let places = Padding::of(share_places(geometry));
+        let segments = Padding::of(geometry.segment_count());
         Ok(FileTrees {
             geometry: *geometry,
-            shares: tree_with(alloc, ueb.share_root_hash(), places)?,
-            ciphertext: tree_with(alloc, ueb.crypttext_root_hash(), geometry.segment_count())?,
+            shares: tree_with(alloc, ueb.share_root_hash(), &places)?,
+            ciphertext: tree_with(alloc, ueb.crypttext_root_hash(), &segments)?,
         })
     }
 
@@ -105,7 +106,8 @@ impl FileTrees {
         let leaf = u32::from(share);
         let offers = chained(alloc, height, leaf, bytes)?;
         let root = offers[own_place(height, leaf) as usize].1;
-        let tree = BlockTree::new(alloc, &root, self.geometry.segment_count())?;
+        let padding = self.ciphertext.padding();
+        let tree = BlockTree::new(alloc, &root, self.geometry.segment_count(), padding)?;
         offer(&mut self.shares, &offers, Check::ShareHashes)?;
         Ok(tree)
     }

@@ -10,20 +10,22 @@ ghost use Rattle.download_trees.specs.Trees.{known_leaf};
 use crate::error::TreeFault;
 use crate::offers::{Offer, placed};
 use download_plan::Nodes;
-use merkle::{OfferError, Partial, height, node_number};
+use merkle::{OfferError, Padding, Partial, height, node_number};
 use share_verify::Check;
 use std::alloc::{AllocError, Global};
 
-/// The tree with this root over so many leaves, 1 to 2^20.
-pub(crate) fn tree_with(alloc: Global, root: &[u8; 32], leaves: u32) -> Result<Partial, AllocError>
-    requires some { 0 < leaves }
-    requires few { leaves ≤ max_leaves }
-    ensures tree { IfOk result (λ tree. tree ≡ starting root.now leaves) }
+/// The tree with this root over as many leaves as the padding is of.
+pub(crate) fn tree_with(
+    alloc: Global,
+    root: &[u8; 32],
+    padding: &Padding,
+) -> Result<Partial, AllocError>
+    ensures tree { IfOk result (λ tree. tree ≡ starting root.now padding.now) }
     ensures right { IfOk result IsPartial }
     ensures hashes { IfOk result KnowsHashes }
 {
     is_hash(root);
-    match Partial::new(alloc, root, leaves) {
+    match Partial::new(alloc, root, padding) {
         Ok(tree) => {
             let _ = tree.node(0);
             Ok(tree)

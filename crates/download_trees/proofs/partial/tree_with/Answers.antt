@@ -5,4 +5,4 @@ use Rattle.download_trees.proofs.partial.tree_with.Goals as goal
 
 pub returns-in-Ok-clause-hashes : goal.returns-in-Ok-clause-hashes
 returns-in-Ok-clause-hashes c =
-    subst KnowsHashes (sym c.in-Ok.ensures.tree) (starting_knows c.args.root.now c.args.leaves c.is_hash.ensures)
+    subst KnowsHashes (sym c.in-Ok.ensures.tree) (starting_knows c.args.root.now c.args.padding.now c.is_hash.ensures)

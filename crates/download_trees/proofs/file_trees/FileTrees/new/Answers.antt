@@ -8,12 +8,12 @@ invariant_of-result c = record {
   shares = record {
     sound = c.in_ok-tree_with.ensures.right;
     of_root = refl;
-    leaves = ap (λ (p : PartialState). p.leaf_count) c.in_ok-tree_with.ensures.tree ∙ c.share_places-places.ensures.value;
+    leaves = ap (λ (p : PartialState). p.leaf_count) c.in_ok-tree_with.ensures.tree ∙ c.of-places.ensures ∙ c.share_places.ensures.value;
   };
   ciphertext = record {
     sound = c.in_ok-tree_with-2.ensures.right;
     of_root = refl;
-    leaves = ap (λ (p : PartialState). p.leaf_count) c.in_ok-tree_with-2.ensures.tree ∙ c.segment_count.ensures.value;
+    leaves = ap (λ (p : PartialState). p.leaf_count) c.in_ok-tree_with-2.ensures.tree ∙ c.of-segments.ensures ∙ c.segment_count.ensures.value;
   };
   hashes = c.in_ok-tree_with-2.ensures.hashes;
 }

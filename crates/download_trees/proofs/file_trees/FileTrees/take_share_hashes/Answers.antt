@@ -1,4 +1,4 @@
-use Rattle.std.proofs.Common.{◌≡◌, ◌∙◌, ℕ, List, [], Some, get_or, length, ◌<◌, ap, subst, sym, rules, arith}
+use Rattle.std.proofs.Common.{◌≡◌, ◌∙◌, ℕ, List, [], Some, get_or, length, ◌<◌, ap, refl, subst, sym, rules, arith}
 use Rattle.std.proofs.lemmas.Option.{get_or_from_slice_get, slice_get-get_or}
 use Rattle.merkle.specs.Partial.{PartialState, Takes}
 use Rattle.merkle.specs.Tree.{height, needed_numbers, node_number}
@@ -13,6 +13,21 @@ is_offered c = search rules
 
 is_taken : (c : goal.After-drop-offers-2) → Takes c.self.inside.shares (share_hashes_offered c.self.inside.geometry.total c.args.share c.args.bytes.now) c.offer.new.tree
 is_taken c = let items = is_offered c in search (rules, items)
+
+pub invariant_of-self-2 : goal.invariant_of-self-2
+invariant_of-self-2 c = record {
+  valid = c.self.invariant.valid;
+  shares = record {
+    sound = c.offer.ensures.right;
+    of_root = refl;
+    leaves = (is_taken c).leaf_count ∙ c.self.invariant.shares.leaves;
+  };
+  ciphertext = c.self.invariant.ciphertext;
+  hashes = c.self.invariant.hashes;
+}
+
+pub returns-clause-right : goal.returns-clause-right
+returns-clause-right c = invariant_of-self-2 c
 
 pub returns-clause-root : goal.returns-clause-root
 returns-clause-root c =
