@@ -5,6 +5,7 @@ pub mod Inputs
 pub mod Nodes
 pub mod Partial
 pub mod Known
+pub mod OneTree
 pub mod Error
 pub mod OfferError
 -- words of private clauses
