@@ -20,7 +20,7 @@ use Rattle.download_plan.specs.declared.part.NodePiece.{NodePiece}
 use Rattle.download_plan.specs.declared.part.Part.{Part}
 use Rattle.download_plan.specs.declared.part.Part.TheVariants.{ShareHashes, BlockTree, CiphertextTree, Data}
 use Rattle.download_plan.proofs.PartLemmas.{above_holds, above_there, are_apart, block_within, data_begins, lie_inside}
-use Rattle.download_trees.specs.Trees.{LeadTo}
+use Rattle.download_trees.specs.Trees.{IsBlockTree}
 use Rattle.download_source.specs.Blocks.{block_end, block_first, block_offset}
 use Rattle.download_source.specs.Laws.{FirstIsDue, JoinedHasLength, KnowsPiece, LeadOnGiving, LeadOnTogether, LeavesAreKnown, LongerPlansHoldMore, SourcePartsAreApart, TakenIsReady, TakenNodesAreKnown}
 use Rattle.download_source.specs.Source.{IsSource, SourceState}
@@ -144,7 +144,7 @@ all_ready s segment is within taken =
     let passes = taken (Data (block_end g s.first segment - 1)) (within, omega (arith, last)) in
     let held = is.held in
     let tree = tree_of s.tree (is.tree ∙ taken ShareHashes (within, tt)) in
-    let leads = subst (λ (o : Option PartialState). IfSome o (λ t. LeadTo t t.root (segment_count g))) tree.1 is.leads in
+    let leads = (subst (λ (o : Option PartialState). IfSome o (λ t. IsBlockTree t (segment_count g))) tree.1 is.leads).leads in
     let knows : (p : NodePiece) → IsNodePiece g s.first (segment + 1) p → KnowsPiece g s.first s.end tree.0 p =
     λ p piece.
     let known = is.knows p (taken (BlockTree p) (within, piece)) in

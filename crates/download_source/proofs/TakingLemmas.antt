@@ -15,7 +15,7 @@ use Rattle.download_plan.specs.declared.part.Nodes.{Nodes}
 use Rattle.download_plan.specs.declared.part.Part.{Part}
 use Rattle.download_plan.specs.declared.part.Part.TheVariants.{ShareHashes, BlockTree, CiphertextTree, Data}
 use Rattle.download_trees.specs.Offers.{nodes_offered, offered_nodes}
-use Rattle.download_trees.specs.Trees.{LeadTo}
+use Rattle.download_trees.specs.Trees.{IsBlockTree}
 use Rattle.download_source.specs.Cursors.{IsPassed, cursor_at, passed}
 use Rattle.download_source.specs.Source.{IsPartOf, IsSource, KnowsNodes, SourceState}
 use Rattle.download_source.specs.Taking.{IsDue, with_taken}
@@ -93,7 +93,7 @@ ciphertext_taken s p is due = record {
   knows_still knows = record { tree = knows.tree; is = knows.is; known = knows.known }
 
 -- the share hashes
-pub tree_taken : (s : SourceState) (tree : PartialState) → IsSource s → IsDue s ShareHashes → LeadTo tree tree.root (segment_count s.geometry)
+pub tree_taken : (s : SourceState) (tree : PartialState) → IsSource s → IsDue s ShareHashes → IsBlockTree tree (segment_count s.geometry)
     → IsSource (record (with_taken s ShareHashes) { tree = Some tree })
 tree_taken s tree is due leads = record {
   range = is.range;
@@ -119,7 +119,7 @@ tree_taken s tree is due leads = record {
 module _ (s : SourceState) (p : NodePiece) (bytes : List ℕ) (is : IsSource s) (due : IsDue s (BlockTree p))
     (before after : PartialState) (was : s.tree ≡ Some before) (long : length bytes ≡ 32 * (nodes_of s.geometry s.first s.end p).count)
     (takes : Takes before (nodes_offered (nodes_of s.geometry s.first s.end p) bytes) after)
-    (leads : LeadTo after after.root (segment_count s.geometry)) where
+    (leads : IsBlockTree after (segment_count s.geometry)) where
   abbrev pub then : SourceState
   then = record (with_taken s (BlockTree p)) { tree = Some after }
 

@@ -10,7 +10,7 @@ use Rattle.download_plan.specs.declared.part.NodePiece.{NodePiece}
 use Rattle.download_plan.specs.declared.part.Nodes.{Nodes}
 use Rattle.download_plan.specs.declared.part.Part.{Part}
 use Rattle.download_plan.specs.declared.part.Part.TheVariants.{BlockTree, CiphertextTree}
-use Rattle.download_trees.specs.Trees.{LeadTo}
+use Rattle.download_trees.specs.Trees.{IsBlockTree}
 use Rattle.download_source.specs.Cursors.{IsPassed, cursor_at, no_parts}
 use Rattle.download_source.specs.declared.cursors.Cursors.{Cursors}
 
@@ -85,9 +85,10 @@ pub record IsSource (s : SourceState) : Type 0 where
   pub in_order : (part : Part) → IsPassed s.taken part → IsPassed s.asked part
   pub given : (level : ℕ)
       → cursor_at s.given level ≤ cursor_at s.taken.ciphertext_tree level
-  -- the block tree is there once the share hashes are taken, and leads to its root
+  -- the block tree is there once the share hashes are taken, and leads to its root by hashes of 32
+  -- bytes each
   pub tree : is_some s.tree ≡ s.taken.share_hashes
-  pub leads : IfSome s.tree (λ tree. LeadTo tree tree.root (segment_count s.geometry))
+  pub leads : IfSome s.tree (λ tree. IsBlockTree tree (segment_count s.geometry))
   -- it knows the nodes that were taken
   pub knows : (piece : NodePiece) → IsPassed s.taken (BlockTree piece)
       → KnowsNodes s (nodes_of s.geometry s.first s.end piece)

@@ -4,7 +4,7 @@ ghost use Rattle.std.specs.Prelude.{◌≡◌, ◌⊎◌, ◌↔◌, ◌+◌, �
 ghost use Rattle.std.specs.Prelude.{Some, length};
 ghost use Rattle.share_layout.specs.Geometry.{segment_count};
 ghost use Rattle.download_plan.specs.Plan.{IsNodePiece, length_of, max_read};
-ghost use Rattle.download_trees.specs.Trees.{LeadTo};
+ghost use Rattle.download_trees.specs.Trees.{IsBlockTree};
 ghost use Rattle.download_source.specs.Asking.{AsksNow, IsAsked, IsWanted, IsWantedCiphertext};
 ghost use Rattle.download_source.specs.Asking.{IsWithin, OnlyAsks};
 ghost use Rattle.download_source.specs.Batch.{IsCiphertextUpTo, IsStep};
@@ -135,7 +135,7 @@ impl Source {
     /// Takes the block tree that the share hashes tell the root of.
     pub fn take_tree(&mut self, tree: BlockTree)
         requires due { IsDue self.old Part.ShareHashes }
-        requires leads { LeadTo tree tree.root (segment_count self.old.geometry) }
+        requires leads { IsBlockTree tree (segment_count self.old.geometry) }
         ensures taken { self.new
             ≡ record (with_taken self.old Part.ShareHashes) { tree = Some tree } }
         ensures right { IsSource self.new }

@@ -77,3 +77,18 @@ offered_long row place (suc k) bytes room (suc i) number hash e =
     let more : suc k * 32 ≡ k * 32 + 32 = omega arith in
     let rest : length (drop 32 bytes) ≡ length bytes - 32 = length-drop 32 bytes in
     offered_long row (place + 1) k (drop 32 bytes) (omega (arith, room, more, rest)) i number hash e
+
+-- so does each of the share hashes, behind its number
+pub numbered_long : (ns : List ℕ) (k : ℕ) (bytes : List ℕ) → k * 34 ≤ length bytes
+    → (i number : ℕ) (hash : List ℕ) → slice_get (numbered ns (first_chunks 34 k bytes)) i ≡ Some (number, hash) → length hash ≡ 32
+numbered_long [] k bytes room i number hash e = absurd cc
+numbered_long (n ∷ ns) zero bytes room i number hash e = absurd cc
+numbered_long (n ∷ ns) (suc k) bytes room zero number hash e =
+    let same : (n, drop 2 (take 34 bytes)) ≡ (number, hash) = cc in
+    let more : suc k * 34 ≡ k * 34 + 34 = omega arith in
+    ap (λ (o : ℕ × List ℕ). length o.1) (sym same)
+    ∙ omega (arith, length-drop 2 (take 34 bytes), length-take-le 34 bytes (omega (arith, room, more)))
+numbered_long (n ∷ ns) (suc k) bytes room (suc i) number hash e =
+    let more : suc k * 34 ≡ k * 34 + 34 = omega arith in
+    let rest : length (drop 34 bytes) ≡ length bytes - 34 = length-drop 34 bytes in
+    numbered_long ns k (drop 34 bytes) (omega (arith, room, more, rest)) i number hash e

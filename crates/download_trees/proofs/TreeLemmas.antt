@@ -12,8 +12,8 @@ use Rattle.merkle.proofs.StateLemmas.{known-lead}
 use Rattle.download_plan.specs.declared.part.Nodes.{Nodes}
 use Rattle.download_trees.specs.Laws.{BlockRootsLead, LeavesLead}
 use Rattle.download_trees.specs.Offers.{nodes_offered, numbered, share_hashes_offered}
-use Rattle.download_trees.specs.Trees.{known_leaf, share_places}
-use Rattle.download_trees.proofs.OfferLemmas.{offered_long}
+use Rattle.download_trees.specs.Trees.{KnowsAllOf, known_leaf, share_places}
+use Rattle.download_trees.proofs.OfferLemmas.{numbered_long, offered_long}
 
 -- the share tree is as high with all its places
 pub height-share_places : (total : ℕ) → height (share_places total) ≡ height total
@@ -63,3 +63,28 @@ pub known_nodes : {X E : Type 0} (r : Result X E) (old new : PartialState) (node
 known_nodes (Ok x) old new nodes bytes takes same known =
     takes_know old new (nodes_offered nodes bytes) known (offered_long nodes.row nodes.from (length bytes / 32) bytes (omega arith)) takes
 known_nodes (Err e) old new nodes bytes takes same known = subst KnowsHashes (sym same) known
+
+-- the same of share hashes, 34 bytes each with their numbers
+pub known_share_hashes : (old new : PartialState) (total share : ℕ) (bytes : List ℕ)
+    → Takes old (share_hashes_offered total share bytes) new → KnowsHashes old → KnowsHashes new
+known_share_hashes old new total share bytes takes known =
+    takes_know old new (share_hashes_offered total share bytes) known
+    (numbered_long (needed_numbers (height total) share) (length bytes / 34) bytes (omega arith)) takes
+
+-- ---- what is known stays known
+
+pub knows_itself : (p : PartialState) → KnowsAllOf p p
+knows_itself p = record { leaves = refl; known = λ number hash is. is }
+
+pub knows_two : (p q r : PartialState) → KnowsAllOf p q → KnowsAllOf q r → KnowsAllOf p r
+knows_two p q r a b = record { leaves = b.leaves ∙ a.leaves; known = λ number hash is. b.known number hash (a.known number hash is) }
+
+pub knows_same : (p q : PartialState) → q ≡ p → KnowsAllOf p q
+knows_same p q same = subst (KnowsAllOf p) (sym same) (knows_itself p)
+
+pub knows_taken : (old new : PartialState) (offers : List (ℕ × List ℕ)) → Takes old offers new → KnowsAllOf old new
+knows_taken old new offers takes = record { leaves = takes.leaf_count; known = takes.known.kept }
+
+pub leaf_stays : (p q : PartialState) (leaf : ℕ) (hash : List ℕ) → KnowsAllOf p q → known_leaf p leaf ≡ Some hash → known_leaf q leaf ≡ Some hash
+leaf_stays p q leaf hash grows known =
+    ap (λ n. known_at q (node_number (height n) leaf)) grows.leaves ∙ grows.known (node_number (height p.leaf_count) leaf) hash known

@@ -14,6 +14,17 @@ pub record LeadTo (p : PartialState) (root : List ℕ) (count : ℕ) : Type 0 wh
   pub of_root : p.root ≡ root
   pub leaves : p.leaf_count ≡ count
 
+-- so do those of a share's block tree to its own root, over so many segments, and each has 32 bytes
+pub record IsBlockTree (p : PartialState) (count : ℕ) : Type 0 where
+  pub leads : LeadTo p p.root count
+  pub hashes : KnowsHashes p
+
+-- what is known of the nodes of a tree is known of another, over as many leaves
+pub record KnowsAllOf (p q : PartialState) : Type 0 where
+  pub leaves : q.leaf_count ≡ p.leaf_count
+  pub known : (number : ℕ) (hash : List ℕ) → known_at p number ≡ Some hash
+      → known_at q number ≡ Some hash
+
 -- what is known of a leaf
 abbrev pub known_leaf : PartialState → ℕ → Option (List ℕ)
 known_leaf p leaf = known_at p (leaf_number p.leaf_count leaf)
@@ -37,12 +48,12 @@ starting_trees u g = record {
   ciphertext = starting u.crypttext_root_hash (segment_count g);
 }
 
--- What holds of the trees of each file: the known nodes lead to the roots. Those of the ciphertext
--- tree have 32 bytes each.
+-- What holds of the trees of each file: the known nodes lead to the roots, and have 32 bytes each.
 pub record AreTrees (t : FileTreesState) : Type 0 where
   pub valid : IsGeometry t.geometry
   pub shares : LeadTo t.shares t.shares.root (share_places t.geometry.total)
   pub ciphertext : LeadTo t.ciphertext t.ciphertext.root (segment_count t.geometry)
+  pub share_hashes : KnowsHashes t.shares
   pub hashes : KnowsHashes t.ciphertext
 
 -- they are trees of one file still

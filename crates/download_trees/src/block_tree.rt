@@ -2,6 +2,7 @@
 
 ghost use Rattle.std.specs.Prelude.{◌≡◌, ◌+◌, ◌*◌, ◌^◌, ◌<◌, ◌≤◌, ◌↔◌, IfOk, OnErr, OnOk, Err};
 ghost use Rattle.std.specs.Prelude.{Some, None, true, false, length};
+ghost use Rattle.merkle.specs.Known.{KnowsHashes};
 ghost use Rattle.merkle.specs.Partial.{IsNotConsistent, IsPartial, Takes, starting};
 ghost use Rattle.download_trees.specs.Offers.{nodes_offered};
 ghost use Rattle.download_trees.specs.Trees.{ProvesBlock, RefutesBlock, known_leaf};
@@ -25,13 +26,13 @@ pub struct BlockTree {
 
 impl Model for BlockTree {
     ghost use Rattle.merkle.specs.Partial.{PartialState};
-    ghost use Rattle.download_trees.specs.Trees.{LeadTo};
+    ghost use Rattle.download_trees.specs.Trees.{IsBlockTree};
 
     ghost Value = { PartialState };
 
     ghost view = { λ b. b.tree };
 
-    ghost invariant = { λ b. LeadTo b.tree b.tree.root b.leaves };
+    ghost invariant = { λ b. IsBlockTree b.tree b.leaves };
 }
 
 impl BlockTree {
@@ -45,6 +46,7 @@ impl BlockTree {
         requires { padding.now ≡ leaves }
         ensures tree { IfOk result (λ tree. tree ≡ starting root.now leaves) }
         ensures right { IfOk result IsPartial }
+        ensures hashes { IfOk result KnowsHashes }
     {
         Ok(BlockTree {
             tree: tree_with(alloc, root, padding)?,
@@ -73,6 +75,7 @@ impl BlockTree {
         ensures unchanged { OnErr result (self.new ≡ self.old) }
         ensures sound { IsPartial self.old }
         ensures right { IsPartial self.new }
+        ensures hashes { KnowsHashes self.new }
         ensures root { self.new.root ≡ self.old.root }
         ensures count { self.new.leaf_count ≡ self.old.leaf_count }
     {

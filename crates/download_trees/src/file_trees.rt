@@ -8,7 +8,7 @@ ghost use Rattle.merkle.specs.Tree.{height};
 ghost use Rattle.share_layout.specs.Geometry.{hashes_size, segment_count};
 ghost use Rattle.download_trees.specs.Offers.{nodes_offered, share_hashes_offered};
 ghost use Rattle.download_trees.specs.Refusal.{HasNumbers, IsHashesRefusal};
-ghost use Rattle.download_trees.specs.Trees.{AreTrees, HaveSameRoots, IsBlockRoot, LeadTo};
+ghost use Rattle.download_trees.specs.Trees.{AreTrees, HaveSameRoots, IsBlockRoot, IsBlockTree};
 ghost use Rattle.download_trees.specs.Trees.{known_leaf, share_places, starting_trees};
 
 use crate::block_tree::BlockTree;
@@ -84,7 +84,7 @@ impl FileTrees {
         ensures tree { IfOk result (λ tree.
             tree ≡ starting tree.root (segment_count self.old.geometry)) }
         ensures leads { IfOk result (λ tree.
-            LeadTo tree tree.root (segment_count self.old.geometry)) }
+            IsBlockTree tree (segment_count self.old.geometry)) }
         ensures root { IfOk result (λ tree. known_leaf self.new.shares share ≡ Some tree.root) }
         ensures block_root { IfOk result (λ tree.
             IsBlockRoot self.old.shares.root self.old.geometry.total share tree.root) }

@@ -5,7 +5,7 @@ use Rattle.download_plan.specs.Plan.{length_of}
 use Rattle.download_plan.specs.declared.part.Nodes.{Nodes}
 use Rattle.download_plan.specs.declared.part.Part.TheVariants.{BlockTree}
 use Rattle.download_trees.specs.Offers.{nodes_offered}
-use Rattle.download_trees.specs.Trees.{LeadTo}
+use Rattle.download_trees.specs.Trees.{IsBlockTree}
 use Rattle.download_source.specs.Source.{SourceState}
 use Rattle.download_source.specs.Taking.{IsDue}
 use Rattle.download_source.proofs.TakingLemmas.{nodes_taken}
@@ -23,10 +23,13 @@ invariant_of-self-2 c =
     let due = subst (λ (s : SourceState). IsDue s (BlockTree piece)) (sym c.self.view_is) c.requires.due in
     let long = subst (λ (s : SourceState). length bytes ≡ length_of s.geometry s.first s.end (BlockTree piece)) (sym c.self.view_is) c.requires.long in
     let takes = subst (λ (n : Nodes). Takes c.in-Some.tree (nodes_offered n bytes) c.take_nodes.new.self) c.nodes-nodes.ensures.value c.in_ok-take_nodes.ensures.taken in
-    let leads = subst (λ (o : Option PartialState). IfSome o (λ tree. LeadTo tree tree.root (segment_count c.self.inside.plan.geometry))) c.in-Some.is c.self.invariant.leads in
+    let was = subst (λ (o : Option PartialState). IfSome o (λ tree. IsBlockTree tree (segment_count c.self.inside.plan.geometry))) c.in-Some.is c.self.invariant.leads in
     rw c.pass.ensures
     (nodes_taken _ piece bytes c.self.invariant due c.in-Some.tree c.take_nodes.new.self c.in-Some.is long takes
-    (record { sound = c.in_ok-take_nodes.ensures.right; of_root = refl; leaves = c.in_ok-take_nodes.ensures.count ∙ leads.leaves }))
+    (record {
+      leads = record { sound = c.in_ok-take_nodes.ensures.right; of_root = refl; leaves = c.in_ok-take_nodes.ensures.count ∙ was.leads.leaves };
+      hashes = c.in_ok-take_nodes.ensures.hashes;
+    }))
 
 pub returns-clause-right : goal.returns-clause-right
 returns-clause-right c = invariant_of-self-2 c

@@ -15,6 +15,7 @@ invariant_of-result c = record {
     of_root = refl;
     leaves = ap (λ (p : PartialState). p.leaf_count) c.in_ok-tree_with-2.ensures.tree ∙ c.of-segments.ensures ∙ c.segment_count.ensures.value;
   };
+  share_hashes = c.in_ok-tree_with.ensures.hashes;
   hashes = c.in_ok-tree_with-2.ensures.hashes;
 }
 

@@ -5,7 +5,7 @@ use Rattle.merkle.specs.Tree.{height, needed_numbers, node_number}
 use Rattle.download_trees.specs.Offers.{share_hashes_offered}
 use Rattle.download_trees.specs.Refusal.{HasNumbers}
 use Rattle.download_trees.specs.Trees.{FileTreesState, IsBlockRoot}
-use Rattle.download_trees.proofs.TreeLemmas.{known-own}
+use Rattle.download_trees.proofs.TreeLemmas.{known-own, known_share_hashes}
 use Rattle.download_trees.proofs.file_trees.FileTrees.take_share_hashes.Goals as goal
 
 is_offered : (c : goal.After-drop-offers-2) → c.in_ok-offers.offers.items ≡ share_hashes_offered c.self.inside.geometry.total c.args.share c.args.bytes.now
@@ -59,6 +59,21 @@ returns-clause-block_root c =
       };
       known = returns-clause-root c;
     }
+
+pub invariant_of-self-2 : goal.invariant_of-self-2
+invariant_of-self-2 c =
+    let was = c.self.invariant in
+    let taken = is_taken c in
+    record {
+      valid = was.valid;
+      shares = record { sound = c.offer.ensures.right; of_root = refl; leaves = taken.leaf_count ∙ was.shares.leaves };
+      ciphertext = was.ciphertext;
+      share_hashes = known_share_hashes c.self.inside.shares c.offer.new.tree c.self.inside.geometry.total c.args.share c.args.bytes.now taken was.share_hashes;
+      hashes = was.hashes;
+    }
+
+pub returns-clause-right : goal.returns-clause-right
+returns-clause-right c = invariant_of-self-2 c
 
 pub returns-clause-numbers : goal.returns-clause-numbers
 returns-clause-numbers c = λ other.
