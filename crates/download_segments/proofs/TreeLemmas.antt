@@ -3,12 +3,13 @@ use Rattle.std.proofs.Common.{◌≡◌, ℕ, ◌<◌, List, Option, Some, None,
 use Rattle.tagged_hash.specs.TaggedHash.{tagged_hash}
 use Rattle.tagged_hash.specs.declared.tag.Tag.TheVariants.{CiphertextSegment}
 use Rattle.merkle.specs.Inputs.{AreHashes}
-use Rattle.merkle.specs.Partial.{PartialState, Takes, known_at, leaf_number}
+use Rattle.merkle.specs.Partial.{Takes}
 use Rattle.merkle.specs.Path.{LeadsBy}
 use Rattle.share_layout.specs.Geometry.{Geometry, segment_count}
 use Rattle.share_layout.specs.Pieces.{segment_length}
 use Rattle.proved_parts.specs.Parts.{IsSegmentBy}
 use Rattle.download_trees.specs.Trees.{AreTrees, FileTreesState, HaveSameRoots, known_leaf}
+use Rattle.download_trees.proofs.TreeLemmas.{knows_itself, knows_same, knows_taken, knows_two, leaf_stays}
 use Rattle.download_segments.specs.Laws.{ProvedSegmentsStay}
 use Rattle.download_segments.specs.State.{HandoutState, IsHandout, ProvesSegment, RefutesSegment, TreesGrow, with_trees}
 
@@ -16,25 +17,13 @@ use Rattle.download_segments.specs.State.{HandoutState, IsHandout, ProvesSegment
 pub at_some : {X : Type 0} (P : X → Type 0) (o : Option X) (x : X) → o ≡ Some x → IfSome o P → P x
 at_some P o x e h = subst (λ p. IfSome p P) e h
 
--- leaves that are known stay known
-abbrev KeepsLeaves : PartialState → PartialState → Type 0
-KeepsLeaves old new = (leaf : ℕ) (hash : List ℕ) → known_leaf old leaf ≡ Some hash → known_leaf new leaf ≡ Some hash
-
-keeps_taken : (old new : PartialState) (offers : List (ℕ × List ℕ)) → Takes old offers new → KeepsLeaves old new
-keeps_taken old new offers takes leaf hash knows =
-    subst (λ (n : ℕ). known_at new (leaf_number n leaf) ≡ Some hash) (sym takes.leaf_count)
-    (takes.known.kept (leaf_number old.leaf_count leaf) hash knows)
-
-keeps_same : (old new : PartialState) → new ≡ old → KeepsLeaves old new
-keeps_same old new same leaf hash knows = subst (λ (p : PartialState). known_leaf p leaf ≡ Some hash) (sym same) knows
-
 pub grow_none : (t : FileTreesState) → TreesGrow t t
-grow_none t = record { shares = λ share root knows. knows; ciphertext = λ number leaf knows. knows }
+grow_none t = record { shares = knows_itself t.shares; ciphertext = knows_itself t.ciphertext }
 
 pub grow_two : (old between new : FileTreesState) → TreesGrow old between → TreesGrow between new → TreesGrow old new
 grow_two old between new first second = record {
-  shares = λ share root knows. second.shares share root (first.shares share root knows);
-  ciphertext = λ number leaf knows. second.ciphertext number leaf (first.ciphertext number leaf knows);
+  shares = knows_two old.shares between.shares new.shares first.shares second.shares;
+  ciphertext = knows_two old.ciphertext between.ciphertext new.ciphertext first.ciphertext second.ciphertext;
 }
 
 pub grow_same : (old new : FileTreesState) → new ≡ old → TreesGrow old new
@@ -43,15 +32,15 @@ grow_same old new same = subst (λ (t : FileTreesState). TreesGrow old t) (sym s
 pub grow_shares : (old new : FileTreesState) (offers : List (ℕ × List ℕ))
     → Takes old.shares offers new.shares → new.ciphertext ≡ old.ciphertext → TreesGrow old new
 grow_shares old new offers takes same = record {
-  shares = keeps_taken old.shares new.shares offers takes;
-  ciphertext = keeps_same old.ciphertext new.ciphertext same;
+  shares = knows_taken old.shares new.shares offers takes;
+  ciphertext = knows_same old.ciphertext new.ciphertext same;
 }
 
 pub grow_ciphertext : (old new : FileTreesState) (offers : List (ℕ × List ℕ))
     → Takes old.ciphertext offers new.ciphertext → new.shares ≡ old.shares → TreesGrow old new
 grow_ciphertext old new offers takes same = record {
-  shares = keeps_same old.shares new.shares same;
-  ciphertext = keeps_taken old.ciphertext new.ciphertext offers takes;
+  shares = knows_same old.shares new.shares same;
+  ciphertext = knows_taken old.ciphertext new.ciphertext offers takes;
 }
 
 -- a call takes some, or refuses and changes nothing
@@ -103,7 +92,7 @@ segment_by h number segment siblings k there proves hashes leads =
 pub proved_stays : ProvedSegmentsStay
 proved_stays old new number segment same grow proves = record {
   size = subst (λ (g : Geometry). length segment ≡ segment_length g number) (sym same) proves.size;
-  known = grow.ciphertext number (tagged_hash CiphertextSegment segment) proves.known;
+  known = leaf_stays old.trees.ciphertext new.trees.ciphertext number (tagged_hash CiphertextSegment segment) grow.ciphertext proves.known;
 }
 
 -- a segment that is not proved is refuted, where its leaf is known

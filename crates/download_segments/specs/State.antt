@@ -6,8 +6,8 @@ use Rattle.ueb.specs.Shape.{Contents}
 use Rattle.share_layout.specs.Geometry.{Geometry}
 use Rattle.share_layout.specs.Pieces.{segment_length}
 use Rattle.share_verify.specs.CapBlock.{geometry_by}
-use Rattle.download_trees.specs.Trees.{AreTrees, FileTreesState, HaveSameRoots, known_leaf}
-use Rattle.download_trees.specs.Trees.{starting_trees}
+use Rattle.download_trees.specs.Trees.{AreTrees, FileTreesState, HaveSameRoots, KnowsAllOf}
+use Rattle.download_trees.specs.Trees.{known_leaf, starting_trees}
 use Rattle.download_segments.specs.declared.piece.Piece.{Piece}
 use Rattle.download_segments.specs.Pieces.{AreConsecutive, IsGiven}
 
@@ -65,9 +65,7 @@ pub record RefutesSegment (h : HandoutState) (number : ℕ) (segment : List ℕ)
   pub known : known_leaf h.trees.ciphertext number ≡ Some leaf
   pub differs : leaf ≢ tagged_hash CiphertextSegment segment
 
--- what is known of the leaves of the trees stays known
+-- what is known of the nodes of the trees stays known
 pub record TreesGrow (old new : FileTreesState) : Type 0 where
-  pub shares : (share : ℕ) (root : List ℕ)
-      → known_leaf old.shares share ≡ Some root → known_leaf new.shares share ≡ Some root
-  pub ciphertext : (number : ℕ) (leaf : List ℕ)
-      → known_leaf old.ciphertext number ≡ Some leaf → known_leaf new.ciphertext number ≡ Some leaf
+  pub shares : KnowsAllOf old.shares new.shares
+  pub ciphertext : KnowsAllOf old.ciphertext new.ciphertext

@@ -14,7 +14,7 @@ ghost use Rattle.share_verify.specs.CapBlock.{geometry_by};
 ghost use Rattle.proved_parts.specs.Parts.{IsSegmentBy};
 ghost use Rattle.download_trees.specs.Offers.{nodes_offered, share_hashes_offered};
 ghost use Rattle.download_trees.specs.Refusal.{HasNumbers, IsHashesRefusal};
-ghost use Rattle.download_trees.specs.Trees.{IsBlockRoot, LeadTo, known_leaf};
+ghost use Rattle.download_trees.specs.Trees.{IsBlockRoot, IsBlockTree, known_leaf};
 ghost use Rattle.download_segments.specs.Handout.{IsRowWanted, ProvesRow, TakesPiece};
 ghost use Rattle.download_segments.specs.Handout.{first_handed_out, handed_out, next_end};
 ghost use Rattle.download_segments.specs.Handout.{next_segment};
@@ -154,7 +154,9 @@ impl Handout {
         ensures tree { IfOk result (λ tree.
             tree ≡ starting tree.root (segment_count self.old.geometry)) }
         ensures leads { IfOk result (λ tree.
-            LeadTo tree tree.root (segment_count self.old.geometry)) }
+            IsBlockTree tree (segment_count self.old.geometry)) }
+        ensures root { IfOk result (λ tree.
+            known_leaf self.new.trees.shares share ≡ Some tree.root) }
         ensures block_root { IfOk result (λ tree. IsBlockRoot self.old.ueb.share_root_hash
             self.old.ueb.total_shares share tree.root) }
         // When each refusal comes.
