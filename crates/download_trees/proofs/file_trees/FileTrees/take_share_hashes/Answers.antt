@@ -14,21 +14,6 @@ is_offered c = search rules
 is_taken : (c : goal.After-drop-offers-2) → Takes c.self.inside.shares (share_hashes_offered c.self.inside.geometry.total c.args.share c.args.bytes.now) c.offer.new.tree
 is_taken c = let items = is_offered c in search (rules, items)
 
-pub invariant_of-self-2 : goal.invariant_of-self-2
-invariant_of-self-2 c = record {
-  valid = c.self.invariant.valid;
-  shares = record {
-    sound = c.offer.ensures.right;
-    of_root = refl;
-    leaves = (is_taken c).leaf_count ∙ c.self.invariant.shares.leaves;
-  };
-  ciphertext = c.self.invariant.ciphertext;
-  hashes = c.self.invariant.hashes;
-}
-
-pub returns-clause-right : goal.returns-clause-right
-returns-clause-right c = invariant_of-self-2 c
-
 pub returns-clause-root : goal.returns-clause-root
 returns-clause-root c =
     let total = c.self.inside.geometry.total in
