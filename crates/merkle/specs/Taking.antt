@@ -1,4 +1,4 @@
--- Words of the private clauses about a partial tree: what it keeps, how that grows, and its padding.
+-- Words of the private clauses about a partial tree: what it keeps, how that grows, its padding.
 use Rattle.std.specs.Prelude.{◌≡◌, ◌≢◌, ◌⊎◌, ℕ, ◌+◌, ◌-◌, ◌*◌, ◌/◌, ◌^◌, ◌<◌, List, [], ◌∷◌}
 use Rattle.std.specs.Prelude.{◌++◌, length, map, Option, Some, None, slice_index_or}
 use Rattle.std.specs.List.{range_with_len}

@@ -112,7 +112,8 @@ impl Padding {
     // The node so many rows above the leaves at this place, where it is kept.
     fn kept(&self, rows: u32, place: u32) -> Option<[u8; 32]>
         requires { rows ≤ 20 }
-        ensures { IfSome result (λ hash. hash ≡ empty_node self.now (height self.now - rows) place) }
+        ensures { IfSome result (λ hash.
+            hash ≡ empty_node self.now (height self.now - rows) place) }
     {
         if place == ((self.leaf_count - 1) >> rows) + 1 {
             self.beside[rows as usize]
