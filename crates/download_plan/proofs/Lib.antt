@@ -1,2 +1,4 @@
 pub mod NumberLemmas
 pub mod PartLemmas
+pub mod RunLemmas
+pub mod EndLemmas

@@ -1,5 +1,6 @@
 -- The parts of a plan lie in their sections, and apart from each other.
-use Rattle.std.proofs.Common.{◌≡◌, ◌⊎◌, ℕ, ◌+◌, ◌-◌, ◌*◌, ◌/◌, ◌%◌, ◌^◌, ◌<◌, ◌≤◌, min, inl, inr, ap, refl, sym, subst, ◌∙◌, arith}
+use Rattle.std.proofs.Common.{◌≡◌, ◌⊎◌, ℕ, ◌+◌, ◌-◌, ◌*◌, ◌/◌, ◌%◌, ◌^◌, ◌<◌, ◌≤◌, max, min, inl, inr, ap, refl, sym, subst, ◌∙◌, arith}
+use Rattle.std.specs.Int.{div_ceil}
 use Rattle.std.proofs.Math.Nat.{mul-le-mul_right, mul-mod_left, pow-le-pow_right}
 use Rattle.std.proofs.lemmas.Bool.{cases_lt, cases_order}
 use Rattle.std.proofs.lemmas.Nat.{div-add-mod', div_below, le-div, mod_below, pow_pos, pow-add}
@@ -11,7 +12,7 @@ use Rattle.share_layout.specs.declared.layout.Layout.TheVariants.{One, Two}
 use Rattle.share_layout.specs.Layout.{header_size, layout_of, places_of}
 use Rattle.share_layout.specs.Pieces.{block_length}
 use Rattle.download_plan.specs.Level.{IsAbove, first_node, group_size, level_at, level_count, row_of, tree_height}
-use Rattle.download_plan.specs.Plan.{IsAmong, IsNodePiece, IsPart, block_place, data_end, data_pieces, length_of, max_nodes, max_read, nodes_at, nodes_of, nodes_place, piece_at, pieces_of, place_of}
+use Rattle.download_plan.specs.Plan.{IsAmong, IsNodePiece, IsPart, block_place, data_end, data_pieces, data_place, length_of, max_nodes, max_read, nodes_at, nodes_of, nodes_place, offset_at, piece_at, pieces_of, place_of, run_reads, run_size}
 use Rattle.download_plan.specs.Range.{IsRange}
 use Rattle.download_plan.specs.Laws.{AreApart, IsInBlock, IsInPiece, LevelsHoldGroups, LiesIn, PartsAreApart, PartsHoldTheBlocks, PartsLieInside, PiecesAreGroups, section_end, section_start}
 use Rattle.download_plan.specs.declared.level.Level.{Level}
@@ -19,6 +20,7 @@ use Rattle.download_plan.specs.declared.part.NodePiece.{NodePiece}
 use Rattle.download_plan.specs.declared.part.Nodes.{Nodes}
 use Rattle.download_plan.specs.declared.part.Part.{Part}
 use Rattle.download_plan.specs.declared.part.Part.TheVariants.{ShareHashes, BlockTree, CiphertextTree, Data}
+use Rattle.download_plan.proofs.RunLemmas.{piece_before, piece_begin, piece_from, piece_low, piece_of, piece_rest, piece_rises, piece_steps, pieces_few, reads_some, rise, rises, run_from, run_most, run_room, run_some, short}
 use Rattle.download_plan.proofs.NumberLemmas.{below_ceil, ceil_most, end_inside, end_multiple, first_below_end, first_multiple, group_begins, group_of, group_within, holds_group, piece_begins, pieces_below, row_high, rows_rise}
 
 -- headers and shares are not long
@@ -42,7 +44,7 @@ block_begins g a b r =
       | inr above ↦ absurd (omega (arith, product, before, mul-le-mul_right {m = share_data_size g} {n = a * block_size g} g.needed above, (div_ceil_times g.size g.needed r.valid.some_needed).0))
     ]
 
-block_some : (g : Geometry) → IsGeometry g → 0 < block_size g
+pub block_some : (g : Geometry) → IsGeometry g → 0 < block_size g
 block_some g valid =
     elim (cases_lt 0 (block_size g)) [
       | inl found ↦ found
@@ -55,6 +57,126 @@ pub data_begins : (g : Geometry) (a b : ℕ) → IsRange g a b → block_place g
 data_begins g a b r =
     let s = r.some in
     omega (arith, block_begins g a b r, block_some g r.valid, mul-le-mul_right {m = a + 1} {n = b} (block_size g) (omega arith))
+
+-- the pieces of the data, from the segment `a` on
+module _ (g : Geometry) (valid : IsGeometry g) (a : ℕ) where
+  pub place_is : (i : ℕ) → data_place g a i ≡ block_place g a + piece_begin (run_size g) (run_reads g) i
+  unfolding data_place piece_begin
+  place_is i = omega arith
+
+  pub piece_is : (n : ℕ) → piece_at g a n ≡ piece_of (run_size g) (run_reads g) (n - block_place g a)
+  unfolding piece_at piece_of
+  piece_is n = refl
+
+  pub offset_is : (n : ℕ) → offset_at g a n ≡ (n - block_place g a) % run_size g % 32768
+  unfolding offset_at
+  offset_is n = refl
+
+  pub size_some : 0 < run_size g
+  size_some = run_some (block_size g) (block_some g valid)
+
+  pub reads_some' : 0 < run_reads g
+  reads_some' = reads_some (block_size g) (block_some g valid)
+
+  pub reads_most : run_reads g * 32768 < run_size g + 32768
+  reads_most = run_most (block_size g) (block_some g valid)
+
+  pub reads_room : run_size g ≤ run_reads g * 32768
+  reads_room = run_room (block_size g) (block_some g valid)
+
+  pub data_from_first : (i : ℕ) → block_place g a ≤ data_place g a i
+  data_from_first i = omega (arith, place_is i)
+
+  pub data_rises : (i : ℕ) → data_place g a i < data_place g a (i + 1)
+  data_rises i = omega (arith, place_is i, place_is (i + 1), rises (run_size g) (run_reads g) size_some reads_some' reads_most reads_room i)
+
+  pub data_short : (i : ℕ) → data_place g a (i + 1) ≤ data_place g a i + 32768
+  data_short i = omega (arith, place_is i, place_is (i + 1), short (run_size g) (run_reads g) size_some reads_some' reads_most reads_room i)
+
+  pub data_rise : (i j : ℕ) → i ≤ j → data_place g a i ≤ data_place g a j
+  data_rise i j le = omega (arith, place_is i, place_is j, rise (run_size g) (run_reads g) size_some reads_some' reads_most reads_room i j le)
+
+  pub data_from : (n : ℕ) → block_place g a ≤ n → data_place g a (piece_at g a n) ≤ n
+  data_from n from =
+      let p = piece_from (run_size g) (run_reads g) size_some reads_some' reads_most reads_room (n - block_place g a) in
+      rw (piece_is n) (omega (arith, place_is (piece_of (run_size g) (run_reads g) (n - block_place g a)), p, from))
+
+  pub data_before : (n : ℕ) → n < data_place g a (piece_at g a n + 1)
+  data_before n =
+      let p = piece_before (run_size g) (run_reads g) size_some reads_some' reads_most reads_room (n - block_place g a) in
+      rw (piece_is n) (omega (arith, place_is (piece_of (run_size g) (run_reads g) (n - block_place g a) + 1), p))
+
+  pub data_rest : (n : ℕ) → block_place g a ≤ n → data_place g a (piece_at g a n) + offset_at g a n ≡ n
+  data_rest n from =
+      let p = piece_rest (run_size g) (run_reads g) size_some reads_some' reads_most reads_room (n - block_place g a) in
+      rw (piece_is n, offset_is n) (omega (arith, place_is (piece_of (run_size g) (run_reads g) (n - block_place g a)), p, from))
+
+  pub data_more : (n o : ℕ) → n ≤ o → piece_at g a n ≤ piece_at g a o
+  data_more n o le =
+      rw (piece_is n, piece_is o)
+      (piece_rises (run_size g) (run_reads g) size_some reads_some' reads_most reads_room (n - block_place g a) (o - block_place g a) (omega (arith, le)))
+
+  pub runs_before : (i : ℕ) → i / run_reads g * run_size g ≤ i * 32768
+  runs_before i =
+      omega (arith, run_from (run_size g) (run_reads g) size_some reads_some' reads_most reads_room i, piece_low (run_size g) (run_reads g) size_some reads_some' reads_most reads_room i)
+
+  pub data_low : (i : ℕ) → i < 2 ^ 32 → block_place g a ≤ 2 ^ 40 + 68 → data_place g a i < 2 ^ 48
+  data_low i few low = omega (arith, place_is i, piece_low (run_size g) (run_reads g) size_some reads_some' reads_most reads_room i, few, low)
+
+  -- no more pieces than of half as many bytes as a read has at most
+  pub data_few : (n : ℕ) → piece_at g a n * 16384 ≤ n
+  data_few n = rw (piece_is n) (omega (arith, pieces_few (block_size g) (block_some g valid) (n - block_place g a)))
+
+-- a later place lies in no earlier piece, in any geometry
+pub pieces_grow : (g : Geometry) (a n o : ℕ) → n ≤ o → piece_at g a n ≤ piece_at g a o
+unfolding piece_at piece_of
+pieces_grow g a n o le =
+    let block = block_size g in
+    let begin = n - block_place g a in
+    let end = o - block_place g a in
+    elim (cases_lt 0 block) [
+      | inl some ↦
+          piece_rises (run_size g) (run_reads g) (run_some block some) (reads_some block some) (run_most block some) (run_room block some)
+          begin end (omega (arith, le))
+      | inr low ↦
+          let none : block ≡ 0 = omega (arith, low) in
+          let size : run_size g ≡ 0 = ap (λ k. max 1 (max_read / k) * k) none ∙ omega arith in
+          let reads : run_reads g ≡ 0 = ap (λ k. div_ceil k max_read) size in
+          let first : piece_at g a n ≡ begin / 0 * 0 + begin % 0 / 32768 = λ i. begin / size i * reads i + begin % size i / 32768 in
+          let last : piece_at g a o ≡ end / 0 * 0 + end % 0 / 32768 = λ i. end / size i * reads i + end % size i / 32768 in
+          omega (arith, first, last, div-add-mod' begin 0, div-add-mod' end 0, le)
+    ]
+
+-- and the next place lies in no later piece than the next
+pub pieces_step : (g : Geometry) (a n : ℕ) → piece_at g a (n + 1) ≤ piece_at g a n + 1
+unfolding piece_at piece_of
+pieces_step g a n =
+    let block = block_size g in
+    let begin = n - block_place g a in
+    let end = n + 1 - block_place g a in
+    elim (cases_lt 0 block) [
+      | inl some ↦
+          piece_steps (run_size g) (run_reads g) (run_some block some) (reads_some block some) (run_most block some) (run_room block some)
+          begin end (omega arith)
+      | inr low ↦
+          let none : block ≡ 0 = omega (arith, low) in
+          let size : run_size g ≡ 0 = ap (λ k. max 1 (max_read / k) * k) none ∙ omega arith in
+          let reads : run_reads g ≡ 0 = ap (λ k. div_ceil k max_read) size in
+          let first : piece_at g a n ≡ begin / 0 * 0 + begin % 0 / 32768 = λ i. begin / size i * reads i + begin % size i / 32768 in
+          let last : piece_at g a (n + 1) ≡ end / 0 * 0 + end % 0 / 32768 = λ i. end / size i * reads i + end % size i / 32768 in
+          omega (arith, first, last, div-add-mod' begin 0, div-add-mod' end 0)
+    ]
+
+-- a piece of the data begins before the blocks end
+pub data_inside : (g : Geometry) (a b i : ℕ) → IsRange g a b → i < data_pieces g a b → data_place g a i < data_end g b
+data_inside g a b i r is =
+    let last = data_end g b - 1 in
+    let some = data_begins g a b r in
+    let before = data_rise g r.valid a i (piece_at g a last) (omega (arith, is)) in
+    omega (arith, before, data_from g r.valid a last (omega (arith, some)), some)
+
+pub pieces_low : (g : Geometry) (a b : ℕ) → IsRange g a b → data_pieces g a b ≤ 2 ^ 28
+pieces_low g a b r = omega (arith, data_few g r.valid a (data_end g b - 1), header_short (layout_of g), share_low g r.valid)
 
 -- some nodes of a row
 pub record Lie (m : ℕ) (n : Nodes) : Type 0 where
@@ -112,12 +234,15 @@ lie_inside g a b (CiphertextTree p) r is =
     let l = nodes_lie g (places_of g).ciphertext_tree (nodes_of g a b p) (piece_lies g a b p r is) in
     record { some = l.some; few = l.few; begins = l.begins; ends = omega (arith, l.ends) }
 lie_inside g a b (Data i) r is =
-    let begins = piece_begins (data_end g b - block_place g a) max_read i (omega arith) is in
+    let inside = data_inside g a b i r is in
+    let rises = data_rises g r.valid a i in
+    let first = data_from_first g r.valid a i in
+    let most = data_short g r.valid a i in
     record {
-      some = omega (arith, begins);
-      few = omega arith;
-      begins = omega arith;
-      ends = omega (arith, begins);
+      some = omega (arith, inside, rises);
+      few = omega (arith, most);
+      begins = omega (arith, first);
+      ends = omega (arith, inside, rises);
     }
 
 -- pieces of one level
@@ -180,14 +305,14 @@ module _ (g : Geometry) (a b section : ℕ) (r : IsRange g a b) where
 earlier : (s e place len s' e' place' len' : ℕ) → LiesIn s e place len → LiesIn s' e' place' len' → e ≤ s' → place + len ≤ place'
 earlier s e place len s' e' place' len' one other order = let f = one.ends in let t = other.begins in omega arith
 
-data_apart : (g : Geometry) (a b i j : ℕ) → (Data i ≡ Data j)
+data_apart : (g : Geometry) (a b i j : ℕ) → IsRange g a b → (Data i ≡ Data j)
     ⊎ AreApart (place_of g a b (Data i)) (length_of g a b (Data i)) (place_of g a b (Data j)) (length_of g a b (Data j))
-data_apart g a b i j =
+data_apart g a b i j r =
     elim (cases_order i j) [
       | inl same ↦ inl (ap Data same)
       | inr other ↦ elim other [
-        | inl before ↦ inr (inl (omega arith))
-        | inr after ↦ inr (inr (omega arith))
+        | inl before ↦ inr (inl (omega (arith, data_rise g r.valid a i j (omega (arith, before)), data_rise g r.valid a (i + 1) j (omega (arith, before)))))
+        | inr after ↦ inr (inr (omega (arith, data_rise g r.valid a j i (omega (arith, after)), data_rise g r.valid a (j + 1) i (omega (arith, after)))))
       ]
     ]
 
@@ -221,18 +346,19 @@ are_apart g a b (CiphertextTree p) (Data j) r is also = inr (second g a b r (Cip
 are_apart g a b (Data i) ShareHashes r is also = inr (first g a b r (Data i) ShareHashes is also (omega arith))
 are_apart g a b (Data i) (BlockTree q) r is also = inr (first g a b r (Data i) (BlockTree q) is also (omega arith))
 are_apart g a b (Data i) (CiphertextTree q) r is also = inr (first g a b r (Data i) (CiphertextTree q) is also (omega arith))
-are_apart g a b (Data i) (Data j) r is also = data_apart g a b i j
+are_apart g a b (Data i) (Data j) r is also = data_apart g a b i j r
 
 -- the byte of a piece is one of a block
-in_block : (g : Geometry) (a b i place : ℕ) → IsInPiece g a b i place → (number : ℕ) × (a ≤ number) × (number < b) × IsInBlock g number place
-in_block g a b i place is =
+in_block : (g : Geometry) (a b i place : ℕ) → IsRange g a b → IsInPiece g a b i place → (number : ℕ) × (a ≤ number) × (number < b) × IsInBlock g number place
+in_block g a b i place r is =
     let h = header_size (layout_of g) in
     let size = block_size g in
     let begins = is.begins in
     let ends = is.ends in
-    let from : a * size ≤ place - h = omega arith in
-    let before : place - h < b * size = omega arith in
-    let inside : place - h < share_data_size g = omega arith in
+    let first = data_from_first g r.valid a i in
+    let from : a * size ≤ place - h = omega (arith, first, begins) in
+    let before : place - h < b * size = omega (arith, begins, ends) in
+    let inside : place - h < share_data_size g = omega (arith, begins, ends) in
     let some : 0 < size = elim (cases_lt 0 size) [ inl found ↦ found | inr none ↦ let z : size ≡ 0 = omega arith in absurd (omega (arith, before, ap (λ n. b * n) z)) ] in
     let number = (place - h) / size in
     let split = div-add-mod' (place - h) size in
@@ -244,8 +370,8 @@ in_block g a b i place is =
     )
 
 -- the byte of a block is one of a piece
-in_piece : (g : Geometry) (a b place number : ℕ) → a ≤ number → number < b → IsInBlock g number place → (i : ℕ) × IsInPiece g a b i place
-in_piece g a b place number from before is =
+in_piece : (g : Geometry) (a b place number : ℕ) → IsRange g a b → a ≤ number → number < b → IsInBlock g number place → (i : ℕ) × IsInPiece g a b i place
+in_piece g a b place number r from before is =
     let h = header_size (layout_of g) in
     let size = block_size g in
     let begins = is.begins in
@@ -254,16 +380,16 @@ in_piece g a b place number from before is =
     let high : number * size + size ≤ b * size = omega (arith, mul-le-mul_right {m = number + 1} {n = b} size (omega arith)) in
     let start : block_place g a ≤ place = omega arith in
     let end : place < data_end g b = omega arith in (
-      (place - block_place g a) / max_read,
+      piece_at g a place,
       record {
-        part = below_ceil (data_end g b - block_place g a) max_read (place - block_place g a) (omega arith) (omega arith);
-        begins = omega arith;
-        ends = omega arith;
+        part = (let more = data_more g r.valid a place (data_end g b - 1) (omega (arith, end)) in omega (arith, more));
+        begins = data_from g r.valid a place start;
+        ends = omega (arith, data_from g r.valid a place start, data_before g r.valid a place, end);
       },
     )
 
 pub hold_the_blocks : PartsHoldTheBlocks
-hold_the_blocks g a b place r = (λ i. in_block g a b i place, in_piece g a b place)
+hold_the_blocks g a b place r = (λ i. in_block g a b i place r, λ number. in_piece g a b place number r)
 
 pub hold_groups : LevelsHoldGroups
 hold_groups g a b level number node r there from before is =
@@ -318,28 +444,23 @@ block_low g number valid there =
     omega (arith, begins, header_short (layout_of g), share_low g valid)
 
 -- its pieces are some of the data's
-pub block_within : (g : Geometry) (a b number : ℕ) → IsRange g a b → a ≤ number → number < b → 0 < block_length g number
-    → piece_at g a (block_place g number + block_length g number - 1) < data_pieces g a b
-block_within g a b number r from before some =
-    let size = block_size g in
-    let low = mul-le-mul_right {m = a} {n = number} size from in
-    let high = mul-le-mul_right {m = number + 1} {n = b} size (omega (arith, before)) in
-    below_ceil (data_end g b - block_place g a) max_read (block_place g number + block_length g number - 1 - block_place g a) (omega arith)
-    (omega (arith, low, high, some))
+module _ (g : Geometry) (a b number : ℕ) (r : IsRange g a b) (from : a ≤ number) (before : number < b) (some : 0 < block_length g number) where
+  pub block_after : block_place g a ≤ block_place g number
+  block_after = omega (arith, mul-le-mul_right {m = a} {n = number} (block_size g) from)
+
+  pub block_within : piece_at g a (block_place g number + block_length g number - 1) < data_pieces g a b
+  block_within =
+      let high = mul-le-mul_right {m = number + 1} {n = b} (block_size g) (omega (arith, before)) in
+      let inside : block_place g number + block_length g number - 1 ≤ data_end g b - 1 = omega (arith, high, some) in
+      omega (arith, data_more g r.valid a (block_place g number + block_length g number - 1) (data_end g b - 1) inside)
+
+  pub block_begins_first : piece_at g a (block_place g number) ≤ piece_at g a (block_place g number + block_length g number - 1)
+  block_begins_first = data_more g r.valid a (block_place g number) (block_place g number + block_length g number - 1) (omega (arith, some))
 
 -- numbers that are one by what they stand for
 pub same_node : (g : Geometry) (level number h r node : ℕ) → h ≡ tree_height g → r ≡ row_of (tree_height g) level → node ≡ first_node h r number
     → node ≡ first_node (tree_height g) (row_of (tree_height g) level) number
 same_node g level number h r node height row is = is ∙ (λ i. first_node (height i) (row i) number)
-
-pub same_pieces : (g : Geometry) (a b number place start len size : ℕ) → IsRange g a b → a ≤ number → number < b → 0 < len → place ≡ block_place g number
-    → start ≡ block_place g a → len ≡ block_length g number → size ≡ max_read → (place - start + len - 1) / size + 1 ≤ data_pieces g a b
-same_pieces g a b number place start len size r from before some here begins long most =
-    let within = block_within g a b number r from before (omega (arith, some, long)) in
-    let low = mul-le-mul_right {m = a} {n = number} (block_size g) from in
-    let last : place - start + len - 1 ≡ block_place g number + block_length g number - 1 - block_place g a = omega (arith, here, begins, long, some, low) in
-    let piece : (place - start + len - 1) / size ≡ piece_at g a (block_place g number + block_length g number - 1) = λ i. last i / most i in
-    omega (arith, piece, within)
 
 -- each level has a piece
 pub some_piece : (g : Geometry) (a b level : ℕ) → IsRange g a b → level < level_count (tree_height g) → IsNodePiece g a b (record { level = level; index = 0 })

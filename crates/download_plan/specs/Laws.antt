@@ -7,8 +7,8 @@ use Rattle.share_layout.specs.Layout.{header_size, places_of}
 use Rattle.share_layout.specs.Pieces.{block_length}
 use Rattle.download_plan.specs.Level.{IsAbove, group_size, leaves_below, level_at, level_count}
 use Rattle.download_plan.specs.Level.{tree_height}
-use Rattle.download_plan.specs.Plan.{IsNodePiece, IsPart, block_place, length_of, max_read}
-use Rattle.download_plan.specs.Plan.{nodes_of, place_of}
+use Rattle.download_plan.specs.Plan.{EndsWithBlock, IsNodePiece, IsPart, block_place, length_of}
+use Rattle.download_plan.specs.Plan.{max_read, nodes_of, place_of}
 use Rattle.download_plan.specs.Range.{IsRange}
 use Rattle.download_plan.specs.declared.part.NodePiece.{NodePiece}
 use Rattle.download_plan.specs.declared.part.Nodes.{Nodes}
@@ -70,6 +70,12 @@ PartsHoldTheBlocks = (g : Geometry) (a b place : ℕ) → IsRange g a b
     → (number : ℕ) × (a ≤ number) × (number < b) × IsInBlock g number place)
     × ((number : ℕ) → a ≤ number → number < b → IsInBlock g number place
     → (i : ℕ) × IsInPiece g a b i place)
+
+-- a law: a piece of the data that comes to the end of a block ends with the end of one, so that no
+-- block waits for bytes of the next, unless both are read at once
+abbrev pub PiecesEndWithBlocks : Type 0
+PiecesEndWithBlocks = (g : Geometry) (a b i : ℕ) → IsRange g a b → IsPart g a b (Data i)
+    → EndsWithBlock g a b (place_of g a b (Data i)) (length_of g a b (Data i))
 
 -- a law: what is read of a level has each node in a group above a wanted segment that has a segment
 -- below it

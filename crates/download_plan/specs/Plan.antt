@@ -1,10 +1,11 @@
 -- The parts of the plan for the segments `a` to before `b`.
-use Rattle.std.specs.Prelude.{◌≡◌, ℕ, ◌+◌, ◌-◌, ◌*◌, ◌/◌, ◌<◌, ◌≤◌, min, Option, Some, None}
-use Rattle.std.specs.Prelude.{nat_lt, if◌then◌else◌}
+use Rattle.std.specs.Prelude.{◌≡◌, ℕ, ◌+◌, ◌-◌, ◌*◌, ◌/◌, ◌%◌, ◌<◌, ◌≤◌, max, min, Option, Some}
+use Rattle.std.specs.Prelude.{None, nat_lt, if◌then◌else◌}
 use Rattle.std.specs.Int.{div_ceil}
 use Rattle.merkle.specs.Tree.{node_number}
 use Rattle.share_layout.specs.Geometry.{Geometry, block_size, hashes_size, share_data_size}
 use Rattle.share_layout.specs.Layout.{header_size, layout_of, places_of}
+use Rattle.share_layout.specs.Pieces.{block_length}
 use Rattle.download_plan.specs.Level.{level_at, level_count, tree_height}
 use Rattle.download_plan.specs.declared.level.Level.{Level}
 use Rattle.download_plan.specs.declared.part.NodePiece.{NodePiece}
@@ -64,12 +65,31 @@ block_place g number = header_size (layout_of g) + number * block_size g
 abbrev pub data_end : Geometry → ℕ → ℕ
 data_end g b = header_size (layout_of g) + min (b * block_size g) (share_data_size g)
 
--- how many pieces the blocks of these segments have, and the one in which a place of them lies
-abbrev pub data_pieces : Geometry → ℕ → ℕ → ℕ
-data_pieces g a b = div_ceil (data_end g b - block_place g a) max_read
+-- Blocks that are read together are as many as a read has room for, or one where it has room for
+-- none. So many bytes they have, and in so many reads they come: one, or those of a block alone.
+abbrev pub run_size : Geometry → ℕ
+run_size g = max 1 (max_read / block_size g) * block_size g
 
-abbrev pub piece_at : Geometry → ℕ → ℕ → ℕ
-piece_at g a place = (place - block_place g a) / max_read
+abbrev pub run_reads : Geometry → ℕ
+run_reads g = div_ceil (run_size g) max_read
+
+-- where a piece of the data begins: the next begins where it ends
+unfoldable pub data_place : Geometry → ℕ → ℕ → ℕ
+data_place g a i =
+    block_place g a + i / run_reads g * run_size g + max_read * (i % run_reads g)
+
+-- the piece in which a place of the data lies, and how far behind its beginning
+unfoldable pub piece_at : Geometry → ℕ → ℕ → ℕ
+piece_at g a place =
+    let begin = place - block_place g a in
+    begin / run_size g * run_reads g + begin % run_size g / max_read
+
+unfoldable pub offset_at : Geometry → ℕ → ℕ → ℕ
+offset_at g a place = (place - block_place g a) % run_size g % max_read
+
+-- how many pieces the blocks of these segments have
+abbrev pub data_pieces : Geometry → ℕ → ℕ → ℕ
+data_pieces g a b = piece_at g a (data_end g b - 1) + 1
 
 -- it is a part of the plan
 abbrev pub IsPart : Geometry → ℕ → ℕ → Part → Type 0
@@ -87,13 +107,13 @@ abbrev pub place_of : Geometry → ℕ → ℕ → Part → ℕ
 place_of g a b ShareHashes = (places_of g).share_hashes
 place_of g a b (BlockTree p) = nodes_place (places_of g).block_tree (nodes_of g a b p)
 place_of g a b (CiphertextTree p) = nodes_place (places_of g).ciphertext_tree (nodes_of g a b p)
-place_of g a b (Data i) = block_place g a + max_read * i
+place_of g a b (Data i) = data_place g a i
 
 abbrev pub length_of : Geometry → ℕ → ℕ → Part → ℕ
 length_of g a b ShareHashes = hashes_size g
 length_of g a b (BlockTree p) = 32 * (nodes_of g a b p).count
 length_of g a b (CiphertextTree p) = 32 * (nodes_of g a b p).count
-length_of g a b (Data i) = min max_read (data_end g b - (block_place g a + max_read * i))
+length_of g a b (Data i) = min (data_place g a (i + 1)) (data_end g b) - data_place g a i
 
 -- a read of so many bytes from this place on is a part of the plan
 pub record IsPlanned (g : Geometry) (a b place len : ℕ) : Type 0 where
@@ -101,3 +121,15 @@ pub record IsPlanned (g : Geometry) (a b place len : ℕ) : Type 0 where
   pub is : IsPart g a b part
   pub place_is : place ≡ place_of g a b part
   pub len_is : len ≡ length_of g a b part
+
+-- where the block of a segment ends
+abbrev pub block_stop : Geometry → ℕ → ℕ
+block_stop g number = block_place g number + block_length g number
+
+-- a read of so many bytes from this place on that comes to the end of a block of these segments
+-- ends with the end of one
+abbrev pub EndsWithBlock : Geometry → ℕ → ℕ → ℕ → ℕ → Type 0
+EndsWithBlock g a b place len =
+    (number : ℕ) → a ≤ number → number < b
+    → place < block_stop g number → block_stop g number ≤ place + len
+    → (last : ℕ) × (a ≤ last) × (last < b) × (place + len ≡ block_stop g last)

@@ -1,7 +1,7 @@
 //! Laws of plans.
 
 ghost use Rattle.download_plan.specs.Laws.{LevelsHoldGroups, PartsAreApart, PartsHoldTheBlocks};
-ghost use Rattle.download_plan.specs.Laws.{PartsLieInside, PiecesAreGroups};
+ghost use Rattle.download_plan.specs.Laws.{PartsLieInside, PiecesAreGroups, PiecesEndWithBlocks};
 
 /// A law of the definitions: two parts of a plan are one, or they have no byte in common. The law
 /// is the contract; the call does nothing.
@@ -19,6 +19,12 @@ pub fn parts_lie_inside()
 /// and no others. The law is the contract; the call does nothing.
 pub fn parts_hold_the_blocks()
     ensures { PartsHoldTheBlocks }
+{}
+
+/// A law of the definitions: a piece of the data that comes to the end of a block ends with the end
+/// of one. The law is the contract; the call does nothing.
+pub fn pieces_end_with_blocks()
+    ensures { PiecesEndWithBlocks }
 {}
 
 /// A law of the definitions: of each level all nodes that have a segment below them are read in

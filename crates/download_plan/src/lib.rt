@@ -3,7 +3,8 @@
 //!
 //! The share hashes are read whole. Of the block tree and of the ciphertext tree levels of rows are
 //! read, in groups that prove themselves by the level above. Of the blocks those of the wanted
-//! segments are read. All parts of a plan are disjoint.
+//! segments are read: as many together as a read has room for, or a larger one alone, in several
+//! reads. All parts of a plan are disjoint.
 #![tactic(auto)]
 
 mod laws;
@@ -12,7 +13,8 @@ mod part;
 mod plan;
 
 pub use laws::{
-    levels_hold_groups, parts_are_apart, parts_hold_the_blocks, parts_lie_inside, pieces_are_groups,
+    levels_hold_groups, parts_are_apart, parts_hold_the_blocks, parts_lie_inside,
+    pieces_are_groups, pieces_end_with_blocks,
 };
 pub use level::Level;
 pub use part::{DataPieces, NodePiece, Nodes, Part, Read};

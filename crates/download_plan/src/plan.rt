@@ -8,9 +8,10 @@ ghost use Rattle.download_plan.specs.Level.{first_node, end_node, level_at, leve
 ghost use Rattle.share_layout.specs.Pieces.{block_length};
 ghost use Rattle.download_plan.specs.Level.{IsAbove, group_size, leaves_below, tree_height};
 ghost use Rattle.download_plan.specs.Plan.{IsAmong, IsNodePiece, IsPart, IsPlanned, block_place};
-ghost use Rattle.download_plan.specs.Plan.{data_end, data_pieces, piece_at};
-ghost use Rattle.download_plan.specs.Plan.{first_piece, length_of, max_nodes, max_read};
-ghost use Rattle.download_plan.specs.Plan.{next_piece, nodes_of, nodes_place, pieces_of, place_of};
+ghost use Rattle.download_plan.specs.Plan.{EndsWithBlock, data_end, data_pieces, data_place};
+ghost use Rattle.download_plan.specs.Plan.{first_piece, length_of, max_nodes, max_read, piece_at};
+ghost use Rattle.download_plan.specs.Plan.{next_piece, nodes_of, nodes_place, offset_at, pieces_of};
+ghost use Rattle.download_plan.specs.Plan.{place_of, run_reads, run_size};
 ghost use Rattle.download_plan.specs.Range.{IsRange};
 
 use crate::level::Level;
@@ -189,7 +190,7 @@ impl Plan {
         ensures value { result ≡ data_pieces self.now.geometry self.now.first self.now.end }
         ensures some { 0 < result }
     {
-        (self.data_end() - self.block_place(self.first)).div_ceil(u64::from(MAX_READ)) as u32
+        self.piece_at(self.data_end() - 1) + 1
     }
 
     /// The place of the block of a segment in each share.
@@ -215,12 +216,65 @@ impl Plan {
         ensures some { result.first < result.end }
         ensures within { result.end ≤ data_pieces self.now.geometry self.now.first self.now.end }
     {
-        let begin = self.block_place(segment) - self.block_place(self.first);
+        let begin = self.block_place(segment);
         let last = begin + u64::from(self.geometry.block_length(segment)) - 1;
         DataPieces {
-            first: (begin / u64::from(MAX_READ)) as u32,
-            end: (last / u64::from(MAX_READ)) as u32 + 1,
+            first: self.piece_at(begin),
+            end: self.piece_at(last) + 1,
         }
+    }
+
+    /// Where the block of a wanted segment begins in the first of those pieces.
+    pub fn block_offset(&self, segment: u32) -> u32
+        requires from { self.now.first ≤ segment }
+        requires before { segment < self.now.end }
+        ensures value { result ≡ offset_at self.now.geometry self.now.first
+            (block_place self.now.geometry segment) }
+        ensures low { result < max_read }
+    {
+        let begin = self.block_place(segment) - self.block_place(self.first);
+        (begin % self.run_size() % u64::from(MAX_READ)) as u32
+    }
+
+    // How many bytes the blocks have that are read together: as many blocks as a read has room for,
+    // or one.
+    fn run_size(&self) -> u64
+        ensures value { result ≡ run_size self.now.geometry }
+        ensures range { (0 < result) × (result < 2 ^ 32) }
+    {
+        let block = u64::from(self.geometry.block_size());
+        (u64::from(MAX_READ) / block).max(1) * block
+    }
+
+    // In how many reads they come.
+    fn run_reads(&self) -> u64
+        ensures value { result ≡ run_reads self.now.geometry }
+        ensures range { (0 < result) × (result < 2 ^ 32) }
+    {
+        self.run_size().div_ceil(u64::from(MAX_READ))
+    }
+
+    // Where a piece of the data begins.
+    fn data_place(&self, index: u32) -> u64
+        ensures value { result ≡ data_place self.now.geometry self.now.first index }
+        ensures low { result < 2 ^ 48 }
+    {
+        let runs = u64::from(index) / self.run_reads();
+        let reads = u64::from(index) % self.run_reads();
+        self.block_place(self.first) + runs * self.run_size() + u64::from(MAX_READ) * reads
+    }
+
+    // The piece of the data in which a place lies.
+    fn piece_at(&self, place: u64) -> u32
+        requires from { block_place self.now.geometry self.now.first ≤ place }
+        requires low { place < 2 ^ 42 }
+        ensures value { result ≡ piece_at self.now.geometry self.now.first place }
+        ensures low { result < 2 ^ 28 }
+    {
+        let begin = place - self.block_place(self.first);
+        let runs = begin / self.run_size();
+        let reads = begin % self.run_size() / u64::from(MAX_READ);
+        (runs * self.run_reads() + reads) as u32
     }
 
     // The place behind the last byte of the wanted segments' blocks.
@@ -243,6 +297,9 @@ impl Plan {
         ensures planned { IsPlanned self.now.geometry self.now.first self.now.end result.place
             result.length }
         ensures range { (0 < result.length) × (result.length ≤ max_read) }
+        // A read of the data that comes to the end of a block ends with the end of one.
+        ensures ends { (i : ℕ) → part.now ≡ Part.Data i → EndsWithBlock self.now.geometry
+            self.now.first self.now.end result.place result.length }
     {
         let places = Places::of(&self.geometry);
         match part {
@@ -273,20 +330,19 @@ impl Plan {
         }
     }
 
-    // The bytes of a piece of the data.
+    // The bytes of a piece of the data, which ends where the next begins, or with the blocks.
     fn read_data(&self, index: u32) -> Read
         requires { index < data_pieces self.now.geometry self.now.first self.now.end }
-        ensures place { result.place ≡ block_place self.now.geometry self.now.first
-            + max_read * index }
+        ensures place { result.place ≡ data_place self.now.geometry self.now.first index }
         ensures length { result.length
             ≡ length_of self.now.geometry self.now.first self.now.end (Part.Data index) }
         ensures range { (0 < result.length) × (result.length ≤ max_read) }
     {
-        let place = self.block_place(self.first) + u64::from(MAX_READ) * u64::from(index);
-        let left = self.data_end() - place;
+        let place = self.data_place(index);
+        let end = self.data_place(index + 1).min(self.data_end());
         Read {
             place,
-            length: left.min(u64::from(MAX_READ)) as u32,
+            length: (end - place) as u32,
         }
     }
 }
