@@ -9,17 +9,17 @@ use Rattle.lemmas.proofs.Members.{contains_head, contains_tail}
 use Rattle.merkle.specs.Partial.{PartialState, known_at}
 use Rattle.merkle.specs.Tree.{height, node_number}
 use Rattle.merkle.proofs.HeightLemmas.{height_room}
-use Rattle.share_layout.specs.Geometry.{Geometry, block_size, segment_count}
+use Rattle.share_layout.specs.Geometry.{Geometry, IsGeometry, block_size, segment_count}
 use Rattle.share_layout.specs.Layout.{places_of}
 use Rattle.share_layout.specs.Pieces.{block_length}
 use Rattle.download_plan.specs.Laws.{AreApart, LiesIn, section_end, section_start}
 use Rattle.download_plan.specs.Level.{IsAbove, first_node, level_at, level_count, row_of, tree_height}
-use Rattle.download_plan.specs.Plan.{IsAmong, IsNodePiece, IsPart, block_place, data_end, length_of, max_nodes, max_read, nodes_of, place_of}
+use Rattle.download_plan.specs.Plan.{IsAmong, IsNodePiece, IsPart, block_place, data_end, data_place, length_of, max_nodes, nodes_of, place_of}
 use Rattle.download_plan.specs.Range.{IsRange}
 use Rattle.download_plan.specs.declared.part.NodePiece.{NodePiece}
 use Rattle.download_plan.specs.declared.part.Part.{Part}
 use Rattle.download_plan.specs.declared.part.Part.TheVariants.{ShareHashes, BlockTree, CiphertextTree, Data}
-use Rattle.download_plan.proofs.PartLemmas.{above_holds, above_there, are_apart, block_within, data_begins, lie_inside}
+use Rattle.download_plan.proofs.PartLemmas.{above_holds, above_there, are_apart, block_within, data_before, data_begins, data_more, data_rest, data_rise, data_rises, lie_inside}
 use Rattle.download_trees.specs.Trees.{IsBlockTree}
 use Rattle.download_source.specs.Blocks.{block_end, block_first, block_offset}
 use Rattle.download_source.specs.Laws.{FirstIsDue, JoinedHasLength, KnowsPiece, LeadOnGiving, LeadOnTogether, LeavesAreKnown, LongerPlansHoldMore, SourcePartsAreApart, TakenIsReady, TakenNodesAreKnown}
@@ -158,33 +158,41 @@ all_ready s segment is within taken =
 
 -- ---- blocks
 
--- the length of pieces of so many bytes, one after another
-pieces_long : (whole first : ℕ) (pieces : List (List ℕ))
-    → ((k : ℕ) → k < length pieces → length (get_or pieces k []) ≡ min max_read (whole - max_read * (first + k)))
-    → length (concat pieces) ≡ min (max_read * (first + length pieces)) whole - max_read * first
-pieces_long whole first [] each = omega arith
-pieces_long whole first (piece ∷ pieces) each =
-    let own = each 0 (omega arith) in
-    let rest = pieces_long whole (first + 1) pieces (λ k low.
-    each (suc k) (omega (arith, low)) ∙ (let same : first + suc k ≡ first + 1 + k = omega arith in ap (λ n. min max_read (whole - max_read * n)) same)) in
-    omega (arith, own, rest, length-append piece (concat pieces))
+-- the length of pieces, one after another: each ends where the next begins, or with the whole
+pieces_long : (g : Geometry) (a whole first : ℕ) (pieces : List (List ℕ)) → IsGeometry g
+    → ((k : ℕ) → k < length pieces → length (get_or pieces k []) ≡ min (data_place g a (first + k + 1)) whole - data_place g a (first + k))
+    → length (concat pieces) ≡ min (data_place g a (first + length pieces)) whole - data_place g a first
+pieces_long g a whole first [] valid each = let e : first + 0 ≡ first = omega arith in omega (arith, ap (data_place g a) e)
+pieces_long g a whole first (piece ∷ pieces) valid each =
+    let start : first + 0 ≡ first = omega arith in
+    let own = each 0 (omega arith) ∙ ap (λ n. min (data_place g a (n + 1)) whole - data_place g a n) start in
+    let shift : (k : ℕ) → first + suc k ≡ first + 1 + k = λ k. omega arith in
+    let rest = pieces_long g a whole (first + 1) pieces valid
+    (λ k low. each (suc k) (omega (arith, low)) ∙ ap (λ n. min (data_place g a (n + 1)) whole - data_place g a n) (shift k)) in
+    let end = ap (data_place g a) (shift (length pieces)) in
+    let after = data_rise g valid a (first + 1) (first + 1 + length pieces) (omega arith) in
+    omega (arith, own, rest, end, after, data_rises g valid a first, length-append piece (concat pieces))
 
 pub joined_long : JoinedHasLength
 joined_long g a b segment pieces r from before count each =
-    let size = block_size g in
     let len = block_length g segment in
     let some = block_some g a b segment r before in
-    let low = mul-le-mul_right {m = a} {n = segment} size from in
-    let high : segment * size + size ≤ b * size = omega (arith, mul-le-mul_right {m = segment + 1} {n = b} size (omega (arith, before))) in
-    let whole = data_end g b - block_place g a in
+    let valid = r.valid in
+    let place = block_place g segment in
     let first = block_first g a segment in
-    let begin = block_place g segment - block_place g a in
-    let long = pieces_long whole first pieces (λ k there. each k there ∙ (let e : data_end g b - (block_place g a + max_read * (first + k)) ≡ whole - max_read * (first + k) = omega arith in ap (min max_read) e)) in
-    let ends : begin + len ≤ whole = omega (arith, low, high, some) in
-    let more : begin + len ≤ max_read * block_end g a segment = omega (arith, low, some) in
-    let order : first ≤ block_end g a segment = omega (arith, some) in
+    let end = block_end g a segment in
+    let low = mul-le-mul_right {m = a} {n = segment} (block_size g) from in
+    let high = mul-le-mul_right {m = segment + 1} {n = b} (block_size g) (omega (arith, before)) in
+    let whole = data_end g b in
+    let order : first ≤ end = omega (arith, data_more g valid a place (place + len - 1) (omega (arith, some))) in
+    let last : first + length pieces ≡ end = omega (arith, count, order) in
+    let long = pieces_long g a whole first pieces valid each in
+    let stop = ap (data_place g a) last in
+    let begins = data_rest g valid a place (omega (arith, low)) in
+    let ends : place + len ≤ whole = omega (arith, high, some) in
+    let more : place + len ≤ data_place g a end = omega (arith, data_before g valid a (place + len - 1), some) in
     length-take-le len (drop (block_offset g a segment) (concat pieces))
-    (omega (arith, length-drop (block_offset g a segment) (concat pieces), long, count, ends, more, order, some))
+    (omega (arith, length-drop (block_offset g a segment) (concat pieces), long, stop, begins, ends, more))
 
 -- ---- parts that wait
 

@@ -1,12 +1,16 @@
 -- Plans that end with different segments.
-use Rattle.std.proofs.Common.{ℕ, ◌-◌, ◌≤◌, min, arith}
+use Rattle.std.proofs.Common.{◌≡◌, ℕ, ◌+◌, ◌-◌, ◌≤◌, min, inl, inr, ap, arith}
 use Rattle.std.specs.Int.{div_ceil}
 use Rattle.std.proofs.Math.Nat.{mul-le-mul_right}
+use Rattle.std.proofs.lemmas.Bool.{cases_lt}
 use Rattle.std.proofs.lemmas.Nat.{pow_pos}
 use Rattle.lemmas.proofs.Numbers.{div_ceil_le}
 use Rattle.share_layout.specs.Geometry.{Geometry, block_size, segment_count}
+use Rattle.download_plan.proofs.PartLemmas.{pieces_grow, pieces_step}
 use Rattle.download_plan.specs.Level.{end_node, group_size, leaves_below, level_at, row_of, tree_height}
-use Rattle.download_plan.specs.Plan.{IsNodePiece, IsPart, block_place, data_end, data_pieces, max_nodes, max_read, pieces_of}
+use Rattle.download_plan.specs.Plan.{IsNodePiece, IsPart, block_place, data_end, data_pieces, max_nodes, piece_at, pieces_of}
+use Rattle.share_layout.specs.Pieces.{block_length}
+use Rattle.download_source.specs.Blocks.{block_end, block_first}
 use Rattle.download_plan.specs.declared.part.NodePiece.{NodePiece}
 use Rattle.download_plan.specs.declared.part.Part.{Part}
 use Rattle.download_plan.specs.declared.part.Part.TheVariants.{ShareHashes, BlockTree, CiphertextTree, Data}
@@ -32,7 +36,7 @@ pub data_grows : (g : Geometry) (a b c : ℕ) → b ≤ c → data_pieces g a b 
 data_grows g a b c le =
     let more = mul-le-mul_right {m = b} {n = c} (block_size g) le in
     let end : data_end g b ≤ data_end g c = omega (arith, more) in
-    div_ceil_le (data_end g b - block_place g a) (data_end g c - block_place g a) max_read (omega arith) (omega (arith, end))
+    omega (arith, pieces_grow g a (data_end g b - 1) (data_end g c - 1) (omega (arith, end)))
 
 pub piece_grows : (g : Geometry) (a b c : ℕ) (p : NodePiece) → b ≤ c → IsNodePiece g a b p → IsNodePiece g a c p
 piece_grows g a b c p le is =
@@ -46,3 +50,17 @@ part_grows g a b c ShareHashes le is = tt
 part_grows g a b c (BlockTree p) le is = piece_grows g a b c p le is
 part_grows g a b c (CiphertextTree p) le is = piece_grows g a b c p le is
 part_grows g a b c (Data i) le is = let more = data_grows g a b c le in omega (arith, more, is)
+
+-- the pieces of a block are from one on to one behind it
+pub block_order : (g : Geometry) (a number : ℕ) → block_first g a number ≤ block_end g a number
+block_order g a number =
+    let place = block_place g number in
+    elim (cases_lt 0 (block_length g number)) [
+      | inl some ↦ omega (arith, pieces_grow g a place (place + block_length g number - 1) (omega (arith, some)))
+      | inr none ↦ elim (cases_lt 0 place) [
+        | inl more ↦
+            let next : place + block_length g number - 1 + 1 ≡ place = omega (arith, none, more) in
+            omega (arith, pieces_step g a (place + block_length g number - 1), ap (piece_at g a) next)
+        | inr zero ↦ omega (arith, pieces_grow g a place (place + block_length g number - 1) (omega (arith, zero)))
+      ]
+    ]

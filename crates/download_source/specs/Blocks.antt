@@ -1,10 +1,10 @@
 -- The block of a segment, in the pieces of the data that hold it.
-use Rattle.std.specs.Prelude.{◌≡◌, ℕ, ◌+◌, ◌-◌, ◌%◌, ◌≤◌, List, is_some, length, slice_range}
+use Rattle.std.specs.Prelude.{◌≡◌, ℕ, ◌+◌, ◌-◌, ◌≤◌, List, is_some, length, slice_range}
 use Rattle.std.specs.Prelude.{drop, take, true}
 use Rattle.std.specs.List.{concat}
 use Rattle.share_layout.specs.Geometry.{Geometry}
 use Rattle.share_layout.specs.Pieces.{block_length}
-use Rattle.download_plan.specs.Plan.{block_place, max_read, piece_at}
+use Rattle.download_plan.specs.Plan.{block_place, offset_at, piece_at}
 use Rattle.download_source.specs.Asking.{IsWithin}
 use Rattle.download_source.specs.Source.{SourceState}
 use Rattle.download_source.specs.Taking.{known_hash}
@@ -20,7 +20,7 @@ block_end g a segment =
 
 -- where the block begins in the first of them
 abbrev pub block_offset : Geometry → ℕ → ℕ → ℕ
-block_offset g a segment = (block_place g segment - block_place g a) % max_read
+block_offset g a segment = offset_at g a (block_place g segment)
 
 -- the block, of the bytes of these pieces
 abbrev pub joined_block : Geometry → ℕ → ℕ → List (List ℕ) → List ℕ

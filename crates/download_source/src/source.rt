@@ -18,7 +18,7 @@ use crate::batch::Batch;
 use crate::cursors::Cursors;
 use crate::tree::Tree;
 use crate::wanted::Wanted;
-use download_plan::{MAX_READ, NodePiece, Part, Plan};
+use download_plan::{NodePiece, Part, Plan};
 use download_trees::{BlockTree, TreeFault};
 use share_verify::Check;
 use std::alloc::{AllocError, Global};
@@ -255,8 +255,7 @@ impl Source {
         ensures value { result ≡ block_offset self.now.geometry self.now.first segment }
         ensures low { result < max_read }
     {
-        let begin = self.plan.block_place(segment) - self.plan.block_place(self.plan.first);
-        (begin % u64::from(MAX_READ)) as u32
+        self.plan.block_offset(segment)
     }
 
     // The parts of its own plan that are wanted, and the cursors behind them.
