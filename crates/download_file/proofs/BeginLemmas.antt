@@ -1,5 +1,5 @@
 -- A reader that begins.
-use Rattle.std.proofs.Common.{◌≡◌, ◌≢◌, ◌↔◌, ℕ, zero, suc, ◌+◌, ◌<◌, ◌⊎◌, inl, inr, All, Bool, true, false, List, [], ◌∷◌, ◌++◌, length, Option, Some, IfSome, refl, sym, ap, subst, ◌∙◌, arith}
+use Rattle.std.proofs.Common.{◌≡◌, ◌≢◌, ◌↔◌, ℕ, zero, suc, ◌+◌, ◌<◌, ◌⊎◌, inl, inr, All, Bool, true, false, List, [], ◌∷◌, ◌++◌, length, Some, refl, sym, ap, subst, ◌∙◌, arith}
 use Rattle.std.specs.Prelude.{slice_get}
 use Rattle.std.proofs.lemmas.Bool.{true≢false}
 use Rattle.std.proofs.lemmas.List.{length-append, map-append}
@@ -7,25 +7,24 @@ use Rattle.std.proofs.lemmas.List.Elements.{All-contains, All-nil, All-push, All
 use Rattle.std.proofs.lemmas.Option.{slice_get_within}
 use Rattle.lemmas.proofs.Options.{one_there}
 use Rattle.lemmas.proofs.Places.{get_pushed}
-use Rattle.merkle.specs.Partial.{PartialState}
 use Rattle.share_layout.specs.Geometry.{Geometry}
 use Rattle.download_plan.specs.declared.part.Part.{Part}
 use Rattle.download_plan.specs.declared.part.Part.TheVariants.{CiphertextTree}
-use Rattle.download_trees.specs.Trees.{IsBlockRoot}
 use Rattle.download_source.specs.Asking.{IsAsked, IsReadOf}
 use Rattle.download_source.specs.Cursors.{LeadOn}
 use Rattle.download_source.specs.Source.{IsSource, SourceState, gives_from, new_source}
 use Rattle.download_segments.specs.Handout.{next_segment}
 use Rattle.download_segments.proofs.TreeLemmas.{grow_none}
+use Rattle.download_trees.proofs.TreeLemmas.{knows_itself}
 use Rattle.download_file.specs.State.{FileState, IsLive, IsReader, ReaderState, copy, copy_of, copies, waiting_at, waiting_in, waiting_parts}
 use Rattle.download_file.specs.Answers.{HoldsAnswers}
 use Rattle.download_file.specs.Asked.{AsksNoMore}
-use Rattle.download_file.specs.Changes.{IsSameFile, StaysAskedUp, StaysRead}
-use Rattle.download_file.specs.Right.{AreLive, GivesTree, IsFile, IsGroup, IsReaderOf}
+use Rattle.download_file.specs.Changes.{IsSameFile, ReadersGoOn, StaysAskedUp, StaysRead}
+use Rattle.download_file.specs.Right.{AreLive, GivesTree, IsFile, IsGroup, IsReaderOf, TellsRoot}
 use Rattle.download_file.specs.Steps.{IsBegun}
 use Rattle.download_file.specs.declared.reader.Waiting.{Waiting}
 use Rattle.download_file.proofs.ListLemmas.{get_first}
-use Rattle.download_file.proofs.GrowLemmas.{GrowReaders, goes_same, given_stays, group_stays, read_stays}
+use Rattle.download_file.proofs.GrowLemmas.{goes_same, group_stays, read_stays, same_file}
 use Rattle.download_file.proofs.LiveLemmas.{first_live, rise_push}
 use Rattle.download_file.proofs.StateLemmas.{Follows, KeepsAsks, asked_up_stays, asks_itself, asks_no_more, grows_itself, new_asks_none, same_reader}
 
@@ -101,7 +100,7 @@ module _ (f : FileState) (server share next : ℕ) (x : ReaderState) (gives : Bo
   begun_file = record f { readers = f.readers ++ x ∷ []; live = f.live ++ length f.readers ∷ [] }
 
   follows : Follows f begun_file
-  follows = record { geometry = refl; ueb = refl; first = refl; end = refl; later = λ number at. (number, at, omega arith) }
+  follows = record { geometry = refl; ueb = refl; first = refl; end = refl; shares = knows_itself f.handout.trees.shares; later = λ number at. (number, at, omega arith) }
 
   is_begun : IsReaderOf begun_file x
   is_begun = record {
@@ -114,11 +113,11 @@ module _ (f : FileState) (server share next : ℕ) (x : ReaderState) (gives : Bo
         let first = begun.first_is in
         omega (arith, same, first);
     share = let low = there in let same = begun.share_is in omega (arith, low, same);
-    root = subst (λ (o : Option PartialState). IfSome o (λ tree. IsBlockRoot f.handout.ueb.share_root_hash f.handout.ueb.total_shares x.share tree.root)) (sym begun.tree) tt;
+    root = subst (TellsRoot f.handout.trees.shares x.share) (sym begun.tree) tt;
   }
 
-  grow : GrowReaders f.readers (f.readers ++ x ∷ [])
-  grow place r at = (r, get_first f.readers (x ∷ []) r place at, refl, goes_same r.source)
+  grow : ReadersGoOn f.readers (f.readers ++ x ∷ [])
+  grow place r at = record { now = r; there = get_first f.readers (x ∷ []) r place at; server = refl; share = refl; source = goes_same r.source }
 
   below : (place : ℕ) → IsLive f place → place < length f.readers
   below place among = All-contains (λ p. p < length f.readers) f.live place is.live.there among
@@ -254,15 +253,7 @@ module _ (f : FileState) (server share next : ℕ) (x : ReaderState) (gives : Bo
       none_held k low = absurd (let e = ap length begun.held in omega (arith, low, e))
 
   pub same_begun : IsSameFile f begun_file
-  same_begun = record {
-    key = refl;
-    ueb = refl;
-    geometry = refl;
-    to = refl;
-    first = refl;
-    end = refl;
-    given = given_stays f begun_file refl refl refl (grow_none f.handout.trees) grow is.groups refl;
-  }
+  same_begun = same_file f begun_file refl refl refl refl refl refl (grow_none f.handout.trees) grow is.groups refl
 
   pub copies_begun : copies begun_file ≡ copies f ++ copy server share ∷ []
   copies_begun = map-append (λ (q : ReaderState). copy_of q) f.readers (x ∷ []) ∙ (λ i. copies f ++ copy (begun.server_is i) (begun.share_is i) ∷ [])

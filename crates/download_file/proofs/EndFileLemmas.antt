@@ -1,5 +1,5 @@
 -- A file of which a reader ends.
-use Rattle.std.proofs.Common.{◌≡◌, ◌≢◌, ◌↔◌, ℕ, ◌+◌, ◌-◌, ◌/◌, ◌<◌, ◌≤◌, ◌⊎◌, inl, inr, All, List, [], length, Some, None, IfSome, refl, sym, ap, subst, ◌∙◌, arith}
+use Rattle.std.proofs.Common.{◌≡◌, ◌≢◌, ◌↔◌, ℕ, ◌+◌, ◌-◌, ◌/◌, ◌<◌, ◌≤◌, ◌⊎◌, inl, inr, All, List, [], length, Some, None, refl, sym, ap, subst, ◌∙◌, arith}
 use Rattle.std.specs.Prelude.{slice_get, slice_set}
 use Rattle.std.proofs.lemmas.Bool.{cases_lt}
 use Rattle.std.proofs.lemmas.List.{append-nil, length-set}
@@ -16,21 +16,21 @@ use Rattle.download_plan.specs.declared.part.Part.TheVariants.{ShareHashes, Bloc
 use Rattle.download_source.specs.Asking.{IsAsked, IsReadOf, OnlyAsks}
 use Rattle.download_source.specs.Cursors.{LeadOn, cursor_at}
 use Rattle.download_source.specs.Laws.{KnowsPiece}
-use Rattle.download_trees.specs.Trees.{IsBlockRoot}
 use Rattle.download_source.specs.Source.{IsSource, SourceState, gives_from}
 use Rattle.download_source.proofs.LawLemmas.{lead_giving}
 use Rattle.download_source.proofs.SourceLemmas.{gives_source}
 use Rattle.download_segments.specs.Handout.{next_segment}
 use Rattle.download_segments.specs.State.{IsHandout}
 use Rattle.download_segments.proofs.TreeLemmas.{grow_none}
+use Rattle.download_trees.proofs.TreeLemmas.{knows_itself}
 use Rattle.download_file.specs.State.{FileState, IsLive, IsReader, ReaderState, copy, copy_of, giver, copies, waiting_at, waiting_in, waiting_parts, without}
 use Rattle.download_file.specs.Answers.{HoldsAnswers, HoldsFor}
 use Rattle.download_file.specs.Asked.{AsksNoMore}
-use Rattle.download_file.specs.Changes.{IsSameFile, OthersWait, StaysAskedUp, StaysGiven, StaysRead}
-use Rattle.download_file.specs.Right.{AreConsecutive, AreLive, IsFile, IsGroup, IsReaderOf, made_end}
+use Rattle.download_file.specs.Changes.{GoesOn, IsSameFile, OthersWait, ReadersGoOn, StaysAskedUp, StaysRead}
+use Rattle.download_file.specs.Right.{AreConsecutive, AreLive, IsFile, IsGroup, IsReaderOf, TellsRoot, made_end}
 use Rattle.download_file.specs.Steps.{AsksNoTree, CanGive, EndsReader, giving, stopped}
 use Rattle.download_file.proofs.ListLemmas.{All-from_contains, get_cases, map_set, set_again, set_same, waiting_set}
-use Rattle.download_file.proofs.GrowLemmas.{GoesOn, GrowReaders, goes_same, given_stays, group_stays, holds_as, read_stays, reader_there}
+use Rattle.download_file.proofs.GrowLemmas.{goes_same, group_stays, holds_as, read_stays, reader_there, same_file, same_two, tree_same}
 use Rattle.download_file.proofs.LiveLemmas.{first_least, first_live, first_stays, from_without, length-without, rise_without, something_first}
 use Rattle.download_file.proofs.StateLemmas.{Follows, SameAsks, asked_up_stays, asks_itself, asks_no_more, grows_itself, reader_stays, same_reader}
 use Rattle.download_file.proofs.EndLemmas.{next_left}
@@ -83,7 +83,7 @@ module _ (f : FileState) (reader : ℕ) (r r1 : ReaderState) (is : IsFile f) (li
   stopped_file = record f { readers = slice_set f.readers reader (stopped r1); live = without reader f.live }
 
   follows : Follows f stopped_file
-  follows = record { geometry = refl; ueb = refl; first = refl; end = refl; later = λ number next. (number, next, omega arith) }
+  follows = record { geometry = refl; ueb = refl; first = refl; end = refl; shares = knows_itself f.handout.trees.shares; later = λ number next. (number, next, omega arith) }
 
   geometry : r1.source.geometry ≡ r.source.geometry
   geometry = ap (λ (s : SourceState). s.geometry) only
@@ -94,18 +94,25 @@ module _ (f : FileState) (reader : ℕ) (r r1 : ReaderState) (is : IsFile f) (li
     start = ap (λ (s : SourceState). s.start) only;
     first = ap (λ (s : SourceState). s.first) only;
     end = ap (λ (s : SourceState). s.end) only;
+    tree = tree_same r.source.tree r1.source.tree (ap (λ (s : SourceState). s.tree) only);
     more = [];
     held = ap (λ (s : SourceState). s.held) only ∙ sym (append-nil r.source.held);
   }
 
   is_stopped : IsReaderOf stopped_file (stopped r1)
   is_stopped = reader_stays f stopped_file r (stopped r1) follows (is.readers reader r at) share right goes.geometry goes.start goes.first goes.end
-      (subst (λ (s : SourceState). IfSome s.tree (λ t. IsBlockRoot f.handout.ueb.share_root_hash f.handout.ueb.total_shares r.share t.root)) (sym only) (is.readers reader r at).root)
+      (subst (λ (s : SourceState). TellsRoot f.handout.trees.shares r.share s.tree) (sym only) (is.readers reader r at).root)
 
-  pub grow_stopped : GrowReaders f.readers (slice_set f.readers reader (stopped r1))
+  pub grow_stopped : ReadersGoOn f.readers (slice_set f.readers reader (stopped r1))
   grow_stopped place q there = elim (get_cases f.readers reader place (stopped r1) r q at there) [
-    | inl k ↦ (stopped r1, k.2, share ∙ ap (λ (x : ReaderState). x.share) k.1, subst (λ (x : ReaderState). GoesOn x.source r1.source) k.1 goes)
-    | inr k ↦ (q, k.1, refl, goes_same q.source)
+    | inl k ↦ record {
+      now = stopped r1;
+      there = k.2;
+      server = server ∙ ap (λ (x : ReaderState). x.server) k.1;
+      share = share ∙ ap (λ (x : ReaderState). x.share) k.1;
+      source = subst (λ (x : ReaderState). GoesOn x.source r1.source) k.1 goes;
+    }
+    | inr k ↦ record { now = q; there = k.1; server = refl; share = refl; source = goes_same q.source }
   ]
 
   -- the readers that are left are as they were
@@ -188,8 +195,8 @@ module _ (f : FileState) (reader : ℕ) (r r1 : ReaderState) (is : IsFile f) (li
       ])
       read
 
-  pub given_stopped : StaysGiven f stopped_file
-  given_stopped = given_stays f stopped_file refl refl refl (grow_none f.handout.trees) grow_stopped is.groups refl
+  pub same_stopped : IsSameFile f stopped_file
+  same_stopped = same_file f stopped_file refl refl refl refl refl refl (grow_none f.handout.trees) grow_stopped is.groups refl
 
   pub copies_stopped : copies stopped_file ≡ copies f
   copies_stopped = map_set (λ (q : ReaderState). copy_of q) f.readers reader (stopped r1) r at (λ i. copy (server i) (share i))
@@ -224,7 +231,7 @@ module _ (f : FileState) (next : ℕ) (s : ReaderState) (k : Nearly f) (first : 
   giving_file = record f { readers = slice_set f.readers next (giving s f.taken) }
 
   follows_giving : Follows f giving_file
-  follows_giving = record { geometry = refl; ueb = refl; first = refl; end = refl; later = λ number now. (number, now, omega arith) }
+  follows_giving = record { geometry = refl; ueb = refl; first = refl; end = refl; shares = knows_itself f.handout.trees.shares; later = λ number now. (number, now, omega arith) }
 
   is_giving : IsReaderOf giving_file (giving s f.taken)
   is_giving =
@@ -239,15 +246,29 @@ module _ (f : FileState) (next : ℕ) (s : ReaderState) (k : Nearly f) (first : 
           (subst (λ (n : ℕ). IsNodePiece f.handout.geometry n s.source.end p) (sym own.start) (subst (λ (n : ℕ). IsNodePiece f.handout.geometry f.first n p) (sym own.end) piece))
 
   goes_giving : GoesOn s.source (gives_from s.source f.taken)
-  goes_giving = record { geometry = refl; start = refl; first = refl; end = refl; more = []; held = sym (append-nil s.source.held) }
+  goes_giving = record {
+    geometry = refl;
+    start = refl;
+    first = refl;
+    end = refl;
+    tree = tree_same s.source.tree s.source.tree refl;
+    more = [];
+    held = sym (append-nil s.source.held);
+  }
 
   same_giving : SameAsks s.source (gives_from s.source f.taken)
   same_giving = record { geometry = refl; start = refl; first = refl; end = refl; asked = giving_asks s.source f.taken none }
 
-  grow_giving : GrowReaders f.readers (slice_set f.readers next (giving s f.taken))
+  grow_giving : ReadersGoOn f.readers (slice_set f.readers next (giving s f.taken))
   grow_giving place q there = elim (get_cases f.readers next place (giving s f.taken) s q at there) [
-    | inl e ↦ (giving s f.taken, e.2, ap (λ (x : ReaderState). x.share) e.1, subst (λ (x : ReaderState). GoesOn x.source (gives_from s.source f.taken)) e.1 goes_giving)
-    | inr e ↦ (q, e.1, refl, goes_same q.source)
+    | inl e ↦ record {
+      now = giving s f.taken;
+      there = e.2;
+      server = ap (λ (x : ReaderState). x.server) e.1;
+      share = ap (λ (x : ReaderState). x.share) e.1;
+      source = subst (λ (x : ReaderState). GoesOn x.source (gives_from s.source f.taken)) e.1 goes_giving;
+    }
+    | inr e ↦ record { now = q; there = e.1; server = refl; share = refl; source = goes_same q.source }
   ]
 
   share_was_giving : (place : ℕ) (q : ReaderState) → IsReader giving_file place q → (o : ReaderState) × (IsReader f place o) × (q.share ≡ o.share)
@@ -317,8 +338,8 @@ module _ (f : FileState) (next : ℕ) (s : ReaderState) (k : Nearly f) (first : 
       ])
       read
 
-  pub given_giving : StaysGiven f giving_file
-  given_giving = given_stays f giving_file refl refl refl (grow_none f.handout.trees) grow_giving k.groups refl
+  pub giving_same : IsSameFile f giving_file
+  giving_same = same_file f giving_file refl refl refl refl refl refl (grow_none f.handout.trees) grow_giving k.groups refl
 
   pub copies_giving : copies giving_file ≡ copies f
   copies_giving = map_set (λ (q : ReaderState). copy_of q) f.readers next (giving s f.taken) s at refl
@@ -368,15 +389,7 @@ module _ (f : FileState) (reader : ℕ) (r r1 : ReaderState) (rs : List ReaderSt
     asked = asks_stopped f reader r r1 is live at server share only right tree;
     asked_up = asked_up_stopped f reader r r1 is live at server share only right tree;
     reads = read_stopped f reader r r1 is live at server share only right tree;
-    same = record {
-      key = refl;
-      ueb = refl;
-      geometry = refl;
-      to = refl;
-      first = refl;
-      end = refl;
-      given = given_stopped f reader r r1 is live at server share only right tree;
-    };
+    same = same_stopped f reader r r1 is live at server share only right tree;
   }) where
     gives : (giver f ≢ Some reader) ⊎ (giver plain ≡ None) → AtGiver plain
     gives (inl other) = gives_still f reader r r1 is live at server share only right tree other
@@ -400,15 +413,7 @@ module _ (f : FileState) (reader : ℕ) (r r1 : ReaderState) (rs : List ReaderSt
             (asks_giving plain next s k first there none);
         asked_up = λ other. absurd (other gave);
         reads = λ entries read. read_giving plain next s k first there none entries (read_stopped f reader r r1 is live at server share only right tree entries read);
-        same = record {
-          key = refl;
-          ueb = refl;
-          geometry = refl;
-          to = refl;
-          first = refl;
-          end = refl;
-          given = λ entries p g. given_giving plain next s k first there none entries p (given_stopped f reader r r1 is live at server share only right tree entries p g);
-        };
+        same = same_two f plain (giving_file plain next s k first there none) (same_stopped f reader r r1 is live at server share only right tree) (giving_same plain next s k first there none);
       })
     where
       strictly : (a b : ℕ) → a ≤ b → (b ≡ a → ⊥) → a < b

@@ -127,7 +127,7 @@ module _ (entries : List Request) (h : HandoutState) (readers : List ReaderState
   reader_of : (place : ℕ) → Contains group.readers place → (r : ReaderState) × (slice_get readers place ≡ Some r) × IsHeld r.source number
   reader_of place among =
       let r = reader_there readers place (All-contains (λ p. p < length readers) group.readers place right.there among) in
-      (r.0, r.1, made.held place r.0 among r.1)
+      (r.0, r.1, (made.right place r.0 among r.1).ready.held)
 
   pub has_blocks : (size : ℕ) → size ≡ block_length h.geometry number → All (HasBlock readers number size) group.readers
   has_blocks size long = All-from_contains (HasBlock readers number size) group.readers (λ place among.

@@ -1,5 +1,5 @@
 -- What was hashed for the pieces of a file.
-use Rattle.std.proofs.Common.{ℕ, ◌<◌, inl, inr, List, Contains, refl, subst, sym, arith}
+use Rattle.std.proofs.Common.{ℕ, ◌+◌, ◌*◌, ◌<◌, inl, inr, List, Contains, refl, subst, sym, arith}
 use Rattle.merkle.specs.Partial.{known_siblings}
 use Rattle.share_layout.specs.Geometry.{segment_count}
 use Rattle.download_segments.specs.Pieces.{IsSlice}
@@ -7,9 +7,10 @@ use Rattle.download_segments.specs.State.{ProvesSegment}
 use Rattle.download_segments.proofs.KnownLemmas.{known_inputs, known_segment}
 use Rattle.segment_groups.specs.State.{GroupState}
 use Rattle.download_file.specs.State.{FileState}
-use Rattle.download_file.specs.Hashed.{GivenAreHashed, node, segment}
+use Rattle.download_file.specs.Hashed.{GivenAreHashed, HashedStays, node, segment}
 use Rattle.download_file.specs.Right.{IsFile, made_end}
 use Rattle.download_file.proofs.EvidenceLemmas.{groups_within, made_within}
+use Rattle.download_file.proofs.GrowLemmas.{segment_keeps_made}
 
 -- there is such a segment
 pub segment_there : (f : FileState) (group : GroupState) (number : ℕ) → IsFile f → Contains f.groups group → number < group.end → number < segment_count f.handout.geometry
@@ -39,3 +40,16 @@ given_are_hashed entries f p cap block is g key cap_block =
         | inr known ↦ node known
       ]);
     }
+
+-- what was hashed stays so
+pub hashed_stay : HashedStays
+hashed_stay old new f g input keeps read same (segment number bytes made is) =
+    segment number bytes (same.made new number bytes (segment_keeps_made old new f keeps read number bytes made)) is
+hashed_stay old new f g input keeps read same (node k) = node (record {
+  number = k.number;
+  left = k.left;
+  right = k.right;
+  knows_left = same.trees.ciphertext.known (2 * k.number + 1) k.left k.knows_left;
+  knows_right = same.trees.ciphertext.known (2 * k.number + 2) k.right k.knows_right;
+  is = k.is;
+})

@@ -1,30 +1,37 @@
 -- Readers that go on: what they hold stays, and so do the segments that were made of it.
-use Rattle.std.proofs.Common.{◌≡◌, ℕ, zero, suc, ◌+◌, ◌-◌, ◌<◌, ◌≤◌, List, [], ◌∷◌, ◌++◌, All, Contains, length, map, take, drop, get_or, Option, Some, None, refl, sym, ap, subst, ◌∙◌, arith}
+use Rattle.std.proofs.Common.{◌≡◌, ℕ, zero, suc, ◌+◌, ◌-◌, ◌<◌, ◌≤◌, List, [], ◌∷◌, ◌++◌, All, Contains, length, map, take, drop, get_or, Option, Some, None, is_some, option_and_then, refl, sym, ap, subst, ◌∙◌, arith}
 use Rattle.std.specs.Prelude.{slice_get, slice_range}
-use Rattle.std.proofs.lemmas.List.{append-nil, drop-append-le, drop-map, length-append, length-drop, take-append-le, take-map}
+use Rattle.std.proofs.lemmas.List.{append_assoc, append-nil, drop-append-le, drop-map, length-append, length-drop, take-append-le, take-map}
 use Rattle.std.proofs.lemmas.List.Elements.{All-contains, All-weaker}
-use Rattle.std.proofs.lemmas.Option.{slice_get_within, slice_get-get_or}
+use Rattle.std.proofs.lemmas.Option.{none-some, slice_get_within, slice_get-get_or}
 use Rattle.lemmas.proofs.Options.{one_there}
 use Rattle.lemmas.proofs.Members.{contains_head, contains_tail}
 use Rattle.request_record.specs.declared.requests.Request.{Request}
+use Rattle.tagged_hash.specs.TaggedHash.{tagged_hash}
+use Rattle.tagged_hash.specs.declared.tag.Tag.TheVariants.{Block}
+use Rattle.merkle.specs.Partial.{PartialState}
 use Rattle.ueb.specs.Shape.{Contents}
 use Rattle.share_layout.specs.Geometry.{Geometry}
 use Rattle.proved_parts.specs.Decoding.{DecodesBlocks}
 use Rattle.download_source.specs.Blocks.{IsHeld, block_end, block_first, joined_block}
 use Rattle.download_source.specs.Source.{SourceState}
+use Rattle.download_source.specs.Taking.{known_hash}
+use Rattle.download_trees.specs.Trees.{KnowsAllOf, known_leaf}
+use Rattle.download_trees.proofs.TreeLemmas.{knows_itself, knows_two, leaf_stays}
 use Rattle.download_segments.specs.Decoding.{blocks_in}
 use Rattle.download_segments.specs.Pieces.{IsSlice}
 use Rattle.download_segments.specs.State.{HandoutState, TreesGrow}
 use Rattle.download_segments.specs.declared.piece.Piece.{Piece}
-use Rattle.download_segments.proofs.TreeLemmas.{proved_stays}
+use Rattle.download_segments.proofs.TreeLemmas.{grow_none, grow_two as grow_trees, proved_stays}
 use Rattle.segment_groups.specs.State.{GroupState}
 use Rattle.download_plan.specs.Plan.{length_of}
 use Rattle.download_plan.specs.declared.part.Part.TheVariants.{Data}
 use Rattle.download_file.specs.State.{FileState, ReaderState, numbers_of, share_in}
-use Rattle.download_file.specs.Answers.{AnsweredWith, HoldsAnswers, HoldsFor, IsAnswerOf, IsGivenBy, IsMade, IsRead, KeepsAnswers, answer_at, block_in, block_of, blocks_of, bytes_in, bytes_of}
-use Rattle.download_file.specs.Changes.{IsSameFile, StaysGiven}
+use Rattle.download_file.specs.Answers.{AnsweredWith, HasRightBlock, HoldsAnswers, HoldsFor, IsAnswerOf, IsGivenBy, IsMade, IsMadeSegment, IsRead, KeepsAnswers, answer_at, block_in, block_of, blocks_of, bytes_in, bytes_of}
+use Rattle.download_file.specs.Changes.{GoesOn, IsSameFile, ReadersGoOn, StaysGiven, StaysMade, TreeStays}
 use Rattle.download_file.specs.Laws.{GivenStays, ReadsStay}
-use Rattle.download_file.specs.Right.{IsGroup}
+use Rattle.download_file.specs.Making.{IsInconsistent}
+use Rattle.download_file.specs.Right.{IsGroup, TellsRoot}
 
 -- ---- lists
 
@@ -37,17 +44,39 @@ range_first xs ys a b order within =
 
 -- ---- what a source holds
 
--- it reads the same parts of the same share, and holds what it held
-pub record GoesOn (s t : SourceState) : Type 0 where
-  pub geometry : t.geometry ≡ s.geometry
-  pub start : t.start ≡ s.start
-  pub first : t.first ≡ s.first
-  pub end : t.end ≡ s.end
-  pub more : List ℕ
-  pub held : t.held ≡ s.held ++ more
+pub tree_same : (o p : Option PartialState) → p ≡ o → TreeStays o p
+tree_same o p same tree is = (tree, same ∙ is, knows_itself tree)
+
+pub tree_two : (o p q : Option PartialState) → TreeStays o p → TreeStays p q → TreeStays o q
+tree_two o p q first second tree is =
+    let a = first tree is in
+    let b = second a.0 a.1 in
+    (b.0, b.1, knows_two tree a.0 b.0 a.2 b.2)
 
 pub goes_same : (s : SourceState) → GoesOn s s
-goes_same s = record { geometry = refl; start = refl; first = refl; end = refl; more = []; held = sym (append-nil s.held) }
+goes_same s = record { geometry = refl; start = refl; first = refl; end = refl; tree = tree_same s.tree s.tree refl; more = []; held = sym (append-nil s.held) }
+
+pub goes_two : (s t u : SourceState) → GoesOn s t → GoesOn t u → GoesOn s u
+goes_two s t u a b = record {
+  geometry = b.geometry ∙ a.geometry;
+  start = b.start ∙ a.start;
+  first = b.first ∙ a.first;
+  end = b.end ∙ a.end;
+  tree = tree_two s.tree t.tree u.tree a.tree b.tree;
+  more = a.more ++ b.more;
+  held = b.held ∙ ap (λ (l : List ℕ). l ++ b.more) a.held ∙ append_assoc s.held a.more b.more;
+}
+
+-- the hash that is known of a block stays known
+hash_stays : (s t : SourceState) (number : ℕ) (hash : List ℕ) → GoesOn s t → known_hash s number ≡ Some hash → known_hash t number ≡ Some hash
+hash_stays s t number hash goes known = by s.tree refl
+  where
+    by : (o : Option PartialState) → s.tree ≡ o → known_hash t number ≡ Some hash
+    by None e = absurd (none-some hash (sym (ap (option_and_then (λ tree. known_leaf tree number)) e) ∙ known))
+    by (Some tree) e =
+        let k = goes.tree tree e in
+        ap (option_and_then (λ tree. known_leaf tree number)) k.1
+        ∙ leaf_stays tree k.0 number hash k.2 (sym (ap (option_and_then (λ tree. known_leaf tree number)) e) ∙ known)
 
 block_order : (g : Geometry) (a number : ℕ) → block_first g a number ≤ block_end g a number
 block_order g a number = omega arith
@@ -74,15 +103,27 @@ block_stays entries s t number goes held =
     (range_first s.held goes.more (block_first s.geometry s.first number) (block_end s.geometry s.first number)
     (block_order s.geometry s.first number) held.pieces)
 
+-- a block that is right stays so
+pub right_stays : (entries : List Request) (r q : ReaderState) (number : ℕ) → GoesOn r.source q.source → HasRightBlock entries r number → HasRightBlock entries q number
+right_stays entries r q number goes right =
+    let same = block_stays entries r.source q.source number goes right.ready.held in
+    let known : known_hash q.source number ≡ Some (tagged_hash Block (block_of entries q.source number)) =
+    hash_stays r.source q.source number (tagged_hash Block (block_of entries q.source number)) goes (right.proved ∙ ap (λ (l : List ℕ). Some (tagged_hash Block l)) (sym same)) in
+    record {
+      ready = record { held = held_stays r.source q.source number goes right.ready.held; known = ap is_some known };
+      proved = known;
+    }
+
 -- ---- readers
 
--- each reader goes on at its place
-abbrev pub GrowReaders : List ReaderState → List ReaderState → Type 0
-GrowReaders rs rs' = (place : ℕ) (r : ReaderState) → slice_get rs place ≡ Some r
-    → (r' : ReaderState) × (slice_get rs' place ≡ Some r') × (r'.share ≡ r.share) × GoesOn r.source r'.source
+pub grow_same : (rs : List ReaderState) → ReadersGoOn rs rs
+grow_same rs place r e = record { now = r; there = e; server = refl; share = refl; source = goes_same r.source }
 
-pub grow_same : (rs : List ReaderState) → GrowReaders rs rs
-grow_same rs place r e = (r, e, refl, goes_same r.source)
+pub grow_two : (rs ss ts : List ReaderState) → ReadersGoOn rs ss → ReadersGoOn ss ts → ReadersGoOn rs ts
+grow_two rs ss ts first second place r e =
+    let a = first place r e in
+    let b = second place a.now a.there in
+    record { now = b.now; there = b.there; server = b.server ∙ a.server; share = b.share ∙ a.share; source = goes_two r.source a.now.source b.now.source a.source b.source }
 
 pub numbers_same : (rs rs' : List ReaderState) (places : List ℕ) → ((place : ℕ) → Contains places place → share_in (slice_get rs' place) ≡ share_in (slice_get rs place))
     → numbers_of rs' places ≡ numbers_of rs places
@@ -102,7 +143,7 @@ reader_there [] place low = absurd (omega (arith, low))
 reader_there (r ∷ rs) zero low = (r, refl)
 reader_there (r ∷ rs) (suc place) low = reader_there rs place (omega (arith, low))
 
-pub group_stays : (h h' : HandoutState) (rs rs' : List ReaderState) (group : GroupState) → h'.geometry ≡ h.geometry → GrowReaders rs rs'
+pub group_stays : (h h' : HandoutState) (rs rs' : List ReaderState) (group : GroupState) → h'.geometry ≡ h.geometry → ReadersGoOn rs rs'
     → IsGroup h rs group → IsGroup h' rs' group
 group_stays h h' rs rs' group geometry grow is = record {
   geometry = is.geometry ∙ sym geometry;
@@ -110,28 +151,28 @@ group_stays h h' rs rs' group geometry grow is = record {
   there = All-weaker (λ place. place < length rs) (λ place. place < length rs') (λ place low.
       let r = reader_there rs place low in
       let r' = grow place r.0 r.1 in
-      slice_get_within rs' place r'.0 r'.1) group.readers is.there;
+      slice_get_within rs' place r'.now r'.there) group.readers is.there;
   numbers = is.numbers ∙ sym (numbers_same rs rs' group.readers (λ place among.
       let r = reader_there rs place (All-contains (λ p. p < length rs) group.readers place is.there among) in
       let r' = grow place r.0 r.1 in
-      ap share_in r'.1 ∙ r'.2 ∙ sym (ap share_in r.1)));
+      ap share_in r'.there ∙ r'.share ∙ sym (ap share_in r.1)));
 }
 
 pub made_stays : (entries : List Request) (h h' : HandoutState) (rs rs' : List ReaderState) (group : GroupState) (number : ℕ)
-    → h'.geometry ≡ h.geometry → TreesGrow h.trees h'.trees → GrowReaders rs rs' → IsGroup h rs group
+    → h'.geometry ≡ h.geometry → TreesGrow h.trees h'.trees → ReadersGoOn rs rs' → IsGroup h rs group
     → IsMade entries h rs group number → IsMade entries h' rs' group number
 made_stays entries h h' rs rs' group number geometry trees grow is made =
     let same : blocks_of entries rs' number group.readers ≡ blocks_of entries rs number group.readers =
     blocks_same entries entries rs rs' number group.readers (λ place among.
     let r = reader_there rs place (All-contains (λ p. p < length rs) group.readers place is.there among) in
     let r' = grow place r.0 r.1 in
-    ap (block_in entries number) r'.1 ∙ block_stays entries r.0.source r'.0.source number r'.3 (made.held place r.0 among r.1) ∙ sym (ap (block_in entries number) r.1)) in
+    ap (block_in entries number) r'.there ∙ block_stays entries r.0.source r'.now.source number r'.source (made.right place r.0 among r.1).ready.held ∙ sym (ap (block_in entries number) r.1)) in
     record {
-      held = λ place t among at.
+      right = λ place t among at.
           let r = reader_there rs place (All-contains (λ p. p < length rs) group.readers place is.there among) in
           let r' = grow place r.0 r.1 in
-          subst (λ (q : ReaderState). IsHeld q.source number) (one_there (slice_get rs' place) r'.0 t r'.1 at)
-          (held_stays r.0.source r'.0.source number r'.3 (made.held place r.0 among r.1));
+          subst (λ (q : ReaderState). HasRightBlock entries q number) (one_there (slice_get rs' place) r'.now t r'.there at)
+          (right_stays entries r.0 r'.now number r'.source (made.right place r.0 among r.1));
       segment = made.segment;
       decodes = subst (λ (g : Geometry). DecodesBlocks g group.decoding.numbers (blocks_in g number (blocks_of entries rs' number group.readers)) number made.segment) (sym geometry)
           (subst (λ (joined : List ℕ). DecodesBlocks h.geometry group.decoding.numbers (blocks_in h.geometry number joined) number made.segment) (sym same) made.decodes);
@@ -139,7 +180,7 @@ made_stays entries h h' rs rs' group number geometry trees grow is made =
     }
 
 made_segment : (entries : List Request) (h h' : HandoutState) (rs rs' : List ReaderState) (group : GroupState) (number : ℕ)
-    (geometry : h'.geometry ≡ h.geometry) (trees : TreesGrow h.trees h'.trees) (grow : GrowReaders rs rs') (is : IsGroup h rs group)
+    (geometry : h'.geometry ≡ h.geometry) (trees : TreesGrow h.trees h'.trees) (grow : ReadersGoOn rs rs') (is : IsGroup h rs group)
     (made : IsMade entries h rs group number) → (made_stays entries h h' rs rs' group number geometry trees grow is made).segment ≡ made.segment
 unfolding made_stays
 made_segment entries h h' rs rs' group number geometry trees grow is made = refl
@@ -151,29 +192,50 @@ slice_stays f f' number segment p key ueb slice =
     subst (λ (k : List ℕ). IsSlice k f'.handout.ueb.segment_size number segment p) (sym key)
     (subst (λ (u : Contents). IsSlice f.handout.key u.segment_size number segment p) (sym ueb) slice)
 
--- what was given stays given where readers go on
-pub given_stays : (f f' : FileState) → f'.handout.key ≡ f.handout.key → f'.handout.ueb ≡ f.handout.ueb → f'.handout.geometry ≡ f.handout.geometry
-    → TreesGrow f.handout.trees f'.handout.trees → GrowReaders f.readers f'.readers → All (IsGroup f.handout f.readers) f.groups → f'.groups ≡ f.groups → StaysGiven f f'
-given_stays f f' key ueb geometry trees grow groups same entries p g =
-    let m = g.made in
+-- what was made stays made where readers go on
+pub segment_stays : (f f' : FileState) → f'.handout.geometry ≡ f.handout.geometry → TreesGrow f.handout.trees f'.handout.trees → ReadersGoOn f.readers f'.readers
+    → All (IsGroup f.handout f.readers) f.groups → f'.groups ≡ f.groups → StaysMade f f'
+segment_stays f f' geometry trees grow groups same entries number segment m =
     let is = All-contains (IsGroup f.handout f.readers) f.groups m.group groups m.among in
     record {
-      number = g.number;
-      segment = g.segment;
-      made = record {
-        group = m.group;
-        among = subst (λ (gs : List GroupState). Contains gs m.group) (sym same) m.among;
-        from = m.from;
-        before = m.before;
-        made = made_stays entries f.handout f'.handout f.readers f'.readers m.group g.number geometry trees grow is m.made;
-        is = made_segment entries f.handout f'.handout f.readers f'.readers m.group g.number geometry trees grow is m.made ∙ m.is;
-      };
-      slice = slice_stays f f' g.number g.segment p key ueb g.slice;
+      group = m.group;
+      among = subst (λ (gs : List GroupState). Contains gs m.group) (sym same) m.among;
+      from = m.from;
+      before = m.before;
+      made = made_stays entries f.handout f'.handout f.readers f'.readers m.group number geometry trees grow is m.made;
+      is = made_segment entries f.handout f'.handout f.readers f'.readers m.group number geometry trees grow is m.made ∙ m.is;
     }
+
+-- what was given stays given where readers go on
+pub given_stays : (f f' : FileState) → f'.handout.key ≡ f.handout.key → f'.handout.ueb ≡ f.handout.ueb → f'.handout.geometry ≡ f.handout.geometry
+    → TreesGrow f.handout.trees f'.handout.trees → ReadersGoOn f.readers f'.readers → All (IsGroup f.handout f.readers) f.groups → f'.groups ≡ f.groups → StaysGiven f f'
+given_stays f f' key ueb geometry trees grow groups same entries p g = record {
+  number = g.number;
+  segment = g.segment;
+  made = segment_stays f f' geometry trees grow groups same entries g.number g.segment g.made;
+  slice = slice_stays f f' g.number g.segment p key ueb g.slice;
+}
+
+-- it is the same file where readers go on
+pub same_file : (f f' : FileState) → f'.handout.key ≡ f.handout.key → f'.handout.ueb ≡ f.handout.ueb → f'.handout.geometry ≡ f.handout.geometry → f'.handout.to ≡ f.handout.to
+    → f'.first ≡ f.first → f'.end ≡ f.end → TreesGrow f.handout.trees f'.handout.trees → ReadersGoOn f.readers f'.readers → All (IsGroup f.handout f.readers) f.groups → f'.groups ≡ f.groups
+    → IsSameFile f f'
+same_file f f' key ueb geometry to first end trees grow groups same = record {
+  key = key;
+  ueb = ueb;
+  geometry = geometry;
+  to = to;
+  first = first;
+  end = end;
+  trees = trees;
+  readers = grow;
+  made = segment_stays f f' geometry trees grow groups same;
+  given = given_stays f f' key ueb geometry trees grow groups same;
+}
 
 -- what the record says of the file stays true where its readers go on and hold answers
 pub read_stays : (entries : List Request) (f f' : FileState) → f'.handout.key ≡ f.handout.key → f'.handout.ueb ≡ f.handout.ueb → f'.handout.geometry ≡ f.handout.geometry → TreesGrow f.handout.trees f'.handout.trees
-    → GrowReaders f.readers f'.readers → All (IsGroup f.handout f.readers) f.groups → f'.groups ≡ f.groups
+    → ReadersGoOn f.readers f'.readers → All (IsGroup f.handout f.readers) f.groups → f'.groups ≡ f.groups
     → ((p : Piece) → Contains f'.handout.ready p → Contains f.handout.ready p) → ((place : ℕ) (r : ReaderState) → slice_get f'.readers place ≡ Some r → HoldsAnswers entries r)
     → IsRead entries f → IsRead entries f'
 read_stays entries f f' key ueb geometry trees grow groups same ready held read = record {
@@ -244,12 +306,18 @@ module _ (old new : List Request) (f : FileState) (keeps : KeepsAnswers old new)
   one number place None at = refl
   one number place (Some r) at = same_block old new r.source number keeps (has_answers old r (read.held place r at))
 
+  pub right_keeps : (place : ℕ) (r : ReaderState) (number : ℕ) → slice_get f.readers place ≡ Some r → HasRightBlock old r number → HasRightBlock new r number
+  right_keeps place r number at right = record {
+    ready = right.ready;
+    proved = right.proved ∙ ap (λ (l : List ℕ). Some (tagged_hash Block l)) (sym (same_block old new r.source number keeps (has_answers old r (read.held place r at))));
+  }
+
   made_keeps : (group : GroupState) (number : ℕ) → IsMade old f.handout f.readers group number → IsMade new f.handout f.readers group number
   made_keeps group number made =
       let same : blocks_of new f.readers number group.readers ≡ blocks_of old f.readers number group.readers =
       blocks_same old new f.readers f.readers number group.readers (λ place in_group. one number place (slice_get f.readers place) refl) in
       record {
-        held = made.held;
+        right = λ place r among at. right_keeps place r number at (made.right place r among at);
         segment = made.segment;
         decodes = subst (λ (joined : List ℕ). DecodesBlocks f.handout.geometry group.decoding.numbers (blocks_in f.handout.geometry number joined) number made.segment) (sym same) made.decodes;
         proved = made.proved;
@@ -259,22 +327,33 @@ module _ (old new : List Request) (f : FileState) (keeps : KeepsAnswers old new)
   unfolding made_keeps
   segment_keeps group number made = refl
 
-  pub given_keeps : (p : Piece) → IsGivenBy old f p → IsGivenBy new f p
-  given_keeps p g =
-      let m = g.made in
+  -- a file that is inconsistent stays so
+  pub inconsistent_keeps : IsInconsistent old f → IsInconsistent new f
+  inconsistent_keeps k =
+      let same : blocks_of new f.readers k.number f.live ≡ blocks_of old f.readers k.number f.live =
+      blocks_same old new f.readers f.readers k.number f.live (λ place among. one k.number place (slice_get f.readers place) refl) in
       record {
-        number = g.number;
-        segment = g.segment;
-        made = record {
-          group = m.group;
-          among = m.among;
-          from = m.from;
-          before = m.before;
-          made = made_keeps m.group g.number m.made;
-          is = segment_keeps m.group g.number m.made ∙ m.is;
-        };
-        slice = g.slice;
+        number = k.number;
+        next = k.next;
+        enough = k.enough;
+        right = λ place r among at. right_keeps place r k.number at (k.right place r among at);
+        segment = k.segment;
+        decodes = subst (λ (joined : List ℕ). DecodesBlocks f.handout.geometry (numbers_of f.readers f.live) (blocks_in f.handout.geometry k.number joined) k.number k.segment) (sym same) k.decodes;
+        refuted = k.refuted;
       }
+
+  pub segment_keeps_made : (number : ℕ) (segment : List ℕ) → IsMadeSegment old f number segment → IsMadeSegment new f number segment
+  segment_keeps_made number segment m = record {
+    group = m.group;
+    among = m.among;
+    from = m.from;
+    before = m.before;
+    made = made_keeps m.group number m.made;
+    is = segment_keeps m.group number m.made ∙ m.is;
+  }
+
+  pub given_keeps : (p : Piece) → IsGivenBy old f p → IsGivenBy new f p
+  given_keeps p g = record { number = g.number; segment = g.segment; made = segment_keeps_made g.number g.segment g.made; slice = g.slice }
 
   pub read_keeps : IsRead new f
   read_keeps = record {
@@ -292,4 +371,35 @@ given_keep old new f p keeps read g = given_keeps old new f keeps read p g
 -- ---- the same file
 
 pub same_itself : (f : FileState) → IsSameFile f f
-same_itself f = record { key = refl; ueb = refl; geometry = refl; to = refl; first = refl; end = refl; given = λ entries p g. g }
+same_itself f = record {
+  key = refl;
+  ueb = refl;
+  geometry = refl;
+  to = refl;
+  first = refl;
+  end = refl;
+  trees = grow_none f.handout.trees;
+  readers = grow_same f.readers;
+  made = λ entries number segment m. m;
+  given = λ entries p g. g;
+}
+
+pub same_two : (f g h : FileState) → IsSameFile f g → IsSameFile g h → IsSameFile f h
+same_two f g h a b = record {
+  key = b.key ∙ a.key;
+  ueb = b.ueb ∙ a.ueb;
+  geometry = b.geometry ∙ a.geometry;
+  to = b.to ∙ a.to;
+  first = b.first ∙ a.first;
+  end = b.end ∙ a.end;
+  trees = grow_trees f.handout.trees g.handout.trees h.handout.trees a.trees b.trees;
+  readers = grow_two f.readers g.readers h.readers a.readers b.readers;
+  made = λ entries number segment made. b.made entries number segment (a.made entries number segment made);
+  given = λ entries p given. b.given entries p (a.given entries p given);
+}
+
+-- ---- the root of a block tree
+
+pub tells_still : (p q : PartialState) (share : ℕ) (tree : Option PartialState) → KnowsAllOf p q → TellsRoot p share tree → TellsRoot q share tree
+tells_still p q share None grows tells = tells
+tells_still p q share (Some tree) grows tells = leaf_stays p q share tree.root grows tells

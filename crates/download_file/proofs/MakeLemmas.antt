@@ -15,21 +15,22 @@ use Rattle.share_layout.specs.Pieces.{block_length}
 use Rattle.share_layout.proofs.CutLemmas as cut
 use Rattle.share_verify.specs.CapBlock.{geometry_by}
 use Rattle.proved_parts.specs.Decoding.{DecodesBlocks}
-use Rattle.download_trees.specs.Trees.{IsBlockRoot, LeadTo, known_leaf}
+use Rattle.download_trees.specs.Trees.{IsBlockRoot, IsBlockTree, LeadTo, known_leaf, share_places}
 use Rattle.download_source.specs.Blocks.{IsHeld, IsReady}
 use Rattle.download_source.specs.Taking.{IsProved}
 use Rattle.download_segments.specs.Decoding.{AreShareNumbers, blocks_in}
 use Rattle.download_segments.specs.Handout.{next_segment}
 use Rattle.download_segments.specs.NoCodeWord.{IsBlockBy, IsNoCodeWord}
-use Rattle.download_segments.specs.State.{RefutesSegment}
+use Rattle.download_segments.specs.State.{HandoutState, RefutesSegment}
 use Rattle.download_segments.proofs.LawLemmas.{blocks_lead, no_code_words}
 use Rattle.segment_groups.specs.Making.{nth_block}
+use Rattle.segment_groups.specs.State.{GroupState}
 use Rattle.download_file.specs.State.{FileState, IsLive, ReaderState, numbers_of, share_in}
-use Rattle.download_file.specs.Answers.{IsRead, block_in, block_of, blocks_of}
-use Rattle.download_file.specs.Making.{RefutesReader}
-use Rattle.download_file.specs.Right.{IsFile}
+use Rattle.download_file.specs.Answers.{HaveRightBlocks, IsRead, block_in, block_of, blocks_of}
+use Rattle.download_file.specs.Making.{IsInconsistent, RefutesReader}
+use Rattle.download_file.specs.Right.{IsFile, TellsRoot}
 use Rattle.download_file.specs.Steps.{AreOfFile, AreProved, AreReady, HasBlock, IsWrong}
-use Rattle.download_file.proofs.ListLemmas.{All-from_contains, from_map, get_unmapped}
+use Rattle.download_file.proofs.ListLemmas.{All-from_contains, at_contained, from_map, get_unmapped}
 use Rattle.download_file.proofs.GrowLemmas.{has_answers, reader_there}
 use Rattle.download_file.proofs.LiveLemmas.{rise_order}
 use Rattle.download_file.proofs.EvidenceLemmas.{block_long, blocks_long}
@@ -131,6 +132,17 @@ module _ (entries : List Request) (f : FileState) (number size : ℕ) (is : IsFi
         };
       }
 
+  -- those that are proved are right
+  pub right_blocks : (joined : List ℕ) → joined ≡ blocks_of entries f.readers number f.live → AreProved f.readers f.live number joined size (length f.live)
+      → HaveRightBlocks entries f.readers f.live number
+  right_blocks joined joins proved place r live there =
+      let at = at_contained f.live place live in
+      record {
+        ready = ready place r live there;
+        proved = subst (IsProved r.source number) (ap (λ (l : List ℕ). nth_block l size at.0) joins ∙ nth_own at.0 place r at.1 there)
+            (proved at.0 place r (slice_get_within f.live at.0 place at.1) at.1 there);
+      }
+
   -- ---- no code word
 
   module _ (joined : List ℕ) (joins : joined ≡ blocks_of entries f.readers number f.live) (proved : AreProved f.readers f.live number joined size (length f.live)) where
@@ -152,12 +164,19 @@ module _ (entries : List Request) (f : FileState) (number size : ℕ) (is : IsFi
         let by_u : g ≡ geometry_by u = is.handout.geometry in
         let low_share = own.share in
         let total = ap (λ (h : Geometry). h.total) by_u in
-        let root : IsBlockRoot u.share_root_hash u.total_shares share tree.0.root =
-        subst (λ (n : ℕ). IsBlockRoot u.share_root_hash u.total_shares n tree.0.root) (sym same)
-        (subst (λ (o : Option PartialState). IfSome o (λ t. IsBlockRoot u.share_root_hash u.total_shares r.0.share t.root)) tree.1 own.root) in
+        let h = is.handout in
+        let root : IsBlockRoot u.share_root_hash u.total_shares share tree.0.root = record {
+          tree = f.handout.trees.shares;
+          leads = record {
+            sound = h.trees.shares.sound;
+            of_root = h.roots.shares;
+            leaves = h.trees.shares.leaves ∙ ap (λ (x : Geometry). share_places x.total) (h.roots.geometry ∙ by_u);
+          };
+          known = subst (λ (n : ℕ). known_leaf f.handout.trees.shares n ≡ Some tree.0.root) (sym same) (subst (TellsRoot f.handout.trees.shares r.0.share) tree.1 own.root);
+        } in
         let leads : LeadTo tree.0 tree.0.root (segment_count (geometry_by u)) =
         subst (λ (h : Geometry). LeadTo tree.0 tree.0.root (segment_count h)) (own.geometry ∙ by_u)
-        (subst (λ (o : Option PartialState). IfSome o (λ t. LeadTo t t.root (segment_count r.0.source.geometry))) tree.1 own.source.leads) in
+        (subst (λ (o : Option PartialState). IfSome o (λ t. IsBlockTree t (segment_count r.0.source.geometry))) tree.1 own.source.leads).leads in
         let size_is : length block ≡ block_length (geometry_by u) number =
         sym (ap length block_is) ∙ ap length (ap (λ (l : List ℕ). nth_block l size i) joins ∙ nth_own i place.0 r.0 place.1 r.1)
         ∙ sym (ap (λ (o : Option ReaderState). length (block_in entries number o)) r.1) ∙ its_length place.0 live ∙ long ∙ ap (λ (h : Geometry). block_length h number) by_u in
@@ -204,3 +223,22 @@ live_numbers f is enough = record {
       let s = reader_there f.readers q.0 (All-contains (λ x. x < length f.readers) f.live q.0 is.live.there live_q) in
       is.live.different p.0 q.0 r.0 s.0 live_p live_q (rise_order 0 f.live i j p.0 q.0 is.live.rise order p.1 q.1) r.1 s.1
       (sym (ap share_in r.1) ∙ p.2 ∙ sym one.2 ∙ same ∙ two.2 ∙ sym q.2 ∙ ap share_in s.1)
+
+-- ---- what is decoded is refuted
+
+pub inconsistent_with : (entries : List Request) (f : FileState) (number : ℕ) (joined segment numbers : List ℕ) (h' : HandoutState) (groups : List GroupState)
+    → next_segment f.handout ≡ Some number → length f.live ≡ f.handout.geometry.needed → HaveRightBlocks entries f.readers f.live number
+    → joined ≡ blocks_of entries f.readers number f.live → numbers ≡ numbers_of f.readers f.live
+    → DecodesBlocks f.handout.geometry numbers (blocks_in f.handout.geometry number joined) number segment → RefutesSegment f.handout number segment → h' ≡ f.handout
+    → IsInconsistent entries (record f { handout = h'; groups = groups })
+inconsistent_with entries f number joined segment numbers h' groups next enough right joins same decodes refutes handout =
+    subst (λ (h : HandoutState). IsInconsistent entries (record f { handout = h; groups = groups })) (sym handout) (record {
+      number = number;
+      next = next;
+      enough = enough;
+      right = right;
+      segment = segment;
+      decodes = subst (λ (l : List ℕ). DecodesBlocks f.handout.geometry (numbers_of f.readers f.live) (blocks_in f.handout.geometry number l) number segment) joins
+          (subst (λ (ns : List ℕ). DecodesBlocks f.handout.geometry ns (blocks_in f.handout.geometry number joined) number segment) same decodes);
+      refuted = refutes;
+    })

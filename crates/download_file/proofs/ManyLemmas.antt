@@ -1,6 +1,7 @@
 -- How far a file gets by pieces of several segments.
 use Rattle.std.proofs.Common.{◌≡◌, ◌∙◌, ℕ, zero, suc, ◌+◌, ◌≤◌, inl, inr, List, [], ◌∷◌, ◌++◌, ap, sym, subst, arith}
 use Rattle.std.proofs.lemmas.List.{append-nil, append_assoc}
+use Rattle.request_record.specs.declared.requests.Request.{Request}
 use Rattle.download_segments.specs.declared.piece.Piece.{Piece}
 use Rattle.merkle.specs.Partial.{known_siblings}
 use Rattle.download_segments.specs.Handout.{next_piece}
@@ -19,8 +20,8 @@ pub record GetsOn (n : ℕ) (h g : HandoutState) : Type 0 where
   pub more : List Piece
   pub ready : g.ready ≡ h.ready ++ more
 
-gets_one : (f g : FileState) → IsHandout f.handout → MakesNext f g → GetsOn 1 f.handout g.handout
-gets_one f g right made =
+gets_one : (entries : List Request) (f g : FileState) → IsHandout f.handout → MakesNext entries f g → GetsOn 1 f.handout g.handout
+gets_one entries f g right made =
     let h : HandoutState = f.handout in
     let wanted = (next_is h made.number made.next).0 in
     let there = next_within h made.number right made.next in
@@ -36,9 +37,9 @@ gets_one f g right made =
       ready = ap (λ (x : HandoutState). x.ready) made.handed;
     }
 
-gets_many : (n : ℕ) (f g : FileState) → IsHandout f.handout → MakesSegments n f g → GetsOn n f.handout g.handout
+gets_many : (entries : List Request) (n : ℕ) (f g : FileState) → IsHandout f.handout → MakesSegments entries n f g → GetsOn n f.handout g.handout
 unfolding MakesSegments
-gets_many zero f g right same =
+gets_many entries zero f g right same =
     let reached = ap (λ (x : HandoutState). x.reached) same in
     record {
       right = subst IsHandout (sym same) right;
@@ -48,9 +49,9 @@ gets_many zero f g right same =
       more = [];
       ready = ap (λ (x : HandoutState). x.ready) same ∙ sym (append-nil f.handout.ready);
     }
-gets_many (suc n) f g right made =
-    let a = gets_many n f made.0 right made.1 in
-    let b = gets_one made.0 g a.right made.2 in
+gets_many entries (suc n) f g right made =
+    let a = gets_many entries n f made.0 right made.1 in
+    let b = gets_one entries made.0 g a.right made.2 in
     let first = a.far in
     let last = b.far in
     record {
@@ -62,9 +63,9 @@ gets_many (suc n) f g right made =
       ready = b.ready ∙ ap (λ (l : List Piece). l ++ b.more) a.ready ∙ append_assoc f.handout.ready a.more b.more;
     }
 
-pub gets_pieces : (f g : FileState) → IsHandout f.handout → MakesPieces f g → GetsOn 1 f.handout g.handout
-gets_pieces f g right (inl one) = gets_one f g right one
-gets_pieces f g right (inr row) =
-    let k = gets_many 8 f g right row in
+pub gets_pieces : (entries : List Request) (f g : FileState) → IsHandout f.handout → MakesPieces entries f g → GetsOn 1 f.handout g.handout
+gets_pieces entries f g right (inl one) = gets_one entries f g right one
+gets_pieces entries f g right (inr row) =
+    let k = gets_many entries 8 f g right row in
     let far = k.far in
     record { right = k.right; to = k.to; far = omega (arith, far); handed = k.handed; more = k.more; ready = k.ready }

@@ -15,12 +15,13 @@ use Rattle.download_segments.specs.Handout.{TakesPiece}
 use Rattle.download_segments.specs.State.{HandoutState, IsHandout, starting_handout}
 use Rattle.download_segments.proofs.HandoutLemmas.{next_is, valid_of}
 use Rattle.download_segments.proofs.TreeLemmas.{grow_none}
+use Rattle.download_trees.proofs.TreeLemmas.{knows_itself}
 use Rattle.download_file.specs.State.{FileState, new_file}
 use Rattle.download_file.specs.Answers.{IsRead}
 use Rattle.download_file.specs.Asked.{AsksNoMore}
 use Rattle.download_file.specs.Changes.{IsSameFile, StaysAskedUp, StaysRead}
 use Rattle.download_file.specs.Right.{IsFile, IsGroup, made_end}
-use Rattle.download_file.proofs.GrowLemmas.{given_stays, grow_same, group_stays, read_stays}
+use Rattle.download_file.proofs.GrowLemmas.{grow_same, group_stays, read_stays, same_file}
 use Rattle.download_file.proofs.RangeLemmas.{end_within}
 use Rattle.download_file.proofs.StateLemmas.{Follows, asked_up_stays, asks_itself, asks_no_more, cursor_none, grows_itself, same_reader}
 
@@ -97,7 +98,7 @@ module _ (f : FileState) (ready : List Piece) (handed : ℕ) (is : IsFile f) (ri
   pieces_file = record f { handout = record f.handout { ready = ready; handed = handed } }
 
   follows : Follows f pieces_file
-  follows = record { geometry = refl; ueb = refl; first = refl; end = refl; later = λ number next. (number, next, omega arith) }
+  follows = record { geometry = refl; ueb = refl; first = refl; end = refl; shares = knows_itself f.handout.trees.shares; later = λ number next. (number, next, omega arith) }
 
   pub file_pieces : IsFile pieces_file
   file_pieces = record {
@@ -130,15 +131,7 @@ module _ (f : FileState) (ready : List Piece) (handed : ℕ) (is : IsFile f) (ri
   read_pieces entries read = read_stays entries f pieces_file refl refl refl (grow_none f.handout.trees) (grow_same f.readers) is.groups refl among read.held read
 
   pub same_pieces : IsSameFile f pieces_file
-  same_pieces = record {
-    key = refl;
-    ueb = refl;
-    geometry = refl;
-    to = refl;
-    first = refl;
-    end = refl;
-    given = given_stays f pieces_file refl refl refl (grow_none f.handout.trees) (grow_same f.readers) is.groups refl;
-  }
+  same_pieces = same_file f pieces_file refl refl refl refl refl refl (grow_none f.handout.trees) (grow_same f.readers) is.groups refl
 
   pub up_pieces : (reader : ℕ) → StaysAskedUp f pieces_file reader
   up_pieces reader = asked_up_stays f pieces_file reader refl (λ now. now) (λ r at. (r, at, grows_itself r.source))

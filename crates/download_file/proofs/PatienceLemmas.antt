@@ -7,6 +7,7 @@ use Rattle.download_trees.specs.Trees.{known_leaf}
 use Rattle.download_segments.specs.Handout.{IsRowWanted, handed_out, next_segment}
 use Rattle.download_segments.specs.State.{HandoutState, ProvesSegment}
 use Rattle.download_file.specs.State.{FileState, IsComplete, ReaderState, first_place, waiting_in}
+use Rattle.download_file.specs.Answers.{HaveRightBlocks}
 use Rattle.download_file.specs.Asked.{AsksNoMore}
 use Rattle.download_file.specs.Changes.{StaysAskedUp}
 use Rattle.download_file.specs.Making.{AreRowsAsked, AwaitsBlock, AwaitsRow, CanNotGoOn, LacksBlock, LacksNext, MakesNext, MustWait, RefutesReader, SomeWaits}
@@ -96,11 +97,13 @@ module _ (f g : FileState) (handout : g.handout ≡ f.handout) (lives : g.live �
     refuted = k.refuted;
   }
 
-  pub makes_back : (h : FileState) → MakesNext g h → MakesNext f h
-  makes_back h k = record {
+  pub makes_back : (entries : List Request) (h : FileState) → MakesNext entries g h → MakesNext entries f h
+  makes_back entries h k = record {
     number = k.number;
     segment = k.segment;
     next = sym (ap next_segment handout) ∙ k.next;
+    right = subst (λ (l : List ℕ). HaveRightBlocks entries f.readers l k.number) lives
+        (subst (λ (rs : List ReaderState). HaveRightBlocks entries rs g.live k.number) readers k.right);
     proved = subst (λ (x : HandoutState). ProvesSegment x k.number k.segment) handout k.proved;
     handed = k.handed ∙ ap (λ (x : HandoutState). handed_out x k.segment) handout;
   }

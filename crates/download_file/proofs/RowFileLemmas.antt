@@ -17,27 +17,16 @@ use Rattle.download_segments.proofs.RowLemmas.{IsRowState, row_length, row_state
 use Rattle.segment_groups.specs.Making.{MakesRow, MakesSegment, nth}
 use Rattle.segment_groups.specs.State.{GroupState, IsLast, with_end}
 use Rattle.download_file.specs.State.{FileState}
-use Rattle.download_file.specs.Answers.{IsRead}
+use Rattle.download_file.specs.Answers.{HaveRightBlocks, IsRead}
 use Rattle.download_file.specs.Changes.{IsSameFile, StaysAskedUp}
 use Rattle.download_file.specs.Making.{MakesSegments}
 use Rattle.download_file.specs.Right.{IsFile, IsGroup}
-use Rattle.download_file.specs.Rows.{HasRow, HaveRow, IsRow}
+use Rattle.download_file.specs.Rows.{AreRowsProved, HasRow, HaveRow, IsRow}
 use Rattle.download_file.specs.Steps.{AreReady}
 use Rattle.download_file.proofs.ListLemmas.{set_again, set_same}
-use Rattle.download_file.proofs.GrowLemmas.{grow_same, group_stays}
-use Rattle.download_file.proofs.MakeLemmas.{all_long, live_blocks}
+use Rattle.download_file.proofs.GrowLemmas.{grow_same, group_stays, same_two}
+use Rattle.download_file.proofs.MakeLemmas.{all_long, live_blocks, right_blocks}
 use Rattle.download_file.proofs.SegmentLemmas.{HasLast, has_groups, has_made, last_end, raise_last}
-
-pub same_two : (f g h : FileState) → IsSameFile f g → IsSameFile g h → IsSameFile f h
-same_two f g h a b = record {
-  key = b.key ∙ a.key;
-  ueb = b.ueb ∙ a.ueb;
-  geometry = b.geometry ∙ a.geometry;
-  to = b.to ∙ a.to;
-  first = b.first ∙ a.first;
-  end = b.end ∙ a.end;
-  given = λ entries p given. b.given entries p (a.given entries p given);
-}
 
 -- ---- the blocks of the row
 
@@ -78,16 +67,22 @@ module _ (entries : List Request) (f : FileState) (number size : ℕ) (k : HasRo
       → length (nth rows i) ≡ f.handout.geometry.needed * block_length f.handout.geometry (number + i)
   row_needed rows joins i low = row_long rows joins i low ∙ (λ j. row_enough j * its_size i low j)
 
+  pub row_right : (rows : List (List ℕ)) → IsRow entries f.readers number f.live rows → AreRowsProved f.readers f.live number rows size (length f.live)
+      → (i : ℕ) → i < 8 → HaveRightBlocks entries f.readers f.live (number + i)
+  row_right rows joins proved i low =
+      right_blocks entries f (number + i) size k.is k.read (row_there f.handout number i k.is.handout k.row.wanted low) (its_size i low) (row_ready i low)
+      (nth rows i) (joins i low) (proved i low)
+
 -- where pieces of so many segments are made
 pub record HasMadeMany (entries : List Request) (n : ℕ) (f g : FileState) : Type 0 where
   pub right : IsFile g
   pub reads : IsRead entries g
-  pub makes : MakesSegments n f g
+  pub makes : MakesSegments entries n f g
   pub same : IsSameFile f g
 
 module _ (entries : List Request) (f : FileState) (number : ℕ) (groups groups' : List GroupState) (rows : List (List ℕ)) (h' : HandoutState) (is : IsFile f) (read : IsRead entries f)
     (next : next_segment f.handout ≡ Some number) (begun : HasLast f number groups) (wanted : IsRowWanted f.handout number)
-    (ready : (i : ℕ) → i < 8 → AreReady f.readers f.live (number + i)) (joins : IsRow entries f.readers number f.live rows)
+    (blocks : (i : ℕ) → i < 8 → HaveRightBlocks entries f.readers f.live (number + i)) (joins : IsRow entries f.readers number f.live rows)
     (made : MakesRow f.handout groups number rows h' groups') where
   abbrev last_place : ℕ
   last_place = length groups - 1
@@ -167,7 +162,7 @@ module _ (entries : List Request) (f : FileState) (number : ℕ) (groups groups'
       let below : n < 8 = omega (arith, low) in
       let before = made_many n (omega (arith, low)) in
       let k = has_made entries (file_at n) (number + n) (groups_at n) (groups_at (suc n)) (nth rows n) before.right before.reads
-      ((state_at n (omega (arith, low))).next below) (begun_at n (omega (arith, low))) (ready n below) (joins n below)
+      ((state_at n (omega (arith, low))).next below) (begun_at n (omega (arith, low))) (blocks n below) (joins n below)
       (handout_at (suc n)) (state_at (suc n) low).right (made_at n below) in
       record { right = k.right; reads = k.reads; makes = (file_at n, before.makes, k.makes); same = same_two f (file_at n) (file_at (suc n)) before.same k.same }
 
@@ -183,7 +178,7 @@ pub record HasEndedRow (entries : List Request) (r : Result Bool AllocError) (f 
   pub right : IsFile g
   pub reads : IsRead entries g
   pub same : IsSameFile f g
-  pub made : r ≡ Ok true → MakesSegments 8 f g
+  pub made : r ≡ Ok true → MakesSegments entries 8 f g
   pub same_handout : r ≢ Ok true → g.handout ≡ f.handout
   pub asked_up : r ≢ Ok true → (reader : ℕ) → StaysAskedUp f g reader
 
@@ -194,11 +189,11 @@ is_made (Err x) = inr (λ e. absurd cc)
 
 pub has_ended_row : (entries : List Request) (f : FileState) (number size : ℕ) (groups groups' : List GroupState) (rows : List (List ℕ)) (h' : HandoutState) (r : Result Bool AllocError)
     → HasRowBlocks entries f number size → HasLast f number groups → IsRow entries f.readers number f.live rows
-    → (r ≡ Ok true → MakesRow f.handout groups number rows h' groups') → (r ≢ Ok true → (h' ≡ f.handout) × (groups' ≡ groups))
+    → AreRowsProved f.readers f.live number rows size (length f.live) → (r ≡ Ok true → MakesRow f.handout groups number rows h' groups') → (r ≢ Ok true → (h' ≡ f.handout) × (groups' ≡ groups))
     → HasEndedRow entries r f (record f { handout = h'; groups = groups' })
-has_ended_row entries f number size groups groups' rows h' r k begun joins made same = elim (is_made r) [
+has_ended_row entries f number size groups groups' rows h' r k begun joins proved made same = elim (is_made r) [
   | inl ok ↦
-      let m = has_made_row entries f number groups groups' rows h' k.is k.read k.next begun k.row.wanted (row_ready entries f number size k) joins (made ok) in
+      let m = has_made_row entries f number groups groups' rows h' k.is k.read k.next begun k.row.wanted (row_right entries f number size k rows joins proved) joins (made ok) in
       record {
         right = m.right;
         reads = m.reads;

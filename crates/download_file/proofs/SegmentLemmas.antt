@@ -21,12 +21,13 @@ use Rattle.download_segments.proofs.HandoutLemmas.{next_is, next_follows, next_s
 use Rattle.download_segments.proofs.TreeLemmas.{grow_none}
 use Rattle.segment_groups.specs.Making.{MakesSegment}
 use Rattle.segment_groups.specs.State.{GroupState, IsLast, new_group, with_end}
+use Rattle.download_trees.proofs.TreeLemmas.{knows_itself}
 use Rattle.download_file.specs.State.{FileState, numbers_of}
-use Rattle.download_file.specs.Answers.{IsGivenBy, IsMade, IsMadeSegment, IsRead, blocks_of}
-use Rattle.download_file.specs.Changes.{IsSameFile, StaysAskedUp, StaysGiven}
+use Rattle.download_file.specs.Answers.{HaveRightBlocks, IsGivenBy, IsMade, IsMadeSegment, IsRead, blocks_of}
+use Rattle.download_file.specs.Changes.{IsSameFile, StaysAskedUp, StaysGiven, StaysMade}
 use Rattle.download_file.specs.Making.{MakesNext}
 use Rattle.download_file.specs.Right.{AreConsecutive, IsFile, IsGroup, made_end}
-use Rattle.download_file.specs.Steps.{AreReady, BeginsGroup}
+use Rattle.download_file.specs.Steps.{BeginsGroup}
 use Rattle.download_file.proofs.ListLemmas.{at_contained, get_cases}
 use Rattle.download_file.proofs.GrowLemmas.{grow_same, group_stays, made_stays}
 use Rattle.download_file.proofs.MakeLemmas.{live_numbers}
@@ -108,7 +109,7 @@ has_last f number groups is next enough (inr pushed) =
 -- ---- the segment is made
 
 module _ (entries : List Request) (f : FileState) (number : ℕ) (groups groups' : List GroupState) (joined : List ℕ) (is : IsFile f) (read : IsRead entries f)
-    (next : next_segment f.handout ≡ Some number) (begun : HasLast f number groups) (ready : AreReady f.readers f.live number) (joins : joined ≡ blocks_of entries f.readers number f.live)
+    (next : next_segment f.handout ≡ Some number) (begun : HasLast f number groups) (blocks : HaveRightBlocks entries f.readers f.live number) (joins : joined ≡ blocks_of entries f.readers number f.live)
     (h' : HandoutState) (right : IsHandout h') (made : MakesSegment f.handout groups number joined h' groups') where
   abbrev pub made_file : FileState
   made_file = record f { handout = handed_out f.handout made.segment; groups = groups' }
@@ -135,7 +136,7 @@ module _ (entries : List Request) (f : FileState) (number : ℕ) (groups groups'
       (k.1, omega (arith, le, last))
 
   follows : Follows f made_file
-  follows = record { geometry = refl; ueb = refl; first = refl; end = refl; later = λ n e. (number, next, (let same = (next_number n e).0 in omega (arith, same))) }
+  follows = record { geometry = refl; ueb = refl; first = refl; end = refl; shares = knows_itself f.handout.trees.shares; later = λ n e. (number, next, (let same = (next_number n e).0 in omega (arith, same))) }
 
   end_made : made_end made_file ≡ number + 1
   end_made = by (nat_lt (next_end f.handout) f.handout.to) refl
@@ -171,7 +172,7 @@ module _ (entries : List Request) (f : FileState) (number : ℕ) (groups groups'
 
   is_made : IsMade entries (handed_out f.handout made.segment) f.readers (with_end made.group (number + 1)) number
   is_made = record {
-    held = λ place r among at. (ready place r (subst (λ (l : List ℕ). Contains l place) made_readers among) at).held;
+    right = λ place r among at. blocks place r (subst (λ (l : List ℕ). Contains l place) made_readers among) at;
     segment = made.segment;
     decodes = subst (λ (g : Geometry). DecodesBlocks g made.group.decoding.numbers (blocks_in g number (blocks_of entries f.readers number made.group.readers)) number made.segment) made_geometry
         (subst (λ (l : List ℕ). DecodesBlocks made.group.decoding.geometry made.group.decoding.numbers (blocks_in made.group.decoding.geometry number l) number made.segment)
@@ -207,7 +208,7 @@ module _ (entries : List Request) (f : FileState) (number : ℕ) (groups groups'
     where
       raised : (group : GroupState) (n : ℕ) → IsMade entries (handed_out f.handout made.segment) f.readers group n
           → IsMade entries (handed_out f.handout made.segment) f.readers (with_end group (number + 1)) n
-      raised group n k = record { held = k.held; segment = k.segment; decodes = k.decodes; proved = k.proved }
+      raised group n k = record { right = k.right; segment = k.segment; decodes = k.decodes; proved = k.proved }
 
   -- ---- what was given stays given
 
@@ -224,7 +225,7 @@ module _ (entries : List Request) (f : FileState) (number : ℕ) (groups groups'
 
   module _ (others : List Request) (n : ℕ) (segment : List ℕ) (m : IsMadeSegment others f n segment) where
     again : IsMade others (handed_out f.handout made.segment) f.readers m.group n
-    again = record { held = m.made.held; segment = m.made.segment; decodes = m.made.decodes; proved = record { size = m.made.proved.size; known = m.made.proved.known } }
+    again = record { right = m.made.right; segment = m.made.segment; decodes = m.made.decodes; proved = record { size = m.made.proved.size; known = m.made.proved.known } }
 
     again_is : again.segment ≡ m.made.segment
     unfolding again
@@ -257,7 +258,7 @@ module _ (entries : List Request) (f : FileState) (number : ℕ) (groups groups'
               among = subst (λ (g : GroupState). Contains groups' (with_end g (number + 1))) same in_raised;
               from = m.from;
               before = omega (arith, end, end_same, before);
-              made = record { held = again.held; segment = again.segment; decodes = again.decodes; proved = again.proved };
+              made = record { right = again.right; segment = again.segment; decodes = again.decodes; proved = again.proved };
               is = again_is ∙ m.is;
             }
 
@@ -292,7 +293,18 @@ module _ (entries : List Request) (f : FileState) (number : ℕ) (groups groups'
   }
 
   pub same_made : IsSameFile f made_file
-  same_made = record { key = refl; ueb = refl; geometry = refl; to = refl; first = refl; end = refl; given = given_made }
+  same_made = record {
+    key = refl;
+    ueb = refl;
+    geometry = refl;
+    to = refl;
+    first = refl;
+    end = refl;
+    trees = grow_none f.handout.trees;
+    readers = grow_same f.readers;
+    made = still_made;
+    given = given_made;
+  }
 
   pub file_made : IsFile made_file
   file_made = record {
@@ -341,18 +353,18 @@ module _ (entries : List Request) (f : FileState) (number : ℕ) (groups groups'
 pub record HasMade (entries : List Request) (f g : FileState) : Type 0 where
   pub right : IsFile g
   pub reads : IsRead entries g
-  pub makes : MakesNext f g
+  pub makes : MakesNext entries f g
   pub same : IsSameFile f g
 
 pub has_made : (entries : List Request) (f : FileState) (number : ℕ) (groups groups' : List GroupState) (joined : List ℕ) → IsFile f → IsRead entries f
-    → next_segment f.handout ≡ Some number → HasLast f number groups → AreReady f.readers f.live number → joined ≡ blocks_of entries f.readers number f.live
+    → next_segment f.handout ≡ Some number → HasLast f number groups → HaveRightBlocks entries f.readers f.live number → joined ≡ blocks_of entries f.readers number f.live
     → (h' : HandoutState) → IsHandout h' → MakesSegment f.handout groups number joined h' groups' → HasMade entries f (record f { handout = h'; groups = groups' })
-has_made entries f number groups groups' joined is read next begun ready joins h' right made =
+has_made entries f number groups groups' joined is read next begun blocks joins h' right made =
     subst (λ (h : HandoutState). HasMade entries f (record f { handout = h; groups = groups' })) (sym made.handed) (record {
-      right = file_made entries f number groups groups' joined is read next begun ready joins h' right made;
-      reads = read_made entries f number groups groups' joined is read next begun ready joins h' right made;
-      makes = record { number = number; segment = made.segment; next = next; proved = made.proved; handed = refl };
-      same = same_made entries f number groups groups' joined is read next begun ready joins h' right made;
+      right = file_made entries f number groups groups' joined is read next begun blocks joins h' right made;
+      reads = read_made entries f number groups groups' joined is read next begun blocks joins h' right made;
+      makes = record { number = number; segment = made.segment; next = next; right = blocks; proved = made.proved; handed = refl };
+      same = same_made entries f number groups groups' joined is read next begun blocks joins h' right made;
     })
 
 -- where none is, and the last group is of the readers that are read
@@ -398,19 +410,27 @@ has_groups entries f number groups groups' h' is read next begun same_handout sa
         ready = λ p among. given_same entries p (read.ready p among);
       };
       asked_up = λ reader. asked_up_stays f (record f { groups = groups }) reader refl (λ now. now) (λ r at. (r, at, grows_itself r.source));
-      same = record { key = refl; ueb = refl; geometry = refl; to = refl; first = refl; end = refl; given = given_same };
+      same = record {
+        key = refl;
+        ueb = refl;
+        geometry = refl;
+        to = refl;
+        first = refl;
+        end = refl;
+        trees = grow_none f.handout.trees;
+        readers = grow_same f.readers;
+        made = made_same;
+        given = given_same;
+      };
       handout_is = refl;
     }))
   where
     follows_same : Follows f (record f { groups = groups })
-    follows_same = record { geometry = refl; ueb = refl; first = refl; end = refl; later = λ n e. (n, e, omega arith) }
+    follows_same = record { geometry = refl; ueb = refl; first = refl; end = refl; shares = knows_itself f.handout.trees.shares; later = λ n e. (n, e, omega arith) }
+
+    made_same : StaysMade f (record f { groups = groups })
+    made_same others n segment m =
+        record { group = m.group; among = begun.kept m.group m.among; from = m.from; before = m.before; made = m.made; is = m.is }
 
     given_same : StaysGiven f (record f { groups = groups })
-    given_same others p g =
-        let m = g.made in
-        record {
-          number = g.number;
-          segment = g.segment;
-          made = record { group = m.group; among = begun.kept m.group m.among; from = m.from; before = m.before; made = m.made; is = m.is };
-          slice = g.slice;
-        }
+    given_same others p g = record { number = g.number; segment = g.segment; made = made_same others g.number g.segment g.made; slice = g.slice }

@@ -1,14 +1,13 @@
 -- Readers of a file that go on.
-use Rattle.std.proofs.Common.{◌≡◌, ◌↔◌, ℕ, zero, suc, ◌+◌, ◌<◌, ◌≤◌, ◌⊎◌, inl, inr, List, [], ◌∷◌, Some, IfSome, refl, sym, subst, ◌∙◌, arith}
+use Rattle.std.proofs.Common.{◌≡◌, ◌↔◌, ℕ, zero, suc, ◌+◌, ◌<◌, ◌≤◌, ◌⊎◌, inl, inr, List, [], ◌∷◌, Some, refl, sym, subst, ◌∙◌, arith}
 use Rattle.std.specs.Prelude.{slice_get}
 use Rattle.std.proofs.lemmas.Bool.{false≢true}
 use Rattle.share_layout.specs.Geometry.{Geometry}
-use Rattle.ueb.specs.Shape.{Contents}
 use Rattle.download_plan.specs.Plan.{IsNodePiece, data_pieces, length_of, place_of}
 use Rattle.download_plan.specs.declared.part.NodePiece.{NodePiece}
 use Rattle.download_plan.specs.declared.part.Part.{Part}
 use Rattle.download_plan.specs.declared.part.Part.TheVariants.{ShareHashes, BlockTree, CiphertextTree, Data}
-use Rattle.download_trees.specs.Trees.{IsBlockRoot}
+use Rattle.download_trees.specs.Trees.{KnowsAllOf}
 use Rattle.download_source.specs.Asking.{IsAsked, IsWanted, IsWantedCiphertext, IsWithin}
 use Rattle.download_source.specs.Cursors.{IsPassed, cursor_at}
 use Rattle.download_source.specs.Source.{IsSource, SourceState, first_of, new_source}
@@ -17,7 +16,8 @@ use Rattle.download_segments.specs.Handout.{next_segment}
 use Rattle.download_file.specs.State.{FileState, ReaderState, giver}
 use Rattle.download_file.specs.Asked.{AsksNoMore}
 use Rattle.download_file.specs.Changes.{StaysAskedUp}
-use Rattle.download_file.specs.Right.{IsReaderOf}
+use Rattle.download_file.specs.Right.{IsReaderOf, TellsRoot}
+use Rattle.download_file.proofs.GrowLemmas.{tells_still}
 
 -- ---- what was asked
 
@@ -168,12 +168,13 @@ pub record Follows (f f' : FileState) : Type 0 where
   pub ueb : f'.handout.ueb ≡ f.handout.ueb
   pub first : f'.first ≡ f.first
   pub end : f'.end ≡ f.end
+  pub shares : KnowsAllOf f.handout.trees.shares f'.handout.trees.shares
   pub later : (number : ℕ) → next_segment f'.handout ≡ Some number → (before : ℕ) × (next_segment f.handout ≡ Some before) × (before ≤ number)
 
 -- a reader that reads the same parts of the same share is still one of the file
 pub reader_stays : (f f' : FileState) (r r' : ReaderState) → Follows f f' → IsReaderOf f r → r'.share ≡ r.share → IsSource r'.source
     → r'.source.geometry ≡ r.source.geometry → r'.source.start ≡ r.source.start → r'.source.first ≡ r.source.first → r'.source.end ≡ r.source.end
-    → IfSome r'.source.tree (λ tree. IsBlockRoot f.handout.ueb.share_root_hash f.handout.ueb.total_shares r.share tree.root) → IsReaderOf f' r'
+    → TellsRoot f'.handout.trees.shares r.share r'.source.tree → IsReaderOf f' r'
 reader_stays f f' r r' follows is share source geometry start first end root = record {
   source = source;
   geometry = geometry ∙ is.geometry ∙ sym follows.geometry;
@@ -185,9 +186,9 @@ reader_stays f f' r r' follows is share source geometry start first end root = r
       let order = k.2 in
       omega (arith, first, was, order);
   share = subst (λ (g : Geometry). r'.share < g.total) (sym follows.geometry) (let low = is.share in omega (arith, low, share));
-  root = subst (λ (u : Contents). IfSome r'.source.tree (λ tree. IsBlockRoot u.share_root_hash u.total_shares r'.share tree.root)) (sym follows.ueb)
-      (subst (λ (n : ℕ). IfSome r'.source.tree (λ tree. IsBlockRoot f.handout.ueb.share_root_hash f.handout.ueb.total_shares n tree.root)) (sym share) root);
+  root = subst (λ (n : ℕ). TellsRoot f'.handout.trees.shares n r'.source.tree) (sym share) root;
 }
 
 pub same_reader : (f f' : FileState) (r : ReaderState) → Follows f f' → IsReaderOf f r → IsReaderOf f' r
-same_reader f f' r follows is = reader_stays f f' r r follows is refl is.source refl refl refl refl is.root
+same_reader f f' r follows is =
+    reader_stays f f' r r follows is refl is.source refl refl refl refl (tells_still f.handout.trees.shares f'.handout.trees.shares r.share r.source.tree follows.shares is.root)

@@ -25,12 +25,12 @@ use Rattle.download_file.specs.State.{FileState, IsLive, ReaderState, copy, copy
 use Rattle.download_file.specs.Answers.{AnswersFirst, HoldsAnswers, HoldsFor, IsAnswerOf, IsAnswerTo, IsRead}
 use Rattle.request_record.specs.declared.requests.Asked.TheVariants.{Reading}
 use Rattle.download_file.specs.Asked.{AsksNoMore}
-use Rattle.download_file.specs.Changes.{IsSameFile, OthersWait, StaysAskedUp}
+use Rattle.download_file.specs.Changes.{GoesOn, IsSameFile, OthersWait, ReadersGoOn, StaysAskedUp}
 use Rattle.download_file.specs.Right.{AreLive, GivesTree, IsFile, IsGroup, IsReaderOf}
 use Rattle.download_file.specs.Steps.{IsTaker, KnowsPart, TakesPart, held_with, taken_with}
 use Rattle.download_file.specs.declared.reader.Waiting.{Waiting}
 use Rattle.download_file.proofs.ListLemmas.{get_cases, map_set, set_same}
-use Rattle.download_file.proofs.GrowLemmas.{GoesOn, GrowReaders, goes_same, given_stays, group_stays, holds_as, read_stays}
+use Rattle.download_file.proofs.GrowLemmas.{goes_same, group_stays, holds_as, read_stays, same_file}
 use Rattle.download_file.proofs.LiveLemmas.{live_giver}
 use Rattle.download_file.proofs.StateLemmas.{Follows, GrowsAsks, KeepsAsks, SameAsks, StillAsks, asked_up_stays, asks_itself, asks_no_more, grows_itself, reader_stays, same_asks, same_reader}
 
@@ -152,7 +152,7 @@ module _ (f : FileState) (t : FileTreesState) (reader : ℕ) (r r' : ReaderState
     taken_file = record f { handout = with_trees f.handout t; taken = taken'; readers = slice_set f.readers reader r' }
 
     follows : Follows f taken_file
-    follows = record { geometry = refl; ueb = refl; first = refl; end = refl; later = λ number next. (number, next, omega arith) }
+    follows = record { geometry = refl; ueb = refl; first = refl; end = refl; shares = T.grow.shares; later = λ number next. (number, next, omega arith) }
 
     is_taken : IsReaderOf taken_file r'
     is_taken = reader_stays f taken_file r r' follows (is.readers reader r at) T.share T.source (ap (λ (s : SourceState). s.geometry) T.source_is)
@@ -166,6 +166,7 @@ module _ (f : FileState) (t : FileTreesState) (reader : ℕ) (r r' : ReaderState
           start = ap (λ (s : SourceState). s.start) T.source_is;
           first = ap (λ (s : SourceState). s.first) T.source_is;
           end = ap (λ (s : SourceState). s.end) T.source_is;
+          tree = T.tree;
           more = more.0;
           held = ap (λ (s : SourceState). s.held) T.source_is ∙ more.1;
         }
@@ -183,10 +184,16 @@ module _ (f : FileState) (t : FileTreesState) (reader : ℕ) (r r' : ReaderState
       asked = λ part. (asks.asked part).1;
     }
 
-    pub grow_taken : GrowReaders f.readers (slice_set f.readers reader r')
+    pub grow_taken : ReadersGoOn f.readers (slice_set f.readers reader r')
     grow_taken place q there = elim (get_cases f.readers reader place r' r q at there) [
-      | inl k ↦ (r', k.2, T.share ∙ ap (λ (x : ReaderState). x.share) k.1, subst (λ (x : ReaderState). GoesOn x.source r'.source) k.1 goes)
-      | inr k ↦ (q, k.1, refl, goes_same q.source)
+      | inl k ↦ record {
+        now = r';
+        there = k.2;
+        server = T.server ∙ ap (λ (x : ReaderState). x.server) k.1;
+        share = T.share ∙ ap (λ (x : ReaderState). x.share) k.1;
+        source = subst (λ (x : ReaderState). GoesOn x.source r'.source) k.1 goes;
+      }
+      | inr k ↦ record { now = q; there = k.1; server = refl; share = refl; source = goes_same q.source }
     ]
 
     pub still_taken : StillAsks f.readers (slice_set f.readers reader r')
@@ -342,15 +349,7 @@ module _ (f : FileState) (t : FileTreesState) (reader : ℕ) (r r' : ReaderState
         read
 
     pub same_taken : IsSameFile f taken_file
-    same_taken = record {
-      key = refl;
-      ueb = refl;
-      geometry = refl;
-      to = refl;
-      first = refl;
-      end = refl;
-      given = given_stays f taken_file refl refl refl T.grow grow_taken is.groups refl;
-    }
+    same_taken = same_file f taken_file refl refl refl refl refl refl T.grow grow_taken is.groups refl
 
     pub has_taken_by : (bytes : List ℕ) → length bytes ≡ w.wanted.read.length → HasTaken f reader bytes taken_file
     has_taken_by bytes long = record {

@@ -1,20 +1,27 @@
 -- The first part that waits of a reader is taken.
-use Rattle.std.proofs.Common.{◌≡◌, ℕ, ◌*◌, List, [], ◌∷◌, ◌++◌, length, drop, Option, Some, IfSome, is_some, true, refl, sym, ap, subst, ◌∙◌}
+use Rattle.std.proofs.Common.{◌≡◌, ℕ, ◌*◌, List, [], ◌∷◌, ◌++◌, length, drop, Some, is_some, true, refl, sym, ap, subst, ◌∙◌}
+use Rattle.std.proofs.lemmas.Bool.{false≢true}
+use Rattle.lemmas.proofs.Options.{one_there}
 use Rattle.merkle.specs.Partial.{PartialState, Takes, known_at}
 use Rattle.download_plan.specs.Plan.{length_of, nodes_of}
 use Rattle.download_plan.specs.declared.part.NodePiece.{NodePiece}
+use Rattle.download_plan.specs.declared.part.Part.{Part}
 use Rattle.download_plan.specs.declared.part.Nodes.{Nodes}
 use Rattle.download_plan.specs.declared.part.Part.TheVariants.{ShareHashes, BlockTree, CiphertextTree, Data}
 use Rattle.download_trees.specs.Offers.{nodes_offered}
-use Rattle.download_trees.specs.Trees.{IsBlockRoot}
+use Rattle.download_trees.specs.Trees.{KnowsAllOf, known_leaf}
+use Rattle.download_trees.proofs.TreeLemmas.{knows_taken}
 use Rattle.download_source.specs.Cursors.{passed, piece_passed}
 use Rattle.download_source.specs.Source.{IsSource, SourceState, first_of}
-use Rattle.download_source.specs.Taking.{TakesPiece, holds_more, with_taken}
+use Rattle.download_source.specs.Taking.{IsDue, TakesPiece, holds_more, with_taken}
 use Rattle.download_source.proofs.TakingLemmas.{kept_known, offered_known}
 use Rattle.download_segments.specs.State.{HandoutState, IsHandout, TreesGrow, with_trees}
 use Rattle.download_segments.proofs.TreeLemmas.{grow_none}
 use Rattle.download_file.specs.State.{ReaderState}
+use Rattle.download_file.specs.Changes.{TreeStays}
+use Rattle.download_file.specs.Right.{TellsRoot}
 use Rattle.download_file.specs.Steps.{IsTaker, TakesPart}
+use Rattle.download_file.proofs.GrowLemmas.{tells_still, tree_same}
 use Rattle.download_file.specs.declared.reader.Waiting.{Waiting}
 
 -- the same tree
@@ -31,11 +38,14 @@ module _ (h : HandoutState) (r : ReaderState) (taken : List ℕ) (a b : ℕ) (w 
       ∙ ap (λ (n : ℕ). 32 * (nodes_of h.geometry n b p).count) is.start
       ∙ ap (λ (n : Nodes). 32 * n.count) (sym these)
 
-  pub took_hashes : (h' : HandoutState) (r' : ReaderState) (tree : PartialState) → h' ≡ with_trees h h'.trees → IsHandout h' → TreesGrow h.trees h'.trees
-      → h'.trees.ciphertext ≡ h.trees.ciphertext → IsBlockRoot h.ueb.share_root_hash h.ueb.total_shares r.share tree.root
+  due_hashes : w.wanted.part ≡ ShareHashes → IsDue r.source ShareHashes
+  due_hashes part = subst (λ (p : Part). IsDue r.source p) part is.due
+
+  pub took_hashes : (h' : HandoutState) (r' : ReaderState) (tree : PartialState) → w.wanted.part ≡ ShareHashes → h' ≡ with_trees h h'.trees → IsHandout h' → TreesGrow h.trees h'.trees
+      → h'.trees.ciphertext ≡ h.trees.ciphertext → known_leaf h'.trees.shares r.share ≡ Some tree.root
       → r' ≡ record r { source = record (with_taken r.source ShareHashes) { tree = Some tree }; waiting = drop 1 r.waiting } → IsSource r'.source
       → TakesPart h r taken a b ShareHashes w.place h' r' taken
-  took_hashes h' r' tree others right grow same root reader source = record {
+  took_hashes h' r' tree part others right grow same root reader source = record {
     handout = others;
     right = right;
     grow = grow;
@@ -46,7 +56,8 @@ module _ (h : HandoutState) (r : ReaderState) (taken : List ℕ) (a b : ℕ) (w 
     waiting = ap (λ (q : ReaderState). q.waiting) reader;
     source = source;
     source_is = subst (λ (q : ReaderState). q.source ≡ record r.source { taken = passed r.source.taken ShareHashes; tree = q.source.tree; held = r.source.held }) (sym reader) refl;
-    root = subst (λ (q : ReaderState). IfSome q.source.tree (λ t. IsBlockRoot h.ueb.share_root_hash h.ueb.total_shares r.share t.root)) (sym reader) root;
+    tree = λ p was. absurd (false≢true (sym (due_hashes part).next ∙ sym is.source.tree ∙ ap (is_some {T = PartialState}) was));
+    root = subst (λ (q : ReaderState). TellsRoot h'.trees.shares r.share q.source.tree) (sym reader) root;
     taken_is = refl;
   }
 
@@ -63,9 +74,11 @@ module _ (h : HandoutState) (r : ReaderState) (taken : List ℕ) (a b : ℕ) (w 
     waiting = waiting;
     source = source;
     source_is = subst (λ (s : SourceState). s ≡ record r.source { taken = passed r.source.taken (BlockTree p); tree = s.tree; held = r.source.held }) (sym takes.is) refl;
-    root = subst (λ (s : SourceState). IfSome s.tree (λ t. IsBlockRoot h.ueb.share_root_hash h.ueb.total_shares r.share t.root)) (sym takes.is)
-        (subst (λ (root : List ℕ). IsBlockRoot h.ueb.share_root_hash h.ueb.total_shares r.share root) (sym takes.takes.root)
-        (subst (λ (o : Option PartialState). IfSome o (λ t. IsBlockRoot h.ueb.share_root_hash h.ueb.total_shares r.share t.root)) takes.was is.root));
+    tree = subst (λ (s : SourceState). TreeStays r.source.tree s.tree) (sym takes.is) (λ q was.
+        let same : takes.before ≡ q = one_there r.source.tree takes.before q takes.was was in
+        (takes.after, refl, subst (λ (t : PartialState). KnowsAllOf t takes.after) same (knows_taken takes.before takes.after _ takes.takes)));
+    root = subst (λ (s : SourceState). TellsRoot h.trees.shares r.share s.tree) (sym takes.is)
+        (subst (TellsRoot h.trees.shares r.share) takes.was is.root ∙ ap Some (sym takes.takes.root));
     taken_is = refl;
   }
 
@@ -86,7 +99,8 @@ module _ (h : HandoutState) (r : ReaderState) (taken : List ℕ) (a b : ℕ) (w 
     waiting = ap (λ (q : ReaderState). q.waiting) reader;
     source = source;
     source_is = subst (λ (q : ReaderState). q.source ≡ record r.source { taken = passed r.source.taken (CiphertextTree p); tree = q.source.tree; held = r.source.held }) (sym reader) refl;
-    root = subst (λ (q : ReaderState). IfSome q.source.tree (λ t. IsBlockRoot h.ueb.share_root_hash h.ueb.total_shares r.share t.root)) (sym reader) is.root;
+    tree = subst (λ (q : ReaderState). TreeStays r.source.tree q.source.tree) (sym reader) (tree_same r.source.tree r.source.tree refl);
+    root = subst (λ (q : ReaderState). TellsRoot h'.trees.shares r.share q.source.tree) (sym reader) (tells_still h.trees.shares h'.trees.shares r.share r.source.tree grow.shares is.root);
     taken_is = refl;
   }
 
@@ -105,6 +119,7 @@ module _ (h : HandoutState) (r : ReaderState) (taken : List ℕ) (a b : ℕ) (w 
     source = source;
     source_is = subst (λ (q : ReaderState). q.source ≡ record r.source { taken = passed r.source.taken (Data index); tree = q.source.tree; held = r.source.held ++ w.place ∷ [] }) (sym reader)
         (subst (λ (n : ℕ). holds_more r.source w.place ≡ record r.source { taken = passed r.source.taken (Data n); tree = r.source.tree; held = r.source.held ++ w.place ∷ [] }) (sym next) refl);
-    root = subst (λ (q : ReaderState). IfSome q.source.tree (λ t. IsBlockRoot h.ueb.share_root_hash h.ueb.total_shares r.share t.root)) (sym reader) is.root;
+    tree = subst (λ (q : ReaderState). TreeStays r.source.tree q.source.tree) (sym reader) (tree_same r.source.tree r.source.tree refl);
+    root = subst (λ (q : ReaderState). TellsRoot h.trees.shares r.share q.source.tree) (sym reader) is.root;
     taken_is = refl;
   }

@@ -1,5 +1,5 @@
 -- A file of which a reader is asked for more.
-use Rattle.std.proofs.Common.{◌≡◌, ◌≢◌, ℕ, ◌+◌, ◌<◌, ◌≤◌, ◌⊎◌, inl, inr, All, Bool, true, false, Contains, List, [], ◌∷◌, ◌++◌, length, get_or, Option, Some, IfSome, refl, sym, ap, subst, ◌∙◌, arith}
+use Rattle.std.proofs.Common.{◌≡◌, ◌≢◌, ℕ, ◌+◌, ◌<◌, ◌≤◌, ◌⊎◌, inl, inr, All, Bool, true, false, Contains, List, [], ◌∷◌, ◌++◌, length, get_or, Option, Some, refl, sym, ap, subst, ◌∙◌, arith}
 use Rattle.std.specs.Prelude.{slice_get, slice_set}
 use Rattle.std.proofs.Math.ListN.{get_or-map}
 use Rattle.std.proofs.lemmas.List.{append-nil, length-map, length-set, map-append}
@@ -12,7 +12,6 @@ use Rattle.download_plan.specs.Laws.{AreApart}
 use Rattle.download_plan.specs.Plan.{IsPlanned, length_of, max_read, place_of}
 use Rattle.download_plan.specs.declared.part.Part.{Part}
 use Rattle.download_plan.specs.declared.part.Part.TheVariants.{ShareHashes, BlockTree, CiphertextTree, Data}
-use Rattle.download_trees.specs.Trees.{IsBlockRoot}
 use Rattle.download_source.specs.Asking.{IsAsked, IsReadOf, IsWanted, IsWantedCiphertext, OnlyAsks, parts_of}
 use Rattle.download_source.specs.Cursors.{IsPassed, LeadOn}
 use Rattle.download_source.specs.Source.{IsPartOf, IsSource, SourceState, first_of}
@@ -21,15 +20,16 @@ use Rattle.download_source.specs.declared.wanted.Wanted.{Wanted}
 use Rattle.download_source.proofs.LawLemmas.{lead_append, parts_apart, plans_grow}
 use Rattle.download_segments.specs.Handout.{next_segment}
 use Rattle.download_segments.proofs.TreeLemmas.{grow_none}
+use Rattle.download_trees.proofs.TreeLemmas.{knows_itself}
 use Rattle.download_file.specs.State.{FileState, IsLive, IsReader, ReaderState, copy, copy_of, giver, placed, copies, waiting_at, waiting_in, waiting_parts}
 use Rattle.download_file.specs.Answers.{HoldsAnswers, HoldsFor}
 use Rattle.download_file.specs.Asked.{AsksParts, HasAsked, IsAskedUp, IsOneOf, IsPlannedRead}
-use Rattle.download_file.specs.Changes.{IsSameFile, OthersWait, StaysAskedUp, StaysRead}
-use Rattle.download_file.specs.Right.{AreLive, IsFile, IsGroup, IsReaderOf}
+use Rattle.download_file.specs.Changes.{GoesOn, IsSameFile, OthersWait, ReadersGoOn, StaysAskedUp, StaysRead}
+use Rattle.download_file.specs.Right.{AreLive, IsFile, IsGroup, IsReaderOf, TellsRoot}
 use Rattle.download_file.specs.Steps.{Asks, AsksNoTree}
 use Rattle.download_file.specs.declared.reader.Waiting.{Waiting}
 use Rattle.download_file.proofs.ListLemmas.{All-from_contains, from_map, get_cases, map_set}
-use Rattle.download_file.proofs.GrowLemmas.{GoesOn, GrowReaders, goes_same, given_stays, group_stays, holds_as, read_stays}
+use Rattle.download_file.proofs.GrowLemmas.{goes_same, group_stays, holds_as, read_stays, same_file, tree_same}
 use Rattle.download_file.proofs.StateLemmas.{Follows, GrowsAsks, asked_up_stays, ciphertext_back, grows_itself, reader_stays, same_reader, wanted_back}
 
 -- ---- parts
@@ -98,7 +98,7 @@ module _ (f : FileState) (reader : ℕ) (r r' : ReaderState) (gives : Bool) (las
   asked_file = record f { readers = slice_set f.readers reader r' }
 
   follows : Follows f asked_file
-  follows = record { geometry = refl; ueb = refl; first = refl; end = refl; later = λ number next. (number, next, omega arith) }
+  follows = record { geometry = refl; ueb = refl; first = refl; end = refl; shares = knows_itself f.handout.trees.shares; later = λ number next. (number, next, omega arith) }
 
   goes : GoesOn r.source r'.source
   goes = record {
@@ -106,6 +106,7 @@ module _ (f : FileState) (reader : ℕ) (r r' : ReaderState) (gives : Bool) (las
     start = ap (λ (s : SourceState). s.start) only;
     first = ap (λ (s : SourceState). s.first) only;
     end = ap (λ (s : SourceState). s.end) only;
+    tree = tree_same r.source.tree r'.source.tree (ap (λ (s : SourceState). s.tree) only);
     more = [];
     held = ap (λ (s : SourceState). s.held) only ∙ sym (append-nil r.source.held);
   }
@@ -122,12 +123,18 @@ module _ (f : FileState) (reader : ℕ) (r r' : ReaderState) (gives : Bool) (las
 
   is_asked : IsReaderOf asked_file r'
   is_asked = reader_stays f asked_file r r' follows (is.readers reader r at) share right goes.geometry goes.start goes.first goes.end
-      (subst (λ (s : SourceState). IfSome s.tree (λ t. IsBlockRoot f.handout.ueb.share_root_hash f.handout.ueb.total_shares r.share t.root)) (sym only) (is.readers reader r at).root)
+      (subst (λ (s : SourceState). TellsRoot f.handout.trees.shares r.share s.tree) (sym only) (is.readers reader r at).root)
 
-  grow : GrowReaders f.readers (slice_set f.readers reader r')
+  grow : ReadersGoOn f.readers (slice_set f.readers reader r')
   grow other q there = elim (get_cases f.readers reader other r' r q at there) [
-    | inl k ↦ (r', k.2, share ∙ ap (λ (x : ReaderState). x.share) k.1, subst (λ (x : ReaderState). GoesOn x.source r'.source) k.1 goes)
-    | inr k ↦ (q, k.1, refl, goes_same q.source)
+    | inl k ↦ record {
+      now = r';
+      there = k.2;
+      server = server ∙ ap (λ (x : ReaderState). x.server) k.1;
+      share = share ∙ ap (λ (x : ReaderState). x.share) k.1;
+      source = subst (λ (x : ReaderState). GoesOn x.source r'.source) k.1 goes;
+    }
+    | inr k ↦ record { now = q; there = k.1; server = refl; share = refl; source = goes_same q.source }
   ]
 
   share_was : (other : ℕ) (q : ReaderState) → IsReader asked_file other q → (o : ReaderState) × (IsReader f other o) × (q.share ≡ o.share)
@@ -218,15 +225,7 @@ module _ (f : FileState) (reader : ℕ) (r r' : ReaderState) (gives : Bool) (las
       read
 
   pub same_asked : IsSameFile f asked_file
-  same_asked = record {
-    key = refl;
-    ueb = refl;
-    geometry = refl;
-    to = refl;
-    first = refl;
-    end = refl;
-    given = given_stays f asked_file refl refl refl (grow_none f.handout.trees) grow is.groups refl;
-  }
+  same_asked = same_file f asked_file refl refl refl refl refl refl (grow_none f.handout.trees) grow is.groups refl
 
   pub copies_asked : copies asked_file ≡ copies f
   copies_asked = map_set (λ (q : ReaderState). copy_of q) f.readers reader r' r at (λ i. copy (server i) (share i))

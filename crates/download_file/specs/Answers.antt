@@ -11,8 +11,9 @@ use Rattle.request_record.specs.declared.requests.Request.{Request}
 use Rattle.proved_parts.specs.Decoding.{DecodesBlocks}
 use Rattle.download_plan.specs.Plan.{length_of, place_of}
 use Rattle.download_plan.specs.declared.part.Part.TheVariants as parts
-use Rattle.download_source.specs.Blocks.{IsHeld, block_places, joined_block}
+use Rattle.download_source.specs.Blocks.{IsReady, block_places, joined_block}
 use Rattle.download_source.specs.Source.{SourceState}
+use Rattle.download_source.specs.Taking.{IsProved}
 use Rattle.download_segments.specs.Decoding.{blocks_in}
 use Rattle.download_segments.specs.Pieces.{IsSlice}
 use Rattle.download_segments.specs.State.{HandoutState, ProvesSegment}
@@ -95,11 +96,20 @@ HoldsFor entries server share s = (k : ℕ) → k < length s.held
 abbrev pub HoldsAnswers : List Request → ReaderState → Type 0
 HoldsAnswers entries r = HoldsFor entries r.server r.share r.source
 
--- the blocks of a segment that the readers of a group hold decode to what is proved
+-- The block of a segment that a reader holds is the one whose hash its block tree tells.
+pub record HasRightBlock (entries : List Request) (r : ReaderState) (number : ℕ) : Type 0 where
+  pub ready : IsReady r.source number
+  pub proved : IsProved r.source number (block_of entries r.source number)
+
+-- so it is of each of the readers at these places
+abbrev pub HaveRightBlocks : List Request → List ReaderState → List ℕ → ℕ → Type 0
+HaveRightBlocks entries readers places number = (place : ℕ) (r : ReaderState)
+    → Contains places place → slice_get readers place ≡ Some r → HasRightBlock entries r number
+
+-- the blocks of a segment that the readers of a group hold are right, and decode to what is proved
 pub record IsMade (entries : List Request) (h : HandoutState) (readers : List ReaderState)
     (group : GroupState) (number : ℕ) : Type 0 where
-  pub held : (place : ℕ) (r : ReaderState) → Contains group.readers place
-      → slice_get readers place ≡ Some r → IsHeld r.source number
+  pub right : HaveRightBlocks entries readers group.readers number
   pub segment : List ℕ
   pub decodes : DecodesBlocks h.geometry group.decoding.numbers
       (blocks_in h.geometry number (blocks_of entries readers number group.readers))

@@ -1,10 +1,13 @@
 -- How the calls change a file.
-use Rattle.std.specs.Prelude.{◌≡◌, ◌≢◌, ℕ, List}
+use Rattle.std.specs.Prelude.{◌≡◌, ◌≢◌, ◌++◌, ℕ, List, Option, Some, slice_get}
 use Rattle.request_record.specs.declared.requests.Request.{Request}
-use Rattle.download_segments.specs.State.{with_trees}
+use Rattle.merkle.specs.Partial.{PartialState}
+use Rattle.download_trees.specs.Trees.{KnowsAllOf}
+use Rattle.download_source.specs.Source.{SourceState}
+use Rattle.download_segments.specs.State.{TreesGrow, with_trees}
 use Rattle.download_segments.specs.declared.piece.Piece.{Piece}
-use Rattle.download_file.specs.State.{FileState, waiting_at}
-use Rattle.download_file.specs.Answers.{IsGivenBy, IsRead}
+use Rattle.download_file.specs.State.{FileState, ReaderState, waiting_at}
+use Rattle.download_file.specs.Answers.{IsGivenBy, IsMadeSegment, IsRead}
 use Rattle.download_file.specs.Asked.{IsAskedUp}
 
 -- the pieces that it gave are given still
@@ -12,7 +15,42 @@ abbrev pub StaysGiven : FileState → FileState → Type 0
 StaysGiven old new =
     (entries : List Request) (p : Piece) → IsGivenBy entries old p → IsGivenBy entries new p
 
--- It is the same download of the same file, and what it gave stays given.
+-- the segments that it made are made still
+abbrev pub StaysMade : FileState → FileState → Type 0
+StaysMade old new = (entries : List Request) (number : ℕ) (segment : List ℕ)
+    → IsMadeSegment entries old number segment → IsMadeSegment entries new number segment
+
+-- a block tree that is there stays, and what is known of it stays known
+abbrev pub TreeStays : Option PartialState → Option PartialState → Type 0
+TreeStays old new =
+    (p : PartialState) → old ≡ Some p → (q : PartialState) × (new ≡ Some q) × KnowsAllOf p q
+
+-- A source that goes on reads the same parts of the same share. What is known of its block tree
+-- stays known, and what it holds it holds still.
+pub record GoesOn (s t : SourceState) : Type 0 where
+  pub geometry : t.geometry ≡ s.geometry
+  pub start : t.start ≡ s.start
+  pub first : t.first ≡ s.first
+  pub end : t.end ≡ s.end
+  pub tree : TreeStays s.tree t.tree
+  pub more : List ℕ
+  pub held : t.held ≡ s.held ++ more
+
+-- at the same place a reader of the same copy goes on
+pub record GoesOnAt (readers : List ReaderState) (place : ℕ) (r : ReaderState) : Type 0 where
+  pub now : ReaderState
+  pub there : slice_get readers place ≡ Some now
+  pub server : now.server ≡ r.server
+  pub share : now.share ≡ r.share
+  pub source : GoesOn r.source now.source
+
+-- so does each reader
+abbrev pub ReadersGoOn : List ReaderState → List ReaderState → Type 0
+ReadersGoOn old new =
+    (place : ℕ) (r : ReaderState) → slice_get old place ≡ Some r → GoesOnAt new place r
+
+-- It is the same download of the same file: what it made and gave stays, what is known of the trees
+-- stays known, and each reader goes on.
 pub record IsSameFile (old new : FileState) : Type 0 where
   pub key : new.handout.key ≡ old.handout.key
   pub ueb : new.handout.ueb ≡ old.handout.ueb
@@ -20,6 +58,9 @@ pub record IsSameFile (old new : FileState) : Type 0 where
   pub to : new.handout.to ≡ old.handout.to
   pub first : new.first ≡ old.first
   pub end : new.end ≡ old.end
+  pub trees : TreesGrow old.handout.trees new.handout.trees
+  pub readers : ReadersGoOn old.readers new.readers
+  pub made : StaysMade old new
   pub given : StaysGiven old new
 
 -- no more was handed out than the trees tell

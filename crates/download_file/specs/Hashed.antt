@@ -9,7 +9,8 @@ use Rattle.request_record.specs.declared.requests.Request.{Request}
 use Rattle.download_segments.specs.Agreement.{IsGivenIn}
 use Rattle.download_segments.specs.declared.piece.Piece.{Piece}
 use Rattle.download_file.specs.State.{FileState}
-use Rattle.download_file.specs.Answers.{IsGivenBy, IsMadeSegment}
+use Rattle.download_file.specs.Answers.{IsGivenBy, IsMadeSegment, IsRead, KeepsAnswers}
+use Rattle.download_file.specs.Changes.{IsSameFile}
 use Rattle.download_file.specs.Right.{IsFile}
 
 -- This was hashed for the file: a segment that was made, or a node of the ciphertext tree whose
@@ -30,3 +31,8 @@ GivenAreHashed = (entries : List Request) (f : FileState) (p : Piece) (cap : Rea
     (block : List ℕ) → IsFile f → IsGivenBy entries f p → f.handout.key ≡ cap.key
     → IsUebFor (verify_cap_of cap) block f.handout.ueb
     → IsGivenIn (IsHashedWith entries f block) cap block f.handout.ueb p
+
+-- a law: where answers stay and the file goes on, what was hashed for it stays so
+abbrev pub HashedStays : Type 0
+HashedStays = (old new : List Request) (f g : FileState) (input : List ℕ) → KeepsAnswers old new
+    → IsRead old f → IsSameFile f g → IsHashed old f input → IsHashed new g input

@@ -8,13 +8,12 @@ use Rattle.merkle.specs.Partial.{PartialState}
 use Rattle.download_trees.specs.Trees.{RefutesBlock, known_leaf}
 use Rattle.proved_parts.specs.Decoding.{DecodesBlocks}
 use Rattle.download_source.specs.Blocks.{IsHeld, IsReady}
-use Rattle.download_source.specs.Taking.{IsProved}
 use Rattle.download_segments.specs.Decoding.{blocks_in}
 use Rattle.download_segments.specs.Handout.{IsRowWanted, ProvesRow, handed_out, next_segment}
-use Rattle.download_segments.specs.State.{ProvesSegment}
+use Rattle.download_segments.specs.State.{ProvesSegment, RefutesSegment}
 use Rattle.download_file.specs.State.{FileState, IsComplete, IsLive, IsReader, ReaderState}
 use Rattle.download_file.specs.State.{first_place, first_waiting, numbers_of}
-use Rattle.download_file.specs.Answers.{block_of, blocks_of}
+use Rattle.download_file.specs.Answers.{HasRightBlock, HaveRightBlocks, block_of, blocks_of}
 use Rattle.download_file.specs.Asked.{AreAskedUp}
 
 -- something waits of a reader that is read
@@ -92,28 +91,38 @@ pub record RefutesReader (entries : List Request) (f : FileState) (reader : ℕ)
   pub long : length (block_of entries r.source number) ≡ block_length f.handout.geometry number
   pub refuted : RefutesBlock tree number (block_of entries r.source number)
 
--- a piece is made of the next segment, which is proved
-pub record MakesNext (old new : FileState) : Type 0 where
+-- a piece is made of the next segment: the blocks of all that are read are right, and what is made
+-- is proved
+pub record MakesNext (entries : List Request) (old new : FileState) : Type 0 where
   pub number : ℕ
   pub segment : List ℕ
   pub next : next_segment old.handout ≡ Some number
+  pub right : HaveRightBlocks entries old.readers old.live number
   pub proved : ProvesSegment old.handout number segment
   pub handed : new.handout ≡ handed_out old.handout segment
 
 -- pieces of so many segments are made, one after another
-unfoldable pub MakesSegments : ℕ → FileState → FileState → Type 0
-MakesSegments zero old new = new.handout ≡ old.handout
-MakesSegments (suc n) old new =
-    (between : FileState) × MakesSegments n old between × MakesNext between new
+unfoldable pub MakesSegments : List Request → ℕ → FileState → FileState → Type 0
+MakesSegments entries zero old new = new.handout ≡ old.handout
+MakesSegments entries (suc n) old new =
+    (between : FileState) × MakesSegments entries n old between × MakesNext entries between new
 
 -- pieces of the next segment are made, or of the next eight
-abbrev pub MakesPieces : FileState → FileState → Type 0
-MakesPieces old new = MakesNext old new ⊎ MakesSegments 8 old new
+abbrev pub MakesPieces : List Request → FileState → FileState → Type 0
+MakesPieces entries old new = MakesNext entries old new ⊎ MakesSegments entries 8 old new
 
--- The block of a segment that a reader holds is the one whose hash its block tree tells.
-pub record HasRightBlock (entries : List Request) (r : ReaderState) (number : ℕ) : Type 0 where
-  pub ready : IsReady r.source number
-  pub proved : IsProved r.source number (block_of entries r.source number)
+-- As many shares as are needed are read, and all their blocks of the next segment are right. What
+-- they decode to is not the segment whose hash is known.
+pub record IsInconsistent (entries : List Request) (f : FileState) : Type 0 where
+  pub number : ℕ
+  pub next : next_segment f.handout ≡ Some number
+  pub enough : length f.live ≡ f.handout.geometry.needed
+  pub right : HaveRightBlocks entries f.readers f.live number
+  pub segment : List ℕ
+  pub decodes : DecodesBlocks f.handout.geometry (numbers_of f.readers f.live)
+      (blocks_in f.handout.geometry number (blocks_of entries f.readers number f.live))
+      number segment
+  pub refuted : RefutesSegment f.handout number segment
 
 -- Eight segments from this one on are wanted to their ends. As many shares as are needed are read,
 -- and all their blocks are right, and decode to the segments whose hashes are known.

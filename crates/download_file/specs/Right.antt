@@ -1,11 +1,12 @@
 -- What holds of each file that is read.
 use Rattle.std.specs.Prelude.{◌≡◌, ◌≢◌, ℕ, ◌+◌, ◌-◌, ◌/◌, ◌<◌, ◌≤◌, List, [], ◌∷◌, length}
-use Rattle.std.specs.Prelude.{Some, IfSome, All, unwrap_or}
+use Rattle.std.specs.Prelude.{Option, Some, IfSome, All, unwrap_or}
+use Rattle.merkle.specs.Partial.{PartialState}
 use Rattle.download_plan.specs.Plan.{IsNodePiece}
 use Rattle.download_plan.specs.Range.{IsRange}
 use Rattle.download_plan.specs.declared.part.NodePiece.{NodePiece}
 use Rattle.download_plan.specs.declared.part.Part.TheVariants.{CiphertextTree}
-use Rattle.download_trees.specs.Trees.{IsBlockRoot}
+use Rattle.download_trees.specs.Trees.{known_leaf}
 use Rattle.download_source.specs.Asking.{IsAsked, IsReadOf}
 use Rattle.download_source.specs.Cursors.{LeadOn, cursor_at}
 use Rattle.download_source.specs.Laws.{KnowsPiece}
@@ -17,8 +18,12 @@ use Rattle.segment_groups.specs.State.{GroupState}
 use Rattle.download_file.specs.State.{FileState, IsLive, IsReader, ReaderState}
 use Rattle.download_file.specs.State.{giver, numbers_of, waiting_parts}
 
+-- the share tree tells the root of a share's block tree, once that is there
+abbrev pub TellsRoot : PartialState → ℕ → Option PartialState → Type 0
+TellsRoot shares share tree = IfSome tree (λ t. known_leaf shares share ≡ Some t.root)
+
 -- It reads one share of this file, by the plan of the download, from a segment on that is not
--- behind the next. The root of its block tree is the one that the share tree tells.
+-- behind the next. The root of its block tree is the one that the file's share tree tells.
 pub record IsReaderOf (f : FileState) (r : ReaderState) : Type 0 where
   pub source : IsSource r.source
   pub geometry : r.source.geometry ≡ f.handout.geometry
@@ -26,8 +31,7 @@ pub record IsReaderOf (f : FileState) (r : ReaderState) : Type 0 where
   pub end : r.source.end ≡ f.end
   pub begun : (number : ℕ) → next_segment f.handout ≡ Some number → r.source.first ≤ number
   pub share : r.share < f.handout.geometry.total
-  pub root : IfSome r.source.tree (λ tree. IsBlockRoot f.handout.ueb.share_root_hash
-      f.handout.ueb.total_shares r.share tree.root)
+  pub root : TellsRoot f.handout.trees.shares r.share r.source.tree
 
 -- they rise, the first of them at this place or behind it
 abbrev pub RiseFrom : ℕ → List ℕ → Type 0

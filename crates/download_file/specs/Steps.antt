@@ -1,7 +1,7 @@
 -- Words of private clauses: readers and groups of a list.
-use Rattle.std.specs.Prelude.{◌≡◌, ◌≢◌, ◌⊎◌, ℕ, ◌+◌, ◌<◌, ◌≤◌, List, [], ◌∷◌, ◌++◌}
+use Rattle.std.specs.Prelude.{◌≡◌, ◌≢◌, ◌⊎◌, ℕ, ◌<◌, ◌≤◌, List, [], ◌∷◌, ◌++◌}
 use Rattle.std.specs.Prelude.{length, drop, map, Some, None, slice_get, slice_set}
-use Rattle.std.specs.Prelude.{All, Contains, Bool, IfSome, IsSome, is_some, true}
+use Rattle.std.specs.Prelude.{All, Contains, Bool, IsSome, is_some, true}
 use Rattle.merkle.specs.Partial.{PartialState, known_at}
 use Rattle.ueb.specs.Shape.{Contents}
 use Rattle.request_record.specs.declared.requests.Request.{Request}
@@ -13,7 +13,7 @@ use Rattle.download_plan.specs.Plan.{IsNodePiece}
 use Rattle.download_plan.specs.declared.part.NodePiece.{NodePiece}
 use Rattle.download_plan.specs.declared.part.Part.{Part}
 use Rattle.download_plan.specs.declared.part.Part.TheVariants.{CiphertextTree, Data}
-use Rattle.download_trees.specs.Trees.{IsBlockRoot, known_leaf}
+use Rattle.download_trees.specs.Trees.{known_leaf}
 use Rattle.download_source.specs.Asking.{AsksNow, IsAsked, IsReadOf, IsWanted}
 use Rattle.download_source.specs.Asking.{IsWantedCiphertext}
 use Rattle.download_source.specs.Blocks.{IsHeld, IsReady}
@@ -28,7 +28,8 @@ use Rattle.segment_groups.specs.Making.{nth_block}
 use Rattle.segment_groups.specs.State.{GroupState, IsLast, new_group}
 use Rattle.download_file.specs.State.{ReaderState, numbers_of, without}
 use Rattle.download_file.specs.Answers.{HoldsAnswers, IsMade}
-use Rattle.download_file.specs.Right.{IsGroup}
+use Rattle.download_file.specs.Changes.{TreeStays}
+use Rattle.download_file.specs.Right.{IsGroup, TellsRoot}
 use Rattle.download_file.specs.declared.reader.Waiting.{Waiting}
 
 -- each of the readers at these places has the block of a segment, and knows its hash
@@ -189,8 +190,7 @@ pub record IsTaker (h : HandoutState) (a b : ℕ) (r : ReaderState) (w : Waiting
   pub start : r.source.start ≡ a
   pub end : r.source.end ≡ b
   pub share : r.share < h.geometry.total
-  pub root : IfSome r.source.tree (λ tree. IsBlockRoot h.ueb.share_root_hash
-      h.ueb.total_shares r.share tree.root)
+  pub root : TellsRoot h.trees.shares r.share r.source.tree
   pub due : IsDue r.source w.wanted.part
   pub read : IsReadOf r.source w.wanted
 
@@ -213,8 +213,8 @@ pub record TakesPart (h : HandoutState) (r : ReaderState) (taken : List ℕ) (a 
     tree = r'.source.tree;
     held = held_with r.source.held part place;
   }
-  pub root : IfSome r'.source.tree (λ tree. IsBlockRoot h.ueb.share_root_hash
-      h.ueb.total_shares r.share tree.root)
+  pub tree : TreeStays r.source.tree r'.source.tree
+  pub root : TellsRoot h'.trees.shares r.share r'.source.tree
   pub taken_is : taken' ≡ taken_with taken part
 
 -- why no segment is made of these readers' blocks

@@ -13,9 +13,9 @@ ghost use Rattle.download_file.specs.Answers.{AnswersFirst, IsMadeSegment, IsRea
 ghost use Rattle.download_file.specs.Asked.{AsksNoMore, AsksParts, IsAskedUp};
 ghost use Rattle.download_file.specs.Changes.{HandsNothing, IsSameFile, OthersWait, StaysAskedUp};
 ghost use Rattle.download_file.specs.Changes.{StaysRead};
-ghost use Rattle.download_file.specs.Making.{AwaitsRow, CanMakeRow, CanNotGoOn, LacksNext};
-ghost use Rattle.download_file.specs.Making.{MakesNext, MakesPieces, MakesSegments, MustWait};
-ghost use Rattle.download_file.specs.Making.{RefutesReader};
+ghost use Rattle.download_file.specs.Making.{AwaitsRow, CanMakeRow, CanNotGoOn, IsInconsistent};
+ghost use Rattle.download_file.specs.Making.{LacksNext, MakesNext, MakesPieces, MakesSegments};
+ghost use Rattle.download_file.specs.Making.{MustWait, RefutesReader};
 ghost use Rattle.download_file.specs.Right.{IsFile, made_end};
 ghost use Rattle.download_file.specs.State.{IsComplete, IsLive, IsReader, ReaderState};
 ghost use Rattle.download_file.specs.State.{copies, copy, first_waiting, giver, new_file, placed};
@@ -304,13 +304,16 @@ impl File {
     /// while eight are on their way. The record is the one that the answers that were taken are in.
     pub fn make(&mut self, requests: &Requests, patient: bool) -> Result<Made, AllocError>
         requires reads { IsRead requests.now.entries self.old }
-        ensures ready { result ≡ Ok Made.Ready → MakesPieces self.old self.new }
+        ensures ready { result ≡ Ok Made.Ready → MakesPieces requests.now.entries self.old self.new }
         // Eight are made where eight can be made.
         ensures row { CanMakeRow requests.now.entries self.old
-            → IfOk result (λ made. (made ≡ Made.Ready) × MakesSegments 8 self.old self.new) }
+            → IfOk result (λ made. (made ≡ Made.Ready)
+            × MakesSegments requests.now.entries 8 self.old self.new) }
         ensures wrong { (reader : ℕ) → result ≡ Ok (Made.Wrong reader)
             → RefutesReader requests.now.entries self.old reader }
         ensures inconsistent { result ≡ Ok Made.Inconsistent
+            → IsInconsistent requests.now.entries self.new }
+        ensures no_code_word { result ≡ Ok Made.Inconsistent
             → IsNoCodeWord self.old.handout.ueb }
         ensures waits { result ≡ Ok Made.Waits → CanNotGoOn self.old }
         // What is there is made at once.
@@ -341,10 +344,12 @@ impl File {
     // is the one that the answers that were taken are in.
     fn make_next(&mut self, requests: &Requests) -> Result<Made, AllocError>
         requires reads { IsRead requests.now.entries self.old }
-        ensures ready { result ≡ Ok Made.Ready → MakesNext self.old self.new }
+        ensures ready { result ≡ Ok Made.Ready → MakesNext requests.now.entries self.old self.new }
         ensures wrong { (reader : ℕ) → result ≡ Ok (Made.Wrong reader)
             → RefutesReader requests.now.entries self.old reader }
         ensures inconsistent { result ≡ Ok Made.Inconsistent
+            → IsInconsistent requests.now.entries self.new }
+        ensures no_code_word { result ≡ Ok Made.Inconsistent
             → IsNoCodeWord self.old.handout.ueb }
         ensures waits { result ≡ Ok Made.Waits → CanNotGoOn self.old }
         ensures prompt { result ≡ Ok Made.Waits → IsComplete self.old ⊎ LacksNext self.old }
@@ -405,7 +410,7 @@ impl File {
     // answers that were taken are in.
     fn make_row(&mut self, requests: &Requests) -> Result<bool, AllocError>
         requires reads { IsRead requests.now.entries self.old }
-        ensures made { result ≡ Ok true → MakesSegments 8 self.old self.new }
+        ensures made { result ≡ Ok true → MakesSegments requests.now.entries 8 self.old self.new }
         ensures exact { IfOk result (λ made.
             IsTrue made ↔ CanMakeRow requests.now.entries self.old) }
         // Only where they are made is anything handed out.

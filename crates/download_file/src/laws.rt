@@ -1,6 +1,6 @@
 //! Laws of files that are read.
 
-ghost use Rattle.download_file.specs.Hashed.{GivenAreHashed};
+ghost use Rattle.download_file.specs.Hashed.{GivenAreHashed, HashedStays};
 ghost use Rattle.download_file.specs.Laws.{GivenStays, ReadsStay};
 ghost use Rattle.download_file.specs.Whole.{SegmentsAreMadeOnce, WholeFiles};
 
@@ -21,6 +21,12 @@ pub fn given_stays()
 /// contract; the call does nothing.
 pub fn given_are_hashed()
     ensures { GivenAreHashed }
+{}
+
+/// A law of the definitions: where answers stay and the file goes on, what was hashed for it stays
+/// so. The law is the contract; the call does nothing.
+pub fn hashed_stays()
+    ensures { HashedStays }
 {}
 
 /// A law of the definitions: what is made of the blocks of a segment is one thing, however often it

@@ -17,5 +17,7 @@ mod taking;
 mod window;
 
 pub use file::{File, Made};
-pub use laws::{given_are_hashed, given_stays, reads_stay, segments_are_made_once, whole_files};
+pub use laws::{
+    given_are_hashed, given_stays, hashed_stays, reads_stay, segments_are_made_once, whole_files,
+};
 pub use reader::Waiting;

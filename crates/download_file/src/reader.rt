@@ -5,7 +5,7 @@ ghost use Rattle.std.specs.Prelude.{Err, IfOk, IfSome, None, OnErr, OnOk, Some, 
 ghost use Rattle.std.specs.Prelude.{slice_get, slice_set};
 ghost use Rattle.share_layout.specs.Geometry.{segment_count};
 ghost use Rattle.download_plan.specs.Plan.{IsNodePiece, length_of};
-ghost use Rattle.download_trees.specs.Trees.{LeadTo};
+ghost use Rattle.download_trees.specs.Trees.{IsBlockTree};
 ghost use Rattle.download_source.specs.Asking.{IsAsked, OnlyAsks};
 ghost use Rattle.download_source.specs.Cursors.{cursor_at};
 ghost use Rattle.download_source.specs.Source.{IsSource, gives_from, new_source};
@@ -157,7 +157,7 @@ impl Reader {
     /// Takes the block tree that the share hashes tell the root of.
     pub(crate) fn take_tree(&mut self, tree: BlockTree)
         requires due { IsDue self.old.source Part.ShareHashes }
-        requires leads { LeadTo tree tree.root (segment_count self.old.source.geometry) }
+        requires leads { IsBlockTree tree (segment_count self.old.source.geometry) }
         ensures taken { self.new ≡ record self.old {
           source = record (with_taken self.old.source Part.ShareHashes) { tree = Some tree };
           waiting = drop 1 self.old.waiting;

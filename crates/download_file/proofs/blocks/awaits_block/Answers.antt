@@ -1,4 +1,4 @@
-use Rattle.std.proofs.Common.{◌∙◌, true, is_some, subst, sym, get_or}
+use Rattle.std.proofs.Common.{◌∙◌, subst, sym, get_or}
 use Rattle.std.proofs.lemmas.Bool.{true≢false}
 use Rattle.std.proofs.lemmas.List.Elements.{Contains-get_or}
 use Rattle.lemmas.proofs.Places.{got}

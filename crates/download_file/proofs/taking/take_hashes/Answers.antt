@@ -1,6 +1,6 @@
-use Rattle.std.proofs.Common.{◌≡◌, ◌∙◌, ℕ, ap, subst, sym, Err, rules}
+use Rattle.std.proofs.Common.{◌≡◌, ◌∙◌, ℕ, Some, ap, subst, sym, Err, rules}
 use Rattle.download_plan.specs.declared.part.Part.{Part}
-use Rattle.download_trees.specs.Trees.{IsBlockRoot}
+use Rattle.download_trees.specs.Trees.{known_leaf}
 use Rattle.download_trees.specs.declared.error.TreeFault.TheVariants as faults
 use Rattle.download_file.specs.Steps.{TakesPart}
 use Rattle.download_file.specs.Taking.{RefutesPart}
@@ -23,8 +23,8 @@ returns-clause-taken c = λ taken.
     let b = c.args.plan.now.end in
     let w = c.args.first.now in
     let share : c.from-share.result ≡ r.share = c.from-share.ensures ∙ c.share.ensures in
-    let root : IsBlockRoot h.ueb.share_root_hash h.ueb.total_shares r.share c.in_ok-tree.tree.root =
-    subst (λ (n : ℕ). IsBlockRoot h.ueb.share_root_hash h.ueb.total_shares n c.in_ok-tree.tree.root) share c.in_ok-tree.ensures.block_root in
+    let root : known_leaf c.take_share_hashes.new.self.trees.shares r.share ≡ Some c.in_ok-tree.tree.root =
+    subst (λ (n : ℕ). known_leaf c.take_share_hashes.new.self.trees.shares n ≡ Some c.in_ok-tree.tree.root) share c.in_ok-tree.ensures.root in
     subst (λ (q : Part). TakesPart h r taken a b q w.place c.take_share_hashes.new.self c.take_tree.new.self taken) (sym c.requires.part)
-    (took_hashes h r taken a b w c.requires.taker c.take_share_hashes.new.self c.take_tree.new.self c.in_ok-tree.tree
+    (took_hashes h r taken a b w c.requires.taker c.take_share_hashes.new.self c.take_tree.new.self c.in_ok-tree.tree c.requires.part
     c.in_ok-tree.ensures.others c.in_ok-tree.ensures.right c.in_ok-tree.ensures.grow c.in_ok-tree.ensures.ciphertext root c.take_tree.ensures.taken c.take_tree.ensures.right)

@@ -3,8 +3,8 @@ use Rattle.std.specs.declared.alloc.AllocError.{AllocError}
 use Rattle.std.proofs.lemmas.Bool.{false≢true}
 use Rattle.download_segments.specs.NoCodeWord.{IsNoCodeWord}
 use Rattle.download_segments.specs.State.{HandoutState}
+use Rattle.download_file.proofs.GrowLemmas.{same_two}
 use Rattle.download_file.proofs.PatienceLemmas.{awaits_back, makes_back, prompt_back, refutes_back, row_waits, stops_back}
-use Rattle.download_file.proofs.RowFileLemmas.{same_two}
 use Rattle.download_file.proofs.file.File.make.Goals as goal
 
 not_made : (r : Result Bool AllocError) (b : Bool) → r ≡ Ok b → b ≡ false → r ≢ Ok true
@@ -27,7 +27,7 @@ pub returns-clause-ready : goal.returns-clause-ready
 returns-clause-ready c = λ ok.
     let k = c.make_row.ensures in
     let none = not_made c.make_row.result c.in_ok-make_row.field-0 c.in_ok-make_row.was c.if-branch.false in
-    inl (makes_back c.args.self.now c.make_row.new.self (k.same_handout none) k.live k.readers c.make_next.new.self (c.make_next.ensures.ready ok))
+    inl (makes_back c.args.self.now c.make_row.new.self (k.same_handout none) k.live k.readers c.args.requests.now.entries c.make_next.new.self (c.make_next.ensures.ready ok))
 
 pub returns-clause-wrong : goal.returns-clause-wrong
 returns-clause-wrong c = λ reader is.
@@ -36,9 +36,12 @@ returns-clause-wrong c = λ reader is.
     refutes_back c.args.self.now c.make_row.new.self (k.same_handout none) k.live k.readers c.args.requests.now.entries reader (c.make_next.ensures.wrong reader is)
 
 pub returns-clause-inconsistent : goal.returns-clause-inconsistent
-returns-clause-inconsistent c = λ is.
+returns-clause-inconsistent c = c.make_next.ensures.inconsistent
+
+pub returns-clause-no_code_word : goal.returns-clause-no_code_word
+returns-clause-no_code_word c = λ is.
     let none = not_made c.make_row.result c.in_ok-make_row.field-0 c.in_ok-make_row.was c.if-branch.false in
-    subst (λ (h : HandoutState). IsNoCodeWord h.ueb) (c.make_row.ensures.same_handout none) (c.make_next.ensures.inconsistent is)
+    subst (λ (h : HandoutState). IsNoCodeWord h.ueb) (c.make_row.ensures.same_handout none) (c.make_next.ensures.no_code_word is)
 
 pub returns-clause-waits : goal.returns-clause-waits
 returns-clause-waits c = λ is.

@@ -21,7 +21,7 @@ use Rattle.download_file.specs.Right.{IsFile, IsGroup}
 use Rattle.download_file.specs.Steps.{AreProved, AreReady, BeginsGroup, HasAll, HasBlock, IsWrong, LacksSome}
 use Rattle.download_file.proofs.GrowLemmas.{same_itself}
 use Rattle.download_file.proofs.WaitLemmas.{cannot, complete, lacks_next}
-use Rattle.download_file.proofs.MakeLemmas.{all_long, is_no_code_word, live_blocks, live_numbers, refutes_reader}
+use Rattle.download_file.proofs.MakeLemmas.{all_long, inconsistent_with, is_no_code_word, live_blocks, live_numbers, refutes_reader, right_blocks}
 use Rattle.download_file.proofs.SegmentLemmas.{HasGroups, HasLast, HasMade, has_groups, has_last, has_made}
 use Rattle.download_file.proofs.file.File.make_next.Goals as goal
 
@@ -479,6 +479,49 @@ returns-then-not-branch-clause-inconsistent c = λ _.
     let k : RefutesBlocks f.handout c.begin_group.new.groups.items number joined = c.in_ok-make_segment.ensures.refuted (ap Ok c.if-not-branch.true) in
     let own : IsGroup f.handout f.readers k.group = All-contains (IsGroup f.handout f.readers) c.begin_group.new.groups.items k.group last.groups_are (contains_at c.begin_group.new.groups.items _ k.group k.last) in
     let numbers : k.group.decoding.numbers ≡ numbers_of f.readers f.live = own.numbers ∙ ap (numbers_of f.readers) (last.last k.group k.last) in
+    inconsistent_with entries f number joined k.segment k.group.decoding.numbers c.make_segment.new.handout c.make_segment.new.groups.items next all.enough
+    (right_blocks entries f number size is read (next_within f.handout number is.handout next) size_is all.ready joined (c.deref-10.ensures.value ∙ joins) proved)
+    (c.deref-10.ensures.value ∙ joins) numbers (subst (λ (g : Geometry). DecodesBlocks g k.group.decoding.numbers (blocks_in g number joined) number k.segment) own.geometry k.decodes) k.refuted
+    (c.in_ok-make_segment.ensures.same (λ e. true≢false (let k : c.in_ok-make_segment.field-0 ≡ true = cc in sym k ∙ c.if-not-branch.true))).0
+
+pub returns-then-not-branch-clause-no_code_word : goal.returns-then-not-branch-clause-no_code_word
+returns-then-not-branch-clause-no_code_word c = λ _.
+    let entries = c.args.requests.now.entries in
+    let f : FileState = record {
+      handout = c.self.inside.handout;
+      first = c.self.inside.plan.first;
+      end = c.self.inside.plan.end;
+      taken = c.self.inside.taken;
+      readers = c.self.inside.readers.items;
+      live = c.self.inside.live.items;
+      groups = c.self.inside.groups.items;
+    } in
+    let is : IsFile f = c.self.invariant.0 in
+    let number : ℕ = c.in-Some.number in
+    let next : next_segment f.handout ≡ Some number = sym c.in-Some.ensures.value in
+    let read : IsRead entries f = subst (IsRead entries) (sym c.self.view_is) c.requires.reads in
+    let all : HasAll f.handout f.readers f.live number =
+    subst (λ (l : List ℕ). HasAll f.handout f.readers l number) c.deref-2.ensures.value
+    (subst (λ (rs : List ReaderState). HasAll f.handout rs c.deref-2.result.now number) c.deref.ensures.value (c.has_all.ensures.yes c.if-not-has_all.false)) in
+    let size : ℕ = c.block_length-size.result in
+    let size_is : size ≡ block_length f.handout.geometry number = c.block_length-size.ensures.value ∙ ap (λ (g : Geometry). block_length g number) c.self.invariant.1 in
+    let joins : c.in_ok-joined.joined.items ≡ blocks_of entries f.readers number f.live =
+    c.in_ok-joined.ensures ∙ (λ i. blocks_of entries (c.deref-3.ensures.value i) number (c.deref-4.ensures.value i)) in
+    let begins : BeginsGroup f.groups f.handout.geometry f.readers f.live number c.begin_group.new.groups.items =
+    subst (λ (g : Geometry). BeginsGroup f.groups g f.readers f.live number c.begin_group.new.groups.items) c.self.invariant.1
+    (subst (λ (l : List ℕ). BeginsGroup f.groups c.self.inside.plan.geometry f.readers l number c.begin_group.new.groups.items) c.deref-9.ensures.value
+    (subst (λ (rs : List ReaderState). BeginsGroup f.groups c.self.inside.plan.geometry rs c.deref-9.result.now number c.begin_group.new.groups.items) c.deref-8.ensures.value
+    c.in_ok-begin_group.ensures.begins)) in
+    let last : HasLast f number c.begin_group.new.groups.items = has_last f number c.begin_group.new.groups.items is next all.enough begins in
+    let joined : List ℕ = c.deref-10.result.now in
+    let passed : AreProved c.deref-5.result.now c.deref-6.result.now number c.deref-7.result.now size (length c.deref-6.result.now) = c.in_default-find_wrong.ensures.right refl in
+    let proved : AreProved f.readers f.live number joined size (length f.live) =
+    subst (λ (l : List ℕ). AreProved f.readers f.live number l size (length f.live)) (c.deref-7.ensures.value ∙ sym c.deref-10.ensures.value)
+    (subst (λ (l : List ℕ). AreProved f.readers l number c.deref-7.result.now size (length l)) c.deref-6.ensures.value
+    (subst (λ (rs : List ReaderState). AreProved rs c.deref-6.result.now number c.deref-7.result.now size (length c.deref-6.result.now)) c.deref-5.ensures.value passed)) in
+    let k : RefutesBlocks f.handout c.begin_group.new.groups.items number joined = c.in_ok-make_segment.ensures.refuted (ap Ok c.if-not-branch.true) in
+    let own : IsGroup f.handout f.readers k.group = All-contains (IsGroup f.handout f.readers) c.begin_group.new.groups.items k.group last.groups_are (contains_at c.begin_group.new.groups.items _ k.group k.last) in
+    let numbers : k.group.decoding.numbers ≡ numbers_of f.readers f.live = own.numbers ∙ ap (numbers_of f.readers) (last.last k.group k.last) in
     subst (λ (s : FileState). IsNoCodeWord s.handout.ueb) c.self.view_is
     (is_no_code_word entries f number size is read (next_within f.handout number is.handout next) size_is all.ready joined (c.deref-10.ensures.value ∙ joins) proved k.group.decoding.numbers k.segment numbers
     (subst (λ (g : Geometry). AreShareNumbers g k.group.decoding.numbers) own.geometry own.decoding)
@@ -526,8 +569,14 @@ at_made c =
     (subst (λ (rs : List ReaderState). BeginsGroup f.groups c.self.inside.plan.geometry rs c.deref-9.result.now number c.begin_group.new.groups.items) c.deref-8.ensures.value
     c.in_ok-begin_group.ensures.begins)) in
     let last : HasLast f number c.begin_group.new.groups.items = has_last f number c.begin_group.new.groups.items is next all.enough begins in
+    let passed : AreProved c.deref-5.result.now c.deref-6.result.now number c.deref-7.result.now size (length c.deref-6.result.now) = c.in_default-find_wrong.ensures.right refl in
+    let proved : AreProved f.readers f.live number c.deref-10.result.now size (length f.live) =
+    subst (λ (l : List ℕ). AreProved f.readers f.live number l size (length f.live)) (c.deref-7.ensures.value ∙ sym c.deref-10.ensures.value)
+    (subst (λ (l : List ℕ). AreProved f.readers l number c.deref-7.result.now size (length l)) c.deref-6.ensures.value
+    (subst (λ (rs : List ReaderState). AreProved rs c.deref-6.result.now number c.deref-7.result.now size (length c.deref-6.result.now)) c.deref-5.ensures.value passed)) in
     subst (λ (s : FileState). HasMade entries s (made c)) c.self.view_is
-    (has_made entries f number c.begin_group.new.groups.items c.make_segment.new.groups.items c.deref-10.result.now is read next last all.ready
+    (has_made entries f number c.begin_group.new.groups.items c.make_segment.new.groups.items c.deref-10.result.now is read next last
+    (right_blocks entries f number size is read (next_within f.handout number is.handout next) size_is all.ready c.deref-10.result.now (c.deref-10.ensures.value ∙ joins) proved)
     (c.deref-10.ensures.value ∙ joins) c.make_segment.new.handout c.make_segment.ensures.right (c.in_ok-make_segment.ensures.made (ap Ok c.if-not-branch.false)))
 
 pub invariant_of-self-2 : goal.invariant_of-self-2

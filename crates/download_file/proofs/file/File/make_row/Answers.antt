@@ -197,9 +197,14 @@ at_end c =
     let last : HasLast f number c.begin_group.new.groups.items = has_last f number c.begin_group.new.groups.items k.is k.next (row_enough entries f number size k) begins in
     let joined : IsRow entries f.readers number f.live (map (λ r. r.items) c.deref-10.result.now) =
     subst (λ (l : List (Vec ℕ Global)). IsRow entries f.readers number f.live (map (λ r. r.items) l)) (sym c.deref-10.ensures.value) joins in
+    let right : AreRowsProved f.readers f.live number (map (λ r. r.items) c.deref-10.result.now) size (length f.live) =
+    subst (λ (l : List (Vec ℕ Global)). AreRowsProved f.readers f.live number (map (λ r. r.items) l) size (length f.live)) (c.deref-7.ensures.value ∙ sym c.deref-10.ensures.value)
+    (subst (λ (l : List ℕ). AreRowsProved f.readers l number (map (λ r. r.items) c.deref-7.result.now) size (length l)) c.deref-6.ensures.value
+    (subst (λ (rs : List ReaderState). AreRowsProved rs c.deref-6.result.now number (map (λ r. r.items) c.deref-7.result.now) size (length c.deref-6.result.now)) c.deref-5.ensures.value
+    (c.are_right.ensures.0 c.if-not-are_right.false))) in
     subst (λ (s : FileState). HasEndedRow entries c.make_segments.result s (ended c)) c.self.view_is
     (has_ended_row entries f number size c.begin_group.new.groups.items c.make_segments.new.groups.items (map (λ r. r.items) c.deref-10.result.now) c.make_segments.new.handout
-    c.make_segments.result k last joined c.make_segments.ensures.made c.make_segments.ensures.same)
+    c.make_segments.result k last joined right c.make_segments.ensures.made c.make_segments.ensures.same)
 
 pub invariant_of-self-2 : goal.invariant_of-self-2
 invariant_of-self-2 c =
