@@ -115,7 +115,7 @@ module _ (g : Goal) where
             servers_once = best.matching.servers_once;
             shares_once = best.matching.shares_once;
           } in
-          omega (arith, best.largest pairs then, unhappy.largest.largest (is.m1 ++ is.m2 ++ p.m3) own, unhappy.reaches, unhappy.few)
+          omega (arith, best.largest pairs then, unhappy.happiness.largest.largest (is.m1 ++ is.m2 ++ p.m3) own, unhappy.reaches, unhappy.few)
         where
           first : (q : Pair) → Contains is.m1 q → Contains (acked_pairs g before) q
           first q c = (from_filter (λ (x : Pair). is_member eqb (readonly_servers g before) x.0) (acked_pairs g before) q (All-contains (Contains (held_by (readonly_servers g before) (acked_pairs g before))) is.m1 q is.plan.first_largest.matching.given c)).0
@@ -151,7 +151,7 @@ drop_front [] ys = refl
 drop_front (x ∷ xs) ys = drop_front xs ys
 
 not_enough : (g : Goal) (wanted : ℕ) (es : List Request) (reached : ℕ) (blocking : List ℕ) → IsUnhappy g wanted es reached blocking → HasEnough g wanted es → ⊥
-not_enough g wanted es reached blocking u enough = absurd (omega (arith, u.largest.largest enough.0 enough.1, u.reaches, u.few, enough.2))
+not_enough g wanted es reached blocking u enough = absurd (omega (arith, u.happiness.largest.largest enough.0 enough.1, u.reaches, u.few, enough.2))
 
 module _ (g : Goal) (wanted reached : ℕ) (blocking : List ℕ) where
   -- nothing is left to place

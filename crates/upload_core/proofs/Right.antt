@@ -10,7 +10,7 @@ use Rattle.wire.specs.declared.message.Message.{Message}
 use Rattle.request_record.specs.declared.requests.Asked.{Asked}
 use Rattle.request_record.specs.declared.requests.Asked.TheVariants.{Holdings, Allocation, Writing, Closing, Reading, Aborting}
 use Rattle.request_record.specs.declared.requests.Request.{Request}
-use Rattle.request_record.specs.Record.{RequestsState, asked_all, counts_at}
+use Rattle.request_record.specs.Record.{IsRecord, RequestsState, asked_all, counts_at}
 use Rattle.request_record.specs.Asking.{AreApart, AsksOnce, after_message, after_tick, begun, lost_by_tick}
 use Rattle.upload_core.specs.declared.status.ServerInfo.{ServerInfo}
 use Rattle.upload_core.specs.declared.status.UploadStatus.{UploadStatus}
@@ -21,11 +21,11 @@ use Rattle.upload_core.specs.State.{Goal, UploadState, with_record}
 use Rattle.upload_core.specs.Right.{IsRight}
 use Rattle.upload_core.specs.Moves.{Advances, AdvancesAt, Begins, GoesOn, TicksOn, TicksWith, all_follow_ups, ends, follow_ups_at, initial, places, waits}
 use Rattle.upload_core.specs.Sending.{one_sent}
-use Rattle.upload_core.specs.Course.{CanGoOn, IsCourse, IsInside, IsKept, IsRound, asked_servers, is_holdings}
+use Rattle.upload_core.specs.Course.{CanGoOn, IsCourse, IsInside, IsKept, IsRound, Stands, asked_servers, is_holdings}
 use Rattle.upload_core.specs.Trails.{AreFollowed, rank_of, share_of}
 use Rattle.upload_core.proofs.Followed.{inside_at, followed_message, followed_placed, followed_tick}
 use Rattle.upload_core.proofs.Goes.{followed_begun}
-use Rattle.upload_core.proofs.Stands.{Stands, ended_stands, goes_stand, is_running, same_entries, stands_failed, stands_sent, waits_stands}
+use Rattle.upload_core.proofs.Stands.{ended_stands, goes_stand, is_running, same_entries, stands_failed, stands_sent, waits_stands}
 use Rattle.upload_core.proofs.Counts.{message_settled, tick_settled}
 use Rattle.upload_core.proofs.Placings.{round_message, round_placed, round_tick}
 use Rattle.request_record.proofs.RecordLaws.{count_ticked}
@@ -188,41 +188,41 @@ module _ (now : ℕ) (old new : UploadState) (stands : Stands old) (kept : IsKep
 
 -- ---- the calls
 
--- an upload is right, and what is kept of it holds
-pub record IsFine (u : UploadState) : Type 0 where
-  pub right : IsRight u
-  pub kept : IsKept u
+kept_of : (u : UploadState) → Stands u → IsCourse u → (u.status ≡ Running → CanGoOn u) → IsKept u
+kept_of u stands course going = record { course = course; stands = stands; going = going }
 
-stands_of : (u : UploadState) → IsRight u → Stands u
-stands_of u right = record { works = right.works; settled = right.settled; over = right.over; hopeless = right.hopeless }
-
-fine_of : (u : UploadState) → Stands u → IsCourse u → (u.status ≡ Running → CanGoOn u) → IsFine u
-fine_of u stands course going = record {
-  right = record { works = stands.works; once = once_of u course; settled = stands.settled; over = stands.over; hopeless = stands.hopeless };
-  kept = record { course = course; going = going };
+-- an upload is right by what is kept of it, and by its record
+pub right_of : (u : UploadState) → IsKept u → IsRecord u.requests → IsRight u
+right_of u kept recorded = record {
+  works = kept.stands.works;
+  once = once_of u kept.course;
+  recorded = recorded;
+  settled = kept.stands.settled;
+  over = kept.stands.over;
+  hopeless = kept.stands.hopeless;
 }
 
 pub course_status : (u : UploadState) (status : UploadStatus) → IsCourse u → IsCourse (record u { status = status })
 course_status u status c = record { few = c.few; distinct = c.distinct; inside = c.inside; of_told = c.of_told; trails = c.trails; begun = c.begun }
 
-pub begins_fine : (goal : Goal) (happy : ℕ) (servers : List ServerInfo) (session now : ℕ) (u : UploadState) → Begins goal happy servers session now u → IsCourse u → IsFine u
-begins_fine goal happy servers session now u b c = let moves = begins_moves goal happy servers session now u b c in fine_of u moves.stands c moves.going
+pub begins_kept : (goal : Goal) (happy : ℕ) (servers : List ServerInfo) (session now : ℕ) (u : UploadState) → Begins goal happy servers session now u → IsCourse u → IsKept u
+begins_kept goal happy servers session now u b c = let moves = begins_moves goal happy servers session now u b c in kept_of u moves.stands c moves.going
 
-pub failed_fine : (u : UploadState) (fault : PieceFault) → IsCourse u → IsFine (record u { status = Failed fault })
-failed_fine u fault c = fine_of (record u { status = Failed fault }) (stands_failed u fault) (course_status u (Failed fault) c) (λ is. absurd cc)
+pub failed_kept : (u : UploadState) (fault : PieceFault) → IsCourse u → IsKept (record u { status = Failed fault })
+failed_kept u fault c = kept_of (record u { status = Failed fault }) (stands_failed u fault) (course_status u (Failed fault) c) (λ is. absurd cc)
 
-pub sent_fine : (u : UploadState) → IsRight u → IsKept u → IsFine (with_record u (one_sent u.requests))
-sent_fine u right kept =
+pub sent_kept : (u : UploadState) → IsKept u → IsKept (with_record u (one_sent u.requests))
+sent_kept u kept =
     let c = kept.course in
-    fine_of (with_record u (one_sent u.requests)) (stands_sent u (stands_of u right)) (record { few = c.few; distinct = c.distinct; inside = c.inside; of_told = c.of_told; trails = c.trails; begun = c.begun }) (λ is. let can = kept.going is in record { followed = can.followed; rounds = can.rounds })
+    kept_of (with_record u (one_sent u.requests)) (stands_sent u kept.stands) (record { few = c.few; distinct = c.distinct; inside = c.inside; of_told = c.of_told; trails = c.trails; begun = c.begun }) (λ is. let can = kept.going is in record { followed = can.followed; rounds = can.rounds })
 
 -- a step that went on, or found no memory
 module _ {X E : Type 0} (mid new : UploadState) (c : IsCourse new) where
-  step_fine : (r : Result X E) → OnOk r (IsCourse mid → Moves mid) → OnOk r (new ≡ mid) → OnErr r (new ≡ record mid { status = Failed OutOfMemory }) → IsFine new
-  step_fine (Ok x) f e n =
+  step_kept : (r : Result X E) → OnOk r (IsCourse mid → Moves mid) → OnOk r (new ≡ mid) → OnErr r (new ≡ record mid { status = Failed OutOfMemory }) → IsKept new
+  step_kept (Ok x) f e n =
       let moves : Moves new = subst Moves (sym e) (f (subst IsCourse e c)) in
-      fine_of new moves.stands c moves.going
-  step_fine (Err x) f e n = fine_of new (subst Stands (sym n) (stands_failed mid OutOfMemory)) c (λ is. absurd (failed_runs OutOfMemory (sym (ap (λ (u : UploadState). u.status) n) ∙ is)))
+      kept_of new moves.stands c moves.going
+  step_kept (Err x) f e n = kept_of new (subst Stands (sym n) (stands_failed mid OutOfMemory)) c (λ is. absurd (failed_runs OutOfMemory (sym (ap (λ (u : UploadState). u.status) n) ∙ is)))
     where
       failed_runs : (fault : PieceFault) → Failed fault ≡ Running → ⊥
       failed_runs fault e = cc
@@ -231,8 +231,8 @@ module _ {X E : Type 0} (mid new : UploadState) (c : IsCourse new) where
   step_goal (Ok x) e n = ap (λ (u : UploadState). u.goal) e
   step_goal (Err x) e n = ap (λ (u : UploadState). u.goal) n
 
-  pub message_fine : (r : Result X E) (from : ℕ) (m : Message) (now : ℕ) (old : UploadState) → OnOk r (Advances from m now old mid) → OnOk r (new ≡ mid) → OnErr r (new ≡ record mid { status = Failed OutOfMemory }) → IsRight old → IsKept old → IsFine new
-  message_fine r from m now old a e n right kept = step_fine r (on_ok r (Advances from m now old mid) (IsCourse mid → Moves mid) (λ moves course. message_moves from m now old mid (stands_of old right) kept course moves) a) e n
+  pub message_kept : (r : Result X E) (from : ℕ) (m : Message) (now : ℕ) (old : UploadState) → OnOk r (Advances from m now old mid) → OnOk r (new ≡ mid) → OnErr r (new ≡ record mid { status = Failed OutOfMemory }) → IsKept old → IsKept new
+  message_kept r from m now old a e n kept = step_kept r (on_ok r (Advances from m now old mid) (IsCourse mid → Moves mid) (λ moves course. message_moves from m now old mid kept.stands kept course moves) a) e n
 
-  pub tick_fine : (r : Result X E) (now : ℕ) (old : UploadState) → OnOk r (TicksOn now old mid) → OnOk r (new ≡ mid) → OnErr r (new ≡ record mid { status = Failed OutOfMemory }) → IsRight old → IsKept old → IsFine new
-  tick_fine r now old a e n right kept = step_fine r (on_ok r (TicksOn now old mid) (IsCourse mid → Moves mid) (λ moves course. tick_moves now old mid (stands_of old right) kept course moves) a) e n
+  pub tick_kept : (r : Result X E) (now : ℕ) (old : UploadState) → OnOk r (TicksOn now old mid) → OnOk r (new ≡ mid) → OnErr r (new ≡ record mid { status = Failed OutOfMemory }) → IsKept old → IsKept new
+  tick_kept r now old a e n kept = step_kept r (on_ok r (TicksOn now old mid) (IsCourse mid → Moves mid) (λ moves course. tick_moves now old mid kept.stands kept course moves) a) e n

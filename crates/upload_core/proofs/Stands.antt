@@ -11,19 +11,12 @@ use Rattle.upload_core.specs.declared.pieces.PieceFault.{PieceFault}
 use Rattle.upload_core.specs.State.{Goal, UploadState, with_record}
 use Rattle.upload_core.specs.Rounds.{EndsAs, IsHopeless, IsSettled}
 use Rattle.upload_core.specs.Right.{has_ended}
-use Rattle.upload_core.specs.Course.{CanGoOn, IsCourse}
+use Rattle.upload_core.specs.Course.{CanGoOn, IsCourse, Stands}
 use Rattle.upload_core.proofs.Counts.{count_allocations}
 use Rattle.upload_core.proofs.Hopeless.{hopeless_end}
 use Rattle.upload_core.specs.declared.status.ServerInfo.{ServerInfo}
 use Rattle.upload_core.specs.Moves.{AreInOrder, Begins, GoesOn, ends, initial, places, waits}
 use Rattle.upload_core.specs.Sending.{one_sent}
-
--- how an upload stands: what holds of it by its status
-pub record Stands (u : UploadState) : Type 0 where
-  pub works : u.status ≡ Running → 0 < outstanding_count u.requests.entries
-  pub settled : has_ended u.status ≡ true → IsSettled u.requests.entries
-  pub over : has_ended u.status ≡ true → EndsAs u.goal u.wanted u.requests.entries u.status
-  pub hopeless : (reached : ℕ) (blocking : List ℕ) → u.status ≡ Unhappy reached blocking → IsHopeless u.goal u.wanted u.requests.entries
 
 ends_running : (g : Goal) (wanted : ℕ) (es : List Request) (s : UploadStatus) → EndsAs g wanted es s → s ≡ Running → ⊥
 ends_running g wanted es s e is = subst (EndsAs g wanted es) is e

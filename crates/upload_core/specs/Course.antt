@@ -8,16 +8,18 @@ use Rattle.request_record.specs.declared.requests.Asked.TheVariants.{Holdings, A
 use Rattle.request_record.specs.declared.requests.Asked.TheVariants.{Closing}
 use Rattle.request_record.specs.declared.requests.Asked.TheVariants.{Reading, Aborting}
 use Rattle.request_record.specs.declared.requests.Request.{Request}
+use Rattle.request_record.specs.Record.{outstanding_count}
 use Rattle.wire.specs.Limits.{most_data}
 use Rattle.placement.specs.Matching.{IsLargestMatching, Pair}
 use Rattle.placement.specs.Plan.{placeable}
 use Rattle.upload_core.specs.declared.status.UploadStatus.{UploadStatus}
-use Rattle.upload_core.specs.declared.status.UploadStatus.TheVariants.{Running}
+use Rattle.upload_core.specs.declared.status.UploadStatus.TheVariants.{Running, Unhappy}
 use Rattle.upload_core.specs.State.{Goal, UploadState}
 use Rattle.upload_core.specs.Acknowledged.{acked_pairs}
 use Rattle.upload_core.specs.Trails.{AreFollowed, AreTrails, IsAbout, IsNew}
-use Rattle.upload_core.specs.Rounds.{EndsAs, IsPlacing, IsSettled, Placing, has_answered_as}
-use Rattle.upload_core.specs.Rounds.{writable_servers}
+use Rattle.upload_core.specs.Right.{has_ended}
+use Rattle.upload_core.specs.Rounds.{EndsAs, IsHopeless, IsPlacing, IsSettled, Placing}
+use Rattle.upload_core.specs.Rounds.{has_answered_as, writable_servers}
 
 abbrev pub is_holdings : Asked → Bool
 is_holdings Holdings = true
@@ -122,7 +124,16 @@ pub record CanGoOn (u : UploadState) : Type 0 where
   pub followed : AreFollowed u.goal u.requests.entries
   pub rounds : (u.round ≡ 0) ⊎ IsRound u.goal u.round u.requests.entries
 
+-- what holds of an upload by its status
+pub record Stands (u : UploadState) : Type 0 where
+  pub works : u.status ≡ Running → 0 < outstanding_count u.requests.entries
+  pub settled : has_ended u.status ≡ true → IsSettled u.requests.entries
+  pub over : has_ended u.status ≡ true → EndsAs u.goal u.wanted u.requests.entries u.status
+  pub hopeless : (reached : ℕ) (blocking : List ℕ) → u.status ≡ Unhappy reached blocking
+      → IsHopeless u.goal u.wanted u.requests.entries
+
 -- what is kept of each upload
 pub record IsKept (u : UploadState) : Type 0 where
   pub course : IsCourse u
+  pub stands : Stands u
   pub going : u.status ≡ Running → CanGoOn u

@@ -11,7 +11,7 @@ use Rattle.request_record.specs.declared.requests.Outcome.{Outcome}
 use Rattle.request_record.specs.declared.requests.Outcome.TheVariants.{Answered}
 use Rattle.request_record.specs.declared.requests.Request.{Request}
 use Rattle.request_record.specs.Record.{RequestsState, outstanding_count}
-use Rattle.placement.specs.Matching.{Pair, IsMatching, IsLargestMatching, IsBlockedBy}
+use Rattle.placement.specs.Matching.{Pair, IsHappiness, IsLargestMatching, IsMatching}
 use Rattle.placement.specs.Plan.{IsPlan, placeable}
 use Rattle.upload_core.specs.declared.status.UploadStatus.{UploadStatus}
 use Rattle.upload_core.specs.declared.status.UploadStatus.TheVariants.{Running, Happy}
@@ -97,7 +97,7 @@ IsOver u r =
     ⊎ ((p : Placing) × IsPlacing u.goal r.entries p × (transfers_of u.goal p ≡ []))
 
 -- A largest matching of the acknowledged pairs, as many as wanted; or their happiness, and a
--- blocking set of a largest matching.
+-- blocking set of a largest matching: servers of acknowledged pairs, each once.
 pub record IsHappy (g : Goal) (wanted : ℕ) (entries : List Request) (pairs : List Pair)
     : Type 0 where
   pub largest : IsLargestMatching (acked_pairs g entries) pairs
@@ -107,9 +107,8 @@ pub record IsUnhappy (g : Goal) (wanted : ℕ) (entries : List Request) (reached
     (blocking : List ℕ) : Type 0 where
   pub few : reached < wanted
   pub pairs : List Pair
-  pub largest : IsLargestMatching (acked_pairs g entries) pairs
+  pub happiness : IsHappiness (acked_pairs g entries) pairs blocking
   pub reaches : length pairs ≡ reached
-  pub blocked : IsBlockedBy blocking (acked_pairs g entries) pairs
 
 -- No placing would be enough: the acknowledged pairs with all pairs of shares and of servers that
 -- take shares and did not fail have no matching of as many as wanted.

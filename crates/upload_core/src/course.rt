@@ -5,7 +5,7 @@ ghost use Rattle.std.specs.Prelude.{IsTrue, OnErr, OnOk, Some};
 ghost use Rattle.std.specs.Prelude.{length, map, nat_eq, nat_lt, slice_get, take};
 ghost use Rattle.std.specs.List.{IsDistinct};
 ghost use Rattle.request_record.specs.Asking.{message_at};
-ghost use Rattle.request_record.specs.Record.{asked_all};
+ghost use Rattle.request_record.specs.Record.{IsRecord, asked_all};
 ghost use Rattle.placement.specs.Matching.{IsHappiness, shares_of};
 ghost use Rattle.upload_core.specs.declared.pieces.PieceFault.TheVariants.{OutOfMemory};
 ghost use Rattle.upload_core.specs.declared.status.ServerInfo.{ServerInfo};
@@ -134,7 +134,9 @@ impl Course {
     pub(crate) fn status(&self) -> &UploadStatus
         ensures value { result.now ≡ self.now.status }
         ensures right { IsCourse self.now }
+        ensures recorded { IsRecord self.now.requests }
     {
+        let _ = self.requests.entries();
         &self.status
     }
 

@@ -30,7 +30,6 @@ pub struct Upload<P: Pieces + Drop> {
 impl<P: Pieces + Drop> Model for Upload<P> {
     ghost use Rattle.std.specs.Prelude.{◌≡◌};
     ghost use Rattle.upload_core.specs.Course.{IsKept};
-    ghost use Rattle.upload_core.specs.Right.{IsRight};
     ghost use Rattle.upload_core.specs.Sending.{Uploading};
 
     ghost Value = { Uploading P };
@@ -40,7 +39,6 @@ impl<P: Pieces + Drop> Model for Upload<P> {
     ghost invariant = { λ u.
         (P.digests u.pieces ≡ u.course.goal.digests)
         × (P.share_length u.pieces ≡ u.course.goal.share_length)
-        × IsRight u.course
         × IsKept u.course };
 }
 

@@ -1,10 +1,9 @@
 use Rattle.std.proofs.Common.{◌≡◌, Some, sym, ap, subst, ◌∙◌}
 use Rattle.upload_core.specs.declared.status.UploadStatus.TheVariants.{Failed}
 use Rattle.upload_core.specs.State.{UploadState, with_record}
-use Rattle.upload_core.specs.Right.{IsRight}
 use Rattle.upload_core.specs.Course.{IsKept}
 use Rattle.upload_core.specs.Sending.{AsksAt, IsBody, Uploading, first_to_send, one_sent}
-use Rattle.upload_core.proofs.Right.{failed_fine, sent_fine}
+use Rattle.upload_core.proofs.Right.{failed_kept, sent_kept}
 use Rattle.upload_core.proofs.Sends.{ceases_now, sends_first}
 use Rattle.upload_core.proofs.upload.Upload.take_outgoing.Goals as goal
 
@@ -31,21 +30,19 @@ returns-in-Err-clause-ok g c =
 pub invariant_of-self : goal.invariant_of-self
 invariant_of-self g c =
     let u : UploadState = c.self-2.inside.course in
-    let fine = sent_fine u c.self-2.invariant.2 c.self-2.invariant.3 in
+    let kept = sent_kept u c.self-2.invariant.2 in
     let sent : c.send.new.self ≡ with_record u (one_sent u.requests) = c.send.ensures.sent in (
       c.self-2.invariant.0 ∙ ap (λ (x : UploadState). x.goal.digests) (sym sent),
       c.self-2.invariant.1 ∙ ap (λ (x : UploadState). x.goal.share_length) (sym sent),
-      subst IsRight (sym sent) fine.right,
-      subst IsKept (sym sent) fine.kept,
+      subst IsKept (sym sent) kept,
     )
 
 pub invariant_of-self-in-Err : goal.invariant_of-self-in-Err
 invariant_of-self-in-Err g c =
     let u : UploadState = c.self-2.inside.course in
-    let fine = failed_fine u c.in-Err.fault c.self-2.invariant.3.course in
+    let kept = failed_kept u c.in-Err.fault c.self-2.invariant.2.course in
     let failed : c.fail.new.self ≡ record u { status = Failed c.in-Err.fault } = c.fail.ensures in (
       c.self-2.invariant.0 ∙ ap (λ (x : UploadState). x.goal.digests) (sym failed),
       c.self-2.invariant.1 ∙ ap (λ (x : UploadState). x.goal.share_length) (sym failed),
-      subst IsRight (sym failed) fine.right,
-      subst IsKept (sym failed) fine.kept,
+      subst IsKept (sym failed) kept,
     )

@@ -1,10 +1,10 @@
 use Rattle.std.proofs.Common.{◌≡◌, ◌∙◌, ap, sym}
 use Rattle.upload_core.specs.State.{Goal}
-use Rattle.upload_core.proofs.Right.{step_goal, tick_fine}
+use Rattle.upload_core.proofs.Right.{step_goal, tick_kept}
 use Rattle.upload_core.proofs.upload.Upload.tick.Goals as goal
 
 pub pass-outcome-requires : goal.pass-outcome-requires
-pass-outcome-requires g c = c.self.invariant.3.going
+pass-outcome-requires g c = c.self.invariant.2.going
 
 pub invariant_of-self : goal.invariant_of-self
 invariant_of-self g c =
@@ -12,10 +12,9 @@ invariant_of-self g c =
     let mid = c.pass-outcome.new.self in
     let new = c.fail_by.new.self in
     let e = c.fail_by.ensures in
-    let fine = tick_fine mid new e.right c.pass-outcome.result c.args.now old c.pass-outcome.ensures.ok e.ok e.err c.self.invariant.2 c.self.invariant.3 in
+    let kept = tick_kept mid new e.right c.pass-outcome.result c.args.now old c.pass-outcome.ensures.ok e.ok e.err c.self.invariant.2 in
     let same : old.goal ≡ new.goal = sym c.pass-outcome.ensures.goal ∙ sym (step_goal mid new e.right c.pass-outcome.result e.ok e.err) in (
       c.self.invariant.0 ∙ ap (λ (a : Goal). a.digests) same,
       c.self.invariant.1 ∙ ap (λ (a : Goal). a.share_length) same,
-      fine.right,
-      fine.kept,
+      kept,
     )
