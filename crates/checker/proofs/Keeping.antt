@@ -1,12 +1,12 @@
 -- What is kept of each check, as it goes on.
 use Rattle.std.proofs.Common.{◌≡◌, ◌≢◌, ℕ, zero, suc, ◌+◌, ◌<◌, ◌≤◌, List, [], ◌∷◌, ◌++◌, length, get_or, drop, map, replicate, eqb, append_assoc, true≢false, Bool, true, false, cond, inl, inr, Option, Some, Result, Ok, Err, ap, refl, sym, subst, ◌∙◌, arith}
 use Rattle.std.specs.Prelude.{Contains, slice_get}
-use Rattle.std.specs.Result.{IfOk}
+use Rattle.std.specs.Result.{OnErr}
 use Rattle.std.specs.List.{AllByRecursion, IsDistinct}
 use Rattle.std.proofs.lemmas.List.Sums.{sum_by-cons}
 use Rattle.std.proofs.Common.{drop-cons}
 use Rattle.std.proofs.lemmas.List.{append-nil, drop_all, length-map, length-replicate}
-use Rattle.std.proofs.lemmas.List.Elements.{Contains-get_or}
+use Rattle.std.proofs.lemmas.List.Elements.{All-append, All-nil, Contains-get_or}
 use Rattle.std.proofs.lemmas.Option.{none-some, same_Some}
 use Rattle.std.proofs.lemmas.Bool.{eq-eqb}
 use Rattle.lemmas.proofs.Members.{contains_head, contains_none}
@@ -14,14 +14,14 @@ use Rattle.request_record.proofs.StepLaws.{asked_joined, sent_entries}
 use Rattle.lemmas.proofs.Places.{get_of}
 use Rattle.cap_text.specs.Cap.{VerifyCapValue}
 use Rattle.request_record.specs.declared.requests.Asked.{Asked}
-use Rattle.request_record.specs.declared.requests.Asked.TheVariants.{Holdings}
+use Rattle.request_record.specs.declared.requests.Asked.TheVariants.{Holdings, Allocation, Writing, Closing, Reading, Aborting}
 use Rattle.request_record.specs.declared.requests.Outcome.TheVariants.{Lost}
 use Rattle.request_record.specs.declared.requests.Request.{Request}
-use Rattle.request_record.specs.Record.{RequestsState, TakesNext, asked_all, asked_more, first_request, is_outstanding, outstanding_count}
+use Rattle.request_record.specs.Record.{IsRecord, RequestsState, TakesNext, asked_all, asked_more, first_request, is_outstanding, outstanding_count}
 use Rattle.request_record.specs.Asking.{AsksOnce, asks_of, begun, fresh}
-use Rattle.checker.specs.Moves.{GoesOn}
-use Rattle.checker.specs.Right.{AreAsked, AreOfShares, IsRight, MayAsk}
-use Rattle.checker.specs.Book.{AreKeys, AreLost, AsksMore, HasBook, IsBook, IsFresh, IsKept, IsSafe, state_of}
+use Rattle.checker.specs.Moves.{GoesOn, Stops, is_read}
+use Rattle.checker.specs.Right.{AreOfShares, IsRight, MayAsk}
+use Rattle.checker.specs.Book.{AllAskOrRead, AreKeys, AreLost, AsksItsOwn, AsksMore, AsksOrReads, HasBook, IsBook, IsFresh, IsKept, IsSafe, state_of}
 use Rattle.checker.specs.Shares.{offered_in}
 use Rattle.checker.specs.declared.machine.Machine.{Machine}
 use Rattle.checker.specs.declared.machine.Told.{Told}
@@ -43,7 +43,7 @@ kept_same m r status same k = record {
   safe = record {
     once = subst AsksOnce (sym same) k.safe.once;
     reads = subst (AreOfShares m.cap) (sym same) k.safe.reads;
-    asked = subst (AreAsked m.cap) (sym same) k.safe.asked;
+    asked = subst (AllAskOrRead m.cap) (sym same) k.safe.asked;
   };
   book = λ ok. subst (λ (l : List Request). IsBook m.cap l m.told.items m.owners.items m.offers.items m.begun []) (sym same) (k.book ok);
   works = λ e. subst (λ (l : List Request). 0 < outstanding_count l) (sym same) (k.works e);
@@ -56,13 +56,17 @@ kept_sent m out o status next k = kept_same m out status (sent_entries m.request
 
 -- ---- more is asked
 
+abbrev IsReadAsk : ℕ × Asked → Type 0
+IsReadAsk ask = is_read ask.1 ≡ true
+
 pub asks_none : (m : Machine) → AsksMore m m
-asks_none m = record { cap = refl; asks = []; requests = refl }
+asks_none m = record { cap = refl; asks = []; reads = All-nil IsReadAsk; requests = refl }
 
 pub asks_trans : (a b c : Machine) → AsksMore a b → AsksMore b c → AsksMore a c
 asks_trans a b c one two = record {
   cap = two.cap ∙ one.cap;
   asks = one.asks ++ two.asks;
+  reads = All-append IsReadAsk one.asks two.asks one.reads two.reads;
   requests = two.requests ∙ ap (asked_all two.asks) one.requests ∙ sym (asked_joined one.asks two.asks a.requests);
 }
 
@@ -163,8 +167,8 @@ safe_goes m r todo goes once safe = record {
   reads = shares_go m.cap m.requests.entries r.entries todo goes safe.reads;
   asked = λ i n e. (
       let was = was_at m.requests.entries r.entries todo goes i n e in
-      subst (λ s. MayAsk m.cap r.entries s n.asked) (sym was.server)
-      (subst (MayAsk m.cap r.entries was.request.server) (sym was.asked)
+      subst (λ s. AsksOrReads m.cap r.entries s n.asked) (sym was.server)
+      (subst (AsksOrReads m.cap r.entries was.request.server) (sym was.asked)
       (may_more m.cap m.requests.entries r.entries (offered_goes m.cap.total m.requests.entries r.entries todo goes) was.request.server was.request.asked
       (safe.asked i was.request was.there))));
 }
@@ -214,14 +218,26 @@ kept_ticked m r lost Failed ended t once k = failed_kept (with_requests m r) (sa
 -- ---- what the calls do
 
 pub goes_on_ended : (m : Machine) (r : RequestsState) (servers : List ℕ) (status : CheckStatus) → GoesOn r (state_of m servers status) (state_of (with_requests m r) servers status)
-goes_on_ended m r servers status = record { cap = refl; servers = refl; asks = []; requests = refl; ended = λ _. refl; fails = λ ok. ok }
+goes_on_ended m r servers status = record { cap = refl; servers = refl; asks = []; reads = All-nil IsReadAsk; requests = refl; ended = λ _. refl; fails = λ ok. ok }
 
 pub goes_on_running : (m new : Machine) (r : RequestsState) (servers : List ℕ) (status ended : CheckStatus) → status ≡ Running → ended ≢ Failed → AsksMore (with_requests m r) new → GoesOn r (state_of m servers status) (state_of new servers ended)
-goes_on_running m new r servers status ended runs stands more = record { cap = more.cap; servers = refl; asks = more.asks; requests = more.requests; ended = λ no. absurd (no runs); fails = λ _. stands }
+goes_on_running m new r servers status ended runs stands more = record {
+  cap = more.cap;
+  servers = refl;
+  asks = more.asks;
+  reads = more.reads;
+  requests = more.requests;
+  ended = λ no. absurd (no runs);
+  fails = λ _. stands;
+}
 
-pub if_ok_both : {A E : Type 0} (r : Result A E) (P Q R : A → Type 0) → IfOk r P → IfOk r Q → ((a : A) → P a → Q a → R a) → IfOk r R
-if_ok_both (Ok a) P Q R p q f = f a p q
-if_ok_both (Err e) P Q R p q f = tt
+pub stops_with : (m new : Machine) (r : RequestsState) (servers : List ℕ) (status : CheckStatus) → AsksMore (with_requests m r) new → Stops r (state_of m servers status) (state_of new servers Failed)
+stops_with m new r servers status more = record { cap = more.cap; servers = refl; asks = more.asks; reads = more.reads; requests = more.requests }
+
+-- whatever a call gives
+pub on_err_all : {A E : Type 0} (r : Result A E) (R : Type 0) → R → OnErr r R
+on_err_all (Ok a) R it = tt
+on_err_all (Err e) R it = it
 
 -- ---- a check begins
 
@@ -229,7 +245,7 @@ asks_begun : (servers : List ℕ) (r : RequestsState) → (asked_all (asks_of se
 asks_begun [] r = sym (append-nil r.entries)
 asks_begun (s ∷ ss) r = asks_begun ss (asked_more s Holdings r) ∙ append_assoc r.entries (first_request s Holdings r.clock ∷ []) (map (λ x. first_request x Holdings r.clock) ss)
 
-begun_entries : (servers : List ℕ) (session now : ℕ) → (begun servers session now).entries ≡ map (λ s. first_request s Holdings now) servers
+pub begun_entries : (servers : List ℕ) (session now : ℕ) → (begun servers session now).entries ≡ map (λ s. first_request s Holdings now) servers
 begun_entries servers session now = asks_begun servers (fresh session now)
 
 pub record IsBegunAt (servers : List ℕ) (now i : ℕ) (r : Request) : Type 0 where
@@ -237,7 +253,7 @@ pub record IsBegunAt (servers : List ℕ) (now i : ℕ) (r : Request) : Type 0 w
   pub there : slice_get servers i ≡ Some server
   pub is : r ≡ first_request server Holdings now
 
-begun_at : (servers : List ℕ) (now i : ℕ) (r : Request) → slice_get (map (λ s. first_request s Holdings now) servers) i ≡ Some r → IsBegunAt servers now i r
+pub begun_at : (servers : List ℕ) (now i : ℕ) (r : Request) → slice_get (map (λ s. first_request s Holdings now) servers) i ≡ Some r → IsBegunAt servers now i r
 begun_at [] now i r e = absurd cc
 begun_at (s ∷ ss) now zero r e = record { server = s; there = refl; is = sym (same_Some (first_request s Holdings now) r e) }
 begun_at (s ∷ ss) now (suc i) r e = let found = begun_at ss now i r e in record { server = found.server; there = found.there; is = found.is }
@@ -283,7 +299,7 @@ module _ (cap : VerifyCapValue) (servers : List ℕ) (session now : ℕ) (m : Ma
   fresh_safe = record {
     once = subst AsksOnce (sym entries_are) (begun_once servers now distinct);
     reads = subst (AreOfShares m.cap) (sym entries_are) (λ i r share offset len e asked. absurd (not_read (all_holdings i r e) asked));
-    asked = subst (AreAsked m.cap) (sym entries_are) (λ i r e. subst (MayAsk m.cap asked_first r.server) (sym (all_holdings i r e)) tt);
+    asked = subst (AllAskOrRead m.cap) (sym entries_are) (λ i r e. subst (AsksOrReads m.cap asked_first r.server) (sym (all_holdings i r e)) tt);
   }
 
   abbrev told_first : List Told
@@ -337,5 +353,20 @@ module _ (cap : VerifyCapValue) (servers : List ℕ) (session now : ℕ) (m : Ma
 
 -- ---- what holds of each check
 
-pub right_of : (m : Machine) (servers : List ℕ) (status : CheckStatus) → IsKept m status → IsRight (state_of m servers status)
-right_of m servers status k = record { works = k.works; idle = k.idle; once = k.safe.once; reads = k.safe.reads; asked = k.safe.asked }
+may_of : (cap : VerifyCapValue) (servers : List ℕ) (es : List Request) (server : ℕ) (a : Asked) → AsksOrReads cap es server a → (a ≡ Holdings → Contains servers server) → MayAsk cap servers es server a
+may_of cap servers es server Holdings may own = own refl
+may_of cap servers es server (Allocation n len) may own = absurd may
+may_of cap servers es server (Writing n offset len) may own = absurd may
+may_of cap servers es server (Closing n) may own = absurd may
+may_of cap servers es server (Reading n offset len) may own = may
+may_of cap servers es server (Aborting n) may own = absurd may
+
+pub right_of : (m : Machine) (servers : List ℕ) (status : CheckStatus) → IsKept m status → AsksItsOwn servers m.requests.entries → IsRecord m.requests → IsRight (state_of m servers status)
+right_of m servers status k own recorded = record {
+  works = k.works;
+  idle = k.idle;
+  once = k.safe.once;
+  reads = k.safe.reads;
+  asked = λ i r e. may_of m.cap servers m.requests.entries r.server r.asked (k.safe.asked i r e) (own i r e);
+  recorded = recorded;
+}

@@ -7,4 +7,5 @@ mod Joining
 mod MachineMoves
 mod ToldMoves
 mod Keeping
+mod Own
 mod FoundLemmas

@@ -1,8 +1,9 @@
 -- How a check goes on, step by step.
-use Rattle.std.proofs.Common.{◌≡◌, ℕ, zero, suc, ◌+◌, ◌-◌, ◌<◌, ◌≤◌, false, List, [], ◌∷◌, ◌++◌, length, set, Err, Some, Vec, Global, ap, refl, sym, subst, ◌∙◌, arith, inl, inr, ◌⊎◌}
+use Rattle.std.proofs.Common.{◌≡◌, ℕ, zero, suc, ◌+◌, ◌-◌, ◌<◌, ◌≤◌, true, false, List, [], ◌∷◌, ◌++◌, length, set, Err, Some, Vec, Global, ap, refl, sym, subst, ◌∙◌, arith, inl, inr, ◌⊎◌}
 use Rattle.std.specs.Prelude.{Contains, slice_get}
 use Rattle.std.proofs.lemmas.Bool.{cases_lt}
 use Rattle.std.proofs.lemmas.Option.{slice_get_within}
+use Rattle.std.proofs.lemmas.List.Elements.{All-cons, All-nil}
 use Rattle.lemmas.proofs.Members.{flat_map_has, contains_none}
 use Rattle.lemmas.proofs.Places.{get_pushed}
 use Rattle.cap_text.specs.Cap.{VerifyCapValue}
@@ -10,7 +11,7 @@ use Rattle.placement.specs.Matching.{Pair}
 use Rattle.request_record.specs.declared.requests.Asked.{Asked}
 use Rattle.request_record.specs.declared.requests.Asked.TheVariants.{Holdings, Reading}
 use Rattle.request_record.specs.declared.requests.Request.{Request}
-use Rattle.request_record.specs.Record.{RequestsState, asked_all, is_outstanding}
+use Rattle.request_record.specs.Record.{RequestsState, is_outstanding}
 use Rattle.request_record.specs.Asking.{AsksOnce}
 use Rattle.share_opening.specs.Reads.{Brought}
 use Rattle.share_opening.specs.declared.opening.Opening.TheVariants.{Start}
@@ -25,8 +26,9 @@ use Rattle.share_reading.specs.declared.verdict.Verdict.{Verdict}
 use Rattle.share_reading.specs.declared.verdict.Verdict.TheVariants as verdicts
 use Rattle.checker.specs.Shares.{offered_in, offered_pairs, offered_to, settled_of}
 use Rattle.checker.specs.Offers.{IsKeptBy, key_of, with_stage}
-use Rattle.checker.specs.Right.{AreAsked, AreOfShares, MayAsk}
-use Rattle.checker.specs.Book.{AreReadAt, AsksNothing, HasAsked, HasBook, HasBytes, IsAbout, IsAt, IsBook, IsEnded, IsReadOn, IsReading, IsSafe, IsSettledAt, IsStarted, IsUnread}
+use Rattle.checker.specs.Moves.{is_read}
+use Rattle.checker.specs.Right.{AreOfShares}
+use Rattle.checker.specs.Book.{AllAskOrRead, AreReadAt, AsksMore, AsksNothing, AsksOrReads, HasAsked, HasBook, HasBytes, IsAbout, IsAt, IsBook, IsEnded, IsReadOn, IsReading, IsSafe, IsSettledAt, IsStarted, IsUnread}
 use Rattle.checker.specs.declared.machine.Machine.{Machine}
 use Rattle.checker.specs.declared.machine.Told.{Told}
 use Rattle.checker.specs.declared.offers.Offer.{Offer}
@@ -64,8 +66,16 @@ entries_asked m new k r o a = ap (λ (x : RequestsState). x.entries) a.requests
 abbrev pub one_ask : Offer → readings.Reading → List (ℕ × Asked)
 one_ask o r = (o.server, Reading o.share (reading.next_place r) (reading.next_length r)) ∷ []
 
-pub asks_asked : (m new : Machine) (k : ℕ) (r : readings.Reading) (o : Offer) → HasAsked m k r o new → (new.cap ≡ m.cap) × (new.requests ≡ asked_all (one_ask o r) m.requests)
-asks_asked m new k r o a = (a.cap, a.requests)
+pub asks_asked : (m new : Machine) (k : ℕ) (r : readings.Reading) (o : Offer) → HasAsked m k r o new → AsksMore m new
+asks_asked m new k r o a = record {
+  cap = a.cap;
+  asks = one_ask o r;
+  reads = All-cons (λ (ask : ℕ × Asked). is_read ask.1 ≡ true) (o.server, Reading o.share (reading.next_place r) (reading.next_length r)) [] refl (All-nil (λ (ask : ℕ × Asked). is_read ask.1 ≡ true));
+  requests = a.requests;
+}
+
+pub asks_nothing : (m new : Machine) → AsksNothing m new → AsksMore m new
+asks_nothing m new a = record { cap = a.cap; asks = []; reads = All-nil (λ (ask : ℕ × Asked). is_read ask.1 ≡ true); requests = a.requests }
 
 pub once_asked_now : (m new : Machine) (k : ℕ) (r : readings.Reading) (o : Offer) → IsSafe m → IsSafeToAsk m.cap m.requests.entries (key_of o) r → HasAsked m k r o new → AsksOnce new.requests.entries
 once_asked_now m new k r o safe may a =
@@ -76,9 +86,9 @@ shares_asked_now m new k r o safe may a =
     subst (λ (c : VerifyCapValue). AreOfShares c new.requests.entries) (sym a.cap)
     (subst (AreOfShares m.cap) (sym (entries_asked m new k r o a)) (shares_next m.cap m.requests.entries (key_of o) r m.requests.clock may safe.reads))
 
-pub kinds_asked_now : (m new : Machine) (k : ℕ) (r : readings.Reading) (o : Offer) → IsSafe m → IsSafeToAsk m.cap m.requests.entries (key_of o) r → HasAsked m k r o new → AreAsked new.cap new.requests.entries
+pub kinds_asked_now : (m new : Machine) (k : ℕ) (r : readings.Reading) (o : Offer) → IsSafe m → IsSafeToAsk m.cap m.requests.entries (key_of o) r → HasAsked m k r o new → AllAskOrRead new.cap new.requests.entries
 kinds_asked_now m new k r o safe may a =
-    subst (λ (c : VerifyCapValue). AreAsked c new.requests.entries) (sym a.cap) (subst (AreAsked m.cap) (sym (entries_asked m new k r o a)) kinds)
+    subst (λ (c : VerifyCapValue). AllAskOrRead c new.requests.entries) (sym a.cap) (subst (AllAskOrRead m.cap) (sym (entries_asked m new k r o a)) kinds)
   where
     one : Request
     one = next_request o.server o.share r m.requests.clock
@@ -86,10 +96,10 @@ kinds_asked_now m new k r o safe may a =
     more : List Request
     more = m.requests.entries ++ one ∷ []
 
-    kinds : AreAsked m.cap more
+    kinds : AllAskOrRead m.cap more
     kinds i x e = elim (get_pushed m.requests.entries one x i e) [
       | inl before ↦ may_more m.cap m.requests.entries more (offered_push m.cap.total m.requests.entries one) x.server x.asked (safe.asked i x before)
-      | inr pushed ↦ subst (λ (q : Request). MayAsk m.cap more q.server q.asked) pushed.1 (offered_push m.cap.total m.requests.entries one (key_of o) may.listed)
+      | inr pushed ↦ subst (λ (q : Request). AsksOrReads m.cap more q.server q.asked) pushed.1 (offered_push m.cap.total m.requests.entries one (key_of o) may.listed)
     ]
 
 -- the share of each offer was offered
@@ -246,7 +256,7 @@ module _ (m : Machine) (place : ℕ) (todo : List ℕ) (k : ℕ) (o : Offer) (r 
         pub taken_shares : IsSafe m → AreOfShares new.cap new.requests.entries
         taken_shares safe = shares_asked_now (record m { offers = v }) new k next n (record { once = safe.once; reads = safe.reads; asked = safe.asked }) (may_ask next a) asked_now
 
-        pub taken_kinds : IsSafe m → AreAsked new.cap new.requests.entries
+        pub taken_kinds : IsSafe m → AllAskOrRead new.cap new.requests.entries
         taken_kinds safe = kinds_asked_now (record m { offers = v }) new k next n (record { once = safe.once; reads = safe.reads; asked = safe.asked }) (may_ask next a) asked_now
 
 -- ---- results
@@ -254,8 +264,8 @@ module _ (m : Machine) (place : ℕ) (todo : List ℕ) (k : ℕ) (o : Offer) (r 
 pub safe_same : (m new : Machine) → AsksNothing m new → IsSafe m → IsSafe new
 safe_same m new same safe = record {
   once = subst AsksOnce (ap (λ (x : RequestsState). x.entries) (sym same.requests)) safe.once;
-  asked = subst (λ (c : VerifyCapValue). AreAsked c new.requests.entries) (sym same.cap)
-      (subst (λ (l : List Request). AreAsked m.cap l) (ap (λ (x : RequestsState). x.entries) (sym same.requests)) safe.asked);
+  asked = subst (λ (c : VerifyCapValue). AllAskOrRead c new.requests.entries) (sym same.cap)
+      (subst (λ (l : List Request). AllAskOrRead m.cap l) (ap (λ (x : RequestsState). x.entries) (sym same.requests)) safe.asked);
   reads = subst (λ (c : VerifyCapValue). AreOfShares c new.requests.entries) (sym same.cap)
       (subst (λ (l : List Request). AreOfShares m.cap l) (ap (λ (x : RequestsState). x.entries) (sym same.requests)) safe.reads);
 }

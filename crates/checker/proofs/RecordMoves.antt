@@ -29,7 +29,8 @@ use Rattle.share_reading.specs.Reads.{IsAsked}
 use Rattle.share_reading.specs.Verdict.{Settled, brought_of}
 use Rattle.share_reading.specs.declared.reading.Reading as readings
 use Rattle.share_reading.proofs.VerdictLemmas.{brought_has}
-use Rattle.checker.specs.Right.{AreOfShares, MayAsk}
+use Rattle.checker.specs.Book.{AsksOrReads}
+use Rattle.checker.specs.Right.{AreOfShares}
 use Rattle.checker.specs.Shares.{offered_in, offered_pairs, offered_to, settled_of}
 use Rattle.checker.proofs.Entries.{BecomesAt, GoesTo, IsSettledBy, about_by, get_set_same, is_waiting, settled_from, settled_has, settled_push, unsettled, was_at}
 use Rattle.checker.proofs.AnswerMoves.{IsSafeToAsk, brought_from, more_asked, next_request}
@@ -276,7 +277,7 @@ offered_push total es new p at =
     (Contains-append_left (offered_pairs total es) (offered_pairs total (new ∷ [])) p at)
 
 pub may_more : (cap : VerifyCapValue) (es ns : List Request) → ((p : Pair) → Contains (offered_pairs cap.total es) p → Contains (offered_pairs cap.total ns) p)
-    → (server : ℕ) (a : Asked) → MayAsk cap es server a → MayAsk cap ns server a
+    → (server : ℕ) (a : Asked) → AsksOrReads cap es server a → AsksOrReads cap ns server a
 may_more cap es ns more server Holdings may = tt
 may_more cap es ns more server (Allocation n len) may = absurd may
 may_more cap es ns more server (Writing n offset len) may = absurd may

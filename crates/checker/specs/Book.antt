@@ -22,8 +22,9 @@ use Rattle.share_reading.specs.declared.reading.Progress.{Progress}
 use Rattle.share_reading.specs.declared.verdict.Verdict.{Verdict}
 use Rattle.share_reading.specs.declared.verdict.Verdict.TheVariants as verdicts
 use Rattle.checker.specs.Offers.{key_of, with_stage}
-use Rattle.checker.specs.Right.{AreAsked, AreOfShares}
-use Rattle.checker.specs.Shares.{is_about, offered_in, settled_of}
+use Rattle.checker.specs.Moves.{is_read}
+use Rattle.checker.specs.Right.{AreOfShares}
+use Rattle.checker.specs.Shares.{is_about, offered_in, offered_pairs, settled_of}
 use Rattle.checker.specs.State.{CheckState}
 use Rattle.checker.specs.declared.machine.Machine.{Machine}
 use Rattle.checker.specs.declared.machine.Told.{Told}
@@ -170,11 +171,27 @@ abbrev pub HasBook : Machine → List ℕ → Type 0
 HasBook m todo =
     IsBook m.cap m.requests.entries m.told.items m.owners.items m.offers.items m.begun todo
 
+-- it asks which shares a server holds, or for bytes of a share that this server offered
+abbrev pub AsksOrReads : VerifyCapValue → List Request → ℕ → Asked → Type 0
+AsksOrReads cap entries server Holdings = Unit {0}
+AsksOrReads cap entries server (Reading share offset len) =
+    Contains (offered_pairs cap.total entries) (server, share)
+AsksOrReads cap entries server asked = ⊥
+
+abbrev pub AllAskOrRead : VerifyCapValue → List Request → Type 0
+AllAskOrRead cap entries = (i : ℕ) (r : Request) → slice_get entries i ≡ Some r
+    → AsksOrReads cap entries r.server r.asked
+
+-- only these servers are asked which shares they hold
+abbrev pub AsksItsOwn : List ℕ → List Request → Type 0
+AsksItsOwn servers entries = (i : ℕ) (r : Request) → slice_get entries i ≡ Some r
+    → r.asked ≡ Holdings → Contains servers r.server
+
 -- what is asked is right, whatever becomes of the check
 pub record IsSafe (m : Machine) : Type 0 where
   pub once : AsksOnce m.requests.entries
   pub reads : AreOfShares m.cap m.requests.entries
-  pub asked : AreAsked m.cap m.requests.entries
+  pub asked : AllAskOrRead m.cap m.requests.entries
 
 -- what is kept of each check
 pub record IsKept (m : Machine) (status : CheckStatus) : Type 0 where
@@ -189,10 +206,11 @@ abbrev pub state_of : Machine → List ℕ → CheckStatus → CheckState
 state_of m servers status =
     record { cap = m.cap; servers = servers; requests = m.requests; status = status }
 
--- more is asked
+-- more reads are asked
 pub record AsksMore (old new : Machine) : Type 0 where
   pub cap : new.cap ≡ old.cap
   pub asks : List (ℕ × Asked)
+  pub reads : All (λ (ask : ℕ × Asked). is_read ask.1 ≡ true) asks
   pub requests : new.requests ≡ asked_all asks old.requests
 
 -- ---- what a request brought

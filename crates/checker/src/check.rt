@@ -1,9 +1,10 @@
 //! A check of a file's shares by its verify cap.
 
-ghost use Rattle.std.specs.Prelude.{◌≡◌, ◌≢◌, ◌↔◌, [], None, IfOk, IfSome, OnErr, OnOk, is_some};
-ghost use Rattle.std.specs.Prelude.{nat_eq};
+ghost use Rattle.std.specs.Prelude.{◌≡◌, ◌≢◌, ◌↔◌, [], None, IfOk, IfSome, IsOk, OnErr, OnOk};
+ghost use Rattle.std.specs.Prelude.{is_some, nat_eq};
 ghost use Rattle.std.specs.List.{IsDistinct};
-ghost use Rattle.checker.specs.Moves.{Advances, Begins, TicksOn};
+ghost use Rattle.request_record.specs.Asking.{after_message};
+ghost use Rattle.checker.specs.Moves.{Advances, Begins, Stops, StopsAt, TicksOn};
 ghost use Rattle.checker.specs.Report.{IsReport};
 ghost use Rattle.checker.specs.Right.{IsRight};
 ghost use Rattle.checker.specs.Sending.{Takes, first_to_send};
@@ -27,13 +28,14 @@ pub struct Check {
 
 impl Model for Check {
     ghost use Rattle.checker.specs.State.{CheckState};
-    ghost use Rattle.checker.specs.Book.{IsKept, state_of};
+    ghost use Rattle.checker.specs.Book.{AsksItsOwn, IsKept, state_of};
 
     ghost Value = { CheckState };
 
     ghost view = { λ c. state_of c.machine c.servers.items c.status };
 
-    ghost invariant = { λ c. IsKept c.machine c.status };
+    ghost invariant = { λ c. IsKept c.machine c.status
+        × AsksItsOwn c.servers.items c.machine.requests.entries };
 }
 
 impl Check {
@@ -57,10 +59,14 @@ impl Check {
         })
     }
 
-    /// Takes a message from a node over, at a second.
+    /// Takes a message from a node over, at a second. On an `Err`, which only one that runs gives,
+    /// it has failed; the record goes on all the same.
     pub fn on_message(&mut self, from: NodeId, message: Message, now: u64) -> Result<(), AllocError>
         ensures ok { OnOk result (Advances from message now self.old self.new) }
         ensures err { OnErr result (self.new.status ≡ Failed) }
+        ensures stops { OnErr result
+            (Stops (after_message from message now self.old.requests) self.old self.new) }
+        ensures ended { self.old.status ≢ Running → IsOk result }
     {
         match self.machine.answer(self.status, from, message, now) {
             Ok(status) => {
@@ -74,10 +80,12 @@ impl Check {
         }
     }
 
-    /// Takes note of a second.
+    /// Takes note of a second. On an `Err`, which only one that runs gives, it has failed.
     pub fn tick(&mut self, now: u64) -> Result<(), AllocError>
         ensures ok { OnOk result (TicksOn now self.old self.new) }
         ensures err { OnErr result (self.new.status ≡ Failed) }
+        ensures stops { OnErr result (StopsAt now self.old self.new) }
+        ensures ended { self.old.status ≢ Running → IsOk result }
     {
         match self.machine.pass(self.status, now) {
             Ok(status) => {
@@ -93,11 +101,13 @@ impl Check {
 
     /// Where it stands. While it runs a request is outstanding, and once it is done none is. No
     /// server is asked the same thing twice, nor for a byte of a share twice, nor anything else but
-    /// which shares it holds, and bytes of those that it offered.
+    /// which shares it holds, and bytes of those that it offered. Only the check's own servers are
+    /// asked which shares they hold, and no request is sent more than four times.
     pub fn status(&self) -> CheckStatus
         ensures value { result ≡ self.now.status }
         ensures right { IsRight self.now }
     {
+        let _ = self.machine.requests.entries();
         self.status
     }
 

@@ -1,13 +1,13 @@
 //! How a check takes what comes, and what it asks.
 
 ghost use Rattle.std.specs.Prelude.{◌≡◌, ◌≢◌, ◌↔◌, ◌<◌, ◌≤◌, ◌+◌, ◌++◌, ◌∷◌, List, ℕ, []};
-ghost use Rattle.std.specs.Prelude.{None, Some};
-ghost use Rattle.std.specs.Prelude.{IfNone, IfOk, IfSome, IsTrue, OnErr, OnOk, length, slice_get};
-ghost use Rattle.std.specs.Prelude.{filter, map, nat_lt};
+ghost use Rattle.std.specs.Prelude.{None, Some, IfNone, IfOk, IfSome, IsOk, IsTrue, OnErr, OnOk};
+ghost use Rattle.std.specs.Prelude.{filter, length, map, nat_lt, slice_get};
 ghost use Rattle.placement.specs.Matching.{Pair};
 ghost use Rattle.wire.specs.Held.{AreRising};
 ghost use Rattle.wire.specs.declared.message.Body.TheVariants.{Data};
 ghost use Rattle.wire.specs.declared.message.HeldShare.{HeldShare};
+ghost use Rattle.request_record.specs.Asking.{after_message};
 ghost use Rattle.request_record.specs.declared.requests.Outcome.TheVariants.{Answered};
 ghost use Rattle.share_opening.specs.Reads.{Brought};
 ghost use Rattle.share_reading.specs.Verdict.{IsJudged};
@@ -16,7 +16,7 @@ ghost use Rattle.checker.specs.Book.{AreReadAt, AsksMore, AsksNothing, AwaitsAt,
 ghost use Rattle.checker.specs.Book.{HasBytes, IsFresh, IsKept, IsReadOn, IsSafe, IsSettledAt};
 ghost use Rattle.checker.specs.Book.{AreLost, ArePushed, IsStanding, IsTakenOnce};
 ghost use Rattle.checker.specs.Book.{state_of};
-ghost use Rattle.checker.specs.Moves.{Advances, TicksOn};
+ghost use Rattle.checker.specs.Moves.{Advances, Stops, StopsAt, TicksOn};
 ghost use Rattle.checker.specs.Offers.{key_of};
 ghost use Rattle.checker.specs.Sending.{Takes};
 ghost use Rattle.checker.specs.Shares.{offered_in};
@@ -83,7 +83,8 @@ impl Machine {
         })
     }
 
-    /// Takes a message from a node, at a second, and tells where it stands then.
+    /// Takes a message from a node, at a second, and tells where it stands then. Only one that runs
+    /// may find no memory.
     pub(crate) fn answer(
         &mut self,
         status: CheckStatus,
@@ -94,8 +95,12 @@ impl Machine {
         requires kept { IsKept self.old status }
         ensures ok { IfOk result (λ ended. (servers : List ℕ) → Advances from message now
             (state_of self.old servers status) (state_of self.new servers ended)) }
+        ensures err { OnErr result ((servers : List ℕ)
+            → Stops (after_message from message now self.old.requests)
+            (state_of self.old servers status) (state_of self.new servers Failed)) }
         ensures kept { IfOk result (IsKept self.new) }
         ensures failed { IsKept self.new Failed }
+        ensures ended { status ≢ Running → IsOk result }
     {
         let Some(place) = self.requests.take_answer(from, message, now) else {
             return Ok(status);
@@ -107,18 +112,23 @@ impl Machine {
         self.settle()
     }
 
-    /// Takes note of a second, and tells where it stands then.
+    /// Takes note of a second, and tells where it stands then. One that ended needs no memory:
+    /// where there is none it takes no note.
     pub(crate) fn pass(&mut self, status: CheckStatus, now: u64) -> Result<CheckStatus, AllocError>
         requires kept { IsKept self.old status }
         ensures ok { IfOk result (λ ended. (servers : List ℕ) → TicksOn now
             (state_of self.old servers status) (state_of self.new servers ended)) }
+        ensures err { OnErr result ((servers : List ℕ) → StopsAt now
+            (state_of self.old servers status) (state_of self.new servers Failed)) }
         ensures kept { IfOk result (IsKept self.new) }
         ensures failed { IsKept self.new Failed }
+        ensures ended { status ≢ Running → IsOk result }
     {
-        let lost = self.requests.tick(now)?;
         if !is_running(status) {
+            let _ = self.requests.tick(now);
             return Ok(status);
         }
+        let lost = self.requests.tick(now)?;
         self.lose(&lost)?;
         self.settle()
     }
@@ -145,7 +155,7 @@ impl Machine {
         requires lost { AreLost self.old.requests.entries places.now }
         requires safe { IsSafe self.old }
         ensures book { OnOk result (HasBook self.new []) }
-        ensures asks { OnOk result (AsksMore self.old self.new) }
+        ensures asks { AsksMore self.old self.new }
         ensures safe { IsSafe self.new }
     {
         for place in places {
@@ -162,7 +172,7 @@ impl Machine {
         ensures book { (todo : List ℕ) → HasBook self.old (place ∷ todo)
             → IsTakenOnce self.old.requests.entries place todo
             → OnOk result (HasBook self.new todo) }
-        ensures asks { OnOk result (AsksMore self.old self.new) }
+        ensures asks { AsksMore self.old self.new }
         ensures safe { IsSafe self.new }
     {
         if place < self.told.len() {
@@ -217,7 +227,7 @@ impl Machine {
         requires book { (todo : List ℕ) × HasBook self.old (place ∷ todo) }
         ensures book { (todo : List ℕ) → HasBook self.old (place ∷ todo)
             → OnOk result (HasBook self.new todo) }
-        ensures asks { OnOk result (AsksMore self.old self.new) }
+        ensures asks { AsksMore self.old self.new }
         ensures safe { IsSafe self.new }
     {
         let progress = match self.read_on(reading, place) {
@@ -288,7 +298,7 @@ impl Machine {
         requires safe { IsSafe self.old }
         requires book { HasBook self.old [] }
         ensures kept { IfOk result (IsKept self.new) }
-        ensures asks { IfOk result (λ _. AsksMore self.old self.new) }
+        ensures asks { AsksMore self.old self.new }
         ensures stands { IfOk result (λ status. status ≢ Failed) }
         ensures failed { IsSafe self.new }
     {
@@ -305,7 +315,7 @@ impl Machine {
         requires book { HasBook self.old [] }
         requires more { self.old.begun < length self.old.offers.items }
         ensures book { OnOk result (HasBook self.new []) }
-        ensures asks { OnOk result (AsksMore self.old self.new) }
+        ensures asks { AsksMore self.old self.new }
         ensures safe { IsSafe self.new }
         ensures less { OnOk result ((self.new.begun ≡ self.old.begun + 1)
             × (length self.new.offers.items ≡ length self.old.offers.items)) }

@@ -217,6 +217,10 @@ check_goes New c e same f = record { follows = f; index = ap (λ (cap : VerifyCa
 check_moves : (New : Said) (c e : CheckState) (r : RequestsState) → Follows New c.requests r → check.GoesOn r c e → GoesOn New (Checking c) (Checking e)
 check_moves New c e r f a = check_goes New c e a.cap (asks_follow New c.requests r e.requests a.asks f a.requests)
 
+check_ticks : (now : ℕ) (c e : CheckState) → check.TicksOn now c e → GoesOn Nothing (Checking c) (Checking e)
+check_ticks now c e (check.goes a) = check_moves Nothing c e (after_tick now c.requests) (follows_tick now c.requests) a
+check_ticks now c e (check.idles ended same) = same_goes Nothing (Checking c) (Checking e) (ap Checking same)
+
 check_takes : (c e : CheckState) (f : Option (ℕ × Message)) → check_sends.Takes c f e → GoesOn Nothing (Checking c) (Checking e)
 check_takes c e None t = same_goes Nothing (Checking c) (Checking e) (ap Checking t.1)
 check_takes c e (Some f) t = (let is = t.3 in
@@ -243,7 +247,7 @@ advanced from now m (Checking c) (Gone n) a = absurd a
 pub ticked_on : (now : ℕ) (old new : Task) → TicksOn now old new → GoesOn Nothing old new
 ticked_on now (Uploading u) (Uploading v) a = upload_ticks now u v a
 ticked_on now (Downloading d) (Downloading e) a = download_moves Nothing d e (after_tick now d.requests) (follows_tick now d.requests) a.0
-ticked_on now (Checking c) (Checking e) a = check_moves Nothing c e (after_tick now c.requests) (follows_tick now c.requests) a
+ticked_on now (Checking c) (Checking e) a = check_ticks now c e a
 ticked_on now (Gone number) new a = same_goes Nothing (Gone number) new a
 ticked_on now (Uploading u) (Downloading e) a = absurd a
 ticked_on now (Uploading u) (Checking e) a = absurd a

@@ -6,10 +6,11 @@ use Rattle.wire.specs.declared.message.Message.{Message}
 use Rattle.request_record.specs.Asking.{AsksOnce, after_message}
 use Rattle.request_record.proofs.AskingLaws.{once_answered}
 use Rattle.checker.specs.Book.{state_of}
-use Rattle.checker.specs.Moves.{GoesOn}
+use Rattle.checker.specs.Moves.{GoesOn, Stops}
+use Rattle.lemmas.proofs.Results.{if_ok_then}
 use Rattle.checker.specs.declared.status.CheckStatus.TheVariants.{Running, Failed}
 use Rattle.checker.specs.declared.status.CheckStatus.{CheckStatus}
-use Rattle.checker.proofs.Keeping.{asks_trans, book_counted, goes_on_running, if_ok_both, kept_counted, kept_failed, safe_goes}
+use Rattle.checker.proofs.Keeping.{asks_trans, book_counted, goes_on_running, kept_counted, kept_failed, on_err_all, safe_goes, stops_with}
 use Rattle.checker.proofs.RecordMoves.{IsCounted, counted_at_place}
 use Rattle.checker.proofs.machine.Machine.answer.Goals as goal
 
@@ -75,7 +76,21 @@ pub returns-clause-ok : goal.returns-clause-ok
 returns-clause-ok c =
     let m = c.args.self.now in
     let r = c.take_answer.new.self in
-    if_ok_both c.settle.result _ _ _ c.settle.ensures.asks c.settle.ensures.stands
-    (λ ended more stands servers. subst (λ (x : RequestsState). GoesOn x (state_of m servers c.args.status) (state_of c.settle.new.self servers ended)) c.take_answer.ensures.«record»
+    if_ok_then c.settle.result _ _ c.settle.ensures.stands
+    (λ ended stands servers. subst (λ (x : RequestsState). GoesOn x (state_of m servers c.args.status) (state_of c.settle.new.self servers ended)) c.take_answer.ensures.«record»
     (goes_on_running m c.settle.new.self r servers c.args.status ended (c.is_running.ensures.0 c.if-not-is_running.false) stands
-    (asks_trans (record m { requests = r }) c.take_in.new.self c.settle.new.self c.in_ok-take_in.ensures.asks more)))
+    (asks_trans (record m { requests = r }) c.take_in.new.self c.settle.new.self c.take_in.ensures.asks c.settle.ensures.asks)))
+
+pub returns-clause-err : goal.returns-clause-err
+returns-clause-err c =
+    let m = c.args.self.now in
+    let r = c.take_answer.new.self in
+    on_err_all c.settle.result _ (λ servers. subst (λ (x : RequestsState). Stops x (state_of m servers c.args.status) (state_of c.settle.new.self servers Failed)) c.take_answer.ensures.«record»
+    (stops_with m c.settle.new.self r servers c.args.status
+    (asks_trans (record m { requests = r }) c.take_in.new.self c.settle.new.self c.take_in.ensures.asks c.settle.ensures.asks)))
+
+pub returns-in_err-take_in-clause-err : goal.returns-in_err-take_in-clause-err
+returns-in_err-take_in-clause-err c =
+    let m = c.args.self.now in
+    on_err_all c.from_residual.result _ (λ servers. subst (λ (x : RequestsState). Stops x (state_of m servers c.args.status) (state_of c.take_in.new.self servers Failed)) c.take_answer.ensures.«record»
+    (stops_with m c.take_in.new.self c.take_answer.new.self servers c.args.status c.take_in.ensures.asks))

@@ -6,7 +6,7 @@ use Rattle.share_reading.specs.declared.reading.Reading.TheVariants.{Beginning}
 use Rattle.share_reading.specs.declared.reading.Reading.{Reading}
 use Rattle.checker.specs.Book.{HasAsked}
 use Rattle.checker.proofs.AnswerMoves.{safe_first}
-use Rattle.checker.proofs.MachineMoves.{asks_asked, book_begun, one_ask, kinds_asked_now, listed_at, once_asked_now, shares_asked_now, unread_at}
+use Rattle.checker.proofs.MachineMoves.{asks_asked, asks_nothing, book_begun, kinds_asked_now, listed_at, once_asked_now, shares_asked_now, unread_at}
 use Rattle.checker.proofs.machine.Machine.begin_next.Goals as goal
 
 pub overflow_add-self : goal.overflow_add-self
@@ -27,8 +27,11 @@ pub returns-clause-asks : goal.returns-clause-asks
 returns-clause-asks c =
     let m = c.args.self.now in
     let o = get_of m.offers.items m.begun c.requires.more in
-    let a = c.in_ok-ask.ensures.ok o.0 o.1 in
-    record { cap = a.cap; asks = one_ask o.0 c.start.result; requests = (asks_asked m c.ask.new.self m.begun c.start.result o.0 a).1 }
+    let more = asks_asked m c.ask.new.self m.begun c.start.result o.0 (c.in_ok-ask.ensures.ok o.0 o.1) in
+    record { cap = more.cap; asks = more.asks; reads = more.reads; requests = more.requests }
+
+pub returns-in_err-ask-clause-asks : goal.returns-in_err-ask-clause-asks
+returns-in_err-ask-clause-asks c = asks_nothing c.args.self.now c.ask.new.self c.in_err-ask.ensures.err
 
 pub returns-clause-safe : goal.returns-clause-safe
 returns-clause-safe c =

@@ -1,6 +1,6 @@
 use Rattle.std.proofs.Common.{◌+◌, drop, inr, ap}
 use Rattle.request_record.specs.Record.{is_outstanding}
-use Rattle.checker.proofs.Keeping.{losing_first, losing_more, losing_none, losing_settled}
+use Rattle.checker.proofs.Keeping.{asks_trans, losing_first, losing_more, losing_none, losing_settled}
 use Rattle.checker.proofs.machine.Machine.lose.Goals as goal
 
 pub loop-place-init : goal.loop-place-init
@@ -16,3 +16,6 @@ loop-place-preserved c =
     (losing_first c.args.self.now c.loop-place.self c.args.places.now c.loop-place.place-index c.loop-place.invariant c.loop-place-test.true)
     (inr (losing_settled c.args.self.now c.loop-place.self c.args.places.now c.loop-place.place-index c.loop-place.invariant c.loop-place-test.true)))
     c.in_ok-take_in.ensures.asks c.in_ok-take_in.ensures.safe
+
+pub returns-in_err-take_in-clause-asks : goal.returns-in_err-take_in-clause-asks
+returns-in_err-take_in-clause-asks c = asks_trans c.args.self.now c.loop-place.self c.take_in.new.self c.loop-place.invariant.asks c.take_in.ensures.asks

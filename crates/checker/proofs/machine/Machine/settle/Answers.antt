@@ -5,5 +5,8 @@ pub loop-self-preserved : goal.loop-self-preserved
 loop-self-preserved c = record {
   book = c.in_ok-begin_next.ensures.book;
   safe = c.in_ok-begin_next.ensures.safe;
-  asks = asks_trans c.args.self.now c.loop-self.self c.begin_next.new.self c.loop-self.invariant.asks c.in_ok-begin_next.ensures.asks;
+  asks = asks_trans c.args.self.now c.loop-self.self c.begin_next.new.self c.loop-self.invariant.asks c.begin_next.ensures.asks;
 }
+
+pub returns-in_err-begin_next-clause-asks : goal.returns-in_err-begin_next-clause-asks
+returns-in_err-begin_next-clause-asks c = asks_trans c.args.self.now c.loop-self.self c.begin_next.new.self c.loop-self.invariant.asks c.begin_next.ensures.asks

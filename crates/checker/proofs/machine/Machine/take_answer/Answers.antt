@@ -9,7 +9,7 @@ use Rattle.checker.specs.declared.offers.Offer.{Offer}
 use Rattle.checker.specs.declared.offers.Stage.TheVariants.{Ended}
 use Rattle.checker.proofs.Entries.{get_set_same}
 use Rattle.checker.proofs.AnswerMoves.{advances_long}
-use Rattle.checker.proofs.MachineMoves.{book_judged, book_stopped, one_ask, safe_same, set_set, taken_book, taken_kinds, taken_once, taken_shares}
+use Rattle.checker.proofs.MachineMoves.{asks_asked, asks_nothing, book_judged, book_stopped, safe_same, set_set, taken_book, taken_kinds, taken_once, taken_shares}
 use Rattle.checker.proofs.machine.Machine.take_answer.Goals as goal
 
 pub returns-in-Err-clause-book : goal.returns-in-Err-clause-book
@@ -35,9 +35,11 @@ returns-in-Next-clause-asks c =
     let m = c.args.self.now in
     let w = c.requires.waits in
     let kept = c.in_ok-keep.ensures w.offer w.there in
-    on_ok_then c.ask.result _ (AsksMore m c.ask.new.self) c.ask.ensures.ok
+    by_result c.ask.result _ _ (AsksMore m c.ask.new.self) c.ask.ensures.ok c.ask.ensures.err
     (λ all. let a = all kept.0 (ap (λ (l : List Offer). slice_get l c.args.offer) kept.1 ∙ get_set_same m.offers.items c.args.offer w.offer kept.0 w.there) in
-    record { cap = a.cap; asks = one_ask kept.0 c.in-Next.next; requests = a.requests })
+    let more = asks_asked (record m { offers = c.keep.new.offers }) c.ask.new.self c.args.offer c.in-Next.next kept.0 a in
+    record { cap = more.cap; asks = more.asks; reads = more.reads; requests = more.requests })
+    (λ same. asks_nothing m c.ask.new.self (record { cap = same.cap; requests = same.requests }))
 
 pub returns-in-Next-clause-safe : goal.returns-in-Next-clause-safe
 returns-in-Next-clause-safe c =
