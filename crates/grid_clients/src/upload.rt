@@ -53,7 +53,7 @@ impl<P: Pieces + Drop> Client for UploadClient<P> {
     }
 
     fn on_message(&mut self, from: NodeId, message: Message, now: u64) -> Result<(), AllocError> {
-        self.upload.on_message(from, &message, now)
+        self.upload.on_message(from, message, now)
     }
 
     fn tick(&mut self, now: u64) -> Result<(), AllocError> {

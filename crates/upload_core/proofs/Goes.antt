@@ -29,7 +29,7 @@ use Rattle.upload_core.specs.State.{Goal, UploadState, with_record}
 use Rattle.upload_core.specs.Acknowledged.{acked_pairs}
 use Rattle.upload_core.specs.Transfers.{follow_up}
 use Rattle.upload_core.specs.Rounds.{IsToPlace, has_failed_since}
-use Rattle.upload_core.specs.Moves.{AreInOrder, GoesOn, TicksWith, all_follow_ups, asks_after, ends, follow_ups_at, places, waits}
+use Rattle.upload_core.specs.Moves.{AreInOrder, GoesOn, Stops, TicksWith, all_follow_ups, asks_after, ends, follow_ups_at, places, waits}
 use Rattle.upload_core.specs.Course.{IsCourse, IsInside, IsOfTold, MayPlace, allocations, asked_servers, is_holdings}
 use Rattle.upload_core.specs.Trails.{AreFollowed, AreTrails, IsAbout, IsAtEnd, IsBefore, IsNew, rank_of, share_of}
 use Rattle.upload_core.proofs.Follow.{IsOnward, follow_none, follow_onward}
@@ -134,6 +134,21 @@ goes_on_from u r new g = elim g [
   | places p a b c d e ↦ places p a b c d e
   | ends s a b c e ↦ ends s a b c e
 ]
+
+-- ---- a step that found no memory
+
+pub stops_none : (u new : UploadState) → new ≡ u → Stops u.requests u new
+stops_none u new is = subst (Stops u.requests u) (sym is) (record { goal = refl; wanted = refl; servers = refl; asks = []; requests = refl })
+
+-- some was asked before it
+pub stops_then : (old : UploadState) (r : RequestsState) (asks : List (ℕ × Asked)) (mid new : UploadState) → mid ≡ with_record old (asked_all asks r) → Stops mid.requests mid new → Stops r old new
+stops_then old r asks mid new is s = record {
+  goal = s.goal ∙ ap (λ (u : UploadState). u.goal) is;
+  wanted = s.wanted ∙ ap (λ (u : UploadState). u.wanted) is;
+  servers = s.servers ∙ ap (λ (u : UploadState). u.servers) is;
+  asks = asks ++ s.asks;
+  requests = s.requests ∙ ap (λ (u : UploadState). asked_all s.asks u.requests) is ∙ sym (asked_joined asks s.asks r);
+}
 
 -- ---- rounds
 

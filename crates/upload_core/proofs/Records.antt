@@ -1,5 +1,5 @@
 -- How the record of an upload goes on, and what stays true of it.
-use Rattle.std.proofs.Common.{◌≡◌, ℕ, zero, suc, ◌+◌, ◌<◌, ◌-◌, ◌⊎◌, inl, inr, Bool, true, false, cond, ◌&&◌, ◌||◌, List, [], ◌∷◌, ◌++◌, All, Some, length, map, filter, eqb, refl, sym, ap, subst, ◌∙◌, arith, true≢false}
+use Rattle.std.proofs.Common.{◌≡◌, ℕ, zero, suc, ◌+◌, ◌<◌, ◌-◌, ◌⊎◌, inl, inr, Bool, true, false, cond, ◌&&◌, ◌||◌, List, [], ◌∷◌, ◌++◌, All, Some, Result, Ok, Err, OnErr, length, map, filter, eqb, refl, sym, ap, subst, ◌∙◌, arith, true≢false}
 use Rattle.std.specs.Prelude.{slice_get, slice_set, nat_le, nat_lt}
 use Rattle.std.specs.List.{IsDistinct}
 use Rattle.std.proofs.lemmas.List.{append-nil, length-append}
@@ -249,3 +249,12 @@ course_asked u ask may c =
       trails = trails_push u.goal es new may.further c.trails;
       begun = omega (arith, c.begun, length-append es (new ∷ []));
     }
+
+-- what holds of a result that is an Err
+pub on_err : {X E : Type 0} (r : Result X E) (P Q : Type 0) → (P → Q) → OnErr r P → OnErr r Q
+on_err (Ok x) P Q f p = tt
+on_err (Err e) P Q f p = f p
+
+pub on_err_all : {X E : Type 0} (r : Result X E) (Q : Type 0) → Q → OnErr r Q
+on_err_all (Ok x) Q q = tt
+on_err_all (Err e) Q q = q

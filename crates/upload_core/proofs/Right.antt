@@ -19,7 +19,7 @@ use Rattle.upload_core.specs.declared.pieces.PieceFault.{PieceFault}
 use Rattle.upload_core.specs.declared.pieces.PieceFault.TheVariants.{OutOfMemory}
 use Rattle.upload_core.specs.State.{Goal, UploadState, with_record}
 use Rattle.upload_core.specs.Right.{IsRight}
-use Rattle.upload_core.specs.Moves.{Advances, AdvancesAt, Begins, GoesOn, TicksOn, TicksWith, all_follow_ups, ends, follow_ups_at, initial, places, waits}
+use Rattle.upload_core.specs.Moves.{Advances, AdvancesAt, Begins, GoesOn, Stops, StopsAt, TicksOn, TicksWith, all_follow_ups, at_once, ends, follow_ups_at, initial, later, places, waits}
 use Rattle.upload_core.specs.Sending.{one_sent}
 use Rattle.upload_core.specs.Course.{CanGoOn, IsCourse, IsInside, IsKept, IsRound, Stands, asked_servers, is_holdings}
 use Rattle.upload_core.specs.Trails.{AreFollowed, rank_of, share_of}
@@ -174,7 +174,10 @@ module _ (now : ℕ) (old new : UploadState) (stands : Stands old) (kept : IsKep
   tick_moves : TicksOn now old new → Moves new
   tick_moves a = elim (is_running old.status) [
     | inl running ↦ by running (lost_by_tick now old.requests) refl (a.running running) (tick_can (kept.going running))
-    | inr over ↦ over_moves old after new over (a.ended over) (tick_settled now old.requests) stands
+    | inr over ↦ elim (a.ended over) [
+      | inl on ↦ over_moves old after new over on (tick_settled now old.requests) stands
+      | inr same ↦ subst Moves (sym same) (record { stands = stands; going = λ is. absurd (over is) })
+    ]
   ]
     where
       by : old.status ≡ Running → (lost : List ℕ) → lost_by_tick now old.requests ≡ lost → TicksWith lost after old new → CanGoOn (with_record old (asked_all (all_follow_ups old.goal after.entries lost) after)) → Moves new
@@ -236,3 +239,16 @@ module _ {X E : Type 0} (mid new : UploadState) (c : IsCourse new) where
 
   pub tick_kept : (r : Result X E) (now : ℕ) (old : UploadState) → OnOk r (TicksOn now old mid) → OnOk r (new ≡ mid) → OnErr r (new ≡ record mid { status = Failed OutOfMemory }) → IsKept old → IsKept new
   tick_kept r now old a e n kept = step_kept r (on_ok r (TicksOn now old mid) (IsCourse mid → Moves mid) (λ moves course. tick_moves now old mid kept.stands kept course moves) a) e n
+
+-- ---- what is left of a step that found no memory
+
+pub stops_failed : {X E : Type 0} (r : Result X E) (q : RequestsState) (old mid new : UploadState) → OnErr r (Stops q old mid) → OnErr r (new ≡ record mid { status = Failed OutOfMemory }) → OnErr r (Stops q old new)
+stops_failed (Ok x) q old mid new stops e = tt
+stops_failed (Err x) q old mid new stops e =
+    subst (Stops q old) (sym e) (record { goal = stops.goal; wanted = stops.wanted; servers = stops.servers; asks = stops.asks; requests = stops.requests })
+
+pub stops_at : {X E : Type 0} (r : Result X E) (now : ℕ) (old mid new : UploadState) → OnErr r ((mid ≡ old) ⊎ Stops (after_tick now old.requests) old mid) → OnErr r (new ≡ record mid { status = Failed OutOfMemory })
+    → OnErr r (StopsAt now old new)
+stops_at (Ok x) now old mid new why e = tt
+stops_at (Err x) now old mid new (inl same) e = at_once (e ∙ ap (λ (u : UploadState). record u { status = Failed OutOfMemory }) same)
+stops_at {X} (Err x) now old mid new (inr stops) e = later (stops_failed {X = X} (Err x) (after_tick now old.requests) old mid new stops e)

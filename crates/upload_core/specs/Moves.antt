@@ -1,5 +1,5 @@
 -- What the calls of an upload do.
-use Rattle.std.specs.Prelude.{◌≡◌, ◌≢◌, ℕ, List, [], ◌∷◌, Option, Some, None, map}
+use Rattle.std.specs.Prelude.{◌≡◌, ◌≢◌, ◌⊎◌, ℕ, List, [], ◌∷◌, Option, Some, None, map}
 use Rattle.std.specs.Prelude.{length, slice_get, slice_index_or, IsPermutation, AllPairs}
 use Rattle.std.specs.List.{flat_map, range_with_len}
 use Rattle.std.specs.declared.cmp.Ordering.TheVariants.{Less}
@@ -11,7 +11,8 @@ use Rattle.request_record.specs.Record.{RequestsState, asked_all, counts_at}
 use Rattle.placement.specs.Ranking.{rank_cmp}
 use Rattle.upload_core.specs.declared.status.ServerInfo.{ServerInfo}
 use Rattle.upload_core.specs.declared.status.UploadStatus.{UploadStatus}
-use Rattle.upload_core.specs.declared.status.UploadStatus.TheVariants.{Running}
+use Rattle.upload_core.specs.declared.pieces.PieceFault.TheVariants.{OutOfMemory}
+use Rattle.upload_core.specs.declared.status.UploadStatus.TheVariants.{Running, Failed}
 use Rattle.upload_core.specs.State.{Goal, UploadState, with_record}
 use Rattle.upload_core.specs.Transfers.{follow_up}
 use Rattle.upload_core.specs.Rounds.{EndsAs, IsOver, IsPlacing, IsSettled, IsToPlace}
@@ -59,16 +60,32 @@ pub record Advances (from : ℕ) (m : Message) (now : ℕ) (old new : UploadStat
       → AdvancesAt (counts_at from m old.requests) (after_message from m now old.requests) old new
   pub ended : old.status ≢ Running → new ≡ with_record old (after_message from m now old.requests)
 
+-- A step found no memory: what the upload is for stays, its record went on, and some of what
+-- follows is asked.
+pub record Stops (r : RequestsState) (old new : UploadState) : Type 0 where
+  pub goal : new.goal ≡ old.goal
+  pub wanted : new.wanted ≡ old.wanted
+  pub servers : new.servers ≡ old.servers
+  pub asks : List (ℕ × Asked)
+  pub requests : new.requests ≡ asked_all asks r
+
 -- A tick: what it finds lost is followed up, in the order of the record.
 abbrev pub TicksWith : List ℕ → RequestsState → UploadState → UploadState → Type 0
 TicksWith [] r old new = new ≡ with_record old r
 TicksWith (first ∷ others) r old new =
     GoesOn old (asked_all (all_follow_ups old.goal r.entries (first ∷ others)) r) new
 
+-- One that ended takes no note, where it finds no memory.
 pub record TicksOn (now : ℕ) (old new : UploadState) : Type 0 where
   pub running : old.status ≡ Running
       → TicksWith (lost_by_tick now old.requests) (after_tick now old.requests) old new
-  pub ended : old.status ≢ Running → new ≡ with_record old (after_tick now old.requests)
+  pub ended : old.status ≢ Running
+      → (new ≡ with_record old (after_tick now old.requests)) ⊎ (new ≡ old)
+
+-- A tick finds no memory: the upload fails, and its record is as it was, or went on.
+pub data StopsAt (now : ℕ) (old new : UploadState) : Type 0 where
+  at_once : new ≡ record old { status = Failed OutOfMemory } → StopsAt now old new
+  later : Stops (after_tick now old.requests) old new → StopsAt now old new
 
 -- the node of the server at a place
 abbrev pub node_at : List ServerInfo → ℕ → ℕ

@@ -1,10 +1,10 @@
 //! The course of an upload: what it asks and how it ends, whatever the bytes of its shares are.
 
-ghost use Rattle.std.specs.Prelude.{◌≡◌, ◌<◌, ◌==◌, ◌&&◌, ◌||◌, ◌↔◌, ℕ, All, IfOk, IfSome};
-ghost use Rattle.std.specs.Prelude.{IsTrue, OnErr, OnOk, Some};
+ghost use Rattle.std.specs.Prelude.{◌≡◌, ◌≢◌, ◌⊎◌, ◌<◌, ◌==◌, ◌&&◌, ◌||◌, ◌↔◌, ℕ, All, IfOk};
+ghost use Rattle.std.specs.Prelude.{IfSome, IsOk, IsTrue, OnErr, OnOk, Some};
 ghost use Rattle.std.specs.Prelude.{length, map, nat_eq, nat_lt, slice_get, take};
 ghost use Rattle.std.specs.List.{IsDistinct};
-ghost use Rattle.request_record.specs.Asking.{message_at};
+ghost use Rattle.request_record.specs.Asking.{after_message, after_tick, message_at};
 ghost use Rattle.request_record.specs.Record.{IsRecord, asked_all};
 ghost use Rattle.placement.specs.Matching.{IsHappiness, shares_of};
 ghost use Rattle.upload_core.specs.declared.pieces.PieceFault.TheVariants.{OutOfMemory};
@@ -12,7 +12,7 @@ ghost use Rattle.upload_core.specs.declared.status.ServerInfo.{ServerInfo};
 ghost use Rattle.upload_core.specs.Acknowledged.{acked_pairs};
 ghost use Rattle.upload_core.specs.Course.{CanGoOn, Ends, IsCourse, IsInside, MayPlace, Places};
 ghost use Rattle.upload_core.specs.Course.{allocations, transfers};
-ghost use Rattle.upload_core.specs.Moves.{Advances, AreInOrder, Begins, GoesOn, TicksOn};
+ghost use Rattle.upload_core.specs.Moves.{Advances, AreInOrder, Begins, GoesOn, Stops, TicksOn};
 ghost use Rattle.upload_core.specs.Moves.{all_follow_ups, follow_ups_at, node_at};
 ghost use Rattle.upload_core.specs.Sending.{AsksAt, first_to_send, one_sent};
 ghost use Rattle.upload_core.specs.Rounds.{IsSettled, has_failed_since};
@@ -95,18 +95,21 @@ impl Course {
         Ok(course)
     }
 
-    /// Takes a message at a second.
+    /// Takes a message over, at a second.
     pub(crate) fn answer(
         &mut self,
         from: NodeId,
-        message: &Message,
+        message: Message,
         now: u64,
     ) -> Result<(), AllocError>
         requires { self.old.status ≡ UploadStatus.Running → CanGoOn self.old }
-        ensures ok { OnOk result (Advances from message.now now self.old self.new) }
+        ensures ok { OnOk result (Advances from message now self.old self.new) }
+        ensures err { OnErr result
+            (Stops (after_message from message now self.old.requests) self.old self.new) }
+        ensures ended { self.old.status ≢ UploadStatus.Running → IsOk result }
         ensures goal { self.new.goal ≡ self.old.goal }
     {
-        let Some(place) = self.requests.answer(from, message, now)? else {
+        let Some(place) = self.requests.take_answer(from, message, now) else {
             return Ok(());
         };
         if !self.is_running() {
@@ -116,14 +119,22 @@ impl Course {
         self.go_on()
     }
 
-    /// Takes note of a second.
+    /// Takes note of a second. One that ended needs no memory: where there is none it takes no
+    /// note.
     pub(crate) fn pass(&mut self, now: u64) -> Result<(), AllocError>
         requires { self.old.status ≡ UploadStatus.Running → CanGoOn self.old }
         ensures ok { OnOk result (TicksOn now self.old self.new) }
+        ensures err { OnErr result ((self.new ≡ self.old)
+            ⊎ Stops (after_tick now self.old.requests) self.old self.new) }
+        ensures ended { self.old.status ≢ UploadStatus.Running → IsOk result }
         ensures goal { self.new.goal ≡ self.old.goal }
     {
+        if !self.is_running() {
+            let _ = self.requests.tick(now);
+            return Ok(());
+        }
         let lost = self.requests.tick(now)?;
-        if !self.is_running() || lost.is_empty() {
+        if lost.is_empty() {
             return Ok(());
         }
         self.follow_all(&lost)?;
@@ -213,6 +224,7 @@ impl Course {
         ensures ok { OnOk result (self.new ≡ with_record self.old (asked_all
             (follow_ups_at self.old.goal (slice_get self.old.requests.entries place))
             self.old.requests)) }
+        ensures err { OnErr result (self.new ≡ self.old) }
         ensures goal { self.new.goal ≡ self.old.goal }
     {
         let request = &self.requests.entries()[place];
@@ -232,6 +244,7 @@ impl Course {
         ensures ok { OnOk result (self.new ≡ with_record self.old (asked_all
             (all_follow_ups self.old.goal self.old.requests.entries places.now)
             self.old.requests)) }
+        ensures err { OnErr result (Stops self.old.requests self.old self.new) }
         ensures goal { self.new.goal ≡ self.old.goal }
     {
         for place in places {
@@ -244,6 +257,7 @@ impl Course {
     fn go_on(&mut self) -> Result<(), AllocError>
         requires { AreFollowed self.old.goal self.old.requests.entries }
         ensures ok { OnOk result (GoesOn self.old self.old.requests self.new) }
+        ensures err { OnErr result (Stops self.old.requests self.old self.new) }
         ensures goal { self.new.goal ≡ self.old.goal }
     {
         if self.requests.outstanding() > 0 {
@@ -307,6 +321,7 @@ impl Course {
           requests = asked_all (transfers self.old.goal pairs.now) self.old.requests;
           round = length self.old.requests.entries;
         }) }
+        ensures err { OnErr result (Stops self.old.requests self.old self.new) }
         ensures goal { self.new.goal ≡ self.old.goal }
     {
         self.round = self.requests.entries().len();

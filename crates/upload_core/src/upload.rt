@@ -1,16 +1,17 @@
 //! An upload: its course, and the source of its shares' bytes.
 
-ghost use Rattle.std.specs.Prelude.{◌≡◌, ◌<◌, ℕ, IfOk, OnOk, OnErr, length, map, nat_eq};
-ghost use Rattle.std.specs.Prelude.{is_some};
+ghost use Rattle.std.specs.Prelude.{◌≡◌, ◌≢◌, ◌<◌, ℕ, IfOk, IsOk, OnOk, OnErr, length, map};
+ghost use Rattle.std.specs.Prelude.{is_some, nat_eq};
 ghost use Rattle.std.specs.List.{IsDistinct};
 ghost use Rattle.upload_core.specs.Course.{IsInside};
-ghost use Rattle.upload_core.specs.Moves.{Advances, Begins, TicksOn};
+ghost use Rattle.request_record.specs.Asking.{after_message};
+ghost use Rattle.upload_core.specs.Moves.{Advances, Begins, Stops, StopsAt, TicksOn};
 ghost use Rattle.upload_core.specs.Right.{IsRight};
 ghost use Rattle.upload_core.specs.Sending.{IsBody, Takes, first_to_send};
 ghost use Rattle.request_record.specs.declared.requests.Asked.TheVariants.{Writing};
 ghost use Rattle.upload_core.specs.declared.pieces.PieceFault.TheVariants.{OutOfMemory};
 ghost use Rattle.upload_core.specs.declared.status.ServerInfo.{ServerInfo};
-ghost use Rattle.upload_core.specs.declared.status.UploadStatus.TheVariants.{Failed};
+ghost use Rattle.upload_core.specs.declared.status.UploadStatus.TheVariants.{Failed, Running};
 
 use crate::course::Course;
 use crate::pieces::{PieceFault, Pieces};
@@ -65,16 +66,14 @@ impl<P: Pieces + Drop> Upload<P> {
         Ok(Upload { pieces, course })
     }
 
-    /// Takes a message from a node, at a second.
-    pub fn on_message(
-        &mut self,
-        from: NodeId,
-        message: &Message,
-        now: u64,
-    ) -> Result<(), AllocError>
-        ensures ok { OnOk result
-            (Advances from message.now now self.old.course self.new.course) }
+    /// Takes a message from a node over, at a second. On an `Err`, which only one that runs gives,
+    /// it has failed; its record goes on all the same.
+    pub fn on_message(&mut self, from: NodeId, message: Message, now: u64) -> Result<(), AllocError>
+        ensures ok { OnOk result (Advances from message now self.old.course self.new.course) }
         ensures err { OnErr result (self.new.course.status ≡ Failed OutOfMemory) }
+        ensures stops { OnErr result (Stops (after_message from message now
+            self.old.course.requests) self.old.course self.new.course) }
+        ensures ended { self.old.course.status ≢ Running → IsOk result }
         ensures pieces { self.new.pieces ≡ self.old.pieces }
     {
         let outcome = self.course.answer(from, message, now);
@@ -82,10 +81,12 @@ impl<P: Pieces + Drop> Upload<P> {
         outcome
     }
 
-    /// Takes note of a second.
+    /// Takes note of a second. On an `Err`, which only one that runs gives, it has failed.
     pub fn tick(&mut self, now: u64) -> Result<(), AllocError>
         ensures ok { OnOk result (TicksOn now self.old.course self.new.course) }
         ensures err { OnErr result (self.new.course.status ≡ Failed OutOfMemory) }
+        ensures stops { OnErr result (StopsAt now self.old.course self.new.course) }
+        ensures ended { self.old.course.status ≢ Running → IsOk result }
         ensures pieces { self.new.pieces ≡ self.old.pieces }
     {
         let outcome = self.course.pass(now);

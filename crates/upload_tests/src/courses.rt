@@ -77,7 +77,7 @@ impl<'a> Course<'a> {
         self.sent.push((now, node, asked)).ok()?;
         if let Some(message) = answer(&mut self.grid, self.conducts, node, &request, now) {
             if !self.loses(asked) {
-                upload.on_message(node, &message, now).ok()?;
+                upload.on_message(node, message, now).ok()?;
             }
         }
         Some(now)

@@ -181,7 +181,7 @@ fn carry(
         match upload.take_outgoing(alloc).ok()? {
             Some((node, request)) => {
                 if let Some(message) = answer(grid, conducts, node, &request, now) {
-                    upload.on_message(node, &message, now).ok()?;
+                    upload.on_message(node, message, now).ok()?;
                 }
             }
             None => {

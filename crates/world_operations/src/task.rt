@@ -101,7 +101,7 @@ impl Task {
             → GoesOn (IsSaid from message (requests_of self.old).session) self.old self.new }
     {
         match self {
-            Task::Uploading(upload) => answer_upload(upload, from, &message, now),
+            Task::Uploading(upload) => answer_upload(upload, from, message, now),
             Task::Downloading(download) => download.on_message(from, message, now),
             Task::Checking(check) => check.on_message(from, message, now),
             Task::Gone(_) => Ok(()),
@@ -271,10 +271,10 @@ fn is_running(upload: &Upload<WholeShares>) -> bool
 fn answer_upload(
     upload: &mut Upload<WholeShares>,
     from: NodeId,
-    message: &Message,
+    message: Message,
     now: u64,
 ) -> Result<(), AllocError>
-    ensures ok { OnOk result (UploadAdvances from message.now now upload.old upload.new) }
+    ensures ok { OnOk result (UploadAdvances from message now upload.old upload.new) }
     ensures err { OnErr result (upload.old.course.status ≡ uploads.Running) }
 {
     if !is_running(upload) {

@@ -1,7 +1,9 @@
-use Rattle.std.proofs.Common.{◌≡◌, ◌≤◌, All, length, take, sym, ap, subst, ◌∙◌, arith, ℕ}
+use Rattle.std.proofs.Common.{refl, ◌≡◌, ◌≤◌, All, length, take, sym, ap, subst, ◌∙◌, arith, ℕ}
 use Rattle.request_record.specs.Record.{asked_all}
 use Rattle.upload_core.specs.State.{UploadState}
 use Rattle.upload_core.specs.Course.{MayPlace, allocations}
+use Rattle.upload_core.specs.Moves.{Stops}
+use Rattle.upload_core.proofs.Records.{on_err_all}
 use Rattle.upload_core.proofs.Goes.{round_course}
 use Rattle.upload_core.proofs.course.Course.begin_round.Goals as goal
 
@@ -13,3 +15,11 @@ invariant_of-self c =
     let new : c.allocate.new.requests ≡ asked_all (allocations u.goal.share_length (take k c.args.pairs.now)) u.requests = c.allocate.ensures.some.1 ∙ ap (λ (len : ℕ). asked_all (allocations len (take k c.args.pairs.now)) u.requests) c.share_length.ensures in
     let le : length c.entries.result.now ≤ length u.requests.entries = omega (arith, ap length c.entries.ensures.value) in
     round_course u c.args.pairs.now k (length c.entries.result.now) c.allocate.new.requests le new may c.requires.once c.self.invariant
+
+pub returns-clause-err : goal.returns-clause-err
+returns-clause-err c =
+    let u : UploadState = record { goal = c.self.inside.goal; wanted = c.self.inside.wanted; servers = c.self.inside.servers.items; requests = c.self.inside.requests; round = c.self.inside.round; status = c.self.inside.status } in
+    let k : ℕ = c.allocate.ensures.some.0 in
+    let new : UploadState = record u { requests = c.allocate.new.requests; round = length c.entries.result.now } in
+    on_err_all c.allocate.result _ (subst (λ (s : UploadState). Stops s.requests s new) c.self.view_is
+    (record { goal = refl; wanted = refl; servers = refl; asks = allocations c.share_length.result (take k c.args.pairs.now); requests = c.allocate.ensures.some.1 }))

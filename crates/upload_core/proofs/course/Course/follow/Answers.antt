@@ -1,6 +1,7 @@
 use Rattle.std.proofs.Common.{◌≡◌, ◌<◌, Some, None, inl, inr, get_or, length, sym, ap, subst, ◌∙◌, List}
 use Rattle.std.specs.Prelude.{slice_get}
 use Rattle.lemmas.proofs.Results.{settled_by, on_ok}
+use Rattle.upload_core.proofs.Records.{on_err}
 use Rattle.request_record.specs.declared.requests.Request.{Request}
 use Rattle.request_record.specs.Record.{RequestsState, asked_all, asked_more}
 use Rattle.upload_core.specs.State.{UploadState, with_record}
@@ -41,3 +42,8 @@ returns-in-None-clause-ok c =
     let lt : c.args.place < length u.requests.entries = subst (λ (s : UploadState). c.args.place < length s.requests.entries) (sym c.self.view_is) c.requires.there in
     let e : follow_up u.goal r ≡ None = sym c.follow_up.ensures ∙ c.in-None.is in
     subst (λ (s : UploadState). s ≡ with_record s (asked_all (follow_ups_at s.goal (slice_get s.requests.entries c.args.place)) s.requests)) c.self.view_is (follow_nothing u c.args.place r is lt e)
+
+pub returns-in-Some-clause-err : goal.returns-in-Some-clause-err
+returns-in-Some-clause-err c =
+    let u : UploadState = record { goal = c.self.inside.goal; wanted = c.self.inside.wanted; servers = c.self.inside.servers.items; requests = c.self.inside.requests; round = c.self.inside.round; status = c.self.inside.status } in
+    on_err c.ask.result _ _ (λ n. ap (with_record u) n ∙ c.self.view_is) c.ask.ensures.err

@@ -1,6 +1,9 @@
-use Rattle.std.proofs.Common.{◌≡◌, ◌∙◌, ap, sym}
+use Rattle.std.proofs.Common.{◌≡◌, ◌∙◌, OnErr, ap, subst, sym}
+use Rattle.request_record.specs.Asking.{after_message}
+use Rattle.upload_core.specs.Moves.{Stops}
+use Rattle.upload_core.specs.Sending.{Uploading}
 use Rattle.upload_core.specs.State.{Goal}
-use Rattle.upload_core.proofs.Right.{message_kept, step_goal}
+use Rattle.upload_core.proofs.Right.{message_kept, step_goal, stops_failed}
 use Rattle.upload_core.proofs.upload.Upload.on_message.Goals as goal
 
 pub answer-outcome-requires : goal.answer-outcome-requires
@@ -12,9 +15,15 @@ invariant_of-self g c =
     let mid = c.answer-outcome.new.self in
     let new = c.fail_by.new.self in
     let e = c.fail_by.ensures in
-    let kept = message_kept mid new e.right c.answer-outcome.result c.args.from c.args.message.now c.args.now old c.answer-outcome.ensures.ok e.ok e.err c.self.invariant.2 in
+    let kept = message_kept mid new e.right c.answer-outcome.result c.args.from c.args.message c.args.now old c.answer-outcome.ensures.ok e.ok e.err c.self.invariant.2 in
     let same : old.goal ≡ new.goal = sym c.answer-outcome.ensures.goal ∙ sym (step_goal mid new e.right c.answer-outcome.result e.ok e.err) in (
       c.self.invariant.0 ∙ ap (λ (a : Goal). a.digests) same,
       c.self.invariant.1 ∙ ap (λ (a : Goal). a.share_length) same,
       kept,
     )
+
+pub returns-clause-stops : goal.returns-clause-stops
+returns-clause-stops g c =
+    let e = c.fail_by.ensures in
+    subst (λ (u : Uploading g.row.P.Denot). OnErr c.answer-outcome.result (Stops (after_message c.args.from c.args.message c.args.now u.course.requests) u.course c.fail_by.new.self)) c.self.view_is
+    (stops_failed c.answer-outcome.result (after_message c.args.from c.args.message c.args.now c.self.inside.course.requests) c.self.inside.course c.answer-outcome.new.self c.fail_by.new.self c.answer-outcome.ensures.err e.err)

@@ -1,6 +1,8 @@
-use Rattle.std.proofs.Common.{◌≡◌, ◌∙◌, ap, sym}
+use Rattle.std.proofs.Common.{◌≡◌, ◌∙◌, OnErr, ap, subst, sym}
+use Rattle.upload_core.specs.Moves.{StopsAt}
+use Rattle.upload_core.specs.Sending.{Uploading}
 use Rattle.upload_core.specs.State.{Goal}
-use Rattle.upload_core.proofs.Right.{step_goal, tick_kept}
+use Rattle.upload_core.proofs.Right.{step_goal, stops_at, tick_kept}
 use Rattle.upload_core.proofs.upload.Upload.tick.Goals as goal
 
 pub pass-outcome-requires : goal.pass-outcome-requires
@@ -18,3 +20,9 @@ invariant_of-self g c =
       c.self.invariant.1 ∙ ap (λ (a : Goal). a.share_length) same,
       kept,
     )
+
+pub returns-clause-stops : goal.returns-clause-stops
+returns-clause-stops g c =
+    let e = c.fail_by.ensures in
+    subst (λ (u : Uploading g.row.P.Denot). OnErr c.pass-outcome.result (StopsAt c.args.now u.course c.fail_by.new.self)) c.self.view_is
+    (stops_at c.pass-outcome.result c.args.now c.self.inside.course c.pass-outcome.new.self c.fail_by.new.self c.pass-outcome.ensures.err e.err)
