@@ -1,5 +1,5 @@
 -- What holds of a table after each change.
-use Rattle.std.proofs.Common.{◌≡◌, ℕ, ◌+◌, ◌<◌, ◌≤◌, ◌⊎◌, inl, inr, Bool, true, false, cond, List, [], ◌∷◌, ◌++◌, All, Contains, length, take, Option, Some, None, refl, sym, ap, subst, ◌∙◌, arith, true≢false}
+use Rattle.std.proofs.Common.{◌≡◌, ℕ, ◌+◌, ◌<◌, ◌≤◌, ◌⊎◌, inl, inr, Bool, true, false, cond, List, [], ◌∷◌, ◌++◌, All, Contains, length, take, Option, Some, None, IfSome, refl, sym, ap, subst, ◌∙◌, arith, true≢false}
 use mir.Val.{bool_byte}
 use Rattle.std.specs.Prelude.{◌==◌, slice_get, slice_index_or, slice_set, is_some}
 use Rattle.std.proofs.lemmas.Bool.{cases_eq, cases_lt, eq-eqb}
@@ -344,6 +344,15 @@ none_more t i before here place h is free lt = elim (cases_lt h.share i) [
   | inl less ↦ before place h is free less
   | inr le ↦ here place h is free (omega (arith, le, lt))
 ]
+
+-- no holding of a lower number may be read than of the one that is chosen
+pub lowest_here : (t : TableState) (i : ℕ) (n : NumberState) → IsTable t → IsNumber t i n → NoneIsFreeBefore t i → (o : Option ℕ) → Chooses t n.left o
+    → IfSome o (λ (place : ℕ). (h : Holding) → IsHolding t place h → NoneIsFreeBefore t h.share)
+lowest_here t i n right there none None k = tt
+lowest_here t i n right there none (Some p) k = λ h at.
+    let found = right.places i p n there k.0 in
+    let same : found.0 ≡ h = let two : Some found.0 ≡ Some h = sym found.1 ∙ at in cc in
+    subst (NoneIsFreeBefore t) (sym found.2 ∙ ap (λ (x : Holding). x.share) same) none
 
 pub none_chosen : (t : TableState) (i : ℕ) (n : NumberState) → IsTable t → IsNumber t i n → Chooses t n.left None → NoneIsFreeBefore t i → NoneIsFreeBefore t (i + 1)
 none_chosen t i n right there k before = none_more t i before (λ place h is free e.

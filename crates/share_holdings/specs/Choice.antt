@@ -11,7 +11,7 @@ Chooses t places None = (place : ℕ) (h : Holding) → Contains places place
 Chooses t places (Some place) = Contains places place
     × ((h : Holding) × IsHolding t place h × (h.suspended ≡ false))
 
--- no holding of a number before this one may be read now
+-- no holding of a share number before this one may be read now
 abbrev pub NoneIsFreeBefore : TableState → ℕ → Type 0
 NoneIsFreeBefore t end = (place : ℕ) (h : Holding) → IsHolding t place h → IsFree t h
     → h.share < end → ⊥

@@ -10,6 +10,7 @@ ghost use Rattle.request_record.specs.Asking.{after_message};
 ghost use Rattle.request_record.specs.Record.{TakesNext, asked_more};
 ghost use Rattle.request_record.specs.declared.requests.Outcome.TheVariants.{Answered};
 ghost use Rattle.request_record.specs.declared.requests.Request.{Request};
+ghost use Rattle.share_holdings.specs.Choice.{NoneIsFreeBefore};
 ghost use Rattle.share_holdings.specs.Moves.{Asks, Begins, Blames, Hears, IsUnasked};
 ghost use Rattle.share_holdings.specs.Moves.{IsAmong, IsSame, RetiresAll, Tells, Ticks, held_by};
 ghost use Rattle.share_holdings.specs.Right.{AreAllHeld, IsReadOf, IsRight};
@@ -138,10 +139,13 @@ impl Holdings {
     }
 
     /// The next one to read: of the lowest share number of which none is read and one may be
-    /// chosen, at the server of which the fewest are read, and of these the first that was told.
+    /// chosen. Of several it prefers the one at the server of which the fewest are read, and of
+    /// these the first that was told: that is for speed alone, and no clause says so.
     pub fn choose(&self) -> Option<usize>
         ensures free { IfSome result (λ holding.
             (h : Holding) × IsHolding self.now.table holding h × IsFree self.now.table h) }
+        ensures lowest { IfSome result (λ holding. (h : Holding)
+            → IsHolding self.now.table holding h → NoneIsFreeBefore self.now.table h.share) }
         ensures none { IfNone result (NoneIsFree self.now.table) }
     {
         self.table.choose()

@@ -3,7 +3,7 @@
 ghost use Rattle.std.specs.Prelude.{◌≡◌, ◌<◌, ◌++◌, ◌∷◌, [], ℕ, IfNone, IfOk, IfSome, OnErr, OnOk};
 ghost use Rattle.std.specs.Prelude.{length};
 ghost use Rattle.std.specs.Prelude.{All, Contains, Some, true, false, is_some};
-ghost use Rattle.share_holdings.specs.Choice.{Chooses};
+ghost use Rattle.share_holdings.specs.Choice.{Chooses, NoneIsFreeBefore};
 ghost use Rattle.share_holdings.specs.Numbers.{no_holding, read_count, with_place};
 ghost use Rattle.share_holdings.specs.Table.{ChangesNumber, IsFree, IsHolding, IsTable, NoneIsFree};
 ghost use Rattle.share_holdings.specs.Table.{Releases, Retires, Suspends, TakesUp, told_one};
@@ -158,10 +158,13 @@ impl Table {
     }
 
     /// The next one to read: of the lowest share number of which none is read and one may be
-    /// chosen, at the server of which the fewest are read, and of these the first that was told.
+    /// chosen. Of several it prefers the one at the server of which the fewest are read, and of
+    /// these the first that was told.
     pub(crate) fn choose(&self) -> Option<usize>
         ensures free { IfSome result (λ place.
             (h : Holding) × IsHolding self.now place h × IsFree self.now h) }
+        ensures lowest { IfSome result (λ place. (h : Holding)
+            → IsHolding self.now place h → NoneIsFreeBefore self.now h.share) }
         ensures none { IfNone result (NoneIsFree self.now) }
     {
         for number in &self.numbers {

@@ -4,7 +4,7 @@ use Rattle.lemmas.proofs.Places.{got}
 use Rattle.share_holdings.specs.Choice.{Chooses}
 use Rattle.share_holdings.specs.Table.{IsFree, IsHolding, IsNumber, IsTable}
 use Rattle.share_holdings.specs.declared.holding.Holding.{Holding}
-use Rattle.share_holdings.proofs.Tables.{free_here, left_inside, none_at_all, none_chosen, one_read}
+use Rattle.share_holdings.proofs.Tables.{free_here, left_inside, lowest_here, none_at_all, none_chosen, one_read}
 use Rattle.share_holdings.proofs.table.Table.choose.Goals.{then-not-is_read+else-is_some, else-not-is_read}
 use Rattle.share_holdings.proofs.table.Table.choose.Goals as goal
 
@@ -34,6 +34,15 @@ returns-then-is_some-clause-free c =
     by : (c : goal.Then-is_some) → IsTable c.args.self.now → IsNumber c.args.self.now c.loop-number.number-index c.number-item.result → c.number-item.result.reading ≡ None → (o : Option ℕ) → Chooses c.args.self.now c.number-item.result.left o → IfSome o (λ (place : ℕ). (h : Holding) × IsHolding c.args.self.now place h × IsFree c.args.self.now h)
     by c right there unread None k = tt
     by c right there unread (Some p) k = free_here c.args.self.now c.loop-number.number-index p c.number-item.result right there unread k
+
+pub returns-then-is_some-clause-lowest : goal.returns-then-is_some-clause-lowest
+returns-then-is_some-clause-lowest c =
+    let right : IsTable c.args.self.now = subst IsTable c.self.view_is c.self.invariant.0 in
+    let lt : c.loop-number.number-index < length c.args.self.now.numbers = search rules in
+    let e : c.number-item.result ≡ slice_index_or c.args.self.now.numbers c.loop-number.number-index c.number-item.result = search rules in
+    let there : IsNumber c.args.self.now c.loop-number.number-index c.number-item.result = got c.args.self.now.numbers c.loop-number.number-index c.number-item.result lt e in
+    lowest_here c.args.self.now c.loop-number.number-index c.number-item.result right there c.loop-number.invariant c.choose_among-chosen.result
+    (subst (λ l. Chooses c.args.self.now l c.choose_among-chosen.result) c.left.ensures c.choose_among-chosen.ensures)
 
 pub loop-number-preserved : goal.loop-number-preserved
 loop-number-preserved c = elim c.if-not-is_read.branch [
