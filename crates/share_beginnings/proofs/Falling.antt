@@ -119,11 +119,14 @@ pub falls_one : (holding : ℕ) (t u : TableState) → Retires holding t u → F
 falls_one holding t u r = falls_all (λ place. place ≡ holding) t u (retires_all holding t u r)
 
 -- it is not left any more
-pub retired_left : (holding : ℕ) (t u : TableState) (g : Holding) → Retires holding t u → IsHolding u holding g → g.left ≡ true → ⊥
-retired_left holding t u g r e left =
+pub retired_gone : (holding : ℕ) (t u : TableState) (g : Holding) → Retires holding t u → IsHolding u holding g → g.left ≡ false
+retired_gone holding t u g r e =
     let is = ap (λ (l : List Holding). slice_get l holding) r.1.holdings ∙ get_set t.holdings holding (record r.0 { left = false }) r.0 r.1.is in
     let same : record r.0 { left = false } ≡ g = one_there (slice_get u.holdings holding) (record r.0 { left = false }) g is e in
-    true≢false (sym left ∙ sym (ap (λ (x : Holding). x.left) same))
+    sym (ap (λ (x : Holding). x.left) same)
+
+pub retired_left : (holding : ℕ) (t u : TableState) (g : Holding) → Retires holding t u → IsHolding u holding g → g.left ≡ true → ⊥
+retired_left holding t u g r e left = true≢false (sym left ∙ retired_gone holding t u g r e)
 
 -- nor read
 pub retired_unread : (holding share : ℕ) (t u : TableState) (m : NumberState) → Retires holding t u → IsNumber u share m → m.reading ≡ Some holding → (g : Holding) → IsHolding u holding g → g.left ≡ true → ⊥

@@ -11,9 +11,10 @@ use Rattle.share_verify.specs.declared.check.Check.TheVariants as checks
 use Rattle.share_opening.specs.Opening.{Advances, Agrees, next_length, next_place}
 use Rattle.share_opening.specs.Reads.{IsLedToBy}
 use Rattle.share_opening.specs.Refusal.{IsRefused, check_of}
+use Rattle.share_opening.specs.declared.block.Opened.{Opened}
 use Rattle.share_opening.specs.declared.error.OpeningError.{OpeningError}
 use Rattle.share_opening.specs.declared.opening.Opening.{Opening}
-use Rattle.share_opening.specs.declared.opening.Progress.TheVariants.{Next}
+use Rattle.share_opening.specs.declared.opening.Progress.TheVariants.{Next, Done}
 use Rattle.share_holdings.specs.declared.holding.Blame.{Blame}
 use Rattle.share_beginnings.specs.Reads.{brought_of}
 
@@ -29,6 +30,13 @@ FailsAs cap g opening bytes check =
     ((error : OpeningError) × IsRefused cap opening bytes error × (check ≡ check_of error))
     ⊎ ((next : Opening) × Advances cap opening bytes (Next next) × (¬ Agrees g next)
     × (check ≡ checks.Layout))
+
+-- The next bytes of an opening lead on, and to no other header than that of a file with this
+-- geometry.
+abbrev pub LeadsOn : VerifyCapValue → Geometry → Opening → List ℕ → Type 0
+LeadsOn cap g opening bytes =
+    ((next : Opening) × Advances cap opening bytes (Next next) × Agrees g next)
+    ⊎ ((opened : Opened) × Advances cap opening bytes (Done opened))
 
 -- What the share's server answered to a read of its beginning, which follows what the server
 -- answered before, is refused by the cap.

@@ -91,6 +91,10 @@ Settles holding old new = ((h : Holding) × IsHolding old.table holding h × (h.
     ⊎ ((check : Check) × holdings.Blames holding check old new)
     ⊎ (Suspends false holding old.table new.table × (new ≡ record old { table = new.table }))
 
+-- the holding is not left
+abbrev pub IsGone : ℕ → BeginningsState → Type 0
+IsGone holding s = (h : Holding) → IsHolding s.holdings.table holding h → h.left ≡ false
+
 -- what an answer brings to a share's beginning, where its header is compared
 pub record Compares (holding : ℕ) (old new : BeginningsState) : Type 0 where
   pub rested_first : (between : BeginningsState) × Rests holding old between

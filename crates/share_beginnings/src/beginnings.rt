@@ -1,7 +1,7 @@
 //! The shares that servers hold, and how far the beginning of each is read.
 
-ghost use Rattle.std.specs.Prelude.{◌≡◌, ◌<◌, ◌+◌, ℕ, List, [], IfErr, IfNone, IfOk, IfSome, None};
-ghost use Rattle.std.specs.Prelude.{OnErr, OnOk, false, length, nat_eq, true};
+ghost use Rattle.std.specs.Prelude.{◌≡◌, ◌⊎◌, ◌<◌, ◌+◌, ℕ, List, [], IfErr, IfNone, IfOk, IfSome};
+ghost use Rattle.std.specs.Prelude.{None, OnErr, OnOk, false, length, nat_eq, true};
 ghost use Rattle.std.specs.List.{IsDistinct};
 ghost use Rattle.share_layout.specs.Geometry.{IsGeometry};
 ghost use Rattle.share_opening.specs.Opening.{Advances, Agrees, next_length, next_place};
@@ -16,10 +16,10 @@ ghost use Rattle.share_holdings.specs.Right.{IsRight};
 ghost use Rattle.share_holdings.specs.Table.{IsFree, IsHolding, IsTable};
 ghost use Rattle.share_holdings.specs.declared.holding.Holding.{Holding};
 ghost use Rattle.share_beginnings.specs.Causes.{AddsBlames, FailsAs, IsBeginningFault};
-ghost use Rattle.share_beginnings.specs.Causes.{IsOpeningFault, IsOtherHeader};
+ghost use Rattle.share_beginnings.specs.Causes.{IsOpeningFault, IsOtherHeader, LeadsOn};
 ghost use Rattle.share_beginnings.specs.Known.{AreBegun};
 ghost use Rattle.share_beginnings.specs.Moves.{AsksNext, Awaits, BringsBytes, Compares};
-ghost use Rattle.share_beginnings.specs.Moves.{CountsAsMany, GoesOn};
+ghost use Rattle.share_beginnings.specs.Moves.{CountsAsMany, GoesOn, IsGone};
 ghost use Rattle.share_beginnings.specs.Moves.{HearsNews, IsBlockAt, IsFilled, IsReaderOf, Rests};
 ghost use Rattle.share_beginnings.specs.Opening.{AreCompared, AreComparedUpTo, AreOpening, IsFound};
 ghost use Rattle.share_beginnings.specs.Opening.{IsToldOf, nobody};
@@ -287,6 +287,11 @@ impl Beginnings {
         requires known { AreBegun self.old }
         ensures known { OnOk result (AreBegun self.new) }
         ensures compares { OnOk result (Compares holding self.old self.new) }
+        // It is left only where its header is the one of such a file, as far as it is read.
+        ensures agrees { OnOk result ((opening : Opening) (bytes : List ℕ)
+            → Awaits self.old holding place opening
+            → IsAnsweredBy self.old.holdings.requests.entries place bytes
+            → IsGone holding self.new ⊎ LeadsOn cap.now geometry.now opening bytes) }
         ensures causes { AddsBlames (IsBeginningFault cap.now geometry.now
             self.old.holdings.requests.entries) self.old.holdings.blamed self.new.holdings.blamed }
         ensures requests { self.new.holdings.requests ≡ self.old.holdings.requests }
@@ -307,7 +312,7 @@ impl Beginnings {
         }
     }
 
-    // The check that a share fails by the next bytes of its beginning.
+    // The check that a share fails by the next bytes of its beginning. `None` where they lead on.
     fn compared(
         &self,
         cap: &VerifyCap,
@@ -317,9 +322,12 @@ impl Beginnings {
     ) -> Option<Check>
         requires answered { (bytes : List ℕ)
             × IsAnsweredBy self.now.holdings.requests.entries place bytes }
-        ensures { IfSome result (λ check. (bytes : List ℕ)
+        ensures fails { IfSome result (λ check. (bytes : List ℕ)
             → IsAnsweredBy self.now.holdings.requests.entries place bytes
             → FailsAs cap.now geometry.now opening.now bytes check) }
+        ensures leads { IfNone result ((bytes : List ℕ)
+            → IsAnsweredBy self.now.holdings.requests.entries place bytes
+            → LeadsOn cap.now geometry.now opening.now bytes) }
     {
         match self.read_on(cap, opening, place) {
             Err(error) => Some(error.check()),

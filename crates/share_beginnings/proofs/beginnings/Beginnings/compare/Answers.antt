@@ -1,19 +1,20 @@
 use Rattle.std.proofs.Common.{◌≡◌, ◌∙◌, ◌<◌, inl, inr, List, [], ◌∷◌, ◌++◌, length, get_or, Some, false, refl, sym, subst, ap, arith}
 use Rattle.std.specs.Prelude.{slice_get}
-use Rattle.std.proofs.lemmas.Option.{slice_get-get_or, slice_get_within}
+use Rattle.std.proofs.lemmas.Option.{get_or_from_slice_get, slice_get-get_or, slice_get_within}
+use Rattle.share_opening.specs.declared.opening.Opening.{Opening}
 use Rattle.lemmas.proofs.Results.{on_ok_then, by_result}
 use Rattle.share_holdings.specs.Moves.{Blames}
 use Rattle.share_holdings.specs.State.{HoldingsState}
 use Rattle.share_holdings.specs.Table.{IsHolding, Suspends}
 use Rattle.share_holdings.specs.declared.holding.Blame.{Blame}
 use Rattle.share_holdings.specs.declared.holding.Holding.{Holding}
-use Rattle.share_beginnings.specs.Causes.{AddsBlames, IsBeginningFault}
+use Rattle.share_beginnings.specs.Causes.{AddsBlames, IsBeginningFault, LeadsOn}
 use Rattle.share_beginnings.specs.Reads.{IsAnsweredBy}
 use Rattle.share_beginnings.proofs.Caused.{adds_none, adds_one, fault_of}
 use Rattle.share_beginnings.specs.Known.{AreBegun}
 use Rattle.share_beginnings.specs.Moves.{GoesOn}
 use Rattle.share_beginnings.specs.State.{BeginningsState}
-use Rattle.share_beginnings.proofs.Falling.{falls_one}
+use Rattle.share_beginnings.proofs.Falling.{falls_one, retired_gone}
 use Rattle.share_beginnings.proofs.Going.{goes_on_from, rested_goes, rested_known}
 use Rattle.share_beginnings.proofs.Knowing.{keeps_same, known_blamed, known_same, shares_suspended}
 use Rattle.share_beginnings.proofs.Opened.{goes_blamed, goes_none}
@@ -103,7 +104,7 @@ returns-in-Some-compared-clause-causes c =
     (b.blamed ∙ ap (λ (h : HoldingsState). h.blamed ++ record { server = b.held.server; share = b.held.share; check = c.in-Some-compared.check } ∷ []) same)
     (fault_of s c.args.holding c.args.place c.in-Some.opening b.held a.0 c.requires.known c.requires.awaits c.in-Some.ensures.opening
     (subst (λ (h : HoldingsState). IsHolding h.table c.args.holding b.held) same b.is) a.1 c.args.cap.now c.args.geometry.now c.in-Some-compared.check
-    (c.in-Some-compared.ensures a.0 (subst (λ (h : HoldingsState). IsAnsweredBy h.requests.entries c.args.place a.0) (sym (ap (λ (x : BeginningsState). x.holdings) c.take_waiting.ensures.rests.is)) a.1))))
+    (c.in-Some-compared.ensures.fails a.0 (subst (λ (h : HoldingsState). IsAnsweredBy h.requests.entries c.args.place a.0) (sym (ap (λ (x : BeginningsState). x.holdings) c.take_waiting.ensures.rests.is)) a.1))))
     (λ e. adds_none P s.holdings.blamed c.blame.new.self.blamed (ap (λ (h : HoldingsState). h.blamed) e ∙ ap (λ (h : HoldingsState). h.blamed) same))
 
 pub returns-in-None-clause-causes : goal.returns-in-None-clause-causes
@@ -112,3 +113,24 @@ returns-in-None-clause-causes c =
     let same : c.self.inside.holdings ≡ s.holdings = ap (λ (x : BeginningsState). x.holdings) c.self.view_is ∙ ap (λ (x : BeginningsState). x.holdings) c.take_waiting.ensures.rests.is in
     adds_none (IsBeginningFault c.args.cap.now c.args.geometry.now s.holdings.requests.entries) s.holdings.blamed c.suspend.new.self.blamed
     (ap (λ (h : HoldingsState). h.blamed) c.suspend.ensures.others ∙ ap (λ (h : HoldingsState). h.blamed) same)
+
+pub returns-then-not-holdings-holding-clause-agrees : goal.returns-then-not-holdings-holding-clause-agrees
+returns-then-not-holdings-holding-clause-agrees c o bytes awaits answered =
+    let w = c.take_waiting.new.self in
+    let list : c.holdings.result.now ≡ w.holdings.table.holdings = c.holdings.ensures.value ∙ ap (λ (x : BeginningsState). x.holdings.table.holdings) c.self.view_is in
+    inl (λ h at. (
+    let is = get_or_from_slice_get w.holdings.table.holdings c.args.holding h (record { server = 0; share = 0; left = false; suspended = false }) at in
+    ap (λ (x : Holding). x.left) (sym is) ∙ sym (ap (λ (l : List Holding). (get_or l c.args.holding (record { server = 0; share = 0; left = false; suspended = false })).left) list) ∙ c.if-not-holdings-holding.true))
+
+pub returns-in-Some-compared-clause-agrees : goal.returns-in-Some-compared-clause-agrees
+returns-in-Some-compared-clause-agrees c =
+    on_ok_then c.blame.result _ _ c.blame.ensures.ok
+    (λ b o bytes awaits answered. inl (λ h at. retired_gone c.args.holding (w0 c).holdings.table (u0 c).holdings.table h b.retired at))
+
+pub returns-in-None-clause-agrees : goal.returns-in-None-clause-agrees
+returns-in-None-clause-agrees c o bytes awaits answered =
+    let s = c.args.self.now in
+    let e : Some c.in-Some.opening ≡ Some o = c.in-Some.ensures.opening awaits.begun awaits.there ∙ awaits.of_opening in
+    let same : c.in-Some.opening ≡ o = cc in
+    inr (subst (λ (p : Opening). LeadsOn c.args.cap.now c.args.geometry.now p bytes) same
+    (c.in-None.ensures.leads bytes (subst (λ (h : HoldingsState). IsAnsweredBy h.requests.entries c.args.place bytes) (sym (ap (λ (x : BeginningsState). x.holdings) c.take_waiting.ensures.rests.is)) answered)))
