@@ -1,5 +1,5 @@
 -- How an upload goes on from its record.
-use Rattle.std.proofs.Common.{◌≡◌, ◌≢◌, ℕ, zero, suc, ◌+◌, ◌<◌, ◌≤◌, ◌==◌, inl, inr, Bool, true, false, ◌&&◌, ◌||◌, List, [], ◌∷◌, ◌++◌, All, Option, Some, None, Result, Ok, Err, length, take, map, get_or, eqb, nat_lt, IsPermutation, refl, sym, ap, subst, ◌∙◌, arith, true≢false}
+use Rattle.std.proofs.Common.{◌≡◌, ◌≢◌, ℕ, zero, suc, ◌+◌, ◌<◌, ◌≤◌, inl, inr, Bool, true, false, ◌&&◌, List, [], ◌∷◌, ◌++◌, All, Option, Some, None, Result, Ok, Err, length, take, map, get_or, eqb, nat_lt, IsPermutation, refl, sym, ap, subst, ◌∙◌, arith, true≢false}
 use Rattle.std.specs.Prelude.{max, slice_get}
 use Rattle.std.specs.Result.{IfOk}
 use Rattle.std.specs.List.{AllByRecursion, IsDistinct, range_with_len}
@@ -7,7 +7,7 @@ use Rattle.std.specs.Cmp.{nat_eq_equiv}
 use Rattle.std.proofs.lemmas.Grind.{flat_map-append}
 use Rattle.std.proofs.lemmas.List.Sorted.{IsPermutation-map}
 use Rattle.std.proofs.lemmas.Map.Keys.{IsDistinct-IsPermutation}
-use Rattle.std.proofs.lemmas.Bool.{cases_lt, eqb-true, eq-eqb, ltb-true, ltb-false, or_left, or_right}
+use Rattle.std.proofs.lemmas.Bool.{cases_lt, eq-eqb, ltb-true, ltb-false}
 use Rattle.std.proofs.lemmas.List.{append-nil, append_assoc, length-append, length-map, map-append, take_more}
 use Rattle.std.proofs.lemmas.List.Elements.{All-cons, All-head, All-nil, All-tail, All-take}
 use Rattle.std.proofs.lemmas.Option.{slice_get-get_or, slice_get_within}
@@ -33,7 +33,7 @@ use Rattle.upload_core.specs.Moves.{AreInOrder, GoesOn, Stops, TicksWith, all_fo
 use Rattle.upload_core.specs.Course.{IsCourse, IsInside, IsOfTold, MayPlace, allocations, asked_servers, is_holdings}
 use Rattle.upload_core.specs.Trails.{AreFollowed, AreTrails, IsAbout, IsAtEnd, IsBefore, IsNew, rank_of, share_of}
 use Rattle.upload_core.proofs.Follow.{IsOnward, follow_none, follow_onward}
-use Rattle.upload_core.proofs.Records.{Goes, MayAsk, course_asked, course_goes, told_push, either, goes_refl, goes_settled, goes_ticked, length_goes}
+use Rattle.upload_core.proofs.Records.{Goes, MayAsk, course_asked, course_goes, told_push, goes_refl, goes_settled, goes_ticked, length_goes}
 
 holdings_is : (a : Asked) → is_holdings a ≡ true → a ≡ Holdings
 holdings_is Holdings h = refl
@@ -237,21 +237,18 @@ module _ (u : UploadState) (chosen : List Pair) (largest : IsLargestMatching (ac
   abbrev pub failed : Bool
   failed = has_failed_since u.goal u.round u.requests.entries
 
-  pub to_place : ((u.round == 0) || nat_lt reached u.wanted && failed) ≡ true → IsToPlace u u.requests
-  to_place e = elim (either (u.round == 0) (nat_lt reached u.wanted && failed) e) [
-    | inl first ↦ inl (eqb-true u.round 0 first)
-    | inr again ↦ (
-        let t = both (nat_lt reached u.wanted) failed again in
-        let less : reached < u.wanted = ltb-true reached u.wanted t.0 in
-        inr ((λ enough. absurd (omega (arith, less, count, largest.largest enough.0 enough.1, enough.2))), t.1))
-  ]
+  pub to_place : (nat_lt reached u.wanted && failed) ≡ true → IsToPlace u u.requests
+  to_place again =
+      let t = both (nat_lt reached u.wanted) failed again in
+      let less : reached < u.wanted = ltb-true reached u.wanted t.0 in
+      inr ((λ enough. absurd (omega (arith, less, count, largest.largest enough.0 enough.1, enough.2))), t.1)
 
-  pub not_to_place : ((u.round == 0) || nat_lt reached u.wanted && failed) ≡ false → IsToPlace u u.requests → ⊥
-  not_to_place e (inl first) = true≢false (sym (or_left (u.round == 0) (nat_lt reached u.wanted && failed) (eq-eqb u.round 0 first)) ∙ e)
-  not_to_place e (inr again) = by (nat_lt reached u.wanted) refl e
+  pub not_to_place : 0 < u.round → (nat_lt reached u.wanted && failed) ≡ false → IsToPlace u u.requests → ⊥
+  not_to_place late e (inl first) = absurd (omega (arith, late, first))
+  not_to_place late e (inr again) = by (nat_lt reached u.wanted) refl e
     where
-      by : (b : Bool) → nat_lt reached u.wanted ≡ b → ((u.round == 0) || b && failed) ≡ false → ⊥
-      by true k h = true≢false (sym (or_right (u.round == 0) failed again.1) ∙ h)
+      by : (b : Bool) → nat_lt reached u.wanted ≡ b → (b && failed) ≡ false → ⊥
+      by true k h = true≢false (sym again.1 ∙ h)
       by false k h =
           let few : u.wanted ≤ reached = ltb-false reached u.wanted k in
           again.0 (chosen, largest.matching, omega (arith, few, count))

@@ -14,3 +14,4 @@ pub mod Hopeless
 pub mod Stands
 pub mod Right
 pub mod Sends
+pub mod Telling

@@ -1,7 +1,7 @@
 -- What holds of each upload's record.
 use Rattle.std.specs.Prelude.{◌≡◌, ◌⊎◌, ℕ, ◌+◌, ◌<◌, ◌≤◌, ◌&&◌, ◌||◌, ◌++◌}
-use Rattle.std.specs.Prelude.{Bool, true, false, List, map, filter, length, nat_eq, All, Contains}
-use Rattle.std.specs.Prelude.{Some, slice_get}
+use Rattle.std.specs.Prelude.{Bool, true, false, List, [], ◌∷◌, map, filter, length, nat_eq, All}
+use Rattle.std.specs.Prelude.{Contains, Some, slice_get, if◌then◌else◌}
 use Rattle.std.specs.List.{IsDistinct, list_any}
 use Rattle.request_record.specs.declared.requests.Asked.{Asked}
 use Rattle.request_record.specs.declared.requests.Asked.TheVariants.{Holdings, Allocation, Writing}
@@ -68,6 +68,10 @@ pub record IsCourse (u : UploadState) : Type 0 where
   pub begun : u.round ≤ length u.requests.entries
 
 -- ---- a round
+
+-- the server of a request that passes a test
+abbrev pub server_where : (Request → Bool) → Request → List ℕ
+server_where test r = if test r then r.server ∷ [] else []
 
 -- room for each pair's share
 abbrev pub allocations : ℕ → List Pair → List (ℕ × Asked)

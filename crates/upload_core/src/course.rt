@@ -265,26 +265,41 @@ impl Course {
         }
         let alloc = *self.servers.allocator();
         let acked = acked_pairs(alloc, &self.goal, self.requests.entries())?;
-        let matching = largest(alloc, &acked)?;
-        if self.is_to_place(matching.pairs.len()) {
-            let transfers = self.placing(alloc, &acked)?;
-            if !transfers.is_empty() {
-                return self.begin_round(&transfers);
+        self.place_or_end(alloc, &acked)
+    }
+
+    // Places shares, or ends with a largest matching of these pairs, which are acknowledged. None
+    // is made before the first placing.
+    fn place_or_end(&mut self, alloc: Global, acked: &[(NodeId, u16)]) -> Result<(), AllocError>
+        requires acked { acked.now ≡ acked_pairs self.old.goal self.old.requests.entries }
+        requires settled { IsSettled self.old.requests.entries }
+        requires followed { AreFollowed self.old.goal self.old.requests.entries }
+        ensures ok { OnOk result (GoesOn self.old self.old.requests self.new) }
+        ensures err { OnErr result (Stops self.old.requests self.old self.new) }
+        ensures goal { self.new.goal ≡ self.old.goal }
+    {
+        if self.round > 0 {
+            let matching = largest(alloc, acked)?;
+            if !self.is_to_place_again(matching.pairs.len()) {
+                self.end(matching);
+                return Ok(());
             }
         }
-        self.end(matching);
+        let transfers = self.placing(alloc, acked)?;
+        if !transfers.is_empty() {
+            return self.begin_round(&transfers);
+        }
+        self.end(largest(alloc, acked)?);
         Ok(())
     }
 
-    // Are shares to be placed, where the acknowledged pairs reach so much happiness?
-    fn is_to_place(&self, reached: usize) -> bool
-        ensures { result
-            ≡ (self.now.round == 0) || nat_lt reached self.now.wanted
+    // Are shares to be placed again, where the acknowledged pairs reach so much happiness?
+    fn is_to_place_again(&self, reached: usize) -> bool
+        ensures { result ≡ nat_lt reached self.now.wanted
             && has_failed_since self.now.goal self.now.round self.now.requests.entries }
     {
-        self.round == 0
-            || (reached < usize::from(self.wanted)
-                && has_failed_since(&self.goal, self.round, self.requests.entries()))
+        reached < usize::from(self.wanted)
+            && has_failed_since(&self.goal, self.round, self.requests.entries())
     }
 
     // The pairs that are to be transferred.

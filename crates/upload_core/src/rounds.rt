@@ -1,13 +1,12 @@
 //! Rounds: which servers take shares, where shares are placed, and how an upload ends.
 
-ghost use Rattle.std.specs.Prelude.{◌≡◌, ◌≤◌, ◌++◌, IfOk, drop, false, filter, length};
-ghost use Rattle.std.specs.Prelude.{nat_eq, not, true};
+ghost use Rattle.std.specs.Prelude.{◌≡◌, ◌≤◌, ◌∷◌, ◌++◌, [], IfOk, OnOk, drop, false, filter};
+ghost use Rattle.std.specs.Prelude.{if◌then◌else◌, length, nat_eq, not, true};
 ghost use Rattle.std.specs.Set.{is_member};
-ghost use Rattle.upload_core.specs.Acknowledged.{acked_pairs};
-ghost use Rattle.upload_core.specs.Rounds.{answered_as, answers_as, has_answered_as};
-ghost use Rattle.upload_core.specs.Rounds.{has_failed_since};
+ghost use Rattle.upload_core.specs.Course.{server_where};
+ghost use Rattle.upload_core.specs.Rounds.{has_answered_as, has_failed_since};
 ghost use Rattle.upload_core.specs.Rounds.{readonly_servers, writable_servers};
-ghost use Rattle.upload_core.specs.Transfers.{failed_servers};
+ghost use Rattle.upload_core.specs.Transfers.{has_failed};
 
 use crate::status::UploadGoal;
 use crate::transfers::has_failed;
@@ -31,51 +30,73 @@ pub(crate) fn servers_of(
     ensures writable { IfOk result (λ s. s.writable.items ≡ writable_servers goal.now entries.now) }
     ensures readonly { IfOk result (λ s. s.readonly.items ≡ readonly_servers goal.now entries.now) }
 {
-    let failed = failed_servers(alloc, goal, entries)?;
-    let writable = open_servers(alloc, &failed, entries)?;
-    let readonly = closed_servers(alloc, &failed, entries)?;
-    Ok(Servers { writable, readonly })
+    let mut told = Told {
+        failed: Vec::new(alloc),
+        taking: Vec::new(alloc),
+        closed: Vec::new(alloc),
+    };
+    for request in entries {
+        told.note(goal, request)?;
+    }
+    told.into_servers(alloc)
 }
 
-// Those that take shares, without those of the list.
-fn open_servers(
-    alloc: Global,
-    failed: &[NodeId],
-    entries: &[Request],
-) -> Result<Vec<NodeId>, AllocError>
-    ensures { IfOk result (λ servers. servers.items
-        ≡ filter (λ s. not (is_member nat_eq failed.now s)) (answered_as false entries.now)) }
-{
-    let open = answered_as(alloc, false, entries)?;
-    servers_not_in(alloc, &open, failed)
+/// What a record tells of servers.
+#[derive(Drop)]
+pub(crate) struct Told {
+    /// Those at which a transfer failed.
+    pub failed: Vec<NodeId>,
+    /// Those that said that they take shares.
+    pub taking: Vec<NodeId>,
+    /// Those that said that they take none.
+    pub closed: Vec<NodeId>,
 }
 
-// Those that take no shares, and behind them those of the list that said that they take some.
-fn closed_servers(
-    alloc: Global,
-    failed: &[NodeId],
-    entries: &[Request],
-) -> Result<Vec<NodeId>, AllocError>
-    ensures { IfOk result (λ servers. servers.items ≡ answered_as true entries.now
-        ++ filter (λ s. is_member nat_eq failed.now s) (answered_as false entries.now)) }
-{
-    let mut closed = answered_as(alloc, true, entries)?;
-    let mut shut = shut_servers(alloc, failed, entries)?;
-    closed.append(&mut shut)?;
-    Ok(closed)
+impl Told {
+    // Takes note of a request.
+    fn note(&mut self, goal: &UploadGoal, request: &Request) -> Result<(), AllocError>
+        ensures failed { OnOk result (self.new.failed.items ≡ self.old.failed.items
+            ++ server_where (has_failed goal.now) request.now) }
+        ensures taking { OnOk result (self.new.taking.items ≡ self.old.taking.items
+            ++ server_where (has_answered_as false) request.now) }
+        ensures closed { OnOk result (self.new.closed.items ≡ self.old.closed.items
+            ++ server_where (has_answered_as true) request.now) }
+    {
+        let server = request.server;
+        push_where(&mut self.failed, has_failed(goal, request), server)?;
+        push_where(&mut self.taking, has_answered_as(false, request), server)?;
+        push_where(&mut self.closed, has_answered_as(true, request), server)
+    }
+
+    // Those that take shares, and those that take none, of which those are the last that said that
+    // they take some.
+    fn into_servers(self, alloc: Global) -> Result<Servers, AllocError>
+        ensures writable { IfOk result (λ s. s.writable.items
+            ≡ filter (λ t. not (is_member nat_eq self.failed.items t)) self.taking.items) }
+        ensures readonly { IfOk result (λ s. s.readonly.items ≡ self.closed.items
+            ++ filter (λ t. is_member nat_eq self.failed.items t) self.taking.items) }
+    {
+        let Told {
+            failed,
+            taking,
+            closed,
+        } = self;
+        let writable = servers_not_in(alloc, &taking, &failed)?;
+        let mut shut = servers_in(alloc, &taking, &failed)?;
+        let mut readonly = closed;
+        readonly.append(&mut shut)?;
+        Ok(Servers { writable, readonly })
+    }
 }
 
-// Those of the list that said that they take shares.
-fn shut_servers(
-    alloc: Global,
-    failed: &[NodeId],
-    entries: &[Request],
-) -> Result<Vec<NodeId>, AllocError>
-    ensures { IfOk result (λ servers. servers.items
-        ≡ filter (λ s. is_member nat_eq failed.now s) (answered_as false entries.now)) }
+// Adds a server, where this is so.
+fn push_where(list: &mut Vec<NodeId>, is: bool, server: NodeId) -> Result<(), AllocError>
+    ensures { OnOk result (list.new.items ≡ list.old.items ++ (if is then server ∷ [] else [])) }
 {
-    let open = answered_as(alloc, false, entries)?;
-    servers_in(alloc, &open, failed)
+    if is {
+        list.push(server)?;
+    }
+    Ok(())
 }
 
 // Those of the servers that are in the list.
@@ -110,36 +131,6 @@ fn has_number(list: &[NodeId], number: NodeId) -> bool
     ensures { result ≡ is_member nat_eq list.now number }
 {
     list.contains(&number)
-}
-
-// The servers at which a transfer failed.
-fn failed_servers(
-    alloc: Global,
-    goal: &UploadGoal,
-    entries: &[Request],
-) -> Result<Vec<NodeId>, AllocError>
-    ensures { IfOk result (λ servers. servers.items ≡ failed_servers goal.now entries.now) }
-{
-    entries
-        .iter()
-        .filter(|request| has_failed(goal, request))
-        .map(|request| request.server)
-        .collect(alloc)
-}
-
-// The servers that answered their Asks so, in the order of the record.
-fn answered_as(
-    alloc: Global,
-    readonly: bool,
-    entries: &[Request],
-) -> Result<Vec<NodeId>, AllocError>
-    ensures { IfOk result (λ servers. servers.items ≡ answered_as readonly entries.now) }
-{
-    entries
-        .iter()
-        .filter(|request| has_answered_as(readonly, request))
-        .map(|request| request.server)
-        .collect(alloc)
 }
 
 fn has_answered_as(readonly: bool, request: &Request) -> bool
