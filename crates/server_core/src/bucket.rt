@@ -106,7 +106,8 @@ impl Bucket {
             × GoesOn self.old.length bytes.now self.old.gathered gathered
             × (self.new ≡ with_bytes now gathered self.old) }
     {
-        let gathered = mem::replace(&mut self.gathered, Gathered::nothing());
+        // what stands there meanwhile is never read, and takes no hasher
+        let gathered = mem::replace(&mut self.gathered, Gathered::Whole([0; 32]));
         self.gathered = gathered.followed_by(bytes, self.length);
         self.touched = now;
     }
