@@ -1,48 +1,19 @@
--- What a frame that comes alone is read as.
-use Rattle.std.proofs.Common.{◌≡◌, ℕ, List, [], ◌++◌, Option, Some, None, Result, Ok, Err, refl, sym, ap, subst, ◌∙◌, append-nil, inl, inr}
-use Rattle.std.specs.Prelude.{◌≢◌, IfOk, OnOk, IfSome, IfNone}
-use Rattle.wire.specs.declared.error.WireError.{WireError}
-use Rattle.wire.specs.declared.error.WireError.TheVariants.{OutOfMemory, BadLength, BadKind, BadFields}
+-- What a frame is read as.
+use Rattle.std.proofs.Common.{◌≡◌, List, ℕ, [], Option, Some, None, Result, Ok, Err, sym, ap, ◌∙◌, append-nil}
+use Rattle.std.specs.Prelude.{◌≢◌, IfNone, IfOk, IfSome}
 use Rattle.wire.specs.declared.message.Message.{Message}
 use Rattle.wire.specs.Frames.{IsMessage, frame}
-use Rattle.wire.specs.Stream.{BeginsBadFields, BeginsBadKind, BeginsBadLength, FeedState, HasNoMessage, IsPartial, fed}
-use Rattle.wire.proofs.StreamLaws.{message_there, no_frame_begins_another}
-use Rattle.local_grid.specs.Streams.{all_read}
+use Rattle.wire.proofs.StreamLaws.{no_frame_begins_another}
 
-first_is : (m n : Message) (rest : List ℕ) → IsMessage m → IsMessage n → frame m ≡ frame n ++ rest → (n ≡ m) × (rest ≡ [])
-first_is m n rest m-fits n-fits e =
-    let c = no_frame_begins_another m n [] rest m-fits n-fits (append-nil (frame m) ∙ e) in
-    (sym c.0, sym c.1)
+-- a frame's message comes of it
+came_of : (m : Message) (came : Option Message) (bytes : List ℕ) → IsMessage m → bytes ≡ frame m → IfSome came (λ n. IsMessage n × (bytes ≡ frame n))
+    → IfNone came ((n : Message) → IsMessage n → bytes ≢ frame n) → came ≡ Some m
+came_of m (Some n) bytes fits is some none =
+    ap Some (sym (no_frame_begins_another m n [] [] fits some.0 (append-nil (frame m) ∙ sym is ∙ some.1 ∙ sym (append-nil (frame n)))).0)
+came_of m None bytes fits is some none = absurd (none m fits is)
 
-is_there : (m : Message) → IsMessage m → HasNoMessage (frame m) → ⊥
-is_there m fits none = message_there m [] fits (subst HasNoMessage (sym (append-nil (frame m))) none)
-
--- the stream with a frame, where all was read
-pub one_frame : (m : Message) (old new : FeedState) (piece : List ℕ) → old ≡ all_read → new ≡ fed piece old → piece ≡ frame m → new.rest ≡ frame m
-one_frame m old new piece before after is =
-    ap (λ (s : FeedState). s.rest) (after ∙ ap (fed piece) before) ∙ is
-
--- the frame's message is read, and nothing is left
-pub is_read : (m : Message) (came : Option Message) (old new : FeedState) → IsMessage m → old.rest ≡ frame m
-    → IfSome came (λ n. IsMessage n × (old.rest ≡ frame n ++ new.rest) × (new.fault ≡ None))
-    → IfNone came (IsPartial old.rest × (new ≡ old)) → (came ≡ Some m) × (new ≡ all_read)
-is_read m (Some n) old new fits is given none =
-    let first = first_is m n new.rest fits given.0 (sym is ∙ given.1) in
-    (ap Some first.0, ap (λ (rest : List ℕ). record { rest = rest; fault = new.fault }) first.1 ∙ ap (λ (fault : Option WireError). record { rest = []; fault = fault }) given.2)
-is_read m None old new fits is given none = absurd (is_there m fits (subst HasNoMessage is (inl none.0)))
-
-abbrev refused : WireError → Result (Option Message) WireError
-refused fault = Err fault
-
--- a frame has no fault
-pub has_no_fault : (m : Message) (fault : WireError) (rest : List ℕ) → IsMessage m → rest ≡ frame m
-    → (refused fault ≡ refused BadLength → BeginsBadLength rest) → (refused fault ≡ refused BadKind → BeginsBadKind rest)
-    → (refused fault ≡ refused BadFields → BeginsBadFields rest) → fault ≡ OutOfMemory
-has_no_fault m OutOfMemory rest fits is bad-length bad-kind bad-fields = refl
-has_no_fault m BadLength rest fits is bad-length bad-kind bad-fields = absurd (is_there m fits (subst HasNoMessage is (inr (inl (bad-length refl)))))
-has_no_fault m BadKind rest fits is bad-length bad-kind bad-fields = absurd (is_there m fits (subst HasNoMessage is (inr (inr (inl (bad-kind refl))))))
-has_no_fault m BadFields rest fits is bad-length bad-kind bad-fields = absurd (is_there m fits (subst HasNoMessage is (inr (inr (inr (bad-fields refl))))))
-
-pub never_ok : {X E : Type 0} (r : Result X E) (fault : WireError) → fault ≡ OutOfMemory → (P : X → Type 0) → OnOk r (fault ≢ OutOfMemory) → IfOk r P
-never_ok (Ok x) fault is P h = absurd (h is)
-never_ok (Err e) fault is P h = tt
+pub read_of : {E : Type 0} (m : Message) (r : Result (Option Message) E) (bytes : List ℕ) → IsMessage m → bytes ≡ frame m
+    → IfOk r (λ came. IfSome came (λ n. IsMessage n × (bytes ≡ frame n)))
+    → IfOk r (λ came. IfNone came ((n : Message) → IsMessage n → bytes ≢ frame n)) → IfOk r (λ came. came ≡ Some m)
+read_of m (Ok came) bytes fits is some none = came_of m came bytes fits is some none
+read_of m (Err e) bytes fits is some none = tt

@@ -1,15 +1,16 @@
 -- A message to a node.
-use Rattle.std.proofs.Common.{◌≡◌, ℕ, ◌<◌, max, List, Bool, true, false, cond, map, Option, Some, None, length, get_or, refl, sym, ap, subst, ◌∙◌, true≢false}
-use Rattle.std.specs.Prelude.{slice_get, slice_set}
+use Rattle.std.proofs.Common.{◌≡◌, ℕ, ◌<◌, max, List, Bool, true, false, cond, map, Option, Some, None, Result, Ok, Err, inl, inr, length, get_or, refl, sym, ap, subst, ◌∙◌, true≢false}
+use Rattle.std.specs.Prelude.{OnErr, slice_get, slice_set}
 use Rattle.std.proofs.lemmas.List.{set-get_or}
 use Rattle.std.proofs.lemmas.Option.{slice_get_read}
 use Rattle.wire.specs.declared.message.Message.{Message}
 use Rattle.share_store.specs.Calls.{Calls}
 use Rattle.local_grid.specs.declared.link.Way.TheVariants.{ToServer}
 use Rattle.server_core.specs.declared.bucket.Bucket.{Bucket}
-use Rattle.server_core.specs.Machine.{Machine, Ticks}
-use Rattle.local_grid.specs.Nodes.{Carries, Exchanges, IsMet, NodeState, ticked, ticked_node, ticked_server}
-use Rattle.local_grid.specs.Turns.{Asks, AsksAt, GridState, later, passed}
+use Rattle.server_core.specs.declared.error.ServerFault.TheVariants.{OutOfMemory}
+use Rattle.server_core.specs.Machine.{Machine, Outcome, Serves, Ticks}
+use Rattle.local_grid.specs.Nodes.{Carries, Exchanges, IsLeftUnanswered, IsMet, NodeState, StopsShort, client_node, ticked, ticked_node, ticked_server, with_link}
+use Rattle.local_grid.specs.Turns.{Asks, AsksAt, GridState, Stops, StopsAt, later, passed}
 
 module _ {S L : Type 0} (calls : Calls S) (carries : Carries L) where
   -- a node that is not silent
@@ -41,6 +42,49 @@ module _ {S L : Type 0} (calls : Calls S) (carries : Carries L) where
         (subst (λ (k : ℕ). Asks calls carries before k m None new) number
         (subst (λ (o : Option (Option (NodeState S L))). AsksAt calls carries before place o m None new) (sym there)
         (refl, ap (λ (nodes : List (Option (NodeState S L))). record { nodes = nodes; clock = before.clock }) stays)))
+
+-- memory is refused
+module _ {S L : Type 0} (calls : Calls S) (carries : Carries L) (gives_up : L → L → Type 0) where
+  pub on_err : {X E P Q : Type 0} (r : Result X E) → (P → Q) → OnErr r P → OnErr r Q
+  on_err (Ok x) f p = tt
+  on_err (Err e) f p = f p
+
+  -- on the answer's way back
+  pub back_stops : (old new : NodeState S L) (came said : Message) (now : ℕ) (outcome : Outcome) (server : Machine S) → Serves calls old.server client_node came now outcome server
+      → outcome ≡ Ok (Some said) → new.server ≡ server → gives_up old.link new.link → IsLeftUnanswered calls gives_up old came now new
+  back_stops old new came said now outcome server serves is same gave =
+      inr (
+        said,
+        subst (λ (x : Machine S). Serves calls old.server client_node came now (Ok (Some said)) x) (sym same)
+            (subst (λ (o : Outcome). Serves calls old.server client_node came now o server) is serves),
+        gave,
+      )
+
+  -- at the server
+  pub server_stops : (old new : NodeState S L) (came : Message) (now : ℕ) (outcome : Outcome) → Serves calls old.server client_node came now outcome new.server
+      → outcome ≡ Err OutOfMemory → new.link ≡ old.link → IsLeftUnanswered calls gives_up old came now new
+  server_stops old new came now outcome serves is same = inl (subst (λ (o : Outcome). Serves calls old.server client_node came now o new.server) is serves, same)
+
+  -- once the message is at the server
+  later_stops : (old new : NodeState S L) (m came : Message) (now : ℕ) (link : L) → old.silent ≡ false → new.silent ≡ false → carries old.link ToServer m (Some came) link
+      → IsLeftUnanswered calls gives_up (with_link old link) came now new → StopsShort calls carries gives_up old m now new
+  later_stops old new m came now link spoke speaks carried left = record { spoke = spoke; speaks = speaks; stops = inr (link, came, carried, left) }
+
+  pub all_later_stop : {X E : Type 0} (r : Result X E) (old new : NodeState S L) (m came : Message) (now : ℕ) (link : L) → old.silent ≡ false → carries old.link ToServer m (Some came) link
+      → OnErr r (IsLeftUnanswered calls gives_up (with_link old link) came now new) → OnErr r (new.silent ≡ false) → OnErr r (StopsShort calls carries gives_up old m now new)
+  all_later_stop (Ok x) old new m came now link spoke carried left speaks = tt
+  all_later_stop (Err e) old new m came now link spoke carried left speaks = later_stops old new m came now link spoke speaks carried left
+
+  -- a node that is there is asked
+  pub asked_in_vain : (old before : GridState S L) (place node : ℕ) (item : Option (NodeState S L)) → before ≡ old → place ≡ node → place < length before.nodes → item ≡ get_or before.nodes place item
+      → (m : Message) (n after : NodeState S L) → item ≡ Some n → StopsShort calls carries gives_up n m before.clock after
+      → Stops calls carries gives_up old node m (record { nodes = slice_set before.nodes place (Some after); clock = before.clock })
+  asked_in_vain old before place node item same number within value m n after is stops =
+      let there : slice_get before.nodes place ≡ Some (Some n) = slice_get_read before.nodes (length before.nodes) place item refl within value ∙ ap Some is in
+      let new : GridState S L = record { nodes = slice_set before.nodes place (Some after); clock = before.clock } in
+      subst (λ (o : GridState S L). Stops calls carries gives_up o node m new) same
+      (subst (λ (k : ℕ). Stops calls carries gives_up before k m new) number
+      (subst (λ (o : Option (Option (NodeState S L))). StopsAt calls carries gives_up before place o m new) (sym there) (after, stops, refl)))
 
 -- a tick is the one that `Ticks` says
 server_ticked : {S : Type 0} (now : ℕ) (old new : Machine S) → Ticks old now new → new ≡ ticked_server now old

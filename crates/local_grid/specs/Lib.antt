@@ -4,4 +4,4 @@ pub mod Clients
 pub mod Nodes
 pub mod Turns
 -- Words of private clauses.
-pub mod Streams
+pub mod Framed

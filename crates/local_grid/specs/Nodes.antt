@@ -1,6 +1,6 @@
 -- One message to a server over its link, and what comes back.
 use Rattle.std.specs.Prelude.{◌≡◌, ℕ, max, Bool, true, false, Option, Some, None, Ok, Err}
-use Rattle.std.specs.Prelude.{is_none, if◌then◌else◌}
+use Rattle.std.specs.Prelude.{◌⊎◌, is_none, if◌then◌else◌}
 use Rattle.std.specs.List.{filter}
 use Rattle.wire.specs.declared.message.Message.{Message}
 use Rattle.share_store.specs.Calls.{Calls}
@@ -63,6 +63,26 @@ pub record Exchanges {S L : Type 0} (calls : Calls S) (carries : Carries L) (old
   pub silent : old.silent ≡ true → (answer ≡ None) × (new ≡ old)
   pub heard : old.silent ≡ false → (link : L) × (came : Option Message)
       × carries old.link ToServer m came link × IsMet calls carries old link came now answer new
+
+-- What came to the server, and memory is refused: by the server, or on the answer's way back.
+abbrev pub IsLeftUnanswered : {S L : Type 0} → Calls S → (L → L → Type 0) → NodeState S L → Message
+    → ℕ → NodeState S L → Type 0
+IsLeftUnanswered calls gives_up old came now new =
+    (Serves calls old.server client_node came now (Err OutOfMemory) new.server
+    × (new.link ≡ old.link))
+    ⊎ ((said : Message) × Serves calls old.server client_node came now (Ok (Some said)) new.server
+    × gives_up old.link new.link)
+
+-- A message to a node at a second, in which memory is refused: on the way to the server, or after
+-- that. The node goes on speaking.
+pub record StopsShort {S L : Type 0} (calls : Calls S) (carries : Carries L)
+    (gives_up : L → L → Type 0) (old : NodeState S L) (m : Message) (now : ℕ)
+    (new : NodeState S L) : Type 0 where
+  pub spoke : old.silent ≡ false
+  pub speaks : new.silent ≡ false
+  pub stops : ((new.server ≡ old.server) × gives_up old.link new.link)
+      ⊎ ((link : L) × (came : Message) × carries old.link ToServer m (Some came) link
+      × IsLeftUnanswered calls gives_up (with_link old link) came now new)
 
 -- A server at a second drops the buckets that were left too long, as `Ticks` says.
 abbrev pub ticked_server : {S : Type 0} → ℕ → Machine S → Machine S

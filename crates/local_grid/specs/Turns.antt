@@ -4,7 +4,7 @@ use Rattle.std.specs.Prelude.{false, Option, Some, None, map, length, slice_get,
 use Rattle.wire.specs.declared.message.Message.{Message}
 use Rattle.share_store.specs.Calls.{Calls}
 use Rattle.local_grid.specs.Clients.{ClientCalls}
-use Rattle.local_grid.specs.Nodes.{Carries, Exchanges, NodeState, ticked}
+use Rattle.local_grid.specs.Nodes.{Carries, Exchanges, NodeState, StopsShort, ticked}
 
 -- the nodes by number, where a node may be missing, and the second
 pub record GridState (S L : Type 0) : Type 0 where
@@ -36,6 +36,20 @@ abbrev pub Asks : {S L : Type 0} → Calls S → Carries L → GridState S L →
     → Option Message → GridState S L → Type 0
 Asks calls carries old node m answer new =
     AsksAt calls carries old node (slice_get old.nodes node) m answer new
+
+-- A message to a node that is there, in which memory is refused.
+abbrev pub StopsAt : {S L : Type 0} → Calls S → Carries L → (L → L → Type 0) → GridState S L → ℕ
+    → Option (Option (NodeState S L)) → Message → GridState S L → Type 0
+StopsAt calls carries gives_up old node None m new = ⊥
+StopsAt calls carries gives_up old node (Some None) m new = ⊥
+StopsAt {S = S} {L = L} calls carries gives_up old node (Some (Some n)) m new =
+    (after : NodeState S L) × StopsShort calls carries gives_up n m old.clock after
+    × (new ≡ record { nodes = slice_set old.nodes node (Some after); clock = old.clock })
+
+abbrev pub Stops : {S L : Type 0} → Calls S → Carries L → (L → L → Type 0) → GridState S L → ℕ
+    → Message → GridState S L → Type 0
+Stops calls carries gives_up old node m new =
+    StopsAt calls carries gives_up old node (slice_get old.nodes node) m new
 
 -- a client, and the grid that it asks
 pub record LoopState (C S L : Type 0) : Type 0 where
@@ -71,13 +85,24 @@ abbrev pub Course : {A : Type 0} → (A → A → Type 0) → A → List A → A
 Course turn first [] last = last ≡ first
 Course turn first (next ∷ states) last = turn first next × Course turn next states last
 
--- A turn in which memory was refused: to the client as it took, or after that to the grid or to the
--- client.
-abbrev pub IsCutShort : {C : Type 0} → ClientCalls C → C → C → Type 0
-IsCutShort {C = C} client old new =
-    client.gives_up old new
-    ⊎ ((message : Option (ℕ × Message)) × (taken : C) × client.takes old message taken
-    × ((new ≡ taken) ⊎ client.gives_up taken new))
+-- Memory is refused after the client took what it has to say: on the message's way to its node and
+-- back, or to the client as it hears the answer; or to the client as it ticks, after the nodes.
+abbrev pub StopsAfter : {C S L : Type 0} → ClientCalls C → Calls S → Carries L → (L → L → Type 0)
+    → C → GridState S L → Option (ℕ × Message) → LoopState C S L → Type 0
+StopsAfter client calls carries gives_up taken grid (Some m) new =
+    ((new.client ≡ taken) × Stops calls carries gives_up grid m.0 m.1 new.grid)
+    ⊎ ((answer : Message) × Asks calls carries grid m.0 m.1 (Some answer) new.grid
+    × client.gives_up taken new.client)
+StopsAfter client calls carries gives_up taken grid None new =
+    (new.grid ≡ passed grid) × client.gives_up taken new.client
+
+-- A turn in which memory is refused: to the client as it takes what it has to say, or after that.
+abbrev pub IsCutShort : {C S L : Type 0} → ClientCalls C → Calls S → Carries L → (L → L → Type 0)
+    → LoopState C S L → LoopState C S L → Type 0
+IsCutShort {C = C} client calls carries gives_up old new =
+    (client.gives_up old.client new.client × (new.grid ≡ old.grid))
+    ⊎ ((message : Option (ℕ × Message)) × (taken : C) × client.takes old.client message taken
+    × StopsAfter client calls carries gives_up taken old.grid message new)
 
 -- so many turns, one after another
 abbrev pub TurnsOften : {C S L : Type 0} → ClientCalls C → Calls S → Carries L → ℕ
@@ -100,9 +125,9 @@ GoesPast client calls carries most first last =
     TurnsOften client calls carries most first last × (client.runs last.client ≡ true)
 
 -- After some turns, fewer than that, memory was refused in the next one.
-abbrev pub RunsOut : {C S L : Type 0} → ClientCalls C → Calls S → Carries L → ℕ
+abbrev pub RunsOut : {C S L : Type 0} → ClientCalls C → Calls S → Carries L → (L → L → Type 0) → ℕ
     → LoopState C S L → LoopState C S L → Type 0
-RunsOut {C = C} {S = S} {L = L} client calls carries most first last =
+RunsOut {C = C} {S = S} {L = L} client calls carries gives_up most first last =
     (count : ℕ) × (count < most) × (mid : LoopState C S L)
     × TurnsOften client calls carries count first mid
-    × (client.runs mid.client ≡ true) × IsCutShort client mid.client last.client
+    × (client.runs mid.client ≡ true) × IsCutShort client calls carries gives_up mid last

@@ -4,7 +4,7 @@ ghost use Rattle.std.specs.Prelude.{◌≡◌, ◌≤◌, ◌⊎◌, Some, None,
 ghost use Rattle.std.specs.Prelude.{IfOk, OnOk, OnErr, IsErrOf};
 ghost use Rattle.local_grid.specs.Nodes.{ticked};
 ghost use Rattle.local_grid.specs.Turns.{Asks, Finishes, GoesOn, GoesPast, IsCutShort, RunsOut};
-ghost use Rattle.local_grid.specs.Turns.{Turns, passed};
+ghost use Rattle.local_grid.specs.Turns.{Stops, StopsAfter, Turns, passed};
 ghost use Rattle.local_grid.specs.declared.error.LoopError.{LoopError};
 
 use crate::client::Client;
@@ -91,7 +91,7 @@ impl<S: Store, L: Link> LocalGrid<S, L> {
     ///
     /// `TurnLimit` where the client still runs after 100,000,000 turns, and `OutOfMemory` where
     /// memory was refused in the middle of a turn: then a server may have done what was asked of
-    /// it, and its answer has not come.
+    /// it, and its answer has not come; all else is as the turn had it until then.
     pub fn run<C: Client>(&mut self, client: &mut C) -> Result<(), LoopError>
         ensures ok { OnOk result (Finishes C.calls S.calls L.carries 100000000
             (record { client = client.old; grid = self.old })
@@ -101,7 +101,7 @@ impl<S: Store, L: Link> LocalGrid<S, L> {
             (record { client = client.old; grid = self.old })
             (record { client = client.new; grid = self.new }) }
         ensures memory { IsErrOf result LoopError.OutOfMemory
-            → RunsOut C.calls S.calls L.carries 100000000
+            → RunsOut C.calls S.calls L.carries L.gives_up 100000000
             (record { client = client.old; grid = self.old })
             (record { client = client.new; grid = self.new }) }
         ensures clock { self.old.clock ≤ self.new.clock }
@@ -119,7 +119,7 @@ impl<S: Store, L: Link> LocalGrid<S, L> {
             (record { client = client.old; grid = self.old })
             (record { client = client.new; grid = self.new }) }
         ensures memory { IsErrOf result LoopError.OutOfMemory
-            → RunsOut C.calls S.calls L.carries limit
+            → RunsOut C.calls S.calls L.carries L.gives_up limit
             (record { client = client.old; grid = self.old })
             (record { client = client.new; grid = self.new }) }
         ensures clock { self.old.clock ≤ self.new.clock }
@@ -142,7 +142,9 @@ impl<S: Store, L: Link> LocalGrid<S, L> {
         ensures ok { OnOk result (Turns C.calls S.calls L.carries
             (record { client = client.old; grid = self.old })
             (record { client = client.new; grid = self.new })) }
-        ensures err { OnErr result (IsCutShort C.calls client.old client.new) }
+        ensures err { OnErr result (IsCutShort C.calls S.calls L.carries L.gives_up
+            (record { client = client.old; grid = self.old })
+            (record { client = client.new; grid = self.new })) }
         ensures clock { self.old.clock ≤ self.new.clock }
     {
         let alloc = *self.frame.allocator();
@@ -161,8 +163,9 @@ impl<S: Store, L: Link> LocalGrid<S, L> {
     ) -> Result<(), AllocError>
         ensures ok { OnOk result (GoesOn C.calls S.calls L.carries client.old self.old
             (Some (node, message.now)) (record { client = client.new; grid = self.new })) }
-        ensures err { OnErr result
-            ((client.new ≡ client.old) ⊎ C.calls.gives_up client.old client.new) }
+        ensures err { OnErr result (StopsAfter C.calls S.calls L.carries L.gives_up client.old
+            self.old (Some (node, message.now))
+            (record { client = client.new; grid = self.new })) }
         ensures clock { self.new.clock ≡ self.old.clock }
     {
         match self.ask(node, message)? {
@@ -175,7 +178,8 @@ impl<S: Store, L: Link> LocalGrid<S, L> {
     fn wait<C: Client>(&mut self, client: &mut C) -> Result<(), AllocError>
         ensures ok { OnOk result (GoesOn C.calls S.calls L.carries client.old self.old None
             (record { client = client.new; grid = self.new })) }
-        ensures err { OnErr result (C.calls.gives_up client.old client.new) }
+        ensures err { OnErr result (StopsAfter C.calls S.calls L.carries L.gives_up client.old
+            self.old None (record { client = client.new; grid = self.new })) }
         ensures clock { self.old.clock ≤ self.new.clock }
     {
         self.pass();
@@ -195,6 +199,8 @@ impl<S: Store, L: Link> LocalGrid<S, L> {
     fn ask(&mut self, node: NodeId, message: &Message) -> Result<Option<Message>, AllocError>
         ensures ok { IfOk result
             (λ answer. Asks S.calls L.carries self.old node message.now answer self.new) }
+        ensures err { OnErr result
+            (Stops S.calls L.carries L.gives_up self.old node message.now self.new) }
         ensures clock { self.new.clock ≡ self.old.clock }
     {
         let place = usize::from(node);

@@ -4,6 +4,7 @@
 
 pub mod client;
 pub mod error;
+pub mod frames;
 pub mod grid;
 pub mod link;
 pub mod node;

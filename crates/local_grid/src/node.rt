@@ -1,7 +1,8 @@
 //! A server of the grid, with its link.
 
 ghost use Rattle.std.specs.Prelude.{◌≡◌, false, is_none, IfOk, OnErr};
-ghost use Rattle.local_grid.specs.Nodes.{Exchanges, IsServed, client_node, ticked_node};
+ghost use Rattle.local_grid.specs.Nodes.{Exchanges, IsLeftUnanswered, IsServed, StopsShort};
+ghost use Rattle.local_grid.specs.Nodes.{client_node, ticked_node};
 ghost use Rattle.local_grid.specs.declared.link.Way.TheVariants.{ToClient};
 
 use crate::link::{Link, Way};
@@ -76,6 +77,8 @@ impl<S: Store, L: Link> Node<S, L> {
     ) -> Result<Option<Message>, AllocError>
         ensures ok { IfOk result
             (λ answer. Exchanges S.calls L.carries self.old message.now now answer self.new) }
+        ensures err { OnErr result
+            (StopsShort S.calls L.carries L.gives_up self.old message.now now self.new) }
     {
         if self.silent {
             return Ok(None);
@@ -99,6 +102,9 @@ impl<S: Store, L: Link> Node<S, L> {
         requires { self.old.silent ≡ false }
         ensures ok { IfOk result
             (λ answer. IsServed S.calls L.carries self.old came.now now answer self.new) }
+        ensures err { OnErr result
+            (IsLeftUnanswered S.calls L.gives_up self.old came.now now self.new) }
+        ensures speaks { OnErr result (self.new.silent ≡ false) }
     {
         match self.server.on_message(CLIENT, came, now) {
             Ok(Some(said)) => self.send_back(&said, frame),
@@ -121,6 +127,8 @@ impl<S: Store, L: Link> Node<S, L> {
             (λ came. L.carries self.old.link ToClient said.now came self.new.link) }
         ensures silent { IfOk result (λ came. self.new.silent ≡ is_none came) }
         ensures server { self.new.server ≡ self.old.server }
+        ensures err { OnErr result (L.gives_up self.old.link self.new.link) }
+        ensures speaks { OnErr result (self.new.silent ≡ self.old.silent) }
     {
         let came = self.link.carry(Way::ToClient, said, frame)?;
         self.silent = came.is_none();

@@ -161,6 +161,8 @@ impl JunkLink {
 impl Link for JunkLink {
     ghost carries = { λ old way message came new. Unit {0} };
 
+    ghost gives_up = { λ old new. Unit {0} };
+
     fn carry(
         &mut self,
         way: Way,
