@@ -2,5 +2,3 @@
 pub mod Ends
 pub mod Carrying
 pub mod Links
--- words of private clauses
-pub mod Framed

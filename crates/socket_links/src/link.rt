@@ -3,18 +3,18 @@
 ghost use Rattle.std.specs.Prelude.{◌≡◌, ◌⊎◌, IfNone, IfOk, IfSome, None, OnOk, Some};
 ghost use Rattle.wire.specs.Frames.{frame};
 ghost use Rattle.socket_links.specs.Carrying.{Breaks, Carries};
-ghost use Rattle.socket_links.specs.Links.{ComesElse, IsCarried, IsCarriedOver};
+ghost use Rattle.socket_links.specs.Links.{ComesElse, IsCarried, IsCarriedOver, IsGivenUp};
 
 use crate::carrying::{CarryFault, carry};
 use crate::ends::Ends;
-use crate::reader::message_of;
+use local_grid::frames::message_of;
 use local_grid::link::{Link, MemoryLink, Way};
 use std::alloc::{AllocError, Global};
 use std::marker::Model;
 use wire::message::Message;
 
 /// A link over both ends of a connection, until one of them fails, or something else than a frame
-/// comes: then both are closed, and it carries nothing any more.
+/// comes, or memory is refused: then both are closed, and it carries nothing any more.
 #[derive(Drop)]
 pub struct SocketLink<E: Ends> {
     alloc: Global,
@@ -41,21 +41,39 @@ impl<E: Ends> SocketLink<E> {
 impl<E: Ends + Drop> Link for SocketLink<E> {
     ghost carries = { λ link way m came after. IsCarried E.calls link way m came after };
 
+    ghost gives_up = { λ link after. after ≡ None };
+
     fn carry(
         &mut self,
         way: Way,
         message: &Message,
         frame: &mut Vec<u8>,
     ) -> Result<Option<Message>, AllocError> {
-        message.encode_to(frame)?;
-        let came = match &mut self.ends {
-            Some(ends) => carried(self.alloc, ends, way, frame)?,
-            None => None,
-        };
-        if came.is_none() {
+        let came = carried_over(self.alloc, &mut self.ends, way, message, frame);
+        if !matches!(&came, Ok(Some(_))) {
             self.ends = None;
         }
-        Ok(came)
+        came
+    }
+}
+
+// What comes out where a message goes a way over the ends, while there are any.
+fn carried_over<E: Ends>(
+    alloc: Global,
+    ends: &mut Option<E>,
+    way: Way,
+    message: &Message,
+    frame: &mut Vec<u8>,
+) -> Result<Option<Message>, AllocError>
+    ensures some { IfOk result (λ o. IfSome o
+        (λ out. IsCarried E.calls ends.old way message.now (Some out) ends.new)) }
+    ensures none { IfOk result (λ o. IfNone o
+        (IsCarried E.calls ends.old way message.now None None)) }
+{
+    message.encode_to(frame)?;
+    match ends {
+        Some(ends) => carried(alloc, ends, way, frame),
+        None => Ok(None),
     }
 }
 
@@ -88,6 +106,8 @@ pub enum GridLink<E: Ends> {
 
 impl<E: Ends + Drop> Link for GridLink<E> {
     ghost carries = { λ link way m came after. IsCarriedOver E.calls link way m came after };
+
+    ghost gives_up = { IsGivenUp };
 
     fn carry(
         &mut self,
