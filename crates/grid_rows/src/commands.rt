@@ -10,9 +10,9 @@ use std::rt::{Clock, Files};
 use std::{fs, io};
 use test_writers::Told;
 
-// What a command wrote to standard output and to standard error, and its status.
+/// What a command wrote to standard output and to standard error, and its status.
 #[derive(Drop)]
-struct Ended {
+pub(crate) struct Ended {
     status: u8,
     out: Vec<u8>,
     err: Told,
@@ -23,6 +23,11 @@ impl Ended {
         self.status == other.status
             && self.out.as_slice() == other.out.as_slice()
             && self.err.as_slice() == other.err.as_slice()
+    }
+
+    /// Whether what was written to standard output has this text.
+    pub(crate) fn wrote(&self, text: &str) -> bool {
+        text_of(self.out.as_slice()).is_some_and(|told| told.contains(text))
     }
 }
 
@@ -60,7 +65,8 @@ fn parted<'a>(words: &'a [&'a str]) -> (&'a [&'a str], &'a [&'a str]) {
     (command, parts.next().unwrap_or(&[]))
 }
 
-fn run<R>(rt: &R, words: &[&str]) -> Ended
+/// Runs a command.
+pub(crate) fn run<R>(rt: &R, words: &[&str]) -> Ended
 where
     R: Files + Net + Clock + AllocGlobal + Clone + Drop,
 {

@@ -8,6 +8,10 @@
 //!
 //! - `grid WORD..`: runs the command.
 //! - `both grid WORD..`: runs it, and again with `--net`; told once where it comes to the same.
+//! - `script LINE;LINE..`: runs the script of a world. A line `COUNT * LINE` stands there so many
+//!   times, and one that ends in `FROM..TO` once for each number from one to before the other.
+//! - `scripts FROM TO LINE;LINE.. | TEXT..`: runs a script for each such number, which a `#` stands
+//!   for, and tells in how many of them what it wrote has each text.
 //! - `.. | same FILE [FROM TO]`: in place of the output tells whether it is this file, or this
 //!   part of it.
 //! - `NAME=VALUE`: a word `$NAME` stands for the value from then on.
@@ -38,6 +42,7 @@ mod commands;
 mod folders;
 mod names;
 mod rows;
+mod scripts;
 
 use names::{Names, assignment, words_of};
 use rows::play;

@@ -7,6 +7,7 @@ use crate::acts::{
 use crate::changes::{append, cut, flip, splice};
 use crate::commands::{play_both, play_command};
 use crate::names::no_such_row;
+use crate::scripts::{play_script, play_scripts};
 use std::io;
 use std::net::Net;
 use std::rt::Runtime;
@@ -16,6 +17,8 @@ use std::rt::Runtime;
 enum Verb {
     Grid,
     Both,
+    Script,
+    Scripts,
     Counted,
     Zeros,
     Write,
@@ -37,9 +40,11 @@ enum Verb {
 }
 
 // The word that begins each row.
-const VERBS: [(&str, Verb); 20] = [
+const VERBS: [(&str, Verb); 22] = [
     ("grid", Verb::Grid),
     ("both", Verb::Both),
+    ("script", Verb::Script),
+    ("scripts", Verb::Scripts),
     ("counted", Verb::Counted),
     ("zeros", Verb::Zeros),
     ("write", Verb::Write),
@@ -83,6 +88,8 @@ pub(crate) fn play<R: Runtime + AllocGlobal + Net>(
         None => Err(no_such_row()),
         Some(Verb::Grid) => play_command(rt, words, told),
         Some(Verb::Both) => play_both(rt, rest, told),
+        Some(Verb::Script) => play_script(rt, rest, told),
+        Some(Verb::Scripts) => play_scripts(rt, rest, told),
         Some(Verb::List) => list(rt, rest, told),
         Some(Verb::Count) => count(rt, rest, told),
         Some(Verb::Compare) => compare(rt, rest, told),
@@ -108,6 +115,7 @@ fn act<R: Runtime + AllocGlobal>(rt: &R, verb: Verb, words: &[&str]) -> io::Resu
         Verb::Rename => rename(rt, words),
         Verb::Copy => copy(rt, words),
         Verb::Link => link(rt, words),
-        Verb::Grid | Verb::Both | Verb::List | Verb::Count | Verb::Compare => Ok(()),
+        Verb::Grid | Verb::Both | Verb::Script | Verb::Scripts => Ok(()),
+        Verb::List | Verb::Count | Verb::Compare => Ok(()),
     }
 }
