@@ -36,7 +36,7 @@ use Rattle.world_operations.specs.Tasks.{IsRightTask, requests_of}
 use Rattle.world_operations.proofs.Places.{append_none, get_push, get_push_old, get_set, get_set_back, get_set_same, length_set, member_here, member_none, member_there, push_last, same_some}
 use Rattle.world_operations.proofs.TaskMoves.{IsNewTask, request_on}
 use Rattle.world.specs.State.{shelved}
-use Rattle.world.specs.Step.{forgotten_by, is_live_at, new_operation, with_life}
+use Rattle.world.specs.Step.{forgotten_by, is_running, new_operation, with_life}
 use Rattle.world.specs.Consistent.{AreConsistent, CameFrom, IsFine, IsJustified, IsRecorded, IsRequestOf}
 use Rattle.world.specs.Consistent.{asked, gone}
 use Rattle.world.proofs.Acked.{closed_by}
@@ -382,7 +382,7 @@ one_life operations number op fate at = record {
 }
 
 forgot : (node : ℕ) (op : Operation) → (fate : Life) × (forgotten_by node op ≡ with_life fate op)
-forgot node op = choose (is_live_at node op) where
+forgot node op = choose ((op.node == node) && is_running op) where
   choose : (b : Bool) → (fate : Life) × ((if b then with_life Forgotten op else op) ≡ with_life fate op)
   choose true = (Forgotten, refl)
   choose false = (op.life, own_life op)

@@ -15,7 +15,7 @@ use Rattle.world_operations.specs.declared.operation.Life.TheVariants.{Forgotten
 use Rattle.world_operations.specs.declared.operation.Operation.{Operation}
 use Rattle.world_operations.specs.declared.task.Task.{Task}
 use Rattle.world_operations.specs.Moves.{Begins, IsFlushed, OperationGets, OperationTicks, sent_to}
-use Rattle.world_operations.specs.Tasks.{IsRunningTask}
+use Rattle.world_operations.specs.Tasks.{runs}
 use Rattle.world.specs.declared.event.Event.{Event}
 use Rattle.world.specs.declared.event.Event.TheVariants.{Start, Deliver, Forge, Turn, Pass, Tick}
 use Rattle.world.specs.declared.event.Event.TheVariants.{Restart, FailStore, Refuse}
@@ -154,9 +154,17 @@ pub record TicksAt (old : WorldState) (node : ℕ) (new : WorldState) : Type 0 w
   pub server : Ticks before old.clock after
   pub tasks : HaveTicked (record old { servers = slice_set old.servers node after }) node new
 
--- a restart of a node forgets its live operations
+-- does an operation run?
+abbrev pub is_running : Operation → Bool
+is_running op = is_live op.life && runs op.task
+
+abbrev pub IsRunning : Operation → Type 0
+IsRunning op = is_running op ≡ true
+
+-- A restart of a node forgets its operations that run. Those that ended stay as they are.
 abbrev pub forgotten_by : ℕ → Operation → Operation
-forgotten_by node op = if is_live_at node op then with_life Forgotten op else op
+forgotten_by node op =
+    if (op.node == node) && is_running op then with_life Forgotten op else op
 
 pub record RestartsAt (old : WorldState) (node : ℕ) (new : WorldState) : Type 0 where
   pub before : Machine MemoryState
@@ -175,10 +183,6 @@ failing m = record m { store = record m.store { failing = true } }
 -- The clock stops at its greatest value.
 abbrev pub later_by : ℕ → WorldState → WorldState
 later_by seconds w = record w { clock = min (w.clock + seconds) (2 ^ 64 - 1) }
-
--- an operation that runs
-abbrev pub IsRunning : Operation → Type 0
-IsRunning op = (op.life ≡ Live) × IsRunningTask op.task
 
 -- a liar says something to a node, or nothing
 abbrev pub Says : WorldState → ℕ → WorldState → Type 0

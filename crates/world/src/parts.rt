@@ -14,7 +14,8 @@ ghost use Rattle.world_operations.specs.declared.message.Sent.{Sent};
 ghost use Rattle.world_operations.specs.declared.operation.Operation.{Operation};
 ghost use Rattle.world.specs.Parts.{NothingNew, OperationBecomes, OperationMoves, SaidBy};
 ghost use Rattle.world.specs.Parts.{ServerBecomes, ServesBy};
-ghost use Rattle.world.specs.Step.{TicksOrStays, failing, forgotten_by, is_live_at, with_life};
+ghost use Rattle.world.specs.Step.{TicksOrStays, failing, forgotten_by, is_live_at, is_running};
+ghost use Rattle.world.specs.Step.{with_life};
 
 use server_core::error::ServerFault;
 use server_core::server::Server;
@@ -103,6 +104,13 @@ pub(crate) fn is_live_at(operation: &Operation, node: NodeId) -> bool
     ensures { result ≡ is_live_at node operation.now }
 {
     operation.node == node && operation.life == Life::Live
+}
+
+/// Does an operation run?
+pub(crate) fn is_running(operation: &Operation) -> bool
+    ensures { result ≡ is_running operation.now }
+{
+    operation.life == Life::Live && operation.task.is_running()
 }
 
 /// The operation at a place takes a message over.
@@ -208,16 +216,16 @@ pub(crate) fn set_life(operations: &mut Vec<Operation>, place: usize, life: Life
     operations[place].life = life;
 }
 
-// An operation is forgotten, if it is a live one of this node.
+// An operation is forgotten, if it is one of this node and runs.
 fn forget_one(operation: &mut Operation, node: NodeId)
     ensures { operation.new ≡ forgotten_by node operation.old }
 {
-    if is_live_at(operation, node) {
+    if operation.node == node && is_running(operation) {
         operation.life = Life::Forgotten;
     }
 }
 
-/// The live operations of a node are forgotten.
+/// The operations of a node that run are forgotten.
 pub(crate) fn forget_all(operations: &mut Vec<Operation>, node: NodeId)
     ensures { operations.new.items ≡ map (forgotten_by node) operations.old.items }
 {

@@ -20,7 +20,7 @@ ghost use Rattle.world.specs.Step.{with_sent};
 use crate::liar::Heard;
 use crate::nodes::{nodes_up_to, servers_at};
 use crate::parts::{
-    answer_at, fail_server, flush_at, forget_all, is_live_at, is_request, push_operation,
+    answer_at, fail_server, flush_at, forget_all, is_live_at, is_request, is_running, push_operation,
     read_body, restart_server, serve_at, set_life, tick_at, tick_server,
 };
 use proved_parts::Bytes;
@@ -214,7 +214,7 @@ impl Scene {
         self.tick_operations(node)
     }
 
-    /// An honest node forgets its open buckets and its live operations.
+    /// An honest node forgets its open buckets and its operations that run.
     pub(crate) fn restart(&mut self, node: NodeId)
         requires { node < length self.old.servers.items }
         ensures step { RestartsAt (state_of self.old) node (state_of self.new) }
@@ -239,7 +239,7 @@ impl Scene {
             × (slice_get self.now.operations.items number ≡ Some op) × IsRunning op) }
     {
         match self.operations.get(number) {
-            Some(operation) => operation.life == Life::Live && operation.task.is_running(),
+            Some(operation) => is_running(operation),
             None => false,
         }
     }

@@ -4,10 +4,13 @@ use Rattle.cap_text.specs.Cap.{verify_cap_of}
 use Rattle.request_record.specs.Asking.{fresh}
 use Rattle.request_record.specs.Record.{RequestsState}
 use Rattle.placement.specs.Matching.{Pair}
+use Rattle.upload_core.specs.declared.status.UploadStatus.{UploadStatus}
 use Rattle.upload_core.specs.declared.status.UploadStatus.TheVariants as uploads
 use Rattle.upload_core.specs.Right as upload
+use Rattle.download_core.specs.declared.status.DownloadStatus.{DownloadStatus}
 use Rattle.download_core.specs.declared.status.DownloadStatus.TheVariants as downloads
 use Rattle.download_core.specs.Right as download
+use Rattle.checker.specs.declared.status.CheckStatus.{CheckStatus}
 use Rattle.checker.specs.declared.status.CheckStatus.TheVariants as checks
 use Rattle.checker.specs.Right as check
 use Rattle.world_operations.specs.declared.task.Task.{Task}
@@ -28,11 +31,31 @@ index_of (Downloading d) = (verify_cap_of d.cap).storage_index
 index_of (Checking c) = c.cap.storage_index
 index_of (Gone number) = []
 
-abbrev pub IsRunningTask : Task → Type 0
-IsRunningTask (Uploading u) = u.course.status ≡ uploads.Running
-IsRunningTask (Downloading d) = d.status ≡ downloads.Running
-IsRunningTask (Checking c) = c.status ≡ checks.Running
-IsRunningTask (Gone number) = ⊥
+-- does an upload, a download or a check of this status still run?
+abbrev pub upload_runs : UploadStatus → Bool
+upload_runs uploads.Running = true
+upload_runs (uploads.Happy pairs) = false
+upload_runs (uploads.Unhappy reached blocking) = false
+upload_runs (uploads.Failed fault) = false
+
+abbrev pub download_runs : DownloadStatus → Bool
+download_runs downloads.Running = true
+download_runs downloads.Done = false
+download_runs downloads.NotEnoughShares = false
+download_runs downloads.Inconsistent = false
+download_runs downloads.Failed = false
+
+abbrev pub check_runs : CheckStatus → Bool
+check_runs checks.Running = true
+check_runs checks.Done = false
+check_runs checks.Failed = false
+
+-- does its machine still run?
+abbrev pub runs : Task → Bool
+runs (Uploading u) = upload_runs u.course.status
+runs (Downloading d) = download_runs d.status
+runs (Checking c) = check_runs c.status
+runs (Gone number) = false
 
 -- what each machine's calls ensure of it
 abbrev pub IsRightTask : Task → Type 0

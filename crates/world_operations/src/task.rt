@@ -12,8 +12,8 @@ ghost use Rattle.world_operations.specs.Given.{IsGivenBy};
 ghost use Rattle.world_operations.specs.Jobs.{MayStart};
 ghost use Rattle.world_operations.specs.Moves.{Advances, Begins, Takes, TakesPiece, TicksOn};
 ghost use Rattle.world_operations.specs.Moves.{UploadAdvances, UploadTicks};
-ghost use Rattle.world_operations.specs.Tasks.{IsRightTask, IsRunningTask, MayFail, is_download};
-ghost use Rattle.world_operations.specs.Tasks.{requests_of};
+ghost use Rattle.world_operations.specs.Tasks.{IsRightTask, MayFail, is_download, requests_of, runs};
+ghost use Rattle.world_operations.specs.Tasks.{upload_runs};
 
 use crate::job::Job;
 use cap_text::{ReadCap, VerifyCap};
@@ -156,7 +156,7 @@ impl Task {
 
     /// Does it still run?
     pub fn is_running(&self) -> bool
-        ensures { IsTrue result ↔ IsRunningTask self.now }
+        ensures { result ≡ runs self.now }
     {
         match self {
             Task::Uploading(upload) => is_running(upload),
@@ -262,7 +262,8 @@ fn begin_check(
 
 // Does it still run?
 fn is_running(upload: &Upload<WholeShares>) -> bool
-    ensures { IsTrue result ↔ (upload.now.course.status ≡ uploads.Running) }
+    ensures state { result ≡ upload_runs upload.now.course.status }
+    ensures runs { IsTrue result ↔ (upload.now.course.status ≡ uploads.Running) }
 {
     matches!(upload.status(), UploadStatus::Running)
 }
