@@ -1,14 +1,9 @@
 -- The nodes of servers in a row.
+use Rattle.lemmas.proofs.Ranges.{range_push}
 use Rattle.std.proofs.Common.{◌≡◌, ℕ, zero, suc, ◌+◌, ◌<◌, List, [], ◌∷◌, ◌++◌, length, map, get_or, take, eqb, ap, sym, subst, ◌∙◌, arith}
 use Rattle.std.specs.List.{IsDistinct, range_with_len}
 use Rattle.placement.proofs.Best.{range_distinct}
 use Rattle.std.proofs.lemmas.List.{map_push, take_more}
-
-last : (a n : ℕ) → range_with_len a (suc n) ≡ range_with_len a n ++ (a + n) ∷ []
-last a zero = let same : a ≡ a + zero = omega arith in ap (λ (x : ℕ). x ∷ []) same
-last a (suc n) =
-    let on : a + 1 + n ≡ a + suc n = omega arith in
-    ap (λ (xs : List ℕ). a ∷ xs) (last (a + 1) n) ∙ ap (λ (x : ℕ). a ∷ (range_with_len (a + 1) n ++ x ∷ [])) on
 
 -- the node of the next server is its place
 pub next_node : {X : Type 0} (node : X → ℕ) (servers all : List X) (next : X) (n : ℕ) → map node servers ≡ range_with_len 0 n → node next ≡ n
@@ -17,7 +12,7 @@ next_node node servers all next n are is pushed =
     let on : suc n ≡ n + 1 = omega arith in
     let here : n ≡ 0 + n = omega arith in
     ap (map node) pushed ∙ map_push node servers next ∙ ap (λ (xs : List ℕ). xs ++ node next ∷ []) are
-    ∙ ap (λ (x : ℕ). range_with_len 0 n ++ x ∷ []) (is ∙ here) ∙ sym (last 0 n) ∙ ap (range_with_len 0) on
+    ∙ ap (λ (x : ℕ). range_with_len 0 n ++ x ∷ []) (is ∙ here) ∙ sym (range_push 0 n) ∙ ap (range_with_len 0) on
 
 -- what belongs to the next server belongs to the next name
 pub next_id : {X Y Z : Type 0} (f : X → Z) (g : Y → Z) (servers all : List X) (next : X) (names : List Y) (n : ℕ) (d : Y) → map f servers ≡ map g (take n names)

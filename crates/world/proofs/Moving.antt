@@ -1,4 +1,8 @@
 -- What the calls of a world's parts make of it.
+use Rattle.lemmas.proofs.Ranges.{range_push}
+use Rattle.lemmas.proofs.Bools.{both}
+use Rattle.lemmas.proofs.Numbers.{same_number}
+use Rattle.lemmas.proofs.Results.{settled_by}
 use Rattle.std.proofs.Common.{◌≡◌, ◌≢◌, ℕ, zero, suc, ◌+◌, ◌-◌, ◌<◌, ◌≤◌, List, [], ◌∷◌, ◌++◌, Bool, true, false, length, map, take, drop, get_or, Option, Some, None, Result, Ok, Err, Contains, refl, sym, subst, ap, ◌∙◌, inl, inr, ◌⊎◌, arith}
 use Rattle.std.specs.Prelude.{OnErr, OnOk, ◌==◌, ◌&&◌, slice_get, slice_set}
 use Rattle.std.specs.List.{range_with_len}
@@ -34,10 +38,6 @@ use Rattle.world.proofs.Preserving.{preserves_answered, preserves_begun, preserv
 
 abbrev Server : Type 0
 Server = Machine MemoryState
-
-pub settled_by : {X E : Type 0} (r : Result X E) (P Q : Type 0) → OnOk r P → OnErr r Q → P ⊎ Q
-settled_by (Ok x) P Q p q = inl p
-settled_by (Err e) P Q p q = inr q
 
 -- ---- a server answers
 
@@ -80,13 +80,6 @@ served_keeps w x m said from to place new after r sender receiver here b spoken 
 ]
 
 -- ---- an operation gets an answer
-
-pub both : (a b : Bool) → (a && b) ≡ true → (a ≡ true) × (b ≡ true)
-both true b e = (refl, e)
-both false b e = absurd cc
-
-same_number : (m n : ℕ) → (m == n) ≡ true → m ≡ n
-same_number m n e = grind (arith, nat_tests)
 
 lives : (life : Life) → is_live life ≡ true → life ≡ Live
 lives Live e = refl
@@ -143,17 +136,11 @@ heard_delivers w new x item place liar at low is far liar_is e =
 
 -- ---- nodes in a row
 
-last_node : (a n : ℕ) → range_with_len a (suc n) ≡ range_with_len a n ++ (a + n) ∷ []
-last_node a zero = let same : a ≡ a + zero = omega arith in ap (λ (x : ℕ). x ∷ []) same
-last_node a (suc n) =
-    let on : a + 1 + n ≡ a + suc n = omega arith in
-    ap (λ (xs : List ℕ). a ∷ xs) (last_node (a + 1) n) ∙ ap (λ (x : ℕ). a ∷ (range_with_len (a + 1) n ++ x ∷ [])) on
-
 pub next_node : (nodes all : List ℕ) (n : ℕ) → nodes ≡ range_with_len 0 n → all ≡ nodes ++ n ∷ [] → all ≡ range_with_len 0 (n + 1)
 next_node nodes all n are pushed =
     let on : suc n ≡ n + 1 = omega arith in
     let here : n ≡ 0 + n = omega arith in
-    pushed ∙ ap (λ (xs : List ℕ). xs ++ n ∷ []) are ∙ ap (λ (x : ℕ). range_with_len 0 n ++ x ∷ []) here ∙ sym (last_node 0 n) ∙ ap (range_with_len 0) on
+    pushed ∙ ap (λ (xs : List ℕ). xs ++ n ∷ []) are ∙ ap (λ (x : ℕ). range_with_len 0 n ++ x ∷ []) here ∙ sym (range_push 0 n) ∙ ap (range_with_len 0) on
 
 pub own_nodes : (nodes : List ℕ) → map (λ (s : ServerInfo). s.node) (map server_of nodes) ≡ nodes
 own_nodes [] = refl

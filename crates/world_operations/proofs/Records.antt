@@ -1,4 +1,6 @@
 -- How a record goes on: what was asked stays at its place, and what is answered was answered before, or is by the message that comes.
+use Rattle.lemmas.proofs.Bools.{both}
+use Rattle.lemmas.proofs.Numbers.{same_number}
 use Rattle.std.proofs.Common.{◌≡◌, ℕ, zero, suc, ◌+◌, ◌-◌, List, [], ◌∷◌, ◌++◌, Bool, true, false, length, Option, Some, None, refl, sym, subst, ap, ◌∙◌, inl, inr, ◌⊎◌, arith}
 use Rattle.std.specs.Prelude.{◌==◌, ◌&&◌, max, not, slice_get, option_map, if◌then◌else◌}
 use Rattle.std.proofs.lemmas.Bool.Decides.{nat_tests}
@@ -67,13 +69,6 @@ follows_asks (ask ∷ asks) r = follows_on Nothing r (asked_more ask.0 ask.1 r) 
 
 -- ---- a message
 
-both : (a b : Bool) → (a && b) ≡ true → (a ≡ true) × (b ≡ true)
-both true b e = (refl, e)
-both false b e = absurd cc
-
-is_same : (m n : ℕ) → (m == n) ≡ true → m ≡ n
-is_same m n e = grind (arith, nat_tests)
-
 some_number : (n : ℕ) → not (n == 0) ≡ true → n ≡ n - 1 + 1
 some_number zero e = absurd cc
 some_number (suc n) e = omega arith
@@ -87,7 +82,7 @@ module _ (from : ℕ) (m : Message) (r : RequestsState) where
   answered_one None session number at waits = absurd cc
   answered_one (Some q) session number at waits =
       let two = both (is_outstanding q.outcome && (q.server == from)) (fits q.asked m.body) waits in
-      let server : q.server ≡ from = is_same q.server from (both (is_outstanding q.outcome) (q.server == from) two.0).1 in
+      let server : q.server ≡ from = same_number q.server from (both (is_outstanding q.outcome) (q.server == from) two.0).1 in
       let new : Request = with_outcome q (Answered m.body) in
       record {
         session_is = refl;
@@ -119,7 +114,7 @@ module _ (from : ℕ) (m : Message) (r : RequestsState) where
     by true e =
         let last = both ((m.session == r.session) && not (m.number == 0)) (awaits_at from m.body (slice_get r.entries (m.number - 1))) e in
         let first = both (m.session == r.session) (not (m.number == 0)) last.0 in
-        answered_one (slice_get r.entries (m.number - 1)) (is_same m.session r.session first.0) (some_number m.number first.1) refl last.1
+        answered_one (slice_get r.entries (m.number - 1)) (same_number m.session r.session first.0) (some_number m.number first.1) refl last.1
 
 -- the record after a message
 pub follows_message : (from now : ℕ) (m : Message) (r : RequestsState) → Follows (IsSaid from m r.session) r (after_message from m now r)

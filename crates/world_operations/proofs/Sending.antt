@@ -149,12 +149,6 @@ handing_less (Downloading d) (Gone n) before after one = absurd one.1
 pub more_pieces : (before mid after first second : List Piece) → mid ≡ before ++ first → after ≡ mid ++ second → (pieces : List Piece) × (after ≡ before ++ pieces)
 more_pieces before mid after first second e f = (first ++ second, f ∙ ap (λ (l : List Piece). l ++ second) e ∙ append_assoc before first second)
 
--- ---- results
-
-pub on_ok : {X E : Type 0} (r : Result X E) (P Q : Type 0) → (P → Q) → OnOk r P → OnOk r Q
-on_ok (Ok x) P Q f p = f p
-on_ok (Err e) P Q f p = p
-
 -- ---- operations
 
 pub flushed : (old : Operation) (handed last : Task) (given : List Piece) (before after : List Sent) → (pieces : List Piece) × (given ≡ old.given ++ pieces) × HandsOut old.task pieces handed

@@ -1,7 +1,8 @@
 use Rattle.std.proofs.Common.{[], refl, sym, inl, inr, ◌∙◌}
 use Rattle.world_operations.specs.Follow.{Nothing}
 use Rattle.world_operations.proofs.Places.{append_none}
-use Rattle.world_operations.proofs.Sending.{moves_nowhere, on_ok}
+use Rattle.lemmas.proofs.Results.{on_ok}
+use Rattle.world_operations.proofs.Sending.{moves_nowhere}
 use Rattle.world.proofs.parts.tick_one.Goals as goal
 
 pub returns-then-not-is_live_at-clause-some : goal.returns-then-not-is_live_at-clause-some

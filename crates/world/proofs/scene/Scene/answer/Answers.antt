@@ -1,6 +1,6 @@
 use Rattle.std.proofs.Common.{◌≡◌, ◌∙◌, Some, rules, sym, subst}
 use Rattle.std.specs.Prelude.{slice_get}
-use Rattle.world_operations.proofs.Sending.{on_ok}
+use Rattle.lemmas.proofs.Results.{on_ok}
 use Rattle.world.specs.State.{state_of}
 use Rattle.world.proofs.Moving.{at_place, task_gets, task_keeps}
 use Rattle.world.proofs.scene.Scene.answer.Goals as goal

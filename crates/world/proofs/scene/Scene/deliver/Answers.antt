@@ -5,7 +5,7 @@ use Rattle.wire.specs.Frames.{IsBodyOf}
 use Rattle.world_operations.specs.declared.message.Sent.{Sent}
 use Rattle.world_operations.proofs.Places.{member_at}
 use Rattle.world.specs.Step.{no_body}
-use Rattle.world_operations.proofs.Sending.{on_ok}
+use Rattle.lemmas.proofs.Results.{on_ok}
 use Rattle.world.specs.State.{state_of}
 use Rattle.world.proofs.Moving.{at_place, body_of, heard_delivers, item_is, no_body_of}
 use Rattle.world.proofs.scene.Scene.deliver.Goals as goal

@@ -3,7 +3,7 @@ use Rattle.std.specs.Prelude.{slice_get}
 use Rattle.world_operations.specs.declared.job.Job.{Job}
 use Rattle.world_operations.specs.declared.operation.Operation.{Operation}
 use Rattle.world_operations.specs.Moves.{IsFlushed}
-use Rattle.world_operations.proofs.Sending.{on_ok}
+use Rattle.lemmas.proofs.Results.{on_ok}
 use Rattle.world.specs.Consistent.{Preserves}
 use Rattle.world.specs.Parts.{NothingNew, OperationBecomes, OperationMoves}
 use Rattle.world.specs.State.{state_of}

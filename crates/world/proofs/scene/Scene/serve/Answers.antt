@@ -1,7 +1,7 @@
 use Rattle.std.proofs.Common.{◌∙◌, ◌++◌, ◌∷◌, [], Ok, Some, ap, subst}
 use Rattle.server_core.specs.Machine.{Outcome}
 use Rattle.world_operations.specs.declared.message.Sent.{Sent}
-use Rattle.world_operations.proofs.Sending.{on_ok}
+use Rattle.lemmas.proofs.Results.{on_ok}
 use Rattle.world.specs.Parts.{ServerBecomes, ServesBy}
 use Rattle.world.specs.State.{state_of}
 use Rattle.world.proofs.Moving.{served_gets, served_keeps, served_only}

@@ -1,5 +1,5 @@
 use Rattle.std.proofs.Common.{ℕ, ◌<◌, ◌∙◌, length, subst, sym}
-use Rattle.world_operations.proofs.Sending.{on_ok}
+use Rattle.lemmas.proofs.Results.{on_ok}
 use Rattle.world.specs.Step.{answer, request}
 use Rattle.world.proofs.scene.Scene.take.Goals as goal
 

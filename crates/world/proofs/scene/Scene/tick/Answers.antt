@@ -1,4 +1,4 @@
-use Rattle.world_operations.proofs.Sending.{on_ok}
+use Rattle.lemmas.proofs.Results.{on_ok}
 use Rattle.world.specs.State.{state_of}
 use Rattle.world.proofs.Moving.{all_ticked, server_ticked}
 use Rattle.world.proofs.Preserving.{preserves_on}
