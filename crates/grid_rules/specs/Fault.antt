@@ -1,6 +1,5 @@
 -- The numbers and the exit statuses of the faults, and which fault an error becomes.
-use Rattle.std.specs.Prelude.{◌≡◌, ℕ, List}
-use Rattle.std.specs.String.{string_bytes}
+use Rattle.std.specs.Prelude.{ℕ}
 use Rattle.cap_text.specs.CapError.{number_of}
 use Rattle.cap_text.specs.declared.error.CapError.{CapError}
 use Rattle.cap_text.specs.declared.error.CapError.TheVariants as caps
@@ -82,9 +81,3 @@ fault_of_download downloads.BadRange = BadRange
 abbrev pub fault_of_loop : LoopError → Fault
 fault_of_loop loops.OutOfMemory = OutOfMemory
 fault_of_loop loops.TurnLimit = TurnLimit
-
--- It is the fault of what has this path, or there was no memory to tell the path.
-abbrev pub TellsPath : List ℕ → Fault → Type 0
-TellsPath path OutOfMemory = Unit {0}
-TellsPath path (File told) = string_bytes told ≡ path
-TellsPath path fault = ⊥

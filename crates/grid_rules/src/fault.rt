@@ -1,16 +1,15 @@
 //! Why a command ended without its result: each fault has a number, an exit status and a text.
 
-ghost use Rattle.std.specs.Prelude.{◌≡◌, ◌↔◌, IsTrue};
+ghost use Rattle.std.specs.Prelude.{◌≡◌, ◌≢◌, ◌↔◌, IsTrue};
 ghost use Rattle.std.specs.IoError.{error_kind};
 ghost use Rattle.grid_rules.specs.Fault.{fault_number, fault_of_cap, fault_of_encoding};
-ghost use Rattle.grid_rules.specs.Fault.{TellsPath, fault_of_download, fault_of_loop};
-ghost use Rattle.grid_rules.specs.Fault.{fault_status};
+ghost use Rattle.grid_rules.specs.Fault.{fault_of_download, fault_of_loop, fault_status};
 
 use cap_text::CapError;
 use download_core::status::DownloadError;
 use file_encoding::EncodeError;
 use local_grid::error::LoopError;
-use std::alloc::{AllocError, AllocFailed, Global};
+use std::alloc::{AllocError, AllocFailed};
 use std::io::{self, ErrorKind};
 use thiserror::Error;
 
@@ -118,19 +117,16 @@ impl Fault {
         }
     }
 
-    /// The fault of a file or folder, whose failure may be one of memory. Its path is told where
-    /// there is memory for it.
-    pub fn of_path(alloc: Global, error: &io::Error, path: &str) -> Fault
+    /// The fault of the file or folder of this path, on which a call failed: one of memory where
+    /// the call found none.
+    pub fn of_path(path: String, error: &io::Error) -> Fault
         ensures memory { error_kind error.now ≡ ErrorKind.OutOfMemory → result ≡ Fault.OutOfMemory }
-        ensures path { TellsPath path.now result }
+        ensures path { error_kind error.now ≢ ErrorKind.OutOfMemory → result ≡ Fault.File path }
     {
         if is_memory(error) {
             return Fault::OutOfMemory;
         }
-        match String::from_str(alloc, path) {
-            Ok(path) => Fault::File(path),
-            Err(_) => Fault::OutOfMemory,
-        }
+        Fault::File(path)
     }
 }
 
