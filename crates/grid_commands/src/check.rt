@@ -11,6 +11,7 @@ use grid_clients::check::CheckClient;
 use grid_clients::watched::Watched;
 use grid_rules::{Fault, Work, report_lines, report_status};
 use grid_servers::{FolderGrid, SESSION, is_grid, open_servers, standing_servers};
+use local_grid::error::LoopError;
 use std::alloc::Global;
 use std::io::{IsTerminal, Write};
 use std::net::Net;
@@ -75,8 +76,7 @@ where
     }
 }
 
-// Carries a check to its end, and gives what it found. One that has ended without a report found no
-// memory.
+// Carries a check to its end, and gives what it found.
 fn carry<R, E>(
     rt: &R,
     servers: &mut FolderGrid<R>,
@@ -89,7 +89,17 @@ where
 {
     progress.begin(Work::Read);
     let mut client = Watched::new(CheckClient::new(check), progress);
-    servers.run(&mut client)?;
-    let report = client.client().report(rt.alloc())?;
+    let carried = servers.run(&mut client);
+    found_by(rt.alloc(), carried, client.client())
+}
+
+// What a check found that was carried to its end. One without a report found no memory.
+fn found_by(
+    alloc: Global,
+    carried: Result<(), LoopError>,
+    client: &CheckClient,
+) -> Result<Report, Fault> {
+    carried?;
+    let report = client.report(alloc)?;
     report.ok_or(Fault::OutOfMemory)
 }

@@ -13,6 +13,7 @@ use grid_clients::download::DownloadClient;
 use grid_clients::watched::Watched;
 use grid_rules::{ByteRange, Fault, Work, range_of, reached_range_end};
 use grid_servers::{FolderGrid, SESSION, is_grid, open_servers, standing_servers};
+use local_grid::error::LoopError;
 use std::alloc::Global;
 use std::cell::Cell;
 use std::io::{IsTerminal, Write};
@@ -122,11 +123,18 @@ where
     let taken = Cell::new(0);
     let client = DownloadClient::new(download, Counted::new(out, &taken));
     let mut watched = Watched::new(client, Writing::new(progress, &taken));
-    if let Err(refusal) = servers.run(&mut watched) {
-        return Err(Failure::Fault(Fault::from(refusal)));
-    }
-    if watched.client().has_failed() {
+    let carried = servers.run(&mut watched);
+    end_of(carried, watched.client())
+}
+
+// How a download ended that was carried as far as it goes.
+fn end_of<W: Write>(
+    carried: Result<(), LoopError>,
+    client: &DownloadClient<W>,
+) -> Result<(), Failure> {
+    carried.map_err(Fault::from)?;
+    if client.has_failed() {
         return Err(Failure::Writer);
     }
-    Ok(reached_range_end(watched.client().status())?)
+    Ok(reached_range_end(client.status())?)
 }
