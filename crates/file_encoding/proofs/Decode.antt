@@ -1,16 +1,12 @@
 -- Blocks of a segment, and what they decode to.
-use Rattle.std.proofs.Common.{◌≡◌, ℕ, ◌+◌, ◌-◌, ◌*◌, ◌<◌, ◌≤◌, List, [], ◌∷◌, ◌++◌, length, map, take, drop, min, get_or, Bor, inl, inr, ap, sym, subst, ◌∙◌, arith}
-use Rattle.std.proofs.lemmas.List.{drop_at, drop-append-le, get_or-map, length-append, length-drop, length-map, length-take, map-append, take_all, take-append-le}
+use Rattle.std.proofs.Common.{◌≡◌, ℕ, ◌+◌, ◌-◌, ◌*◌, ◌<◌, ◌≤◌, List, [], ◌∷◌, ◌++◌, length, map, take, drop, min, get_or, Bor, ap, sym, subst, ◌∙◌, arith}
+use Rattle.std.proofs.lemmas.List.{get_or-map, length-drop, length-map, length-take, map-append}
 use Rattle.std.proofs.lemmas.Grind.{div_ceil_times, take_at_read}
-use Rattle.std.proofs.lemmas.Bool.{cases_lt}
 use Rattle.std.proofs.Math.Nat.{add-mul, mul-le-mul_right}
-use Rattle.tagged_hash.specs.TaggedHash.{tagged_hash}
-use Rattle.tagged_hash.specs.declared.tag.Tag.TheVariants.{CiphertextSegment}
 use Rattle.zfec_code.specs.Shares.{HaveSize}
 use Rattle.share_layout.specs.Geometry.{Geometry, IsGeometry, block_size, segment_count, share_data_size}
 use Rattle.file_encoding.specs.Decoding.{AreBlocks}
-use Rattle.share_layout.specs.Pieces.{block_length, block_at, segment_at}
-use Rattle.file_encoding.specs.Reading.{DecodedBelow, Decodes, IsDecoded}
+use Rattle.share_layout.specs.Pieces.{block_length, block_at}
 
 -- one more share's block is cut
 pub cut_more : (g : Geometry) (number : ℕ) (shares done new : List (ℕ × Bor (List ℕ))) (index n : ℕ) (b : Bor (List ℕ)) (d : ℕ × Bor (List ℕ)) → index < length shares
@@ -58,59 +54,3 @@ begins_inside g number valid there =
     let up : (number + 1) * g.segment_size ≤ segment_count g * g.segment_size = mul-le-mul_right g.segment_size (omega (arith, there)) in
     let split : (number + 1) * g.segment_size ≡ number * g.segment_size + 1 * g.segment_size = add-mul number 1 g.segment_size in
     omega (arith, near, up, split)
-
--- and all of them reach it
-pub reach_end : (g : Geometry) → IsGeometry g → g.size ≤ segment_count g * g.segment_size
-reach_end g valid = (div_ceil_times g.size g.segment_size valid.some_segment).0
-
-module _ (g : Geometry) (numbers : List ℕ) (blocks leaves : List (List ℕ)) where
-  pub decoded_none : DecodedBelow g numbers blocks leaves [] 0
-  decoded_none = record {
-    size = omega arith;
-    segments = λ number below. absurd (omega arith);
-    hashes = λ number below. absurd (omega arith);
-  }
-
-  -- one segment more
-  pub decoded_more : (count : ℕ) (ciphertext segment after : List ℕ) → IsGeometry g → count < segment_count g
-      → DecodedBelow g numbers blocks leaves ciphertext count → Decodes g numbers blocks count segment
-      → tagged_hash CiphertextSegment segment ≡ get_or leaves count [] → after ≡ ciphertext ++ segment
-      → DecodedBelow g numbers blocks leaves after (count + 1)
-  decoded_more count ciphertext segment after valid there before decodes hashed joined =
-      let seg : ℕ = g.segment_size in
-      let inside = begins_inside g count valid there in
-      let long : length ciphertext ≡ count * seg = before.size ∙ omega (arith, inside) in
-      let next : (count + 1) * seg ≡ count * seg + seg = add-mul count 1 seg ∙ omega arith in
-      let held : (number : ℕ) → number < count → segment_at g number after ≡ segment_at g number ciphertext =
-      (λ number below.
-      let up : (number + 1) * seg ≤ count * seg = mul-le-mul_right seg (omega (arith, below)) in
-      let split : (number + 1) * seg ≡ number * seg + seg = add-mul number 1 seg ∙ omega arith in
-      let left : length (drop (number * seg) ciphertext) ≡ length ciphertext - number * seg = length-drop (number * seg) ciphertext in
-      ap (segment_at g number) joined
-      ∙ ap (take seg) (drop-append-le (number * seg) ciphertext segment (omega (arith, up, split, long)))
-      ∙ take-append-le seg (drop (number * seg) ciphertext) segment (omega (arith, up, split, long, left))) in
-      let new : segment_at g count after ≡ segment =
-      ap (segment_at g count) joined ∙ ap (take seg) (drop_at ciphertext segment (count * seg) long)
-      ∙ take_all seg segment (let fits = decodes.long in omega (arith, fits)) in record {
-        size = ap length joined ∙ length-append ciphertext segment ∙ omega (arith, long, decodes.long, inside, next);
-        segments = λ number below.
-            elim (cases_lt number count) [
-              | inl old ↦ subst (Decodes g numbers blocks number) (sym (held number old)) (before.segments number old)
-              | inr same ↦ (let is : count ≡ number = omega (arith, below, same) in
-                  subst (λ n. Decodes g numbers blocks n (segment_at g n after)) is (subst (Decodes g numbers blocks count) (sym new) decodes))
-            ];
-        hashes = λ number below.
-            elim (cases_lt number count) [
-              | inl old ↦ ap (tagged_hash CiphertextSegment) (held number old) ∙ before.hashes number old
-              | inr same ↦ (let is : count ≡ number = omega (arith, below, same) in
-                  subst (λ n. tagged_hash CiphertextSegment (segment_at g n after) ≡ get_or leaves n []) is (ap (tagged_hash CiphertextSegment) new ∙ hashed))
-            ];
-      }
-
-  -- all of them
-  pub decoded_all : (count : ℕ) (ciphertext : List ℕ) → IsGeometry g → count ≡ segment_count g → DecodedBelow g numbers blocks leaves ciphertext count
-      → IsDecoded g numbers blocks leaves ciphertext
-  decoded_all count ciphertext valid all below =
-      let whole : DecodedBelow g numbers blocks leaves ciphertext (segment_count g) = subst (DecodedBelow g numbers blocks leaves ciphertext) all below in
-      let end = reach_end g valid in
-      record { size = whole.size ∙ omega (arith, end); segments = whole.segments; hashes = whole.hashes }

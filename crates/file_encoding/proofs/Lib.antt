@@ -21,3 +21,14 @@ pub mod Parts
 pub mod OwnEvidence
 pub mod ShareSizes
 pub mod Encodable
+pub mod PaddedBelow
+pub mod PlainText
+pub mod Making
+pub mod BoundEntries
+pub mod RisingNumbers
+pub mod BoundBlocks
+pub mod BoundOwn
+pub mod Binding
+pub mod RemadePassing
+pub mod RemadeOwn
+pub mod RemadeEnough

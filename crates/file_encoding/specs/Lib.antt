@@ -8,12 +8,18 @@ pub mod Laws
 pub mod Reading
 pub mod OwnFile
 pub mod Parts
+pub mod Padded
+pub mod Regenerated
+pub mod RegenerateError
+pub mod Binding
+pub mod RemadeLaws
 -- words of private clauses
 pub mod Drafts
 pub mod Blocks
 pub mod BegunFiles
 pub mod Decoding
 pub mod LowestShares
+pub mod Making
 pub use Rattle.share_verify.specs.CapBlock
 pub use Rattle.share_verify.specs.Pieces
 pub use Rattle.share_verify.specs.ShareHashes

@@ -1,5 +1,5 @@
 -- Which shares a reader takes, and the file that it makes of them.
-use Rattle.std.specs.Prelude.{◌≡◌, ℕ, ◌*◌, ◌<◌, ◌≤◌, ◌⊎◌, List, [], ◌∷◌, length, map, min, All}
+use Rattle.std.specs.Prelude.{◌≡◌, ℕ, ◌<◌, ◌≤◌, ◌⊎◌, List, [], ◌∷◌, length, map, All}
 use Rattle.std.specs.Prelude.{slice_index, slice_index_or}
 use Rattle.tagged_hash.specs.TaggedHash.{tagged_hash}
 use Rattle.tagged_hash.specs.declared.tag.Tag.TheVariants.{CiphertextSegment}
@@ -107,15 +107,6 @@ pub record IsDecoded (g : Geometry) (numbers : List ℕ) (blocks leaves : List (
   pub hashes : (number : ℕ) → number < segment_count g
       → tagged_hash CiphertextSegment (segment_at g number ciphertext)
       ≡ slice_index_or leaves number []
-
--- so far: so many segments do
-pub record DecodedBelow (g : Geometry) (numbers : List ℕ) (blocks leaves : List (List ℕ))
-    (ciphertext : List ℕ) (count : ℕ) : Type 0 where
-  pub size : length ciphertext ≡ min g.size (count * g.segment_size)
-  pub segments : (number : ℕ) → number < count → Decodes g numbers blocks number
-      (segment_at g number ciphertext)
-  pub hashes : (number : ℕ) → number < count → tagged_hash CiphertextSegment
-      (segment_at g number ciphertext) ≡ slice_index_or leaves number []
 
 -- a segment decodes to one that has not the hash of its leaf
 pub record HasWrongSegment (g : Geometry) (numbers : List ℕ)

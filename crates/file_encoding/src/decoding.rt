@@ -4,14 +4,17 @@ ghost use Rattle.std.specs.Prelude.{◌≡◌, ◌<◌, ◌++◌, ◌*◌, ◌^�
 ghost use Rattle.std.specs.Prelude.{IfErr, IsErrOf, OnOk, IsTrue, ◌↔◌, ◌⊎◌};
 ghost use Rattle.tagged_hash.specs.TaggedHash.{tagged_hash};
 ghost use Rattle.tagged_hash.specs.declared.tag.Tag.TheVariants.{CiphertextSegment};
-ghost use Rattle.share_layout.specs.Geometry.{segment_count};
-ghost use Rattle.share_layout.specs.Pieces.{block_at};
+ghost use Rattle.share_layout.specs.Geometry.{IsGeometry, segment_count};
+ghost use Rattle.zfec_code.specs.Shares.{AreSharesOf};
+ghost use Rattle.proved_parts.specs.FileOf.{segment_hashes};
+ghost use Rattle.share_layout.specs.Pieces.{block_at, block_length};
+ghost use Rattle.file_encoding.specs.Padded.{plain_segments};
+ghost use Rattle.file_encoding.specs.Regenerated.{DecodeTo};
 ghost use Rattle.file_encoding.specs.Reading.{Decodes, HasWrongSegment, IsDecoded};
 ghost use Rattle.file_encoding.specs.Decoding.{AreBlocks};
 
 use crate::blocks::Segments;
 use crate::reading::ReadError;
-use proved_parts::decode_segment;
 use share_layout::Geometry;
 use std::alloc::{AllocError, Global};
 use tagged_hash::{Tag, tagged};
@@ -36,18 +39,72 @@ pub(crate) fn decode_all(
     ensures no_other { IfErr result (λ e. (e ≡ ReadError.OutOfMemory)
         ⊎ (e ≡ ReadError.Inconsistent)) }
 {
+    let mut text = decode_padded(alloc, geometry, blocks, leaves)?;
+    text.truncate(geometry.size() as usize);
+    Ok(text)
+}
+
+/// The padded text that all blocks of some shares decode to, each with its share's number, or
+/// `Inconsistent` where a segment, without its padding, has not the hash of its leaf.
+pub(crate) fn decode_padded(
+    alloc: Global,
+    geometry: &Geometry,
+    blocks: &[(u16, &[u8])],
+    leaves: &[[u8; 32]],
+) -> Result<Vec<u8>, ReadError>
+    requires blocks { AreBlocks geometry.now (map (λ s. s.0) blocks.now)
+        (map (λ s. s.1.now) blocks.now) }
+    requires leaves { length leaves.now ≡ segment_count geometry.now }
+    ensures decoded { IfOk result (λ text. DecodeTo geometry.now (map (λ s. s.0) blocks.now)
+        (map (λ s. s.1.now) blocks.now) text.items) }
+    ensures valid { IfOk result (λ _. IsGeometry geometry.now) }
+    ensures leaves { IfOk result (λ text. segment_hashes (plain_segments geometry.now text.items)
+        ≡ leaves.now) }
+    ensures inconsistent { IsErrOf result ReadError.Inconsistent
+        → HasWrongSegment geometry.now (map (λ s. s.0) blocks.now)
+        (map (λ s. s.1.now) blocks.now) leaves.now }
+    ensures no_other { IfErr result (λ e. (e ≡ ReadError.OutOfMemory)
+        ⊎ (e ≡ ReadError.Inconsistent)) }
+{
     let decoder = new_decoder(alloc, geometry, blocks)?;
-    // Room for the last segment's padding too, so that the ciphertext is never moved.
+    // Room for all of it, so that the text is never moved.
     let room = usize::from(geometry.needed()) * geometry.share_data_size() as usize;
-    let mut ciphertext = Vec::with_capacity(alloc, room)?;
+    let mut text = Vec::with_capacity(alloc, room)?;
     for number in 0..geometry.segment_count() {
-        let start = ciphertext.len();
-        push_segment(alloc, geometry, &decoder, blocks, number, &mut ciphertext)?;
-        if !is_leaf(&ciphertext[start..], &leaves[number as usize]) {
+        let start = text.len();
+        push_padded(alloc, geometry, &decoder, blocks, number, &mut text)?;
+        let length = geometry.segment_length(number) as usize;
+        if !is_leaf(&text[start..start + length], &leaves[number as usize]) {
             return Err(ReadError::Inconsistent);
         }
     }
-    Ok(ciphertext)
+    Ok(text)
+}
+
+// Appends the segment of this number, with its padding.
+fn push_padded(
+    alloc: Global,
+    geometry: &Geometry,
+    decoder: &Decoder,
+    blocks: &[(u16, &[u8])],
+    number: u32,
+    out: &mut Vec<u8>,
+) -> Result<(), AllocError>
+    requires decoder { decoder.now ≡ map (λ s. s.0) blocks.now }
+    requires blocks { AreBlocks geometry.now (map (λ s. s.0) blocks.now)
+        (map (λ s. s.1.now) blocks.now) }
+    requires there { number < segment_count geometry.now }
+    ensures { OnOk result ((padded : List ℕ) × (out.new.items ≡ out.old.items ++ padded)
+        × (length padded ≡ geometry.now.needed * block_length geometry.now number)
+        × AreSharesOf geometry.now.needed padded (map (λ s. s.0) blocks.now)
+        (map (block_at geometry.now number) (map (λ s. s.1.now) blocks.now))) }
+{
+    let these = blocks_at(alloc, geometry, blocks, number)?;
+    let start = out.len();
+    let size = usize::from(geometry.needed()) * geometry.block_length(number) as usize;
+    out.resize(start + size, 0)?;
+    decoder.decode(&these, &mut out[start..]);
+    Ok(())
 }
 
 // Whether this is the hash of a segment.
@@ -96,32 +153,6 @@ fn new_code(alloc: Global, geometry: &Geometry) -> Result<Code, AllocError>
         Err(CodeError::OutOfMemory) => Err(AllocError),
         Err(_) => unreachable!(),
     }
-}
-
-// Appends the segment of this number, without its padding.
-fn push_segment(
-    alloc: Global,
-    geometry: &Geometry,
-    decoder: &Decoder,
-    blocks: &[(u16, &[u8])],
-    number: u32,
-    out: &mut Vec<u8>,
-) -> Result<(), AllocError>
-    requires decoder { decoder.now ≡ map (λ s. s.0) blocks.now }
-    requires blocks { AreBlocks geometry.now (map (λ s. s.0) blocks.now)
-        (map (λ s. s.1.now) blocks.now) }
-    requires there { number < segment_count geometry.now }
-    ensures { OnOk result ((segment : List ℕ) × (out.new.items ≡ out.old.items ++ segment)
-        × Decodes geometry.now (map (λ s. s.0) blocks.now) (map (λ s. s.1.now) blocks.now)
-        number segment) }
-{
-    let these = blocks_at(alloc, geometry, blocks, number)?;
-    let start = out.len();
-    let size = usize::from(geometry.needed()) * geometry.block_length(number) as usize;
-    out.resize(start + size, 0)?;
-    let length = decode_segment(geometry, decoder, number, &these, &mut out[start..]);
-    out.truncate(start + length);
-    Ok(())
 }
 
 // The blocks of a segment, each with its share's number.

@@ -75,7 +75,7 @@ fn pad(mut text: Vec<u8>, needed: u16) -> Result<Vec<u8>, AllocError>
 }
 
 // Begins all shares of a padded ciphertext.
-fn begin_file(
+pub(crate) fn begin_file(
     alloc: Global,
     geometry: &Geometry,
     padded: &[u8],

@@ -1,10 +1,13 @@
 //! Laws of the definitions. Each law is a contract; the calls do nothing.
 
+ghost use Rattle.file_encoding.specs.Binding.{CiphertextSharesAreBound, FileSharesAreBound};
 ghost use Rattle.file_encoding.specs.Laws.{AcceptedSharesPass, CiphertextSharesPass};
 ghost use Rattle.file_encoding.specs.Laws.{FileSharesPass, SharesAreNotLong, SharesHaveOneLength};
 ghost use Rattle.file_encoding.specs.OwnFile.{OwnSharesGiveTheFile};
 ghost use Rattle.file_encoding.specs.Parts.{EncodingHasParts, FileHasParts, FilesAreOfTheirCaps};
 ghost use Rattle.file_encoding.specs.Parts.{OwnEvidenceIsWithin, OwnTreesAreWithin};
+ghost use Rattle.file_encoding.specs.RemadeLaws.{EnoughPass, FewLack, GoodSharesGiveOwn};
+ghost use Rattle.file_encoding.specs.RemadeLaws.{RegeneratedPass};
 
 /// A law: each share of a ciphertext's encoding passes `verify_share` with the encoding's verify
 /// cap and its own number.
@@ -69,4 +72,38 @@ pub fn files_are_of_their_caps()
 /// encoding.
 pub fn own_trees_are_within()
     ensures { OwnTreesAreWithin }
+{}
+
+/// A law: without a clash a share that passes `verify_share` with the verify cap of a ciphertext's
+/// encoding is the encoding's share of that number.
+pub fn ciphertext_shares_are_bound()
+    ensures { CiphertextSharesAreBound }
+{}
+
+/// A law: without a clash a share that passes `verify_share` with the verify cap of a file's
+/// encoding is the encoding's share of that number, byte for byte, whatever the secret.
+pub fn file_shares_are_bound()
+    ensures { FileSharesAreBound }
+{}
+
+/// A law: shares that are made anew pass `verify_share`, each with its own number, and have one
+/// length, whoever made the cap.
+pub fn regenerated_pass()
+    ensures { RegeneratedPass }
+{}
+
+/// A law: without a clash the shares that are made anew, of any that pass for the verify cap of a
+/// file's encoding, are the encoding's, byte for byte, and nothing keeps them from being made.
+pub fn good_shares_give_own()
+    ensures { GoodSharesGiveOwn }
+{}
+
+/// A law: where as many numbers pass as are needed, shares are not lacking.
+pub fn enough_pass()
+    ensures { EnoughPass }
+{}
+
+/// A law: nor are they where all that are given pass, with rising numbers, as many as are needed.
+pub fn few_lack()
+    ensures { FewLack }
 {}

@@ -150,7 +150,7 @@ fn read_taken(
 }
 
 // Whether the shares at these places have this extension block.
-fn agree(shares: &[(u16, &[u8])], places: &[usize], extension_block: &[u8]) -> bool
+pub(crate) fn agree(shares: &[(u16, &[u8])], places: &[usize], extension_block: &[u8]) -> bool
     requires { All (λ p. p < length shares.now) places.now }
     ensures yes { IsTrue result → (m : ℕ) → m < length places.now → (block : List ℕ)
         → LocatesUeb (slice_index_or (map (λ s. s.1.now) shares.now)
@@ -181,7 +181,7 @@ fn has_block(share: &[u8], extension_block: &[u8]) -> bool
 }
 
 // The blocks of the shares at these places, each with its share's number.
-fn all_blocks<'a>(
+pub(crate) fn all_blocks<'a>(
     alloc: Global,
     shares: &[(u16, &'a [u8])],
     places: &[usize],

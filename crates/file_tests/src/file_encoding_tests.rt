@@ -13,10 +13,12 @@ use tagged_hash::{Tag, tagged};
 use ueb::{Expect, Ueb};
 
 // 56 zero bytes, at one share of one.
-const ONE: [&str; 1] = ["4cc8ab46f4bdf5fc8a6d233f2503d94da8360f1307700643bef7c7028dd37e62"];
+pub(crate) const ONE: [&str; 1] = [
+    "4cc8ab46f4bdf5fc8a6d233f2503d94da8360f1307700643bef7c7028dd37e62",
+];
 
 // 56 bytes, at 3 of 10.
-const THREE_OF_TEN: [&str; 10] = [
+pub(crate) const THREE_OF_TEN: [&str; 10] = [
     "519a346b27a9da8425bc67721703fd1def6c14b5618c864c084b19b42eca2399",
     "6b3d01c16e6129e49f5c6374c160ddec4bc67b82ba819d8dc2f6c471d79ebb25",
     "e3c0826e1b9dd92ef8784f382ad40190599a4980e5c2598fa56d4a9f14bbe8c7",
@@ -30,7 +32,7 @@ const THREE_OF_TEN: [&str; 10] = [
 ];
 
 // 131,074 bytes, at 3 of 10: two segments, of which the second has one byte.
-const TWO_SEGMENTS: [&str; 10] = [
+pub(crate) const TWO_SEGMENTS: [&str; 10] = [
     "50e61baefcc8a98e79602f332f444cdff6fa67d5a3406db37aa712bdd5817fcb",
     "44e08a070d4999da1c24860efc2a43eee824d6e87b9b54ce41747963d4a13f58",
     "2edbf455a287ed65f9efd11b12b4cdf5fe59ec5125547db85508f96b29a78ad1",
@@ -44,7 +46,7 @@ const TWO_SEGMENTS: [&str; 10] = [
 ];
 
 // 30,000 bytes, at 2 of 5 and 4,096 bytes a segment, with a secret.
-const SMALL_SEGMENTS: [&str; 5] = [
+pub(crate) const SMALL_SEGMENTS: [&str; 5] = [
     "e0947283fb887ac4fe0ef6763de259b6b585e950f8436238c0d1ea9f17a10228",
     "ea474314e6220c29a16998f373f14481fcdc7e5171920894f0cce2efa011fb1c",
     "67e27453a04eb48c2bcbaf14198be518357122f5451b35c17db45557f4a66aa7",
@@ -55,24 +57,24 @@ const SMALL_SEGMENTS: [&str; 5] = [
 // 256 bytes, at 256 of 256: the digest of the digests of all shares, in their order.
 const ALL_OF_256: &str = "a6373be1f5c84450486eb0e8d52d4ee9d0ec813cea1ee86513f7c9f60432a18b";
 
-const NO_SECRET: &str = "";
+pub(crate) const NO_SECRET: &str = "";
 
 /// A call was refused that has to succeed.
 #[derive(Clone, Copy, Debug)]
-struct Refused;
+pub(crate) struct Refused;
 
 // What a call gives that has to succeed.
-fn taken<T, E: Drop>(outcome: Result<T, E>) -> Result<T, Refused> {
+pub(crate) fn taken<T, E: Drop>(outcome: Result<T, E>) -> Result<T, Refused> {
     match outcome {
         Ok(value) => Ok(value),
         Err(_) => Err(Refused),
     }
 }
 
-const SEGMENT: u64 = 131_072;
+pub(crate) const SEGMENT: u64 = 131_072;
 
 // The bytes i modulo 251.
-fn counted(alloc: Global, size: usize) -> Result<Vec<u8>, AllocError> {
+pub(crate) fn counted(alloc: Global, size: usize) -> Result<Vec<u8>, AllocError> {
     let mut bytes = Vec::with_capacity(alloc, size)?;
     for i in 0..size {
         bytes.push((i % 251) as u8)?;
@@ -90,7 +92,7 @@ fn hexadecimal(alloc: Global, bytes: &[u8]) -> Result<String, AllocError> {
 }
 
 // The file encoded at so many shares of so many.
-fn encoded(
+pub(crate) fn encoded(
     alloc: Global,
     file: &[u8],
     secret: &str,
@@ -106,7 +108,7 @@ fn encoded(
 }
 
 // Whether the shares have this length and these digests, in their order.
-fn have_digests(
+pub(crate) fn have_digests(
     alloc: Global,
     shares: &[Share],
     len: usize,
@@ -410,9 +412,9 @@ fn share_of_two(
     Ok(Share::from_vec(share))
 }
 
-#[test]
-fn blocks_that_are_no_code_word_are_inconsistent(rt: HostRuntime) -> Result<(), Fail> {
-    let alloc = rt.alloc();
+// The cap of a file whose two shares are no code word, though each passes, and the shares: the
+// first gives the segment of the leaf, the second does not.
+pub(crate) fn no_code_word(alloc: Global) -> Result<(ReadCap, Share, Share), Refused> {
     let hashes = [tagged(Tag::Block, &[7; 56]), tagged(Tag::Block, &[8; 56])];
     let root = tagged_hash::pair(&hashes[0], &hashes[1]);
     let segment = tagged(Tag::CiphertextSegment, &[7; 56]);
@@ -421,10 +423,20 @@ fn blocks_that_are_no_code_word_are_inconsistent(rt: HostRuntime) -> Result<(), 
         total: 2,
         size: 56,
     };
-    let block = Ueb::new(&expect, 56, [1; 32], segment, root).write(alloc)?;
-    let cap = ReadCap::new([9; 16], tagged(Tag::ExtensionBlock, &block), 1, 2, 56)?;
-    let right = share_of_two(alloc, &[7; 56], &hashes, 0, &block)?;
-    let wrong = share_of_two(alloc, &[8; 56], &hashes, 1, &block)?;
+    let block = taken(Ueb::new(&expect, 56, [1; 32], segment, root).write(alloc))?;
+    let block_hash = tagged(Tag::ExtensionBlock, &block);
+    let right = taken(share_of_two(alloc, &[7; 56], &hashes, 0, &block))?;
+    let wrong = taken(share_of_two(alloc, &[8; 56], &hashes, 1, &block))?;
+    match ReadCap::new([9; 16], block_hash, 1, 2, 56) {
+        Ok(cap) => Ok((cap, right, wrong)),
+        Err(_) => Err(Refused),
+    }
+}
+
+#[test]
+fn blocks_that_are_no_code_word_are_inconsistent(rt: HostRuntime) -> Result<(), Fail> {
+    let alloc = rt.alloc();
+    let (cap, right, wrong) = no_code_word(alloc)?;
     let both = [(0, right.as_slice()), (1, wrong.as_slice())];
     assert!(rt; taken(read_from(alloc, &cap, &both))?.len() == 56);
     assert!(rt; is_refused(read_from(alloc, &cap, &both[1..]), ReadError::Inconsistent));

@@ -10,3 +10,5 @@ mod faulty_io_tests;
 mod file_encoding_tests;
 #[cfg(test)]
 mod reading_tests;
+#[cfg(test)]
+mod repair_tests;

@@ -1,7 +1,0 @@
-use Rattle.std.proofs.Common.{map}
-use Rattle.file_encoding.specs.Reading.{DecodedBelow}
-use Rattle.file_encoding.proofs.decoding.decode_all.Given as goal
-
-abbrev pub invariant-loop-number : goal.invariant-loop-number
-invariant-loop-number l =
-    DecodedBelow l.geometry (map (λ s. s.0) l.blocks) (map (λ s. s.1.now) l.blocks) l.leaves l.ciphertext.items l.number
