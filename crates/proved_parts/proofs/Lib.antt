@@ -4,3 +4,4 @@ pub mod Files
 pub mod Differences
 pub mod Cover
 pub mod OwnParts
+mod Rising

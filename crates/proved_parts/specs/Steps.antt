@@ -1,5 +1,5 @@
 -- The steps of a way to a root.
-use Rattle.std.specs.Prelude.{◌≡◌, ◌≢◌, ℕ, ◌%◌, ◌==◌, List, if◌then◌else◌}
+use Rattle.std.specs.Prelude.{◌≡◌, ◌≢◌, ℕ, ◌%◌, ◌<◌, ◌==◌, List, Some, if◌then◌else◌, slice_get}
 use Rattle.tagged_hash.specs.TaggedHash.{tagged_hash}
 use Rattle.tagged_hash.specs.declared.tag.Tag.TheVariants.{CiphertextSegment}
 use Rattle.merkle.specs.Path.{LeadsBy}
@@ -20,6 +20,11 @@ NeverMeet place first second these those = (count : ℕ) (root : List ℕ)
 pub record Differ (p q : EvidencePart) : Type 0 where
   pub number : p.number ≡ q.number
   pub segment : p.segment ≢ q.segment
+
+-- each of these parts has a higher number than those before it
+abbrev pub Rise : List EvidencePart → Type 0
+Rise parts = (i j : ℕ) (p q : EvidencePart) → i < j
+    → slice_get parts i ≡ Some p → slice_get parts j ≡ Some q → p.number < q.number
 
 -- no tree has both parts
 abbrev pub PartsNeverMeet : EvidencePart → EvidencePart → Type 0

@@ -1,13 +1,14 @@
 // Two hash inputs with one hash, from two pieces of evidence that differ.
 
 ghost use Rattle.std.specs.Prelude.{◌≡◌, ◌≢◌, ℕ, ◌<◌, ◌/◌, ◌++◌, List, All, Contains, IfOk, OnOk};
-ghost use Rattle.std.specs.Prelude.{IfSome, IsNone, IsTrue, ◌↔◌};
+ghost use Rattle.std.specs.Prelude.{IfSome, IsNone, IsTrue, Some, ◌↔◌, ◌≤◌, length, slice_get};
 ghost use Rattle.tagged_hash.specs.Clash.{IsClash};
 ghost use Rattle.tagged_hash.specs.TaggedHash.{double_sha256, netstring, tagged_hash, tagged_input};
 ghost use Rattle.cap_text.specs.Cap.{VerifyCapValue};
 ghost use Rattle.proved_parts.specs.Evidence.{HaveOneSegment, IsProved};
 ghost use Rattle.merkle.specs.Inputs.{node_input};
-ghost use Rattle.proved_parts.specs.Steps.{Differ, NeverMeet, PartsNeverMeet, step_input};
+ghost use Rattle.proved_parts.specs.Steps.{Differ, NeverMeet, PartsNeverMeet, Rise, step_input};
+ghost use Rattle.proved_parts.specs.declared.evidence.EvidencePart.{EvidencePart};
 
 use crate::evidence::{Evidence, EvidencePart};
 use std::alloc::{AllocError, Global};
@@ -40,8 +41,76 @@ pub fn find_clash(
     clash_of_texts(alloc, Tag::ExtensionBlock, block, other)
 }
 
-/// Two parts with one number that have not one segment.
+/// Two parts with one number that have not one segment. Parts that rise by number, as those of a
+/// download do, are gone over once; others are compared each with each.
 fn difference<'a>(
+    mine: &'a [EvidencePart],
+    yours: &'a [EvidencePart],
+) -> Option<(&'a EvidencePart, &'a EvidencePart)>
+    ensures some { IfSome result (λ d. Contains mine.now d.0.now × Contains yours.now d.1.now
+        × Differ d.0.now d.1.now) }
+    ensures none { IsNone result → All (λ p. All (λ q. ¬ Differ p q) yours.now) mine.now }
+{
+    if rise(mine) && rise(yours) {
+        difference_of_rising(mine, yours)
+    } else {
+        difference_of_any(mine, yours)
+    }
+}
+
+/// Whether each of these parts has a higher number than the one before it.
+fn rise(parts: &[EvidencePart]) -> bool
+    ensures { IsTrue result → Rise parts.now }
+{
+    for i in 1..parts.len() {
+        if parts[i - 1].number >= parts[i].number {
+            return false;
+        }
+    }
+    true
+}
+
+/// Two parts with one number that have not one segment, where both rise by number.
+fn difference_of_rising<'a>(
+    mine: &'a [EvidencePart],
+    yours: &'a [EvidencePart],
+) -> Option<(&'a EvidencePart, &'a EvidencePart)>
+    requires mine_rise { Rise mine.now }
+    requires yours_rise { Rise yours.now }
+    ensures some { IfSome result (λ d. Contains mine.now d.0.now × Contains yours.now d.1.now
+        × Differ d.0.now d.1.now) }
+    ensures none { IsNone result → All (λ p. All (λ q. ¬ Differ p q) yours.now) mine.now }
+{
+    let mut next = 0;
+    for part in mine {
+        next = first_from(yours, next, part.number);
+        if next < yours.len() && differ(part, &yours[next]) {
+            return Some((part, &yours[next]));
+        }
+    }
+    None
+}
+
+/// The first place, from this one on, of a part that has no lower number than this; the one behind
+/// the last where there is none.
+fn first_from(parts: &[EvidencePart], from: usize, number: u32) -> usize
+    requires within { from ≤ length parts.now }
+    ensures from { from ≤ result }
+    ensures within { result ≤ length parts.now }
+    ensures lower { (k : ℕ) (q : EvidencePart) → from ≤ k → k < result
+        → slice_get parts.now k ≡ Some q → q.number < number }
+    ensures there { (q : EvidencePart) → slice_get parts.now result ≡ Some q → number ≤ q.number }
+{
+    for place in from..parts.len() {
+        if parts[place].number >= number {
+            return place;
+        }
+    }
+    parts.len()
+}
+
+/// Two parts with one number that have not one segment, in any order.
+fn difference_of_any<'a>(
     mine: &'a [EvidencePart],
     yours: &'a [EvidencePart],
 ) -> Option<(&'a EvidencePart, &'a EvidencePart)>
