@@ -10,7 +10,7 @@ use checker::status::Report;
 use grid_clients::check::CheckClient;
 use grid_clients::watched::Watched;
 use grid_rules::{Fault, Work, report_lines, report_status};
-use grid_servers::{FolderGrid, SESSION, is_grid, open_servers, standing_servers};
+use grid_servers::{FolderGrid, Purpose, SESSION, is_grid, open_servers, standing_servers};
 use local_grid::error::LoopError;
 use std::alloc::Global;
 use std::io::{IsTerminal, Write};
@@ -69,7 +69,7 @@ where
 {
     is_grid(rt, words.grid)?;
     let standing = standing_servers(rt, words.grid)?;
-    let mut servers = open_servers(rt, words.grid, &standing, words.net)?;
+    let mut servers = open_servers(rt, words.grid, &standing, Purpose::Reading, words.net)?;
     match Check::start(rt.alloc(), cap, &standing, SESSION, 0) {
         Ok(check) => carry(rt, &mut servers, check, progress),
         Err(error) => Err(Fault::from(error)),

@@ -12,7 +12,7 @@ use download_core::Download;
 use grid_clients::download::DownloadClient;
 use grid_clients::watched::Watched;
 use grid_rules::{ByteRange, Fault, Work, range_of, reached_range_end};
-use grid_servers::{FolderGrid, SESSION, is_grid, open_servers, standing_servers};
+use grid_servers::{FolderGrid, Purpose, SESSION, is_grid, open_servers, standing_servers};
 use local_grid::error::LoopError;
 use std::alloc::Global;
 use std::cell::Cell;
@@ -88,7 +88,7 @@ where
 {
     is_grid(rt, words.grid)?;
     let standing = standing_servers(rt, words.grid)?;
-    let servers = open_servers(rt, words.grid, &standing, words.net)?;
+    let servers = open_servers(rt, words.grid, &standing, Purpose::Reading, words.net)?;
     match begin_download(rt.alloc(), cap, range, &standing) {
         Ok(download) => Ok((servers, download)),
         Err(fault) => Err(fault),

@@ -11,7 +11,7 @@ use local_grid::link::MemoryLink;
 use local_grid::node::Node;
 use server_core::server::{CAPACITY, Server};
 use share_store::error::StoreError;
-use share_store::folder::FolderStore;
+use share_store::folder::{FolderStore, Purpose};
 use socket_links::{GridLink, SocketLink, SocketPair, connect, listen};
 use std::alloc::{AllocError, Global};
 use std::fs;
@@ -68,18 +68,20 @@ fn is_standing<R: Files + AllocGlobal>(rt: &R, grid: &str, name: &str) -> Result
 }
 
 /// These servers over their folders of a grid, which are made where they are not there. They are
-/// asked in memory or over sockets; one to which no connection is made is silent.
+/// asked in memory or over sockets; one to which no connection is made is silent. Those that are
+/// opened for reading take no further shares.
 pub fn open_servers<R>(
     rt: &R,
     grid: &str,
     servers: &[NodeId],
+    purpose: Purpose,
     over_sockets: bool,
 ) -> Result<FolderGrid<R>, Fault>
 where
     R: Files + Net + AllocGlobal + Clone + Drop,
 {
     let links = open_links(rt, servers.len(), over_sockets)?;
-    let nodes = open_nodes(rt, grid, servers, links)?;
+    let nodes = open_nodes(rt, grid, servers, purpose, links)?;
     Ok(LocalGrid::new(rt.alloc(), nodes))
 }
 
@@ -88,6 +90,7 @@ fn open_nodes<R>(
     rt: &R,
     grid: &str,
     servers: &[NodeId],
+    purpose: Purpose,
     links: Vec<ServerLink<R>>,
 ) -> Result<Vec<Option<ServerNode<R>>>, Fault>
 where
@@ -96,7 +99,7 @@ where
     let mut nodes = Vec::new(rt.alloc());
     for (server, link) in servers.iter().zip(links) {
         leave_out(&mut nodes, *server)?;
-        nodes.push(open_server(rt, grid, *server, link)?)?;
+        nodes.push(open_server(rt, grid, *server, purpose, link)?)?;
     }
     Ok(nodes)
 }
@@ -147,6 +150,7 @@ fn open_server<R>(
     rt: &R,
     grid: &str,
     server: NodeId,
+    purpose: Purpose,
     link: ServerLink<R>,
 ) -> Result<Option<ServerNode<R>>, Fault>
 where
@@ -155,7 +159,7 @@ where
     let alloc = rt.alloc();
     let name = server_name(alloc, server)?;
     let folder = format!(in alloc; "{grid}/{name}")?;
-    match FolderStore::open(rt, folder.as_str()) {
+    match FolderStore::open(rt, folder.as_str(), purpose) {
         Ok(store) => {
             let readonly = store.is_readonly();
             let server = Server::start(alloc, store, CAPACITY, readonly);

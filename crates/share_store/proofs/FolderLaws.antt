@@ -1,28 +1,85 @@
--- What one more closed share adds to the sum, and a store over files that lists its shares.
-use Rattle.std.proofs.Common.{rules, ◌≡◌, ℕ, ◌+◌, ◌-◌, ◌^◌, List, refl, ap, arith, Result, Ok, Err}
-use Rattle.std.specs.Prelude.{None, min, IfOk, IsOkUnless}
-use Rattle.std.specs.List.Sorted.{IsStrictlySortedBy}
-use Rattle.std.specs.Map.{keys_of}
-use Rattle.std.specs.BTreeMap.{insert_entry}
-use Rattle.std.proofs.lemmas.Map.Entries.{sum_by-insert_entry}
-use Rattle.wire.specs.declared.message.HeldShare.{HeldShare}
+-- What becomes of closed shares that are looked at, and how long open shares are.
+use Rattle.std.proofs.Common.{rules, ◌≡◌, ℕ, true, false, cond, List, [], ◌∷◌, refl, sym, subst, ap, ◌∙◌, Result, Ok, Err, inl, inr}
+use Rattle.std.specs.Prelude.{Option, None, Some, option_map, unwrap_or, ◌⊎◌, OnErr, OnOk}
 use Rattle.share_store.specs.declared.error.StoreError.{StoreError}
-use Rattle.share_store.specs.declared.error.StoreError.TheVariants.{OutOfMemory, StoreFault}
 use Rattle.share_store.specs.declared.table.KeptShare.{KeptShare}
-use Rattle.share_store.specs.Shelf.{Place, order, at, held_by}
-use Rattle.share_store.specs.Table.{kept_bytes}
-use Rattle.share_store.specs.Folder.{FolderState, FolderLists, length_of}
-use Rattle.share_store.proofs.PlaceLaws.{order_total}
+use Rattle.share_store.specs.declared.files.OpenShare.{OpenShare}
+use Rattle.share_store.specs.Shelf.{Place, at, same_place}
+use Rattle.share_store.specs.Table.{AreSeen, IsSeen}
+use Rattle.share_store.specs.Folder.{IsOpenedAt, length_at, lengths_of}
+use Rattle.share_store.proofs.ShelfLaws.{same_is}
 
-pub kept_with : (closed : List (Place × KeptShare)) (place : Place) (share : KeptShare) (before after : ℕ) → IsStrictlySortedBy order (keys_of closed) → at place closed ≡ None
-    → before ≡ kept_bytes closed → after ≡ min (before + share.length) (2 ^ 64 - 1) → after ≡ kept_bytes (insert_entry order closed place share)
-kept_with closed place share before after sorted none sum more =
-    let total = sum_by-insert_entry (λ (k : KeptShare). k.length) order_total closed place share sorted in
-    let nothing : length_of (at place closed) ≡ 0 = ap length_of none in
-    omega (arith, total, nothing, sum, more)
+pub stays : (k : Option KeptShare) → IsSeen k k
+stays None = refl
+stays (Some k) = inl refl
 
-pub lists_from : (s : FolderState) (index : List ℕ) (r : Result (List HeldShare) StoreError)
-    → IfOk r (λ found. found ≡ held_by (λ (k : KeptShare). k.digest) index s.closed) → IsOkUnless r OutOfMemory → FolderLists s index r s
-lists_from s index (Ok found) value memory = (value, refl)
-lists_from s index (Err OutOfMemory) value memory = refl
-lists_from s index (Err StoreFault) value memory = search rules
+pub all_stay : (old new : List (Place × KeptShare)) → new ≡ old → AreSeen old new
+all_stay old new same place = subst (λ (cs : List (Place × KeptShare)). IsSeen (at place old) (at place cs)) (sym same) (stays (at place old))
+
+seen_after : (k : KeptShare) (mid new : Option KeptShare) → mid ≡ Some k → IsSeen mid new → (new ≡ Some k) ⊎ ((k.length ≡ None) × ((new ≡ None) ⊎ ((n : ℕ) × (new ≡ Some (record { length = Some n; digest = k.digest })))))
+seen_after k mid new is seen = subst (λ (m : Option KeptShare). IsSeen m new) is seen
+
+gone_after : (mid new : Option KeptShare) → mid ≡ None → IsSeen mid new → new ≡ None
+gone_after mid new is seen = subst (λ (m : Option KeptShare). IsSeen m new) is seen
+
+none_known : {X : Type 0} (n : ℕ) → Some n ≡ None → X
+none_known n is = search rules
+
+known_after : (d : List ℕ) (n : ℕ) (new : Option KeptShare)
+    → (new ≡ Some (record { length = Some n; digest = d })) ⊎ ((Some n ≡ None) × ((new ≡ None) ⊎ ((m : ℕ) × (new ≡ Some (record { length = Some m; digest = d })))))
+    → new ≡ Some (record { length = Some n; digest = d })
+known_after d n new (inl same) = same
+known_after d n new (inr other) = none_known n other.0
+
+pub seen_more : (old mid new : Option KeptShare) → IsSeen old mid → IsSeen mid new → IsSeen old new
+seen_more None mid new first more = gone_after mid new first more
+seen_more (Some k) mid new (inl same) more = seen_after k mid new same more
+seen_more (Some k) mid new (inr (unknown, inl gone)) more = inr (unknown, inl (gone_after mid new gone more))
+seen_more (Some k) mid new (inr (unknown, inr known)) more =
+    inr (unknown, inr (known.0, known_after k.digest known.0 new (seen_after (record { length = Some known.0; digest = k.digest }) mid new known.1 more)))
+
+pub all_seen_more : (old mid new : List (Place × KeptShare)) → AreSeen old mid → AreSeen mid new → AreSeen old new
+all_seen_more old mid new first more place = seen_more (at place old) (at place mid) (at place new) (first place) (more place)
+
+-- one share is looked at, and the others stay
+pub seen_at : (old new : List (Place × KeptShare)) (place : Place) → IsSeen (at place old) (at place new)
+    → ((other : Place) → same_place place other ≡ false → at other new ≡ at other old) → AreSeen old new
+seen_at old new place here others other =
+    elim (same_place place other) as (λ b. same_place place other ≡ b → IsSeen (at other old) (at other new)) [
+      | true ↦ λ e. subst (λ (p : Place). IsSeen (at p old) (at p new)) (same_is place other e) here
+      | false ↦ λ e. subst (λ (x : Option KeptShare). IsSeen (at other old) x) (sym (others other e)) (stays (at other old))
+    ] refl
+
+pub noted : (digest : List ℕ) (n : ℕ) (old new : Option KeptShare) → old ≡ Some (record { length = None; digest = digest })
+    → new ≡ Some (record { length = Some n; digest = digest }) → IsSeen old new
+noted digest n old new is after = subst (λ (o : Option KeptShare). IsSeen o new) (sym is) (inr (refl, inr (n, after)))
+
+pub gone : (digest : List ℕ) (old new : Option KeptShare) → old ≡ Some (record { length = None; digest = digest }) → new ≡ None → IsSeen old new
+gone digest old new is after = subst (λ (o : Option KeptShare). IsSeen o new) (sym is) (inr (refl, inl after))
+
+pub noted_all : (r : Result Unit StoreError) (place : Place) (digest : List ℕ) (n : ℕ) (old new : List (Place × KeptShare)) → at place old ≡ Some (record { length = None; digest = digest })
+    → OnOk r (at place new ≡ Some (record { length = Some n; digest = digest })) → OnOk r ((other : Place) → same_place place other ≡ false → at other new ≡ at other old)
+    → OnErr r (new ≡ old) → AreSeen old new
+noted_all (Ok u) place digest n old new is after others err = seen_at old new place (noted digest n (at place old) (at place new) is after) others
+noted_all (Err e) place digest n old new is after others err = all_stay old new err
+
+pub gone_all : (place : Place) (digest : List ℕ) (old new : List (Place × KeptShare)) → at place old ≡ Some (record { length = None; digest = digest }) → at place new ≡ None
+    → ((other : Place) → same_place place other ≡ false → at other new ≡ at other old) → AreSeen old new
+gone_all place digest old new is after others = seen_at old new place (gone digest (at place old) (at place new) is after) others
+
+-- what is found of an open share's length
+pub length_is : {F : Type 0} (opened : List (Place × OpenShare F)) (place : Place)
+    → length_at place (lengths_of opened) ≡ unwrap_or (option_map (λ (o : OpenShare F). o.length) (at place opened)) 0
+length_is [] place = refl
+length_is {F} (o ∷ opened) place =
+    elim (same_place place o.0) as (λ b. unwrap_or (cond b (Some o.1.length) (at place (lengths_of opened))) 0
+    ≡ unwrap_or (option_map (λ (o : OpenShare F). o.length) (cond b (Some o.1) (at place opened))) 0) [
+      | true ↦ refl
+      | false ↦ length_is opened place
+    ]
+
+-- the others were found as long as before
+pub opened_at : {F : Type 0} (place : Place) (old new : List (Place × OpenShare F))
+    → ((other : Place) → same_place place other ≡ false → at other new ≡ at other old) → IsOpenedAt place (lengths_of old) (lengths_of new)
+opened_at {F} place old new others other apart =
+    length_is new other ∙ ap (λ (r : Option (OpenShare F)). unwrap_or (option_map (λ (o : OpenShare F). o.length) r) 0) (others other apart) ∙ sym (length_is old other)

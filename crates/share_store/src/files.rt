@@ -1,84 +1,163 @@
 //! The files of a folder store. Only regular files are opened: what else has such a name, as a
 //! folder, a socket or a pipe that nobody writes to, is a fault and is not waited for.
 
-ghost use Rattle.std.specs.Prelude.{◌≡◌, ◌≤◌, length, IfOk};
+ghost use Rattle.std.specs.Prelude.{◌≡◌, ◌+◌, ◌≤◌, length, IfOk, IsOkUnless, OnOk};
+ghost use Rattle.share_store.specs.declared.error.StoreError.{StoreError};
 ghost use Rattle.wire.specs.Limits.{most_data};
 
 use crate::error::StoreError;
+use crate::shelf::Place;
 use std::alloc::Global;
-use std::fs::{File, OpenOptions};
+use std::fs::{File, Metadata, OpenFile, OpenOptions};
 use std::io::{Read, Seek, SeekFrom, Write};
+use std::os::unix::fs::MetadataExt;
 use std::rt::Files;
 use std::{fs, io};
 use wire::message::ReadData;
 
-// The length of the regular file at a path, or `None` where there is nothing yet.
-fn regular_length<R: Files>(rt: &R, path: &str) -> Result<Option<u64>, StoreError> {
-    match fs::symlink_metadata(rt, path) {
-        Ok(found) if found.is_file() => Ok(Some(found.len())),
-        Ok(_) => Err(StoreError::StoreFault),
-        Err(error) if error.kind() == io::ErrorKind::NotFound => Ok(None),
-        Err(error) => Err(StoreError::from(error)),
-    }
-}
-
-/// Writes bytes into a file from a position on. At position 0 the file is made, or emptied first.
-/// Further on it is a fault if the file has fewer bytes than that: another program, which writes
-/// the same share, took it away or began it anew.
-pub(crate) fn write_at<R: Files>(
-    rt: &R,
-    path: &str,
-    position: u64,
-    bytes: &[u8],
-) -> Result<(), StoreError> {
-    let begins = position == 0;
-    let there = regular_length(rt, path)?;
-    if !begins && there.is_none_or(|length| length < position) {
-        return Err(StoreError::StoreFault);
-    }
-    let mut options = OpenOptions::new();
-    options.write(true).create(begins).truncate(begins);
-    let mut file = options.open(rt, path)?;
-    write_from(&mut file, position, bytes)?;
-    Ok(())
-}
-
-// Writes bytes from a position on.
-fn write_from<F: Seek + Write>(file: &mut F, position: u64, bytes: &[u8]) -> io::Result<()> {
-    file.seek(SeekFrom::Start(position))?;
-    file.write_all(bytes)
-}
-
-/// Renames a file of so many bytes. It is a fault if it has more or fewer, as after another
-/// program's writes.
-pub(crate) fn rename_whole<R: Files>(
-    rt: &R,
-    from: &str,
-    to: &str,
-    length: u64,
-) -> Result<(), StoreError> {
-    if regular_length(rt, from)? != Some(length) {
-        return Err(StoreError::StoreFault);
-    }
-    fs::rename(rt, from, to)?;
-    Ok(())
-}
-
-/// As many bytes of a file as asked for, from a position on. It is a fault if there are fewer.
-pub(crate) fn read_at<R: Files>(
-    rt: &R,
-    alloc: Global,
-    path: &str,
-    position: u64,
-    count: u32,
-) -> Result<ReadData, StoreError>
-    requires { count ≤ most_data }
-    ensures { IfOk result (λ bytes. length bytes ≡ count) }
+/// The length of the regular file at a path; `None` for what else stands there, for what cannot be
+/// asked, and where there is nothing.
+pub(crate) fn regular_length<R: Files>(rt: &R, path: &str) -> Result<Option<u64>, StoreError>
+    ensures { IsOkUnless result StoreError.OutOfMemory }
 {
-    let mut bytes = vec![in alloc; 0u8; count as usize]?;
-    regular_length(rt, path)?;
-    let mut file = File::open(rt, path)?;
-    file.seek(SeekFrom::Start(position))?;
-    file.read_exact(bytes.as_mut_slice())?;
-    Ok(ReadData::from_vec(bytes).unwrap())
+    length_of_regular(fs::symlink_metadata(rt, path))
+}
+
+/// The same of what was found.
+pub(crate) fn length_of_regular(found: io::Result<Metadata>) -> Result<Option<u64>, StoreError>
+    ensures { IsOkUnless result StoreError.OutOfMemory }
+{
+    match found {
+        Ok(file) if file.is_file() => Ok(Some(file.len())),
+        Ok(_) => Ok(None),
+        Err(error) => match StoreError::from(error) {
+            StoreError::OutOfMemory => Err(StoreError::OutOfMemory),
+            StoreError::StoreFault => Ok(None),
+        },
+    }
+}
+
+/// The file of an open share. It is of this store alone, and stays open until the share is closed:
+/// another store, or another program, that begins the share too makes a file of its own.
+#[derive(Drop)]
+pub(crate) struct OpenShare<F> {
+    file: F,
+    /// How many bytes were written to it.
+    pub(crate) length: u64,
+}
+
+/// Makes the file of an open share. One that was left there, or that another store is writing, is
+/// removed first.
+pub(crate) fn begin_share<R: Files>(rt: &R, path: &str) -> Result<OpenShare<R::File>, StoreError>
+    ensures { IfOk result (λ share. share.length ≡ 0) }
+{
+    let file = match make_file(rt, path) {
+        Err(error) if error.kind() == io::ErrorKind::AlreadyExists => {
+            remove_regular(rt, path)?;
+            make_file(rt, path)?
+        }
+        outcome => outcome?,
+    };
+    Ok(OpenShare { file, length: 0 })
+}
+
+// Makes a file where nothing stands. What is written to it comes at its end, also where another
+// program cuts it meanwhile.
+fn make_file<R: Files>(rt: &R, path: &str) -> io::Result<R::File> {
+    let mut options = OpenOptions::new();
+    options.append(true).create_new(true);
+    options.open(rt, path)
+}
+
+// Removes the regular file at a path.
+fn remove_regular<R: Files>(rt: &R, path: &str) -> Result<(), StoreError> {
+    if regular_length(rt, path)?.is_none() {
+        return Err(StoreError::StoreFault);
+    }
+    fs::remove_file(rt, path)?;
+    Ok(())
+}
+
+impl<F: Write> OpenShare<F> {
+    /// Adds bytes at the end. After an error a part of them may be there: then the file is of no
+    /// use any more, whatever the cause.
+    pub(crate) fn append(&mut self, bytes: &[u8]) -> Result<(), StoreError>
+        ensures { OnOk result (self.new.length ≡ self.old.length + length bytes.now) }
+    {
+        let Some(length) = self.length.checked_add(bytes.len() as u64) else {
+            return Err(StoreError::StoreFault);
+        };
+        if self.file.write_all(bytes).is_err() {
+            return Err(StoreError::StoreFault);
+        }
+        self.length = length;
+        Ok(())
+    }
+}
+
+impl<F: OpenFile> OpenShare<F> {
+    /// How many bytes the file has, which stands at this path. It is a fault if another file stands
+    /// there, or if it has more or fewer bytes than were written.
+    pub(crate) fn whole_length<R: Files>(&self, rt: &R, path: &str) -> Result<u64, StoreError>
+        ensures { IfOk result (λ length. length ≡ self.now.length) }
+    {
+        let there = fs::symlink_metadata(rt, path)?;
+        let own = self.file.metadata()?;
+        if !is_same_file(&there, &own) || own.len() != self.length {
+            return Err(StoreError::StoreFault);
+        }
+        Ok(self.length)
+    }
+}
+
+// Whether both are of one file.
+fn is_same_file(one: &Metadata, other: &Metadata) -> bool {
+    one.dev() == other.dev() && one.ino() == other.ino()
+}
+
+/// The file of a closed share that is read. It stays open while no other share is read.
+#[derive(Drop)]
+pub(crate) struct RecentFile<F> {
+    pub(crate) place: Place,
+    file: F,
+    // where the next byte is read
+    position: u64,
+}
+
+/// Opens the file of a closed share.
+pub(crate) fn open_closed<R: Files>(
+    rt: &R,
+    place: &Place,
+    path: &str,
+) -> Result<RecentFile<R::File>, StoreError> {
+    if regular_length(rt, path)?.is_none() {
+        return Err(StoreError::StoreFault);
+    }
+    Ok(RecentFile {
+        place: *place,
+        file: File::open(rt, path)?,
+        position: 0,
+    })
+}
+
+impl<F: Read + Seek> RecentFile<F> {
+    /// As many bytes as asked for, from a position on. It is a fault if there are fewer. After an
+    /// error the file is of no use any more.
+    pub(crate) fn read_at(
+        &mut self,
+        alloc: Global,
+        position: u64,
+        count: u32,
+    ) -> Result<ReadData, StoreError>
+        requires { count ≤ most_data }
+        ensures { IfOk result (λ bytes. length bytes ≡ count) }
+    {
+        let mut bytes = vec![in alloc; 0u8; count as usize]?;
+        if self.position != position {
+            self.file.seek(SeekFrom::Start(position))?;
+        }
+        self.file.read_exact(bytes.as_mut_slice())?;
+        self.position = position.saturating_add(u64::from(count));
+        Ok(ReadData::from_vec(bytes).unwrap())
+    }
 }

@@ -1,19 +1,21 @@
 //! A store over the files of a folder.
 
-ghost use Rattle.std.specs.Prelude.{◌≡◌, ◌+◌, ◌-◌, ◌==◌, ◌<◌, ◌≤◌, ◌^◌, ◌⊎◌, [], None, false};
+ghost use Rattle.std.specs.Prelude.{◌≡◌, ◌+◌, ◌-◌, ◌==◌, ◌<◌, ◌≤◌, ◌^◌, ◌⊎◌, [], None, Some};
 ghost use Rattle.std.specs.Prelude.{length, min, if◌then◌else◌, IfOk, IsErrOf, IsOkUnless, OnOk};
 ghost use Rattle.std.specs.Prelude.{OnErr};
 ghost use Rattle.std.specs.BTreeMap.{insert_entry, IsOrdered};
 ghost use Rattle.share_store.specs.declared.error.StoreError.{StoreError};
 ghost use Rattle.wire.specs.Limits.{most_data};
 ghost use Rattle.share_store.specs.Shelf.{Place, at, order};
-ghost use Rattle.share_store.specs.Table.{kept_bytes};
+ghost use Rattle.share_store.specs.Table.{kept_bytes, AreSeen};
 ghost use Rattle.share_store.specs.Folder.{FolderState, counted, kept_digest, kept_length};
-ghost use Rattle.share_store.specs.Folder.{length_of, length_at, IsOpenedAt, OthersStay};
-ghost use Rattle.share_store.specs.Folder.{folder_calls};
+ghost use Rattle.share_store.specs.Folder.{length_of, IsOpenedAt, OthersStay, LooksAt};
+ghost use Rattle.share_store.specs.Folder.{folder_calls, length_at, lengths_of};
 
 use crate::error::StoreError;
-use crate::files::{read_at, rename_whole, write_at};
+use crate::files::{OpenShare, RecentFile, begin_share, open_closed};
+use crate::lengths::{look_at, look_at_all};
+pub use crate::listing::Purpose;
 use crate::listing::{Listing, list_folder};
 use crate::names::{closed_path, open_path};
 use crate::shelf::{Place, place_of};
@@ -22,50 +24,41 @@ use crate::table::{KeptShare, held_under, total};
 use std::alloc::Global;
 use std::collections::BTreeMap;
 use std::collections::btree_map::Entry;
+use std::fs;
+use std::io::Write;
 use std::marker::Model;
 use std::rt::Files;
 use wire::message::{Digest, HeldList, ReadData, ReadLength, ShareId, StorageIndex};
 
-/// A store over the files of a folder. Its table of the closed shares is read once, when it is
-/// opened. Of a share's file no more is read at a time than a call asks for.
+/// A store over the files of a folder. The names of the closed shares are read once, when it is
+/// opened. A share's file is looked at when its share is asked for, and stays open while it is
+/// written, or read.
 #[derive(Drop)]
-pub struct FolderStore<R> {
+pub struct FolderStore<R: Files> {
     rt: R,
     folder: String,
     closed: BTreeMap<Place, KeptShare>,
-    // How many bytes were written to each open share.
-    opened: BTreeMap<Place, u64>,
+    opened: BTreeMap<Place, OpenShare<R::File>>,
     closed_bytes: u64,
     failures: u64,
     readonly: bool,
     // The file that was read last: a share is read part by part.
-    recent: Option<RecentFile>,
+    recent: Option<RecentFile<R::File>>,
 }
 
-// A closed share's file.
-#[derive(Drop)]
-struct RecentFile {
-    place: Place,
-    path: String,
-}
-
-impl<R> Model for FolderStore<R> {
+impl<R: Files> Model for FolderStore<R> {
     ghost use Rattle.std.specs.String.{string_bytes};
-    ghost use Rattle.share_store.specs.Folder.{FolderState};
+    ghost use Rattle.share_store.specs.Folder.{FolderState, lengths_of};
 
     ghost Value = { FolderState };
 
     ghost view = { λ m. record {
       folder = string_bytes m.folder;
       closed = m.closed.entries;
-      opened = m.opened.entries;
+      opened = lengths_of m.opened.entries;
+      used = m.closed_bytes;
       failures = m.failures;
     } };
-
-    ghost use Rattle.std.specs.Prelude.{◌≡◌};
-    ghost use Rattle.share_store.specs.Table.{kept_bytes};
-
-    ghost invariant = { λ m. m.closed_bytes ≡ kept_bytes m.closed.entries };
 }
 
 impl<R: Files + AllocGlobal + Clone + Drop> FolderStore<R> {
@@ -74,11 +67,12 @@ impl<R: Files + AllocGlobal + Clone + Drop> FolderStore<R> {
     /// of one share the one with the lower digest text counts.
     ///
     /// `StoreFault` where the folder cannot be made or read.
-    pub fn open(rt: &R, folder: &str) -> Result<FolderStore<R>, StoreError>
-        ensures { IfOk result (λ s. (s.folder ≡ folder.now) × (s.opened ≡ []) × (s.failures ≡ 0)) }
+    pub fn open(rt: &R, folder: &str, purpose: Purpose) -> Result<FolderStore<R>, StoreError>
+        ensures { IfOk result (λ s. (s.folder ≡ folder.now) × (s.opened ≡ [])
+            × (s.used ≡ kept_bytes s.closed) × (s.failures ≡ 0)) }
     {
         let alloc = rt.alloc();
-        let Listing { closed, readonly } = list_folder(rt, folder)?;
+        let Listing { closed, readonly } = list_folder(rt, folder, purpose)?;
         Ok(FolderStore {
             rt: rt.clone()?,
             folder: String::from_str(alloc, folder)?,
@@ -99,41 +93,94 @@ impl<R: Files + AllocGlobal + Clone + Drop> FolderStore<R> {
 }
 
 // How many bytes were written to an open share.
-fn written_length(opened: &BTreeMap<Place, u64>, place: &Place) -> u64
-    ensures { result ≡ length_at place.now opened.now.entries }
+#[tactic(auto, using(crate::proofs::FolderLaws::length_is, crate::proofs::FolderLaws::opened_at))]
+fn written_length<F>(opened: &BTreeMap<Place, OpenShare<F>>, place: &Place) -> u64
+    ensures { result ≡ length_at place.now (lengths_of opened.now.entries) }
 {
-    opened.get(place).copied().unwrap_or(0)
-}
-
-// Where a write begins: at the end of the open share, or at its beginning.
-fn next_position(opened: &BTreeMap<Place, u64>, place: &Place, offset: u64) -> u64
-    ensures { result ≡ (if offset == 0 then 0 else length_at place.now opened.now.entries) }
-{
-    if offset == 0 {
-        return 0;
+    match opened.get(place) {
+        Some(share) => share.length,
+        None => 0,
     }
-    written_length(opened, place)
 }
 
-// Notes how many bytes were written to an open share.
-fn note_length(
-    opened: &mut BTreeMap<Place, u64>,
+// Puts an open share's file into the table, in place of one that was there.
+#[tactic(auto, using(crate::proofs::FolderLaws::length_is, crate::proofs::FolderLaws::opened_at))]
+fn put_begun<F: Drop>(
+    opened: &mut BTreeMap<Place, OpenShare<F>>,
     place: &Place,
-    length: u64,
+    share: OpenShare<F>,
 ) -> Result<(), StoreError>
-    ensures written { OnOk result (length_at place.now opened.new.entries ≡ length) }
-    ensures others { IsOpenedAt place.now opened.old.entries opened.new.entries }
+    ensures begun { OnOk result
+        (length_at place.now (lengths_of opened.new.entries) ≡ share.length) }
+    ensures others { IsOpenedAt place.now (lengths_of opened.old.entries)
+        (lengths_of opened.new.entries) }
     ensures memory { IsOkUnless result StoreError.OutOfMemory }
 {
-    opened.insert(*place, length)?;
+    opened.insert(*place, share)?;
     Ok(())
 }
 
+// Adds bytes to the file of an open share.
+#[tactic(auto, using(crate::proofs::FolderLaws::length_is, crate::proofs::FolderLaws::opened_at))]
+fn append_there<F: Write>(
+    opened: &mut BTreeMap<Place, OpenShare<F>>,
+    place: &Place,
+    bytes: &[u8],
+) -> Result<(), StoreError>
+    ensures written { OnOk result (length_at place.now (lengths_of opened.new.entries)
+        ≡ length_at place.now (lengths_of opened.old.entries) + length bytes.now) }
+    ensures others { IsOpenedAt place.now (lengths_of opened.old.entries)
+        (lengths_of opened.new.entries) }
+{
+    match opened.get_mut(place) {
+        Some(share) => share.append(bytes),
+        None => Err(StoreError::StoreFault),
+    }
+}
+
+// Adds bytes to an open share, which is open no longer where that fails.
+fn append_to<F: Write + Drop>(
+    opened: &mut BTreeMap<Place, OpenShare<F>>,
+    place: &Place,
+    bytes: &[u8],
+) -> Result<(), StoreError>
+    ensures written { OnOk result (length_at place.now (lengths_of opened.new.entries)
+        ≡ length_at place.now (lengths_of opened.old.entries) + length bytes.now) }
+    ensures others { IsOpenedAt place.now (lengths_of opened.old.entries)
+        (lengths_of opened.new.entries) }
+{
+    let outcome = append_there(opened, place, bytes);
+    if outcome.is_err() {
+        forget_open(opened, place);
+    }
+    outcome
+}
+
 // Forgets an open share.
-fn forget_length(opened: &mut BTreeMap<Place, u64>, place: &Place)
-    ensures { IsOpenedAt place.now opened.old.entries opened.new.entries }
+#[tactic(auto, using(crate::proofs::FolderLaws::length_is, crate::proofs::FolderLaws::opened_at))]
+fn forget_open<F: Drop>(opened: &mut BTreeMap<Place, OpenShare<F>>, place: &Place)
+    ensures { IsOpenedAt place.now (lengths_of opened.old.entries)
+        (lengths_of opened.new.entries) }
 {
     opened.remove(place);
+}
+
+// How many bytes an open share has, of which nothing may have been written. It is a fault if that
+// is not what its file has, at this path.
+#[tactic(auto, using(crate::proofs::FolderLaws::length_is))]
+fn whole_length<R: Files>(
+    rt: &R,
+    opened: &BTreeMap<Place, OpenShare<R::File>>,
+    place: &Place,
+    path: &str,
+) -> Result<u64, StoreError>
+    ensures { IfOk result
+        (λ length. length ≡ length_at place.now (lengths_of opened.now.entries)) }
+{
+    match opened.get(place) {
+        Some(share) => share.whole_length(rt, path),
+        None => begin_share(rt, path)?.whole_length(rt, path),
+    }
 }
 
 // Renames an open share's file to a closed one's, and puts the share into the table.
@@ -147,12 +194,11 @@ fn rename_closed<R: Files>(
     requires { at place.now closed.old.entries ≡ None }
     ensures closed { OnOk result
         (closed.new.entries ≡ insert_entry order closed.old.entries place.now share.now) }
-    ensures ordered { IsOrdered order closed.old }
     ensures err { OnErr result (closed.new.entries ≡ closed.old.entries) }
 {
     // room first: once the file is renamed, nothing may fail
     if let Entry::Vacant(room) = closed.entry(*place)? {
-        rename_whole(rt, paths.0, paths.1, share.length)?;
+        fs::rename(rt, paths.0, paths.1)?;
         room.insert(*share);
     }
     Ok(())
@@ -166,6 +212,7 @@ impl<R: Files + AllocGlobal + Drop> FolderStore<R> {
           folder = self.old.folder;
           closed = self.old.closed;
           opened = self.old.opened;
+          used = self.old.used;
           failures = counted outcome self.old.failures;
         } }
         ensures cause { IsErrOf result StoreError.StoreFault
@@ -178,9 +225,40 @@ impl<R: Files + AllocGlobal + Drop> FolderStore<R> {
         outcome
     }
 
+    // Begins an open share anew.
+    fn begin(&mut self, place: &Place) -> Result<(), StoreError>
+        ensures folder { self.new.folder ≡ self.old.folder }
+        ensures closed { self.new.closed ≡ self.old.closed }
+        ensures used { self.new.used ≡ self.old.used }
+        ensures failures { self.new.failures ≡ self.old.failures }
+        ensures others { IsOpenedAt place.now self.old.opened self.new.opened }
+        ensures begun { OnOk result (length_at place.now self.new.opened ≡ 0) }
+    {
+        let path = open_path(self.rt.alloc(), self.folder.as_str(), place)?;
+        let share = begin_share(&self.rt, path.as_str())?;
+        put_begun(&mut self.opened, place, share)
+    }
+
+    // Begins an open share anew, where a write at this offset does, or nothing was written to it.
+    fn begin_at(&mut self, place: &Place, offset: u64) -> Result<(), StoreError>
+        ensures folder { self.new.folder ≡ self.old.folder }
+        ensures closed { self.new.closed ≡ self.old.closed }
+        ensures used { self.new.used ≡ self.old.used }
+        ensures failures { self.new.failures ≡ self.old.failures }
+        ensures others { IsOpenedAt place.now self.old.opened self.new.opened }
+        ensures begun { OnOk result (length_at place.now self.new.opened
+            ≡ (if offset == 0 then 0 else length_at place.now self.old.opened)) }
+    {
+        if offset == 0 || written_length(&self.opened, place) == 0 {
+            return self.begin(place);
+        }
+        Ok(())
+    }
+
     fn write_open(&mut self, id: &ShareId, offset: u64, bytes: &[u8]) -> Result<(), StoreError>
         ensures folder { self.new.folder ≡ self.old.folder }
         ensures closed { self.new.closed ≡ self.old.closed }
+        ensures used { self.new.used ≡ self.old.used }
         ensures failures { self.new.failures ≡ self.old.failures }
         ensures others { OthersStay id.now self.old.opened self.new.opened }
         ensures written { OnOk result (length_at (id.now.index, id.now.share) self.new.opened
@@ -189,13 +267,8 @@ impl<R: Files + AllocGlobal + Drop> FolderStore<R> {
             + length bytes.now) }
     {
         let place = place_of(id);
-        let position = next_position(&self.opened, &place, offset);
-        let Some(end) = position.checked_add(bytes.len() as u64) else {
-            return Err(StoreError::StoreFault);
-        };
-        let path = open_path(self.rt.alloc(), self.folder.as_str(), &place)?;
-        write_at(&self.rt, path.as_str(), position, bytes)?;
-        note_length(&mut self.opened, &place, end)
+        self.begin_at(&place, offset)?;
+        append_to(&mut self.opened, &place, bytes)
     }
 
     fn close_open(&mut self, id: &ShareId, digest: &Digest) -> Result<(), StoreError>
@@ -204,9 +277,12 @@ impl<R: Files + AllocGlobal + Drop> FolderStore<R> {
         ensures failures { self.new.failures ≡ self.old.failures }
         ensures closed { OnOk result (self.new.closed
             ≡ insert_entry order self.old.closed (id.now.index, id.now.share) (record {
-              length = length_at (id.now.index, id.now.share) self.old.opened;
+              length = Some (length_at (id.now.index, id.now.share) self.old.opened);
               digest = digest.now;
             })) }
+        ensures used { OnOk result (self.new.used
+            ≡ min (self.old.used + length_at (id.now.index, id.now.share) self.old.opened)
+            (2 ^ 64 - 1)) }
         ensures others { OthersStay id.now self.old.opened self.new.opened }
         ensures err { OnErr result (self.new ≡ self.old) }
     {
@@ -214,22 +290,19 @@ impl<R: Files + AllocGlobal + Drop> FolderStore<R> {
         let alloc = self.rt.alloc();
         let from = open_path(alloc, self.folder.as_str(), &place)?;
         let to = closed_path(alloc, self.folder.as_str(), &place, digest)?;
-        if !self.opened.contains_key(&place) {
-            write_at(&self.rt, from.as_str(), 0, &[])?;
-        }
-        let share = KeptShare {
-            length: written_length(&self.opened, &place),
-            digest: *digest,
-        };
+        let length = whole_length(&self.rt, &self.opened, &place, from.as_str())?;
         rename_closed(
             &self.rt,
             &mut self.closed,
             (from.as_str(), to.as_str()),
             &place,
-            &share,
+            &KeptShare {
+                length: Some(length),
+                digest: *digest,
+            },
         )?;
-        forget_length(&mut self.opened, &place);
-        self.closed_bytes = self.closed_bytes.saturating_add(share.length);
+        forget_open(&mut self.opened, &place);
+        self.closed_bytes = self.closed_bytes.saturating_add(length);
         Ok(())
     }
 
@@ -240,11 +313,15 @@ impl<R: Files + AllocGlobal + Drop> FolderStore<R> {
         offset: u64,
         count: ReadLength,
     ) -> Result<ReadData, StoreError>
-        ensures same { self.new ≡ self.old }
+        ensures looks { LooksAt self.old self.new }
         ensures long { IfOk result
-            (λ bytes. length bytes ≡ min count (kept_length id.now self.old - offset)) }
+            (λ bytes. length bytes ≡ min count (kept_length id.now self.new - offset)) }
     {
         let place = place_of(id);
+        look_at(&self.rt, self.folder.as_str(), &mut self.closed, &place)?;
+        if !self.closed.contains_key(&place) {
+            return Err(StoreError::StoreFault);
+        }
         let left = bytes_left(kept_length(&self.closed, &place), offset, count);
         self.read_part(alloc, &place, offset, left)
     }
@@ -264,35 +341,32 @@ impl<R: Files + AllocGlobal + Drop> FolderStore<R> {
         if count == 0 {
             return Ok(ReadData::from_vec(Vec::new(alloc)).unwrap());
         }
-        let file = match self.recent.take() {
+        let mut file = match self.recent.take() {
             Some(file) if file.place == *place => file,
             _ => self.file_of(place)?,
         };
-        let bytes = read_at(&self.rt, alloc, file.path.as_str(), offset, count)?;
+        let bytes = file.read_at(alloc, offset, count)?;
         self.recent = Some(file);
         Ok(bytes)
     }
 
     // A closed share's file.
-    fn file_of(&self, place: &Place) -> Result<RecentFile, StoreError> {
+    fn file_of(&self, place: &Place) -> Result<RecentFile<R::File>, StoreError> {
         let Some(share) = self.closed.get(place) else {
             return Err(StoreError::StoreFault);
         };
         let folder = self.folder.as_str();
         let path = closed_path(self.rt.alloc(), folder, place, &share.digest)?;
-        Ok(RecentFile {
-            place: *place,
-            path,
-        })
+        open_closed(&self.rt, place, path.as_str())
     }
 }
 
-// The length of a closed share, and 0 where it is not closed.
+// The length of a closed share, as far as it is known.
 fn kept_length(closed: &BTreeMap<Place, KeptShare>, place: &Place) -> u64
     ensures { result ≡ length_of (at place.now closed.now.entries) }
 {
     match closed.get(place) {
-        Some(share) => share.length,
+        Some(share) => share.length.unwrap_or(0),
         None => 0,
     }
 }
@@ -346,8 +420,11 @@ impl<R: Files + AllocGlobal + Drop> Store for FolderStore<R> {
         self.count(outcome)
     }
 
-    // The table alone is asked, so there is no fault.
+    // What is no regular file counts as not there, so there is no fault.
     fn list(&mut self, alloc: Global, index: &StorageIndex) -> Result<HeldList, StoreError> {
+        let named = held_under(alloc, &self.closed, index)?;
+        let (folder, shares) = (self.folder.as_str(), named.as_slice());
+        look_at_all(&self.rt, folder, &mut self.closed, index, shares)?;
         held_under(alloc, &self.closed, index)
     }
 

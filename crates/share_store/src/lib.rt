@@ -4,6 +4,7 @@
 pub mod error;
 mod files;
 pub mod folder;
+mod lengths;
 mod listing;
 pub mod memory;
 pub mod names;

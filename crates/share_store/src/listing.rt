@@ -1,6 +1,7 @@
 //! What a server's folder holds when its store is opened.
 
 use crate::error::StoreError;
+use crate::files::length_of_regular;
 use crate::names::ClosedName;
 use crate::shelf::Place;
 use crate::table::{KeptShare, keep_lower};
@@ -13,6 +14,17 @@ use std::{fs, io};
 // The name of the file by which a server takes no further shares.
 const READONLY: &str = "readonly";
 
+/// What the store of a folder is opened for.
+#[derive(Clone, Copy, PartialEq, Eq)]
+pub enum Purpose {
+    /// Shares are read. No file is looked at before its share is asked for, so that the sum of the
+    /// lengths is not known, and no further share has room.
+    Reading,
+    /// Shares are written too. The lengths of all closed shares are asked, for the room that is
+    /// left.
+    Writing,
+}
+
 /// The closed shares of a folder, by the names of its files, and whether it has a file `readonly`.
 #[derive(Drop)]
 pub(crate) struct Listing {
@@ -24,6 +36,7 @@ pub(crate) struct Listing {
 pub(crate) fn list_folder<R: Files + AllocGlobal + Clone + Drop>(
     rt: &R,
     folder: &str,
+    purpose: Purpose,
 ) -> Result<Listing, StoreError> {
     let mut listing = Listing {
         closed: BTreeMap::new(rt.alloc()),
@@ -31,7 +44,7 @@ pub(crate) fn list_folder<R: Files + AllocGlobal + Clone + Drop>(
     };
     for entry in read_or_make(rt, folder)? {
         match entry {
-            Ok(entry) => take_entry(rt, &mut listing, &entry)?,
+            Ok(entry) => take_entry(rt, &mut listing, &entry, purpose)?,
             Err(error) if error.kind() == io::ErrorKind::InvalidFilename => {}
             Err(error) => return Err(StoreError::from(error)),
         }
@@ -58,6 +71,7 @@ fn take_entry<R: Files + AllocGlobal>(
     rt: &R,
     listing: &mut Listing,
     entry: &DirEntry<R>,
+    purpose: Purpose,
 ) -> Result<(), StoreError> {
     let name = entry.file_name();
     if name == READONLY {
@@ -67,8 +81,12 @@ fn take_entry<R: Files + AllocGlobal>(
     let Some(name) = ClosedName::read(name.as_bytes()) else {
         return Ok(());
     };
-    let Some(length) = regular_length(entry)? else {
-        return Ok(());
+    let length = match purpose {
+        Purpose::Reading => None,
+        Purpose::Writing => match length_of_regular(entry.metadata())? {
+            Some(length) => Some(length),
+            None => return Ok(()),
+        },
     };
     let digest = name.digest;
     keep_lower(
@@ -86,18 +104,6 @@ fn is_file(outcome: io::Result<Metadata>) -> Result<bool, StoreError> {
         Err(error) => match StoreError::from(error) {
             StoreError::OutOfMemory => Err(StoreError::OutOfMemory),
             StoreError::StoreFault => Ok(false),
-        },
-    }
-}
-
-// The length of a regular file; `None` for what else has a name, or is gone meanwhile.
-fn regular_length<R: Files>(entry: &DirEntry<R>) -> Result<Option<u64>, StoreError> {
-    match entry.metadata() {
-        Ok(file) if file.is_file() => Ok(Some(file.len())),
-        Ok(_) => Ok(None),
-        Err(error) => match StoreError::from(error) {
-            StoreError::OutOfMemory => Err(StoreError::OutOfMemory),
-            StoreError::StoreFault => Ok(None),
         },
     }
 }

@@ -17,8 +17,8 @@ use wire::message::{Digest, HeldList, HeldShare, StorageIndex};
 /// A closed share of which the bytes are kept elsewhere.
 #[derive(Clone, Copy, PartialEq, Eq)]
 pub struct KeptShare {
-    /// How many bytes the share has.
-    pub length: u64,
+    /// How many bytes the share has, where that was asked.
+    pub length: Option<u64>,
     pub digest: Digest,
 }
 
@@ -77,13 +77,13 @@ pub(crate) fn held_under<T: HasDigest>(
     Ok(HeldList::from_vec(found).unwrap())
 }
 
-/// The sum of the shares' lengths, and 2^64 - 1 where it would be more.
+/// The sum of the shares' lengths, and 2^64 - 1 where it would be more, or one is not known.
 pub(crate) fn total(closed: &BTreeMap<Place, KeptShare>) -> u64
     ensures { result ≡ kept_bytes closed.now.entries }
 {
     let mut total: u64 = 0;
     for share in closed.values() {
-        total = total.saturating_add(share.length);
+        total = total.saturating_add(share.length.unwrap_or(u64::MAX));
     }
     total
 }

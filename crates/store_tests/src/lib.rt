@@ -3,6 +3,8 @@
 #![tactic(auto)]
 
 #[cfg(test)]
+mod kept_open_tests;
+#[cfg(test)]
 mod server_core_tests;
 #[cfg(test)]
 mod share_store_tests;

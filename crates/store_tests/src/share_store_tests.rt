@@ -6,7 +6,7 @@
 // refused.
 
 use share_store::error::StoreError;
-use share_store::folder::FolderStore;
+use share_store::folder::{FolderStore, Purpose};
 use share_store::memory::MemoryStore;
 use share_store::names::ClosedName;
 use share_store::store::Store;
@@ -86,7 +86,7 @@ const LISTS: [Call; 18] = [
     Call::Read(INDEX, 4, 0, 9, b"\x06"),
 ];
 
-fn share(index: StorageIndex, share: u8) -> ShareId {
+pub(crate) fn share(index: StorageIndex, share: u8) -> ShareId {
     ShareId { index, share }
 }
 
@@ -290,8 +290,15 @@ pub(crate) fn remove(rt: &HostRuntime) -> io::Result<()> {
 }
 
 // The store of the folder, which is made where it is not there.
+pub(crate) fn open_for(
+    rt: &HostRuntime,
+    purpose: Purpose,
+) -> Result<FolderStore<HostRuntime>, StoreError> {
+    FolderStore::open(rt, path(rt, "")?.as_str(), purpose)
+}
+
 pub(crate) fn open(rt: &HostRuntime) -> Result<FolderStore<HostRuntime>, StoreError> {
-    FolderStore::open(rt, path(rt, "")?.as_str())
+    open_for(rt, Purpose::Writing)
 }
 
 // How many calls in turn give what they are to give in the folder's store, once it is opened.
@@ -326,9 +333,9 @@ const LISTED: [Call; 5] = [
 
 // How many calls go right in a folder's store, where memory may be refused once: none, where it is
 // not opened.
-fn right_in_folder_at_last(rt: &HostRuntime, folder: &str, calls: &[Call]) -> usize {
-    let opened = match FolderStore::open(rt, folder) {
-        Err(StoreError::OutOfMemory) => FolderStore::open(rt, folder),
+fn right_in_folder_at_last(rt: &HostRuntime, purpose: Purpose, calls: &[Call]) -> usize {
+    let opened = match open_for(rt, purpose) {
+        Err(StoreError::OutOfMemory) => open_for(rt, purpose),
         outcome => outcome,
     };
     match opened {
@@ -339,17 +346,16 @@ fn right_in_folder_at_last(rt: &HostRuntime, folder: &str, calls: &[Call]) -> us
 
 #[test]
 fn refused_memory_in_folder(rt: HostRuntime) {
-    let Ok(folder) = path(&rt, "") else {
-        return;
-    };
     if remove(&rt).is_err() {
         return;
     }
-    let written = right_in_folder_at_last(&rt, folder.as_str(), &LISTS);
-    let kept = right_in_folder_at_last(&rt, folder.as_str(), &LISTED);
+    let written = right_in_folder_at_last(&rt, Purpose::Writing, &LISTS);
+    let kept = right_in_folder_at_last(&rt, Purpose::Writing, &LISTED);
+    let read = right_in_folder_at_last(&rt, Purpose::Reading, &LISTED[..4]);
     assert!(rt; remove(&rt).is_ok() || remove(&rt).is_ok());
     assert_eq!(rt; written, 18);
     assert_eq!(rt; kept, 5);
+    assert_eq!(rt; read, 4);
 }
 
 const NAMES: [(&str, &str, usize); 12] = [
@@ -368,7 +374,7 @@ const NAMES: [(&str, &str, usize); 12] = [
 ];
 
 // Makes a file of each name in the folder, and a folder with the name of a closed share.
-fn fill(rt: &HostRuntime) -> Result<(), Fail> {
+pub(crate) fn fill(rt: &HostRuntime) -> Result<(), Fail> {
     for &(rest, end, size) in &NAMES {
         let name = file(rt, rest, end)?;
         let bytes = vec![in rt.alloc(); 0u8; size]?;
@@ -424,7 +430,7 @@ fn folder_fails(rt: HostRuntime) -> Result<(), Fail> {
     assert!(rt; fails(&rt, &mut store, Call::Read(INDEX, 0, 0, 9, b"\x01\x02"), 1));
     fs::write(&rt, closed.as_str(), [1u8].as_slice())?;
     assert!(rt; fails(&rt, &mut store, Call::Read(INDEX, 0, 0, 9, b"\x01\x02"), 2));
-    let outcome = FolderStore::open(&rt, closed.as_str());
+    let outcome = FolderStore::open(&rt, closed.as_str(), Purpose::Writing);
     assert!(rt; matches!(&outcome, Err(StoreError::StoreFault)));
     remove(&rt)?;
     assert!(rt; fails(&rt, &mut store, Call::Write(INDEX, 1, 0, b"\x01"), 3));

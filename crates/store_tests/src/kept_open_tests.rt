@@ -1,0 +1,130 @@
+//! The files that a store over a folder keeps open, which other programs change meanwhile, and a
+//! store that is opened for reading.
+
+use crate::share_store_tests::{Call, INDEX, SEVENS, file, fill, gives, open_for, remove, share};
+use share_store::error::StoreError;
+use share_store::folder::{FolderStore, Purpose};
+use share_store::store::Store;
+use std::fs;
+use std::test::Fail;
+
+// What another program does to the file of an open share, after three bytes were written to it.
+#[derive(Clone, Copy)]
+enum Change {
+    Nothing,
+    // It is emptied, as by `> FILE`.
+    Empty,
+    // One with the same bytes takes its place.
+    Replace,
+    Remove,
+    // A byte is added.
+    Extend,
+}
+
+const CHANGES: [(Change, bool); 5] = [
+    (Change::Nothing, true),
+    (Change::Empty, false),
+    (Change::Replace, false),
+    (Change::Remove, false),
+    (Change::Extend, false),
+];
+
+fn make_change(rt: &HostRuntime, change: Change) -> Result<(), Fail> {
+    let path = file(rt, ".3.open", "")?;
+    match change {
+        Change::Nothing => {}
+        Change::Empty => fs::write(rt, path.as_str(), b"".as_slice())?,
+        Change::Replace => {
+            fs::remove_file(rt, path.as_str())?;
+            fs::write(rt, path.as_str(), b"\x01\x02\x03".as_slice())?;
+        }
+        Change::Remove => fs::remove_file(rt, path.as_str())?,
+        Change::Extend => fs::write(rt, path.as_str(), b"\x01\x02\x03\x04".as_slice())?,
+    }
+    Ok(())
+}
+
+// Whether a share is closed, of which a part was written before the change and the rest after it,
+// and what stands under its closed name then.
+fn closes_after(rt: &HostRuntime, changed: Change) -> Result<(bool, bool), Fail> {
+    remove(rt)?;
+    let mut store = open_for(rt, Purpose::Writing)?;
+    let alloc = rt.alloc();
+    gives(alloc, &mut store, Call::Write(INDEX, 3, 0, b"\x01\x02\x03"))?;
+    make_change(rt, changed)?;
+    gives(alloc, &mut store, Call::Write(INDEX, 3, 3, b"\x04\x05"))?;
+    let is_closed = gives(alloc, &mut store, Call::Close(INDEX, 3, 7)) == Ok(true);
+    let stands = fs::exists(rt, file(rt, ".3.", SEVENS)?.as_str())?;
+    Ok((is_closed, stands))
+}
+
+// A share is closed only where its file has what was written to it, and nothing else stands at its
+// path.
+#[test]
+fn changed_files_are_not_closed(rt: HostRuntime) -> Result<(), Fail> {
+    for (changed, is_closed) in CHANGES {
+        assert!(rt; closes_after(&rt, changed)? == (is_closed, is_closed));
+    }
+    remove(&rt)?;
+    Ok(())
+}
+
+// A share that is begun anew has only what is written then, whatever was left of it.
+#[test]
+fn shares_begin_anew(rt: HostRuntime) -> Result<(), Fail> {
+    remove(&rt)?;
+    let mut store = open_for(&rt, Purpose::Writing)?;
+    fs::write(&rt, file(&rt, ".3.open", "")?.as_str(), b"left".as_slice())?;
+    for call in [
+        Call::Write(INDEX, 3, 0, b"\x09\x09"),
+        Call::Write(INDEX, 3, 0, b"\x01"),
+        Call::Write(INDEX, 3, 1, b"\x02"),
+        Call::Close(INDEX, 3, 7),
+        Call::Read(INDEX, 3, 0, 9, b"\x01\x02"),
+        Call::Close(INDEX, 4, 7),
+        Call::Read(INDEX, 4, 0, 9, b""),
+    ] {
+        assert!(rt; gives(rt.alloc(), &mut store, call) == Ok(true));
+    }
+    remove(&rt)?;
+    Ok(())
+}
+
+// What is read part by part, forwards and backwards, and between two shares.
+const PARTS: [Call; 7] = [
+    Call::Read(INDEX, 255, 0, 2, b"\0\0"),
+    Call::Read(INDEX, 255, 2, 9, b"\0\0"),
+    Call::Read(INDEX, 255, 1, 1, b"\0"),
+    Call::Read(INDEX, 0, 1, 1, b"\0"),
+    Call::Read(INDEX, 255, 3, 1, b"\0"),
+    Call::Read(INDEX, 255, 4, 1, b""),
+    Call::Closed(INDEX, 0, 208),
+];
+
+// Of a store that is opened for reading, how many shares are listed.
+fn listed(rt: &HostRuntime, store: &mut FolderStore<HostRuntime>) -> Result<usize, StoreError> {
+    Ok(store.list(rt.alloc(), &INDEX)?.as_slice().len())
+}
+
+// A store that is opened for reading looks at no file before its share is asked for: then a folder
+// under the name of a share is passed over. It has no room.
+#[test]
+fn a_store_for_reading(rt: HostRuntime) -> Result<(), Fail> {
+    remove(&rt)?;
+    drop(open_for(&rt, Purpose::Reading)?);
+    fill(&rt)?;
+    let mut store = open_for(&rt, Purpose::Reading)?;
+    assert_eq!(rt; store.used(), u64::MAX);
+    for call in PARTS {
+        assert!(rt; gives(rt.alloc(), &mut store, call) == Ok(true));
+    }
+    assert!(rt; store.closed(&share(INDEX, 6)).is_some());
+    assert_eq!(rt; listed(&rt, &mut store)?, 2);
+    assert!(rt; store.closed(&share(INDEX, 6)).is_none());
+    assert_eq!(rt; store.failures(), 0);
+    let mut other = open_for(&rt, Purpose::Reading)?;
+    let read = gives(rt.alloc(), &mut other, Call::Read(INDEX, 6, 0, 9, b""));
+    assert!(rt; read == Err(StoreError::StoreFault) && other.failures() == 1);
+    remove(&rt)?;
+    Ok(())
+}
