@@ -3,7 +3,7 @@ use Rattle.std.proofs.Common.{◌≡◌, ℕ, inl, inr, List, [], ◌∷◌, Som
 use Rattle.std.specs.Prelude.{Option, option_map, slice_get, Contains}
 use Rattle.std.proofs.lemmas.Option.{slice_get-map}
 use Rattle.lemmas.proofs.Options.{one_there}
-use Rattle.download_file.proofs.GrowLemmas.{same_itself}
+use Rattle.download_file.proofs.GrowLemmas.{same_itself, same_two}
 use Rattle.placement.proofs.Members.{Contains-head}
 use Rattle.request_record.specs.declared.requests.Asked.TheVariants.{Reading}
 use Rattle.request_record.specs.declared.requests.Request.{Request}
@@ -17,6 +17,7 @@ use Rattle.share_beginnings.specs.Causes.{AddsBlames}
 use Rattle.share_beginnings.proofs.Caused.{adds_as, adds_trans}
 use Rattle.share_beginnings.specs.Reads.{IsAnsweredBy}
 use Rattle.share_beginnings.specs.State.{BeginningsState}
+use Rattle.share_layout.specs.Geometry.{Geometry}
 use Rattle.download_plan.specs.Plan.{length_of, place_of}
 use Rattle.download_plan.specs.declared.part.Part.TheVariants.{Data}
 use Rattle.download_file.specs.Answers.{AnswersFirst}
@@ -27,8 +28,7 @@ use Rattle.download_file.specs.Taking.{IsRefused}
 use Rattle.download_file.specs.declared.reader.Waiting.{Waiting}
 use Rattle.cap_text.specs.Cap.{VerifyCapValue}
 use Rattle.share_beginnings.specs.Causes.{IsBeginningFault}
-use Rattle.download_segments.specs.State.{HandoutState}
-use Rattle.download_reading.specs.Causes.{HasCause, IsBlameOf, IsBlockFault, IsFileAlike, IsPartFault}
+use Rattle.download_reading.specs.Causes.{HasCause, IsBlameOf, IsBlockFault, IsPartFault}
 use Rattle.download_reading.specs.Laws.{BlocksAreAnswered}
 use Rattle.download_reading.specs.Reading.{AreReadingBut}
 use Rattle.download_reading.specs.State.{ReadingState}
@@ -36,27 +36,13 @@ use Rattle.download_reading.specs.Steps.{Continues}
 use Rattle.request_record.specs.Record.{RequestsState, is_outstanding}
 use Rattle.download_reading.proofs.Awaited.{goes_stays}
 
--- ---- the same file
-
-pub alike_of : (f g : FileState) → IsSameFile f g → IsFileAlike f g
-alike_of f g k = record { key = k.key; ueb = k.ueb; geometry = k.geometry; to = k.to; first = k.first; end = k.end }
-
-pub alike_back : (f g : FileState) → IsFileAlike f g → IsFileAlike g f
-alike_back f g k = record { key = sym k.key; ueb = sym k.ueb; geometry = sym k.geometry; to = sym k.to; first = sym k.first; end = sym k.end }
-
-alike_trans : (f g h : FileState) → IsFileAlike f g → IsFileAlike g h → IsFileAlike f h
-alike_trans f g h a b = record { key = b.key ∙ a.key; ueb = b.ueb ∙ a.ueb; geometry = b.geometry ∙ a.geometry; to = b.to ∙ a.to; first = b.first ∙ a.first; end = b.end ∙ a.end }
-
-pub alike_none : (f : FileState) → IsFileAlike f f
-alike_none f = alike_of f f (same_itself f)
-
 -- ---- what stays of a cause
 
-pub part_moved : (es ns : List Request) (f g : FileState) (b : Blame) → StaysTo es ns → IsFileAlike f g → IsPartFault es g b → IsPartFault ns f b
+pub part_moved : (es ns : List Request) (f g : FileState) (b : Blame) → StaysTo es ns → IsSameFile f g → IsPartFault es f b → IsPartFault ns g b
 part_moved es ns f g b stays same k = record {
   file = k.file;
   right = k.right;
-  same = alike_trans f g k.file same k.same;
+  same = same_two k.file f g k.same same;
   reader = k.reader;
   live = k.live;
   bytes = k.bytes;
@@ -69,11 +55,11 @@ part_moved es ns f g b stays same k = record {
   answer = k.answer;
 }
 
-pub block_moved : (es ns : List Request) (f g : FileState) (b : Blame) → StaysTo es ns → IsFileAlike f g → IsBlockFault es g b → IsBlockFault ns f b
+pub block_moved : (es ns : List Request) (f g : FileState) (b : Blame) → StaysTo es ns → IsSameFile f g → IsBlockFault es f b → IsBlockFault ns g b
 block_moved es ns f g b stays same k = record {
   file = k.file;
   right = k.right;
-  same = alike_trans f g k.file same k.same;
+  same = same_two k.file f g k.same same;
   answered = k.answered;
   keeps = λ place q body there answer. stays place q (k.keeps place q body there answer) (ap is_outstanding answer);
   read = k.read;
@@ -82,6 +68,10 @@ block_moved es ns f g b stays same k = record {
   reads = k.reads;
   check = k.check;
 }
+
+pub cause_moved : (cap : VerifyCapValue) (es : List Request) (f g : FileState) (b : Blame) → IsSameFile f g → HasCause cap es f b → HasCause cap es g b
+cause_moved cap es f g b same (inl k) = inl (subst (λ (x : Geometry). IsBeginningFault cap x es b) (sym same.geometry) k)
+cause_moved cap es f g b same (inr k) = inr (part_moved es es f g b (λ i q e quiet. e) same k)
 
 -- what waits first
 waits_first : (f : FileState) (reader place : ℕ) (bytes : List ℕ) (check : Check) (k : IsRefused f reader bytes check) → first_waiting f reader ≡ Some place → Contains (waiting_at f reader) k.first × (k.first.place ≡ place)
@@ -156,7 +146,7 @@ part_fault but s r reader place check bytes b reading live first answered refuse
     record {
       file = r.file;
       right = reading.linked.kept.right;
-      same = alike_none r.file;
+      same = same_itself r.file;
       reader = reader;
       live = live;
       bytes = bytes;
@@ -177,7 +167,7 @@ block_fault but s r reader b reading refuted blame =
     record {
       file = r.file;
       right = reading.linked.kept.right;
-      same = alike_none r.file;
+      same = same_itself r.file;
       answered = s.holdings.requests.entries;
       keeps = λ place q body there answer. there;
       read = reading.linked.kept.answers;
@@ -207,40 +197,47 @@ stays_same s t same i q e quiet = ap (λ (x : RequestsState). slice_get x.entrie
 
 -- more is taken
 pub taken_causes : (s t u : BeginningsState) (r q p : ReadingState) → Continues s r t q → Continues t q u p → t.holdings.requests ≡ s.holdings.requests
-    → AddsBlames (IsPartFault s.holdings.requests.entries r.file) s.holdings.blamed t.holdings.blamed → AddsBlames (IsPartFault t.holdings.requests.entries q.file) t.holdings.blamed u.holdings.blamed
-    → AddsBlames (IsPartFault s.holdings.requests.entries r.file) s.holdings.blamed u.holdings.blamed
+    → AddsBlames (IsPartFault s.holdings.requests.entries q.file) s.holdings.blamed t.holdings.blamed → AddsBlames (IsPartFault t.holdings.requests.entries p.file) t.holdings.blamed u.holdings.blamed
+    → AddsBlames (IsPartFault s.holdings.requests.entries p.file) s.holdings.blamed u.holdings.blamed
 taken_causes s t u r q p first second same before after =
-    adds_trans (IsPartFault s.holdings.requests.entries r.file) s t u second.goes before
-    (adds_as (IsPartFault t.holdings.requests.entries q.file) (IsPartFault s.holdings.requests.entries r.file) t.holdings.blamed u.holdings.blamed
-    (λ b k. part_moved t.holdings.requests.entries s.holdings.requests.entries r.file q.file b (stays_same s t same) (alike_of r.file q.file first.same) k) after)
+    let es = s.holdings.requests.entries in
+    adds_trans (IsPartFault es p.file) s t u second.goes
+    (adds_as (IsPartFault es q.file) (IsPartFault es p.file) s.holdings.blamed t.holdings.blamed (λ b k. part_moved es es q.file p.file b (λ i x e quiet. e) second.same k) before)
+    (adds_as (IsPartFault t.holdings.requests.entries p.file) (IsPartFault es p.file) t.holdings.blamed u.holdings.blamed
+    (λ b k. part_moved t.holdings.requests.entries es p.file p.file b (stays_same s t same) (same_itself p.file) k) after)
 
 -- ---- a message
 
-pub began_causes : (cap : VerifyCapValue) (s t : BeginningsState) (r q : ReadingState) → q.file.handout ≡ r.file.handout
+pub began_causes : (cap : VerifyCapValue) (s t : BeginningsState) (q p : ReadingState) → p.file.handout.geometry ≡ q.file.handout.geometry
     → AddsBlames (IsBeginningFault cap q.file.handout.geometry s.holdings.requests.entries) s.holdings.blamed t.holdings.blamed
-    → AddsBlames (HasCause cap s.holdings.requests.entries r.file) s.holdings.blamed t.holdings.blamed
-began_causes cap s t r q same adds i b is le = inl (subst (λ (h : HandoutState). IsBeginningFault cap h.geometry s.holdings.requests.entries b) same (adds i b is le))
+    → AddsBlames (HasCause cap s.holdings.requests.entries p.file) s.holdings.blamed t.holdings.blamed
+began_causes cap s t q p same adds i b is le = inl (subst (λ (g : Geometry). IsBeginningFault cap g s.holdings.requests.entries b) (sym same) (adds i b is le))
 
-pub took_causes : (cap : VerifyCapValue) (s t u : BeginningsState) (r q : ReadingState) → Continues s r t q → t.holdings.requests ≡ s.holdings.requests
-    → AddsBlames (IsPartFault t.holdings.requests.entries q.file) t.holdings.blamed u.holdings.blamed
-    → AddsBlames (HasCause cap s.holdings.requests.entries r.file) t.holdings.blamed u.holdings.blamed
-took_causes cap s t u r q first same adds i b is le =
-    inr (part_moved t.holdings.requests.entries s.holdings.requests.entries r.file q.file b (stays_same s t same) (alike_of r.file q.file first.same) (adds i b is le))
+pub took_causes : (cap : VerifyCapValue) (s t u : BeginningsState) (p : ReadingState) → t.holdings.requests ≡ s.holdings.requests
+    → AddsBlames (IsPartFault t.holdings.requests.entries p.file) t.holdings.blamed u.holdings.blamed
+    → AddsBlames (HasCause cap s.holdings.requests.entries p.file) t.holdings.blamed u.holdings.blamed
+took_causes cap s t u p same adds i b is le =
+    inr (part_moved t.holdings.requests.entries s.holdings.requests.entries p.file p.file b (stays_same s t same) (same_itself p.file) (adds i b is le))
 
-pub heard_causes : (cap : VerifyCapValue) (s t u : BeginningsState) (r q p : ReadingState) → Continues s r t q → Continues t q u p → t.holdings.requests ≡ s.holdings.requests
-    → AddsBlames (HasCause cap s.holdings.requests.entries r.file) s.holdings.blamed t.holdings.blamed → AddsBlames (IsPartFault t.holdings.requests.entries q.file) t.holdings.blamed u.holdings.blamed
-    → AddsBlames (HasCause cap s.holdings.requests.entries r.file) s.holdings.blamed u.holdings.blamed
-heard_causes cap s t u r q p first second same before after =
-    adds_trans (HasCause cap s.holdings.requests.entries r.file) s t u second.goes before (took_causes cap s t u r q first same after)
+pub heard_causes : (cap : VerifyCapValue) (s t u : BeginningsState) (q p : ReadingState) → Continues t q u p → t.holdings.requests ≡ s.holdings.requests
+    → AddsBlames (HasCause cap s.holdings.requests.entries q.file) s.holdings.blamed t.holdings.blamed → AddsBlames (IsPartFault t.holdings.requests.entries p.file) t.holdings.blamed u.holdings.blamed
+    → AddsBlames (HasCause cap s.holdings.requests.entries p.file) s.holdings.blamed u.holdings.blamed
+heard_causes cap s t u q p second same before after =
+    let es = s.holdings.requests.entries in
+    adds_trans (HasCause cap es p.file) s t u second.goes
+    (adds_as (HasCause cap es q.file) (HasCause cap es p.file) s.holdings.blamed t.holdings.blamed (λ b k. cause_moved cap es q.file p.file b second.same k) before)
+    (took_causes cap s t u p same after)
 
 -- ---- a segment
 
-pub made_causes : (s t : BeginningsState) (r now : ReadingState) (f : FileState) (reader : ℕ) → r ≡ now → AreReadingBut None s now → RefutesReader s.holdings.requests.entries r.file reader → t.holdings.requests ≡ s.holdings.requests
-    → AddsBlames (IsBlameOf s (record r { file = f }) reader checks.Data) s.holdings.blamed t.holdings.blamed → AddsBlames (IsBlockFault t.holdings.requests.entries now.file) s.holdings.blamed t.holdings.blamed
-made_causes s t r now f reader e reading refuted same adds =
-    adds_as (IsBlameOf s (record r { file = f }) reader checks.Data) (IsBlockFault t.holdings.requests.entries now.file) s.holdings.blamed t.holdings.blamed
+pub made_causes : (s t : BeginningsState) (r now p : ReadingState) (f : FileState) (reader : ℕ) → r ≡ now → AreReadingBut None s now → RefutesReader s.holdings.requests.entries r.file reader → t.holdings.requests ≡ s.holdings.requests
+    → IsSameFile now.file p.file → AddsBlames (IsBlameOf s (record r { file = f }) reader checks.Data) s.holdings.blamed t.holdings.blamed
+    → AddsBlames (IsBlockFault t.holdings.requests.entries p.file) s.holdings.blamed t.holdings.blamed
+made_causes s t r now p f reader e reading refuted requests same adds =
+    adds_as (IsBlameOf s (record r { file = f }) reader checks.Data) (IsBlockFault t.holdings.requests.entries p.file) s.holdings.blamed t.holdings.blamed
     (λ b k.
-    subst (λ (q : RequestsState). IsBlockFault q.entries now.file b) (sym same)
+    subst (λ (q : RequestsState). IsBlockFault q.entries p.file b) (sym requests)
+    (block_moved s.holdings.requests.entries s.holdings.requests.entries now.file p.file b (λ i x is quiet. is) same
     (block_fault None s now reader b reading (subst (λ (x : ReadingState). RefutesReader s.holdings.requests.entries x.file reader) e refuted)
     (record {
       holding = k.holding;
@@ -250,14 +247,15 @@ made_causes s t r now f reader e reading refuted same adds =
       of_server = k.of_server;
       of_share = k.of_share;
       check_is = k.check_is;
-    })))
+    }))))
     adds
 
-pub settled_causes : (s t u : BeginningsState) (r q p : ReadingState) → Continues s r t q → Continues t q u p
-    → AddsBlames (IsBlockFault t.holdings.requests.entries r.file) s.holdings.blamed t.holdings.blamed → AddsBlames (IsBlockFault u.holdings.requests.entries q.file) t.holdings.blamed u.holdings.blamed
-    → AddsBlames (IsBlockFault u.holdings.requests.entries r.file) s.holdings.blamed u.holdings.blamed
-settled_causes s t u r q p first second before after =
+pub settled_causes : (s t u : BeginningsState) (q p : ReadingState) → Continues t q u p
+    → AddsBlames (IsBlockFault t.holdings.requests.entries q.file) s.holdings.blamed t.holdings.blamed → AddsBlames (IsBlockFault u.holdings.requests.entries p.file) t.holdings.blamed u.holdings.blamed
+    → AddsBlames (IsBlockFault u.holdings.requests.entries p.file) s.holdings.blamed u.holdings.blamed
+settled_causes s t u q p second before after =
     let entries = u.holdings.requests.entries in
-    adds_trans (IsBlockFault entries r.file) s t u second.goes
-    (adds_as (IsBlockFault t.holdings.requests.entries r.file) (IsBlockFault entries r.file) s.holdings.blamed t.holdings.blamed (λ b k. block_moved t.holdings.requests.entries entries r.file r.file b (λ i q e quiet. goes_stays t u second.goes i q e) (alike_none r.file) k) before)
-    (adds_as (IsBlockFault entries q.file) (IsBlockFault entries r.file) t.holdings.blamed u.holdings.blamed (λ b k. block_moved entries entries r.file q.file b (λ i x e quiet. e) (alike_of r.file q.file first.same) k) after)
+    adds_trans (IsBlockFault entries p.file) s t u second.goes
+    (adds_as (IsBlockFault t.holdings.requests.entries q.file) (IsBlockFault entries p.file) s.holdings.blamed t.holdings.blamed
+    (λ b k. block_moved t.holdings.requests.entries entries q.file p.file b (λ i x e quiet. goes_stays t u second.goes i x e) second.same k) before)
+    after

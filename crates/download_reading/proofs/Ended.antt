@@ -7,7 +7,7 @@ use Rattle.std.proofs.lemmas.List.Elements.{All-contains, Contains-push_cases}
 use Rattle.std.proofs.lemmas.Option.{slice_get-get_or}
 use Rattle.lemmas.proofs.Options.{one_there}
 use Rattle.download_file.proofs.LiveLemmas.{length-without}
-use Rattle.download_file.proofs.RowFileLemmas.{same_two}
+use Rattle.download_file.proofs.GrowLemmas.{same_two}
 use Rattle.placement.proofs.Members.{Contains-nil, Contains-uncons}
 use Rattle.share_layout.specs.Geometry.{Geometry}
 use Rattle.download_segments.specs.State.{HandoutState}

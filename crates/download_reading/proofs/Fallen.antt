@@ -11,6 +11,7 @@ use Rattle.download_file.specs.declared.file.Made.TheVariants as made_as
 use Rattle.std.proofs.lemmas.List.{length-map}
 use Rattle.download_file.proofs.GrowLemmas.{same_itself}
 use Rattle.request_record.specs.Record.{RequestsState}
+use Rattle.request_record.specs.declared.requests.Request.{Request}
 use Rattle.share_holdings.specs.State.{HoldingsState}
 use Rattle.share_layout.specs.Geometry.{Geometry}
 use Rattle.share_holdings.specs.Table.{IsHolding}
@@ -193,9 +194,9 @@ module _ (s : BeginningsState) (r : ReadingState) (f : FileState) (before : AreL
   made_continues pieces = record { goes = goes_none s s refl refl; same = same; pieces = pieces; answers = λ a. answers; reads = asks_none r.file s s refl }
 
 -- what was taken of the pieces stays so
-pub pieces_made : (f g : FileState) (made : Result Made AllocError) → IsHandout f.handout → (made ≡ Ok made_as.Ready → MakesPieces f g) → (made ≢ Ok made_as.Ready → g.handout ≡ f.handout) → AddsPieces f.handout g.handout
-pieces_made f g (Ok made_as.Waits) right ready others = adds_none f.handout g.handout (others (λ e. cc))
-pieces_made f g (Ok made_as.Ready) right ready others = (let k = gets_pieces f g right (ready refl) in record { handed = k.handed; more = k.more; ready = k.ready })
-pieces_made f g (Ok (made_as.Wrong q)) right ready others = adds_none f.handout g.handout (others (λ e. cc))
-pieces_made f g (Ok made_as.Inconsistent) right ready others = adds_none f.handout g.handout (others (λ e. cc))
-pieces_made f g (Err x) right ready others = adds_none f.handout g.handout (others (λ e. cc))
+pub pieces_made : (entries : List Request) (f g : FileState) (made : Result Made AllocError) → IsHandout f.handout → (made ≡ Ok made_as.Ready → MakesPieces entries f g) → (made ≢ Ok made_as.Ready → g.handout ≡ f.handout) → AddsPieces f.handout g.handout
+pieces_made entries f g (Ok made_as.Waits) right ready others = adds_none f.handout g.handout (others (λ e. cc))
+pieces_made entries f g (Ok made_as.Ready) right ready others = (let k = gets_pieces entries f g right (ready refl) in record { handed = k.handed; more = k.more; ready = k.ready })
+pieces_made entries f g (Ok (made_as.Wrong q)) right ready others = adds_none f.handout g.handout (others (λ e. cc))
+pieces_made entries f g (Ok made_as.Inconsistent) right ready others = adds_none f.handout g.handout (others (λ e. cc))
+pieces_made entries f g (Err x) right ready others = adds_none f.handout g.handout (others (λ e. cc))

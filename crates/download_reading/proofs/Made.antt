@@ -3,6 +3,7 @@ use Rattle.std.proofs.Common.{◌≡◌, ℕ, ◌<◌, List, Contains, None, ref
 use Rattle.std.specs.Prelude.{slice_get}
 use Rattle.share_beginnings.specs.State.{BeginningsState}
 use Rattle.download_segments.specs.State.{HandoutState, IsHandout}
+use Rattle.request_record.specs.declared.requests.Request.{Request}
 use Rattle.download_file.specs.Answers.{IsRead}
 use Rattle.download_file.specs.Asked.{AsksNoMore}
 use Rattle.download_file.specs.Changes.{IsSameFile}
@@ -26,9 +27,9 @@ all_made s r f before lives readers asked answers right same = record {
 }
 
 -- less is to be made
-pub less_made : (s : BeginningsState) (r : ReadingState) (f : FileState) → IsHandout r.file.handout → MakesPieces r.file f → work s (record r { file = f }) < work s r
-less_made s r f right made =
-    let k = gets_pieces r.file f right made in
+pub less_made : (entries : List Request) (s : BeginningsState) (r : ReadingState) (f : FileState) → IsHandout r.file.handout → MakesPieces entries r.file f → work s (record r { file = f }) < work s r
+less_made entries s r f right made =
+    let k = gets_pieces entries r.file f right made in
     let far = k.far in
     let within = k.right.within in
     let to = k.to in

@@ -13,6 +13,7 @@ use Rattle.share_holdings.specs.declared.holding.Holding.{Holding}
 use Rattle.share_beginnings.specs.Causes.{IsBeginningFault}
 use Rattle.share_beginnings.specs.State.{BeginningsState}
 use Rattle.download_file.specs.Answers.{IsRead, KeepsAnswers}
+use Rattle.download_file.specs.Changes.{IsSameFile}
 use Rattle.download_file.specs.Making.{RefutesReader}
 use Rattle.download_file.specs.Right.{IsFile}
 use Rattle.download_file.specs.State.{FileState, IsLive, copy, copy_of}
@@ -20,22 +21,13 @@ use Rattle.download_file.specs.Taking.{IsRefused}
 use Rattle.download_reading.specs.Reading.{IsOf}
 use Rattle.download_reading.specs.State.{ReadingState}
 
--- It is a download of the same part of the same file: earlier or later.
-pub record IsFileAlike (f g : FileState) : Type 0 where
-  pub key : g.handout.key ≡ f.handout.key
-  pub ueb : g.handout.ueb ≡ f.handout.ueb
-  pub geometry : g.handout.geometry ≡ f.handout.geometry
-  pub to : g.handout.to ≡ f.handout.to
-  pub first : g.first ≡ f.first
-  pub end : g.end ≡ f.end
-
--- A reader of this file, which is read, reads the blamed share at the blamed server. That server
--- was asked for the part of that share that waits first of the reader, and the bytes that it
--- answered are refused.
+-- When the file was as `file`, from which it went on, a reader of it that was read then read the
+-- blamed share at the blamed server. That server was asked for the part of that share that waited
+-- first of the reader, and the bytes that it answered were refused.
 pub record IsPartFault (entries : List Request) (f : FileState) (b : Blame) : Type 0 where
   pub file : FileState
   pub right : IsFile file
-  pub same : IsFileAlike f file
+  pub same : IsSameFile file f
   pub reader : ℕ
   pub live : IsLive file reader
   pub bytes : List ℕ
@@ -48,12 +40,13 @@ pub record IsPartFault (entries : List Request) (f : FileState) (b : Blame) : Ty
       refused.first.wanted.read.length
   pub answer : request.outcome ≡ Answered (Data bytes)
 
--- A reader of this file reads the blamed share at the blamed server. The block of the next segment
--- that it holds, of what that server answered, is not the one that the share's block tree tells.
+-- When the file was as `file`, from which it went on, a reader of it read the blamed share at the
+-- blamed server. The block of the next segment that it held, of what that server answered, is not
+-- the one that the share's block tree told.
 pub record IsBlockFault (entries : List Request) (f : FileState) (b : Blame) : Type 0 where
   pub file : FileState
   pub right : IsFile file
-  pub same : IsFileAlike f file
+  pub same : IsSameFile file f
   pub answered : List Request
   pub keeps : KeepsAnswers answered entries
   pub read : IsRead answered file

@@ -15,7 +15,7 @@ ghost use Rattle.download_segments.specs.Handout.{TakesPiece};
 ghost use Rattle.download_segments.specs.NoCodeWord.{IsNoCodeWord};
 ghost use Rattle.download_file.specs.Asked.{AreAskedUp, IsAskedUp};
 ghost use Rattle.download_file.specs.Changes.{IsSameFile, StaysAskedUp};
-ghost use Rattle.download_file.specs.Making.{CanNotGoOn, MustWait};
+ghost use Rattle.download_file.specs.Making.{CanNotGoOn, IsInconsistent, MustWait};
 ghost use Rattle.download_file.specs.State.{IsComplete, IsLive, new_file};
 ghost use Rattle.download_reading.specs.Causes.{HasCause, IsBlockFault};
 ghost use Rattle.download_reading.specs.Prompt.{IsPrompt};
@@ -129,7 +129,7 @@ impl Reading {
         // Nothing is asked, and each blame has its cause.
         ensures requests { beginnings.new.holdings.requests ≡ beginnings.old.holdings.requests }
         ensures causes { AddsBlames (HasCause cap.now beginnings.old.holdings.requests.entries
-            self.old.file) beginnings.old.holdings.blamed beginnings.new.holdings.blamed }
+            self.new.file) beginnings.old.holdings.blamed beginnings.new.holdings.blamed }
     {
         self.follow(beginnings, news);
         match news {
@@ -163,10 +163,12 @@ impl Reading {
         ensures reading { OnOk result (AreReading beginnings.new self.new) }
         ensures continues { Continues beginnings.old self.old beginnings.new self.new }
         ensures causes { AddsBlames (IsBlockFault beginnings.new.holdings.requests.entries
-            self.old.file) beginnings.old.holdings.blamed beginnings.new.holdings.blamed }
+            self.new.file) beginnings.old.holdings.blamed beginnings.new.holdings.blamed }
         ensures complete { IfOk result (λ settled.
             (settled ≡ Settled.Complete) ↔ IsComplete self.new.file) }
         ensures inconsistent { result ≡ Ok Settled.Inconsistent
+            → IsInconsistent beginnings.new.holdings.requests.entries self.new.file }
+        ensures no_code_word { result ≡ Ok Settled.Inconsistent
             → IsNoCodeWord self.new.file.handout.ueb }
         ensures waits { result ≡ Ok Settled.Waits
             → 0 < outstanding_count beginnings.new.holdings.requests.entries }
@@ -193,8 +195,10 @@ impl Reading {
         ensures reading { OnOk result (AreReading beginnings.new self.new) }
         ensures continues { Continues beginnings.old self.old beginnings.new self.new }
         ensures causes { AddsBlames (IsBlockFault beginnings.new.holdings.requests.entries
-            self.old.file) beginnings.old.holdings.blamed beginnings.new.holdings.blamed }
+            self.new.file) beginnings.old.holdings.blamed beginnings.new.holdings.blamed }
         ensures inconsistent { result ≡ Ok Made.Inconsistent
+            → IsInconsistent beginnings.new.holdings.requests.entries self.new.file }
+        ensures no_code_word { result ≡ Ok Made.Inconsistent
             → IsNoCodeWord self.new.file.handout.ueb }
         ensures more { (made : Made) → result ≡ Ok made → made ≢ Made.Ready
             → ¬ IsComplete self.new.file }
@@ -307,8 +311,10 @@ impl Reading {
         ensures reading { OnOk result (AreReading beginnings.new self.new) }
         ensures continues { Continues beginnings.old self.old beginnings.new self.new }
         ensures causes { AddsBlames (IsBlockFault beginnings.new.holdings.requests.entries
-            self.old.file) beginnings.old.holdings.blamed beginnings.new.holdings.blamed }
+            self.new.file) beginnings.old.holdings.blamed beginnings.new.holdings.blamed }
         ensures inconsistent { result ≡ Ok Made.Inconsistent
+            → IsInconsistent beginnings.new.holdings.requests.entries self.new.file }
+        ensures no_code_word { result ≡ Ok Made.Inconsistent
             → IsNoCodeWord self.old.file.handout.ueb }
         ensures waits { result ≡ Ok Made.Waits → CanNotGoOn self.old.file }
         ensures must { result ≡ Ok Made.Waits

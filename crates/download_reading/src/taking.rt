@@ -57,7 +57,7 @@ impl Reading {
         ensures continues { Continues beginnings.old self.old beginnings.new self.new }
         ensures requests { beginnings.new.holdings.requests ≡ beginnings.old.holdings.requests }
         ensures causes { AddsBlames (IsPartFault beginnings.old.holdings.requests.entries
-            self.old.file) beginnings.old.holdings.blamed beginnings.new.holdings.blamed }
+            self.new.file) beginnings.old.holdings.blamed beginnings.new.holdings.blamed }
     {
         let Some(reader) = beginnings.begun()[holding].reader else {
             return Ok(());
@@ -77,7 +77,7 @@ impl Reading {
         ensures continues { Continues beginnings.old self.old beginnings.new self.new }
         ensures requests { beginnings.new.holdings.requests ≡ beginnings.old.holdings.requests }
         ensures causes { AddsBlames (IsPartFault beginnings.old.holdings.requests.entries
-            self.old.file) beginnings.old.holdings.blamed beginnings.new.holdings.blamed }
+            self.new.file) beginnings.old.holdings.blamed beginnings.new.holdings.blamed }
     {
         while let Some(place) = self.file.first_waiting(reader) {
             if !self.take_one(beginnings, reader, place)? {
@@ -104,7 +104,7 @@ impl Reading {
         ensures continues { Continues beginnings.old self.old beginnings.new self.new }
         ensures requests { beginnings.new.holdings.requests ≡ beginnings.old.holdings.requests }
         ensures causes { AddsBlames (IsPartFault beginnings.old.holdings.requests.entries
-            self.old.file) beginnings.old.holdings.blamed beginnings.new.holdings.blamed }
+            self.new.file) beginnings.old.holdings.blamed beginnings.new.holdings.blamed }
         ensures live { result ≡ Ok true → IsLive self.new.file reader }
         ensures taken { result ≡ Ok true → waiting_at self.new.file reader
             ≡ drop 1 (waiting_at self.old.file reader) }

@@ -1,4 +1,3 @@
-use Rattle.share_beginnings.specs.declared.beginnings.News.TheVariants as news
 use Rattle.download_reading.proofs.Ended.{continues_none}
 use Rattle.download_reading.proofs.Heard.{heard_bytes, heard_kept, heard_live}
 use Rattle.download_reading.proofs.reading.Reading.follow.Goals as goal

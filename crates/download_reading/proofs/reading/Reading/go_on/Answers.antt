@@ -1,11 +1,9 @@
 use Rattle.share_holdings.specs.declared.holding.Blame.{Blame}
 use Rattle.std.proofs.Common.{List}
 use Rattle.share_beginnings.specs.Causes.{AddsBlames}
-use Rattle.share_beginnings.proofs.Caused.{adds_as, adds_none}
+use Rattle.share_beginnings.proofs.Caused.{adds_none}
 use Rattle.download_reading.specs.Causes.{IsBlockFault}
-use Rattle.download_reading.proofs.Causes.{alike_of, block_moved}
 use Rattle.std.proofs.Common.{◌≡◌, ◌∙◌, ◌<◌, inl, inr, sym, subst, ap}
-use Rattle.download_file.proofs.RowFileLemmas.{same_two}
 use Rattle.share_holdings.specs.State.{TableState}
 use Rattle.download_segments.specs.NoCodeWord.{IsNoCodeWord}
 use Rattle.download_segments.specs.State.{HandoutState}
@@ -26,8 +24,8 @@ returns-clause-continues c =
     (continues_trans c.args.beginnings.now c.begin_more.new.beginnings c.ask_all.new.beginnings c.args.self.now c.begin_more.new.self c.ask_all.new.self c.begin_more.ensures.continues c.ask_all.ensures.continues)
     c.make.ensures.continues
 
-pub returns-clause-inconsistent : goal.returns-clause-inconsistent
-returns-clause-inconsistent c e = subst IsNoCodeWord (sym c.make.ensures.continues.same.ueb) (c.make.ensures.inconsistent e)
+pub returns-clause-no_code_word : goal.returns-clause-no_code_word
+returns-clause-no_code_word c e = subst IsNoCodeWord (sym c.make.ensures.continues.same.ueb) (c.make.ensures.no_code_word e)
 
 pub returns-clause-more : goal.returns-clause-more
 returns-clause-more c made e other complete =
@@ -77,20 +75,15 @@ returns-clause-wrong c reader e =
 pub returns-in_err-begin_more-clause-causes : goal.returns-in_err-begin_more-clause-causes
 returns-in_err-begin_more-clause-causes c =
     let t = c.begin_more.new.beginnings in
-    adds_none (IsBlockFault t.holdings.requests.entries c.args.self.now.file) c.args.beginnings.now.holdings.blamed t.holdings.blamed c.begin_more.ensures.blamed
+    adds_none (IsBlockFault t.holdings.requests.entries c.begin_more.new.self.file) c.args.beginnings.now.holdings.blamed t.holdings.blamed c.begin_more.ensures.blamed
 
 pub returns-in_err-ask_all-clause-causes : goal.returns-in_err-ask_all-clause-causes
 returns-in_err-ask_all-clause-causes c =
     let t = c.ask_all.new.beginnings in
-    adds_none (IsBlockFault t.holdings.requests.entries c.args.self.now.file) c.args.beginnings.now.holdings.blamed t.holdings.blamed (c.ask_all.ensures.blamed ∙ c.begin_more.ensures.blamed)
+    adds_none (IsBlockFault t.holdings.requests.entries c.ask_all.new.self.file) c.args.beginnings.now.holdings.blamed t.holdings.blamed (c.ask_all.ensures.blamed ∙ c.begin_more.ensures.blamed)
 
 pub returns-clause-causes : goal.returns-clause-causes
 returns-clause-causes c =
     let u = c.make.new.beginnings in
-    let t = c.ask_all.new.beginnings in
-    let f = c.ask_all.new.self.file in
-    let g = c.args.self.now.file in
-    let same = same_two g c.begin_more.new.self.file f c.begin_more.ensures.continues.same c.ask_all.ensures.continues.same in
-    subst (λ (l : List Blame). AddsBlames (IsBlockFault u.holdings.requests.entries g) l u.holdings.blamed) (c.ask_all.ensures.blamed ∙ c.begin_more.ensures.blamed)
-    (adds_as (IsBlockFault u.holdings.requests.entries f) (IsBlockFault u.holdings.requests.entries g) t.holdings.blamed u.holdings.blamed
-    (λ b k. block_moved u.holdings.requests.entries u.holdings.requests.entries g f b (λ i x e quiet. e) (alike_of g f same) k) c.make.ensures.causes)
+    subst (λ (l : List Blame). AddsBlames (IsBlockFault u.holdings.requests.entries c.make.new.self.file) l u.holdings.blamed) (c.ask_all.ensures.blamed ∙ c.begin_more.ensures.blamed)
+    c.make.ensures.causes

@@ -53,20 +53,20 @@ returns-in-Bytes-clause-continues c =
 
 pub returns-in_err-compare-in-Beginning-clause-causes : goal.returns-in_err-compare-in-Beginning-clause-causes
 returns-in_err-compare-in-Beginning-clause-causes c =
-    began_causes c.args.cap.now c.args.beginnings.now c.compare.new.beginnings c.args.self.now c.follow.new.self c.follow.ensures.handout c.compare.ensures.causes
+    began_causes c.args.cap.now c.args.beginnings.now c.compare.new.beginnings c.follow.new.self c.compare.new.self c.compare.ensures.continues.same.geometry c.compare.ensures.causes
 
 pub returns-in-Nothing-clause-causes : goal.returns-in-Nothing-clause-causes
 returns-in-Nothing-clause-causes c =
     let bs = c.args.beginnings.now in
-    adds_none (HasCause c.args.cap.now bs.holdings.requests.entries c.args.self.now.file) bs.holdings.blamed bs.holdings.blamed refl
+    adds_none (HasCause c.args.cap.now bs.holdings.requests.entries c.follow.new.self.file) bs.holdings.blamed bs.holdings.blamed refl
 
 pub returns-in_ok-compare-in-Beginning-clause-causes : goal.returns-in_ok-compare-in-Beginning-clause-causes
 returns-in_ok-compare-in-Beginning-clause-causes c =
-    heard_causes c.args.cap.now c.args.beginnings.now c.compare.new.beginnings c.take_of.new.beginnings c.args.self.now c.compare.new.self c.take_of.new.self
-    (continues_trans c.args.beginnings.now c.args.beginnings.now c.compare.new.beginnings c.args.self.now c.follow.new.self c.compare.new.self c.follow.ensures.continues c.compare.ensures.continues)
+    heard_causes c.args.cap.now c.args.beginnings.now c.compare.new.beginnings c.take_of.new.beginnings c.compare.new.self c.take_of.new.self
     c.take_of.ensures.continues c.compare.ensures.requests
-    (began_causes c.args.cap.now c.args.beginnings.now c.compare.new.beginnings c.args.self.now c.follow.new.self c.follow.ensures.handout c.compare.ensures.causes) c.take_of.ensures.causes
+    (began_causes c.args.cap.now c.args.beginnings.now c.compare.new.beginnings c.follow.new.self c.compare.new.self c.compare.ensures.continues.same.geometry c.compare.ensures.causes)
+    c.take_of.ensures.causes
 
 pub returns-in-Bytes-clause-causes : goal.returns-in-Bytes-clause-causes
 returns-in-Bytes-clause-causes c =
-    took_causes c.args.cap.now c.args.beginnings.now c.args.beginnings.now c.take_of-in-Bytes.new.beginnings c.args.self.now c.follow.new.self c.follow.ensures.continues refl c.take_of-in-Bytes.ensures.causes
+    took_causes c.args.cap.now c.args.beginnings.now c.args.beginnings.now c.take_of-in-Bytes.new.beginnings c.take_of-in-Bytes.new.self refl c.take_of-in-Bytes.ensures.causes

@@ -11,7 +11,7 @@ use Rattle.download_segments.specs.NoCodeWord.{IsNoCodeWord}
 use Rattle.download_file.specs.Answers.{IsRead}
 use Rattle.download_file.specs.Asked.{AreAskedUp}
 use Rattle.download_file.specs.Changes.{StaysAskedUp}
-use Rattle.download_file.specs.Making.{CanNotGoOn, MustWait, RefutesReader}
+use Rattle.download_file.specs.Making.{CanNotGoOn, IsInconsistent, MustWait, RefutesReader}
 use Rattle.download_file.specs.State.{FileState, IsComplete}
 use Rattle.download_file.specs.declared.file.Made.{Made}
 use Rattle.download_file.specs.declared.file.Made.TheVariants as made_as
@@ -27,6 +27,10 @@ use Rattle.download_reading.proofs.reading.Reading.make.Goals as goal
 -- the record of the beginnings
 pub read_in : (bs : BeginningsState) (hs : HoldingsState) (rs : RequestsState) (f : FileState) → rs ≡ hs.requests → hs ≡ bs.holdings → IsRead rs.entries f → IsRead bs.holdings.requests.entries f
 read_in bs hs rs f a b = subst (λ (q : RequestsState). IsRead q.entries f) (a ∙ ap (λ (x : HoldingsState). x.requests) b)
+
+inconsistent_in : (bs : BeginningsState) (hs : HoldingsState) (rs : RequestsState) (f : FileState) → rs ≡ hs.requests → hs ≡ bs.holdings → IsInconsistent rs.entries f
+    → IsInconsistent bs.holdings.requests.entries f
+inconsistent_in bs hs rs f a b = subst (λ (q : RequestsState). IsInconsistent q.entries f) (a ∙ ap (λ (x : HoldingsState). x.requests) b)
 
 ok_is : (a b : Made) → ◌≡◌ {A = Result Made AllocError} (Ok a) (Ok b) → a ≡ b
 ok_is a b e = cc
@@ -50,7 +54,7 @@ returns-in_err-made-clause-continues c =
     let f = c.make.new.self in
     let read = read_in bs c.holdings.result.now c.requests.result.now f c.requests.ensures.value c.holdings.ensures k.reads in
     subst (λ (x : ReadingState). Continues bs x bs (record { file = f; holdings = c.self.inside.holdings.items })) c.self.view_is
-    (made_continues bs r f before.linked k.live k.readers k.asked read k.right k.same (pieces_made r.file f c.make.result before.linked.kept.right.handout k.ready k.same_handout))
+    (made_continues bs r f before.linked k.live k.readers k.asked read k.right k.same (pieces_made c.requests.result.now.entries r.file f c.make.result before.linked.kept.right.handout k.ready k.same_handout))
 
 pub blame-requires-clause-reading : goal.blame-requires-clause-reading
 blame-requires-clause-reading c =
@@ -78,7 +82,7 @@ returns-in_ok-blame-in-Wrong-clause-continues c =
     let read = read_in bs c.holdings.result.now c.requests.result.now f c.requests.ensures.value c.holdings.ensures k.reads in
     let q : ReadingState = (record { file = f; holdings = c.self.inside.holdings.items }) in
     let first : Continues bs c.args.self.now bs q = subst (λ (x : ReadingState). Continues bs x bs q) c.self.view_is
-    (made_continues bs r f before.linked k.live k.readers k.asked read k.right k.same (pieces_made r.file f c.make.result before.linked.kept.right.handout k.ready k.same_handout)) in
+    (made_continues bs r f before.linked k.live k.readers k.asked read k.right k.same (pieces_made c.requests.result.now.entries r.file f c.make.result before.linked.kept.right.handout k.ready k.same_handout)) in
     continues_trans bs bs c.blame.new.beginnings c.args.self.now q c.blame.new.self first c.in_ok-blame-in-Wrong.ensures.continues
 
 pub returns-in_err-blame-in-Wrong-clause-continues : goal.returns-in_err-blame-in-Wrong-clause-continues
@@ -91,7 +95,7 @@ returns-in_err-blame-in-Wrong-clause-continues c =
     let read = read_in bs c.holdings.result.now c.requests.result.now f c.requests.ensures.value c.holdings.ensures k.reads in
     let q : ReadingState = (record { file = f; holdings = c.self.inside.holdings.items }) in
     let first : Continues bs c.args.self.now bs q = subst (λ (x : ReadingState). Continues bs x bs q) c.self.view_is
-    (made_continues bs r f before.linked k.live k.readers k.asked read k.right k.same (pieces_made r.file f c.make.result before.linked.kept.right.handout k.ready k.same_handout)) in
+    (made_continues bs r f before.linked k.live k.readers k.asked read k.right k.same (pieces_made c.requests.result.now.entries r.file f c.make.result before.linked.kept.right.handout k.ready k.same_handout)) in
     continues_trans bs bs c.blame.new.beginnings c.args.self.now q c.blame.new.self first c.in_err-blame-in-Wrong.ensures.continues
 
 pub returns-in_default : goal.returns-in_default
@@ -106,9 +110,10 @@ returns-in_default c =
     record {
       reading = all_made bs r f before k.live k.readers k.asked read k.right k.same;
       continues = subst (λ (x : ReadingState). Continues bs x bs q) c.self.view_is
-          (made_continues bs r f before.linked k.live k.readers k.asked read k.right k.same (pieces_made r.file f c.make.result before.linked.kept.right.handout k.ready k.same_handout));
-      causes = adds_none (IsBlockFault bs.holdings.requests.entries c.args.self.now.file) bs.holdings.blamed bs.holdings.blamed refl;
-      inconsistent = λ e. subst (λ (x : ReadingState). IsNoCodeWord x.file.handout.ueb) c.self.view_is (k.inconsistent (c.in_ok-made.was ∙ e));
+          (made_continues bs r f before.linked k.live k.readers k.asked read k.right k.same (pieces_made c.requests.result.now.entries r.file f c.make.result before.linked.kept.right.handout k.ready k.same_handout));
+      causes = adds_none (IsBlockFault bs.holdings.requests.entries f) bs.holdings.blamed bs.holdings.blamed refl;
+      inconsistent = λ e. inconsistent_in bs c.holdings.result.now c.requests.result.now f c.requests.ensures.value c.holdings.ensures (k.inconsistent (c.in_ok-made.was ∙ e));
+      no_code_word = λ e. subst (λ (x : ReadingState). IsNoCodeWord x.file.handout.ueb) c.self.view_is (k.no_code_word (c.in_ok-made.was ∙ e));
       waits = λ e. subst (λ (x : ReadingState). CanNotGoOn x.file) c.self.view_is (k.waits (c.in_ok-made.was ∙ e));
       must = λ e. subst (λ (x : ReadingState). IsComplete x.file ⊎ MustWait c.args.patient x.file) c.self.view_is (k.prompt (c.in_ok-made.was ∙ e));
       still = λ e. record {
@@ -117,7 +122,7 @@ returns-in_default c =
         readers = k.readers ∙ ap (λ (x : ReadingState). x.file.readers) c.self.view_is;
       };
       handout = λ made e other. k.same_handout (λ e2. other (ok_is made made_as.Ready (sym e ∙ sym c.in_ok-made.was ∙ e2))) ∙ ap (λ (x : ReadingState). x.file.handout) c.self.view_is;
-      ready = λ e. subst (λ (x : ReadingState). work bs q < work bs x) c.self.view_is (less_made bs r f before.linked.kept.right.handout (k.ready (c.in_ok-made.was ∙ e)));
+      ready = λ e. subst (λ (x : ReadingState). work bs q < work bs x) c.self.view_is (less_made c.requests.result.now.entries bs r f before.linked.kept.right.handout (k.ready (c.in_ok-made.was ∙ e)));
       wrong = λ reader e. absurd (c.in_default.not-Wrong reader (ok_is c.in_ok-made.made (made_as.Wrong reader) e));
     }
 
@@ -133,9 +138,10 @@ returns-in-Ready c =
     record {
       reading = all_made bs r f before k.live k.readers k.asked read k.right k.same;
       continues = subst (λ (x : ReadingState). Continues bs x bs q) c.self.view_is
-          (made_continues bs r f before.linked k.live k.readers k.asked read k.right k.same (pieces_made r.file f c.make.result before.linked.kept.right.handout k.ready k.same_handout));
-      causes = adds_none (IsBlockFault bs.holdings.requests.entries c.args.self.now.file) bs.holdings.blamed bs.holdings.blamed refl;
-      inconsistent = λ e. subst (λ (x : ReadingState). IsNoCodeWord x.file.handout.ueb) c.self.view_is (k.inconsistent (c.in_ok-made.was ∙ e));
+          (made_continues bs r f before.linked k.live k.readers k.asked read k.right k.same (pieces_made c.requests.result.now.entries r.file f c.make.result before.linked.kept.right.handout k.ready k.same_handout));
+      causes = adds_none (IsBlockFault bs.holdings.requests.entries f) bs.holdings.blamed bs.holdings.blamed refl;
+      inconsistent = λ e. inconsistent_in bs c.holdings.result.now c.requests.result.now f c.requests.ensures.value c.holdings.ensures (k.inconsistent (c.in_ok-made.was ∙ e));
+      no_code_word = λ e. subst (λ (x : ReadingState). IsNoCodeWord x.file.handout.ueb) c.self.view_is (k.no_code_word (c.in_ok-made.was ∙ e));
       waits = λ e. subst (λ (x : ReadingState). CanNotGoOn x.file) c.self.view_is (k.waits (c.in_ok-made.was ∙ e));
       must = λ e. subst (λ (x : ReadingState). IsComplete x.file ⊎ MustWait c.args.patient x.file) c.self.view_is (k.prompt (c.in_ok-made.was ∙ e));
       still = λ e. record {
@@ -144,12 +150,15 @@ returns-in-Ready c =
         readers = k.readers ∙ ap (λ (x : ReadingState). x.file.readers) c.self.view_is;
       };
       handout = λ made e other. k.same_handout (λ e2. other (ok_is made made_as.Ready (sym e ∙ sym c.in_ok-made.was ∙ e2))) ∙ ap (λ (x : ReadingState). x.file.handout) c.self.view_is;
-      ready = λ e. subst (λ (x : ReadingState). work bs q < work bs x) c.self.view_is (less_made bs r f before.linked.kept.right.handout (k.ready (c.in_ok-made.was ∙ e)));
+      ready = λ e. subst (λ (x : ReadingState). work bs q < work bs x) c.self.view_is (less_made c.requests.result.now.entries bs r f before.linked.kept.right.handout (k.ready (c.in_ok-made.was ∙ e)));
       wrong = λ reader e. absurd (not_wrong c.in_ok-made.made reader made_as.Ready (ok_is c.in_ok-made.made (made_as.Wrong reader) e) (ap Ok c.in-Ready.is) (λ g. cc));
     }
 
 pub returns-in_ok-blame-in-Wrong-clause-inconsistent : goal.returns-in_ok-blame-in-Wrong-clause-inconsistent
 returns-in_ok-blame-in-Wrong-clause-inconsistent c e = absurd (not_wrong (made_as.Wrong c.in-Wrong.reader) c.in-Wrong.reader made_as.Inconsistent refl e (λ f. cc))
+
+pub returns-in_ok-blame-in-Wrong-clause-no_code_word : goal.returns-in_ok-blame-in-Wrong-clause-no_code_word
+returns-in_ok-blame-in-Wrong-clause-no_code_word c e = absurd (not_wrong (made_as.Wrong c.in-Wrong.reader) c.in-Wrong.reader made_as.Inconsistent refl e (λ f. cc))
 
 pub returns-in_ok-blame-in-Wrong-clause-waits : goal.returns-in_ok-blame-in-Wrong-clause-waits
 returns-in_ok-blame-in-Wrong-clause-waits c e = absurd (not_wrong (made_as.Wrong c.in-Wrong.reader) c.in-Wrong.reader made_as.Waits refl e (λ f. cc))
@@ -176,23 +185,23 @@ returns-in_ok-blame-in-Wrong-clause-wrong c reader e =
 pub returns-in_err-made-clause-causes : goal.returns-in_err-made-clause-causes
 returns-in_err-made-clause-causes c =
     let bs = c.args.beginnings.now in
-    adds_none (IsBlockFault bs.holdings.requests.entries c.args.self.now.file) bs.holdings.blamed bs.holdings.blamed refl
+    adds_none (IsBlockFault bs.holdings.requests.entries c.make.new.self) bs.holdings.blamed bs.holdings.blamed refl
 
 pub returns-in_err-blame-in-Wrong-clause-causes : goal.returns-in_err-blame-in-Wrong-clause-causes
 returns-in_err-blame-in-Wrong-clause-causes c =
     let bs = c.args.beginnings.now in
     let wrong = c.make.ensures.wrong c.in-Wrong.reader (c.in_ok-made.was ∙ ap Ok c.in-Wrong.is) in
-    made_causes bs c.blame.new.beginnings (record { file = c.self.inside.file; holdings = c.self.inside.holdings.items }) c.args.self.now c.make.new.self c.in-Wrong.reader c.self.view_is c.requires.reading
+    made_causes bs c.blame.new.beginnings (record { file = c.self.inside.file; holdings = c.self.inside.holdings.items }) c.args.self.now c.blame.new.self c.make.new.self c.in-Wrong.reader c.self.view_is c.requires.reading
     (subst (λ (q : RequestsState). RefutesReader q.entries c.self.inside.file c.in-Wrong.reader) (c.requests.ensures.value ∙ ap (λ (x : HoldingsState). x.requests) c.holdings.ensures) wrong)
-    c.blame.ensures.requests c.blame.ensures.adds
+    c.blame.ensures.requests (returns-in_err-blame-in-Wrong-clause-continues c).same c.blame.ensures.adds
 
 pub returns-in_ok-blame-in-Wrong-clause-causes : goal.returns-in_ok-blame-in-Wrong-clause-causes
 returns-in_ok-blame-in-Wrong-clause-causes c =
     let bs = c.args.beginnings.now in
     let wrong = c.make.ensures.wrong c.in-Wrong.reader (c.in_ok-made.was ∙ ap Ok c.in-Wrong.is) in
-    made_causes bs c.blame.new.beginnings (record { file = c.self.inside.file; holdings = c.self.inside.holdings.items }) c.args.self.now c.make.new.self c.in-Wrong.reader c.self.view_is c.requires.reading
+    made_causes bs c.blame.new.beginnings (record { file = c.self.inside.file; holdings = c.self.inside.holdings.items }) c.args.self.now c.blame.new.self c.make.new.self c.in-Wrong.reader c.self.view_is c.requires.reading
     (subst (λ (q : RequestsState). RefutesReader q.entries c.self.inside.file c.in-Wrong.reader) (c.requests.ensures.value ∙ ap (λ (x : HoldingsState). x.requests) c.holdings.ensures) wrong)
-    c.blame.ensures.requests c.blame.ensures.adds
+    c.blame.ensures.requests (returns-in_ok-blame-in-Wrong-clause-continues c).same c.blame.ensures.adds
 
 not_ok : {error : AllocError} → (result : Result Made AllocError) (made : Made) → result ≡ Err error → result ≡ Ok made → ⊥
 not_ok result made is e = cc

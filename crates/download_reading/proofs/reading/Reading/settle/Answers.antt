@@ -40,7 +40,7 @@ loop-self-smaller c = elim c.in-Ready.is [
 pub loop-self-preserved : goal.loop-self-preserved
 loop-self-preserved c = record {
   reading = c.in_ok-go_on.ensures.reading;
-  causes = settled_causes c.args.beginnings.now c.loop-self.beginnings c.go_on.new.beginnings c.args.self.now c.loop-self.self c.go_on.new.self c.loop-self.invariant.continues c.go_on.ensures.continues c.loop-self.invariant.causes c.go_on.ensures.causes;
+  causes = settled_causes c.args.beginnings.now c.loop-self.beginnings c.go_on.new.beginnings c.loop-self.self c.go_on.new.self c.go_on.ensures.continues c.loop-self.invariant.causes c.go_on.ensures.causes;
   continues = continues_trans c.args.beginnings.now c.loop-self.beginnings c.go_on.new.beginnings c.args.self.now c.loop-self.self c.go_on.new.self c.loop-self.invariant.continues c.go_on.ensures.continues;
 }
 
@@ -57,6 +57,9 @@ returns-in-Inconsistent-clause-complete c = (
 pub returns-in-Inconsistent-clause-inconsistent : goal.returns-in-Inconsistent-clause-inconsistent
 returns-in-Inconsistent-clause-inconsistent c e = c.go_on.ensures.inconsistent (c.in_ok-go_on.was ∙ ap Ok c.in-Inconsistent.is)
 
+pub returns-in-Inconsistent-clause-no_code_word : goal.returns-in-Inconsistent-clause-no_code_word
+returns-in-Inconsistent-clause-no_code_word c e = c.go_on.ensures.no_code_word (c.in_ok-go_on.was ∙ ap Ok c.in-Inconsistent.is)
+
 pub why_not-requires-clause-stuck : goal.why_not-requires-clause-stuck
 why_not-requires-clause-stuck c = c.go_on.ensures.stuck (c.in_ok-go_on.was ∙ ap Ok c.in-Waits.is)
 
@@ -72,6 +75,9 @@ returns-in-Waits-clause-complete c = (
 
 pub returns-in-Waits-clause-inconsistent : goal.returns-in-Waits-clause-inconsistent
 returns-in-Waits-clause-inconsistent c e = absurd (other_than c.why_not.result Inconsistent c.why_not.ensures.only (same_settled c.why_not.result Inconsistent e) (λ f. cc) (λ f. cc))
+
+pub returns-in-Waits-clause-no_code_word : goal.returns-in-Waits-clause-no_code_word
+returns-in-Waits-clause-no_code_word c e = absurd (other_than c.why_not.result Inconsistent c.why_not.ensures.only (same_settled c.why_not.result Inconsistent e) (λ f. cc) (λ f. cc))
 
 pub returns-in-Waits-clause-waits : goal.returns-in-Waits-clause-waits
 returns-in-Waits-clause-waits c e = c.why_not.ensures.waits (same_settled c.why_not.result Waits e)
@@ -92,12 +98,12 @@ returns-clause-complete c = (
 
 pub returns-in_err-go_on-clause-causes : goal.returns-in_err-go_on-clause-causes
 returns-in_err-go_on-clause-causes c =
-    settled_causes c.args.beginnings.now c.loop-self.beginnings c.go_on.new.beginnings c.args.self.now c.loop-self.self c.go_on.new.self c.loop-self.invariant.continues c.go_on.ensures.continues c.loop-self.invariant.causes c.go_on.ensures.causes
+    settled_causes c.args.beginnings.now c.loop-self.beginnings c.go_on.new.beginnings c.loop-self.self c.go_on.new.self c.go_on.ensures.continues c.loop-self.invariant.causes c.go_on.ensures.causes
 
 pub returns-in-Inconsistent-clause-causes : goal.returns-in-Inconsistent-clause-causes
 returns-in-Inconsistent-clause-causes c =
-    settled_causes c.args.beginnings.now c.loop-self.beginnings c.go_on.new.beginnings c.args.self.now c.loop-self.self c.go_on.new.self c.loop-self.invariant.continues c.go_on.ensures.continues c.loop-self.invariant.causes c.go_on.ensures.causes
+    settled_causes c.args.beginnings.now c.loop-self.beginnings c.go_on.new.beginnings c.loop-self.self c.go_on.new.self c.go_on.ensures.continues c.loop-self.invariant.causes c.go_on.ensures.causes
 
 pub returns-in-Waits-clause-causes : goal.returns-in-Waits-clause-causes
 returns-in-Waits-clause-causes c =
-    settled_causes c.args.beginnings.now c.loop-self.beginnings c.go_on.new.beginnings c.args.self.now c.loop-self.self c.go_on.new.self c.loop-self.invariant.continues c.go_on.ensures.continues c.loop-self.invariant.causes c.go_on.ensures.causes
+    settled_causes c.args.beginnings.now c.loop-self.beginnings c.go_on.new.beginnings c.loop-self.self c.go_on.new.self c.go_on.ensures.continues c.loop-self.invariant.causes c.go_on.ensures.causes

@@ -7,7 +7,7 @@ use Rattle.download_reading.proofs.reading.Reading.settle.Given as goal
 abbrev pub invariant-loop-self : goal.invariant-loop-self
 invariant-loop-self l = record {
   reading : AreReading l.beginnings l.self;
-  causes : AddsBlames (IsBlockFault l.beginnings.holdings.requests.entries l.initial.self.file) l.initial.beginnings.holdings.blamed l.beginnings.holdings.blamed;
+  causes : AddsBlames (IsBlockFault l.beginnings.holdings.requests.entries l.self.file) l.initial.beginnings.holdings.blamed l.beginnings.holdings.blamed;
   continues : Continues l.initial.beginnings l.initial.self l.beginnings l.self;
 }
 

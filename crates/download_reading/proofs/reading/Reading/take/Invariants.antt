@@ -11,7 +11,7 @@ invariant-loop-place l = record {
   reading : AreReadingBut (Some l.reader) l.beginnings l.self;
   live : IsLive l.self.file l.reader;
   requests : l.beginnings.holdings.requests ≡ l.initial.beginnings.holdings.requests;
-  causes : AddsBlames (IsPartFault l.initial.beginnings.holdings.requests.entries l.initial.self.file) l.initial.beginnings.holdings.blamed l.beginnings.holdings.blamed;
+  causes : AddsBlames (IsPartFault l.initial.beginnings.holdings.requests.entries l.self.file) l.initial.beginnings.holdings.blamed l.beginnings.holdings.blamed;
   continues : Continues l.initial.beginnings l.initial.self l.beginnings l.self;
 }
 

@@ -2,7 +2,7 @@ use Rattle.share_beginnings.proofs.Caused.{adds_as, adds_none}
 use Rattle.std.specs.Prelude.{Err}
 use Rattle.download_file.specs.Taking.{IsRefused}
 use Rattle.download_reading.specs.Causes.{IsBlameOf, IsPartFault}
-use Rattle.download_reading.proofs.Causes.{answers_first, part_fault}
+use Rattle.download_reading.proofs.Causes.{answers_first, part_fault, part_moved}
 use Rattle.std.proofs.Common.{◌≡◌, ◌∙◌, ℕ, List, [], Contains, Some, None, refl, sym, subst, ap}
 use Rattle.std.proofs.lemmas.List.{append-nil}
 use Rattle.lemmas.proofs.Options.{one_there}
@@ -13,6 +13,7 @@ use Rattle.share_beginnings.specs.State.{BeginningsState}
 use Rattle.share_beginnings.proofs.Opened.{goes_none}
 use Rattle.download_segments.specs.State.{HandoutState}
 use Rattle.download_file.specs.Answers.{AnswersFirst}
+use Rattle.download_file.specs.Changes.{IsSameFile}
 use Rattle.download_file.specs.State.{FileState, IsLive, first_waiting}
 use Rattle.download_reading.specs.Reading.{AreReadingBut}
 use Rattle.download_reading.specs.State.{ReadingState}
@@ -98,12 +99,12 @@ returns-in_default-clause-causes c =
 pub returns-in-Ok-clause-causes : goal.returns-in-Ok-clause-causes
 returns-in-Ok-clause-causes c =
     let bs = c.args.beginnings.now in
-    adds_none (IsPartFault bs.holdings.requests.entries c.args.self.now.file) bs.holdings.blamed bs.holdings.blamed refl
+    adds_none (IsPartFault bs.holdings.requests.entries c.take.new.self) bs.holdings.blamed bs.holdings.blamed refl
 
 pub returns-in-Err-OutOfMemory-clause-causes : goal.returns-in-Err-OutOfMemory-clause-causes
 returns-in-Err-OutOfMemory-clause-causes c =
     let bs = c.args.beginnings.now in
-    adds_none (IsPartFault bs.holdings.requests.entries c.args.self.now.file) bs.holdings.blamed bs.holdings.blamed refl
+    adds_none (IsPartFault bs.holdings.requests.entries c.take.new.self) bs.holdings.blamed bs.holdings.blamed refl
 
 pub returns-in_err-blame-in-Err-Check-clause-causes : goal.returns-in_err-blame-in-Err-Check-clause-causes
 returns-in_err-blame-in-Err-Check-clause-causes c =
@@ -112,9 +113,10 @@ returns-in_err-blame-in-Err-Check-clause-causes c =
     let same : record { file = c.take.new.self; holdings = c.self.inside.holdings.items } ≡ r = ap (λ (f : FileState). record { file = f; holdings = c.self.inside.holdings.items }) c.in-Err-Check.ensures.unchanged ∙ c.self.view_is in
     let refused = subst (λ (x : ReadingState). IsRefused x.file c.args.reader c.in-Some.bytes.now c.in-Err-Check.check) c.self.view_is (c.in-Err-Check.ensures.refused c.in-Err-Check.check (ap Err c.in-Err-Check.field-0-is)) in
     let a = answered_by bs c.holdings.result.now c.requests.result.now c.args.place c.in-Some.bytes.now c.holdings.ensures c.requests.ensures.value c.in-Some.ensures.some in
-    adds_as (IsBlameOf bs (record { file = c.take.new.self; holdings = c.self.inside.holdings.items }) c.args.reader c.in-Err-Check.check) (IsPartFault bs.holdings.requests.entries r.file) bs.holdings.blamed c.blame.new.beginnings.holdings.blamed
-    (λ b k. part_fault (Some c.args.reader) bs r c.args.reader c.args.place c.in-Err-Check.check c.in-Some.bytes.now b c.requires.reading c.requires.live c.requires.waits a refused
-    (subst (λ (x : ReadingState). IsBlameOf bs x c.args.reader c.in-Err-Check.check b) same k))
+    adds_as (IsBlameOf bs (record { file = c.take.new.self; holdings = c.self.inside.holdings.items }) c.args.reader c.in-Err-Check.check) (IsPartFault bs.holdings.requests.entries c.blame.new.self.file) bs.holdings.blamed c.blame.new.beginnings.holdings.blamed
+    (λ b k. part_moved bs.holdings.requests.entries bs.holdings.requests.entries r.file c.blame.new.self.file b (λ i x e quiet. e) (subst (λ (x : ReadingState). IsSameFile x.file c.blame.new.self.file) same c.blame.ensures.continues.same)
+    (part_fault (Some c.args.reader) bs r c.args.reader c.args.place c.in-Err-Check.check c.in-Some.bytes.now b c.requires.reading c.requires.live c.requires.waits a refused
+    (subst (λ (x : ReadingState). IsBlameOf bs x c.args.reader c.in-Err-Check.check b) same k)))
     c.blame.ensures.adds
 
 pub returns-in_ok-blame-in-Err-Check-clause-causes : goal.returns-in_ok-blame-in-Err-Check-clause-causes
@@ -124,9 +126,10 @@ returns-in_ok-blame-in-Err-Check-clause-causes c =
     let same : record { file = c.take.new.self; holdings = c.self.inside.holdings.items } ≡ r = ap (λ (f : FileState). record { file = f; holdings = c.self.inside.holdings.items }) c.in-Err-Check.ensures.unchanged ∙ c.self.view_is in
     let refused = subst (λ (x : ReadingState). IsRefused x.file c.args.reader c.in-Some.bytes.now c.in-Err-Check.check) c.self.view_is (c.in-Err-Check.ensures.refused c.in-Err-Check.check (ap Err c.in-Err-Check.field-0-is)) in
     let a = answered_by bs c.holdings.result.now c.requests.result.now c.args.place c.in-Some.bytes.now c.holdings.ensures c.requests.ensures.value c.in-Some.ensures.some in
-    adds_as (IsBlameOf bs (record { file = c.take.new.self; holdings = c.self.inside.holdings.items }) c.args.reader c.in-Err-Check.check) (IsPartFault bs.holdings.requests.entries r.file) bs.holdings.blamed c.blame.new.beginnings.holdings.blamed
-    (λ b k. part_fault (Some c.args.reader) bs r c.args.reader c.args.place c.in-Err-Check.check c.in-Some.bytes.now b c.requires.reading c.requires.live c.requires.waits a refused
-    (subst (λ (x : ReadingState). IsBlameOf bs x c.args.reader c.in-Err-Check.check b) same k))
+    adds_as (IsBlameOf bs (record { file = c.take.new.self; holdings = c.self.inside.holdings.items }) c.args.reader c.in-Err-Check.check) (IsPartFault bs.holdings.requests.entries c.blame.new.self.file) bs.holdings.blamed c.blame.new.beginnings.holdings.blamed
+    (λ b k. part_moved bs.holdings.requests.entries bs.holdings.requests.entries r.file c.blame.new.self.file b (λ i x e quiet. e) (subst (λ (x : ReadingState). IsSameFile x.file c.blame.new.self.file) same c.blame.ensures.continues.same)
+    (part_fault (Some c.args.reader) bs r c.args.reader c.args.place c.in-Err-Check.check c.in-Some.bytes.now b c.requires.reading c.requires.live c.requires.waits a refused
+    (subst (λ (x : ReadingState). IsBlameOf bs x c.args.reader c.in-Err-Check.check b) same k)))
     c.blame.ensures.adds
 
 -- what was asked stays asked
