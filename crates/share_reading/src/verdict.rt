@@ -2,6 +2,7 @@
 
 ghost use Rattle.std.specs.Prelude.{◌≡◌};
 ghost use Rattle.share_reading.specs.Verdict.{IsJudged};
+ghost use Rattle.share_reading.specs.declared.verdict.Verdict.{Verdict};
 
 use cap_text::VerifyCap;
 use share_verify::{Check, verify_share};
@@ -18,9 +19,11 @@ pub enum Verdict {
 }
 
 /// The verdict on these bytes as share `num` of the cap's file: `Good`, or `Corrupt` with the check
-/// of the first fault that `verify_share` tells.
+/// of the first fault that `verify_share` tells. There is no other.
 pub fn judge(cap: &VerifyCap, num: u16, share: &[u8]) -> Verdict
-    ensures { IsJudged cap.now num share.now result }
+    ensures judged { IsJudged cap.now num share.now result }
+    ensures alone { (verdict : Verdict) → IsJudged cap.now num share.now verdict
+        → result ≡ verdict }
 {
     match verify_share(cap, num, share) {
         Ok(()) => Verdict::Good,
