@@ -6,9 +6,14 @@ use Rattle.std.proofs.lemmas.Option.{none-some, same_Some}
 use Rattle.lemmas.proofs.Members.{contains_head, contains_cases, contains_none}
 use Rattle.cap_text.specs.Cap.{VerifyCapValue}
 use Rattle.share_verify.specs.Checks.{check_of}
-use Rattle.share_verify.proofs.Faults.{first_fails}
+use Rattle.share_verify.proofs.Faults.{first_fails, no_reading_fault, one_reading_fault, same_reading}
+use Rattle.share_verify.proofs.FirstFault.{section_fault}
 use Rattle.share_verify.proofs.Passing.{sound_passes}
-use Rattle.share_verify.specs.Verify.{IsSoundShare}
+use Rattle.share_verify.specs.Verify.{IsFirstFault, IsSectionFault, IsSoundShare, not_read, not_sound}
+use Rattle.share_verify.specs.declared.fault.ShareFault.{ShareFault}
+use Rattle.share_verify.specs.declared.fault.ShareFault.TheVariants.{Layout, Unused, OtherUeb, Ueb, CiphertextTree, BlockTree, ShareHashes, Data}
+use Rattle.share_layout.specs.Share.{Sections}
+use Rattle.ueb.specs.Shape.{Contents}
 use Rattle.share_verify.specs.declared.check.Check.{Check}
 use Rattle.share_opening.specs.Reads.{Brought}
 use Rattle.share_opening.specs.Blame.{HasReads}
@@ -87,5 +92,67 @@ lost_alone cap num reads (Corrupt check) is lost = elim is [
 ]
 lost_alone cap num reads Lost is lost = refl
 
+-- ---- the first fault is one
+
+module _ (u : Contents) (num : ℕ) (s : Sections) where
+  one_section_fault : (f g : ShareFault) → IsSectionFault u num s f → IsSectionFault u num s g → f ≡ g
+  one_section_fault (Layout error) g h k = absurd h
+  one_section_fault OtherUeb g h k = absurd h
+  one_section_fault (Ueb error) g h k = absurd h
+  one_section_fault Unused (Layout error) h k = absurd k
+  one_section_fault Unused OtherUeb h k = absurd k
+  one_section_fault Unused (Ueb error) h k = absurd k
+  one_section_fault Unused Unused h k = refl
+  one_section_fault Unused CiphertextTree h k = absurd (h k.0)
+  one_section_fault Unused BlockTree h k = absurd (h k.0)
+  one_section_fault Unused ShareHashes h k = absurd (h k.0)
+  one_section_fault Unused Data h k = absurd (h k.0)
+  one_section_fault CiphertextTree (Layout error) h k = absurd k
+  one_section_fault CiphertextTree OtherUeb h k = absurd k
+  one_section_fault CiphertextTree (Ueb error) h k = absurd k
+  one_section_fault CiphertextTree Unused h k = absurd (k h.0)
+  one_section_fault CiphertextTree CiphertextTree h k = refl
+  one_section_fault CiphertextTree BlockTree h k = absurd (h.1 k.1)
+  one_section_fault CiphertextTree ShareHashes h k = absurd (h.1 k.1)
+  one_section_fault CiphertextTree Data h k = absurd (h.1 k.1)
+  one_section_fault BlockTree (Layout error) h k = absurd k
+  one_section_fault BlockTree OtherUeb h k = absurd k
+  one_section_fault BlockTree (Ueb error) h k = absurd k
+  one_section_fault BlockTree Unused h k = absurd (k h.0)
+  one_section_fault BlockTree CiphertextTree h k = absurd (k.1 h.1)
+  one_section_fault BlockTree BlockTree h k = refl
+  one_section_fault BlockTree ShareHashes h k = absurd (h.2 k.2)
+  one_section_fault BlockTree Data h k = absurd (h.2 k.2)
+  one_section_fault ShareHashes (Layout error) h k = absurd k
+  one_section_fault ShareHashes OtherUeb h k = absurd k
+  one_section_fault ShareHashes (Ueb error) h k = absurd k
+  one_section_fault ShareHashes Unused h k = absurd (k h.0)
+  one_section_fault ShareHashes CiphertextTree h k = absurd (k.1 h.1)
+  one_section_fault ShareHashes BlockTree h k = absurd (k.2 h.2)
+  one_section_fault ShareHashes ShareHashes h k = refl
+  one_section_fault ShareHashes Data h k = absurd (h.3 k.3)
+  one_section_fault Data (Layout error) h k = absurd k
+  one_section_fault Data OtherUeb h k = absurd k
+  one_section_fault Data (Ueb error) h k = absurd k
+  one_section_fault Data Unused h k = absurd (k h.0)
+  one_section_fault Data CiphertextTree h k = absurd (k.1 h.1)
+  one_section_fault Data BlockTree h k = absurd (k.2 h.2)
+  one_section_fault Data ShareHashes h k = absurd (k.3 h.3)
+  one_section_fault Data Data h k = refl
+
+one_first_fault : (cap : VerifyCapValue) (num : ℕ) (share : List ℕ) (f g : ShareFault) → IsFirstFault cap num share f → IsFirstFault cap num share g → f ≡ g
+one_first_fault cap num share f g (not_read h) (not_read k) = one_reading_fault cap num share f g h k
+one_first_fault cap num share f g (not_read h) (not_sound u s reads k) = absurd (no_reading_fault cap num share u s reads f h)
+one_first_fault cap num share f g (not_sound u s reads h) (not_read k) = absurd (no_reading_fault cap num share u s reads g k)
+one_first_fault cap num share f g (not_sound u s reads h) (not_sound v t other k) =
+    one_section_fault u num s f g h
+    (section_fault cap num share u s (same_reading cap num share u s reads) g (not_sound v t other k) (no_reading_fault cap num share u s reads g))
+
+ended_alone : (cap : VerifyCapValue) (num : ℕ) (reads : List Settled) (one other : Check) → FailsFirst cap num reads one → FailsFirst cap num reads other → one ≡ other
+ended_alone cap num reads one other a b =
+    let same : a.bytes ≡ b.bytes = are_one (brought_of reads) a.bytes b.bytes a.whole b.whole in
+    let faults : a.fault ≡ b.fault = one_first_fault cap num b.bytes a.fault b.fault (subst (λ (share : List ℕ). IsFirstFault cap num share a.fault) same a.first) b.first in
+    a.check_is ∙ ap check_of faults ∙ sym b.check_is
+
 pub exclusive : AreExclusive
-exclusive = record { good = good_alone; lost = lost_alone }
+exclusive = record { good = good_alone; lost = lost_alone; ended = ended_alone }

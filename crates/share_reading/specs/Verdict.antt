@@ -106,9 +106,12 @@ IsJudged cap num share (Corrupt check) =
     (fault : ShareFault) × IsFirstFault cap num share fault × (check ≡ check_of fault)
 IsJudged cap num share Lost = ⊥
 
--- a law: a share has at most one kind of verdict
+-- a law: a share has at most one kind of verdict, and one that was read to its end fails one check
+-- first
 pub record AreExclusive : Type 0 where
   pub good : (cap : VerifyCapValue) (num : ℕ) (reads : List Settled) (v : Verdict)
       → IsVerdict cap num reads v → IsVerdict cap num reads Good → v ≡ Good
   pub lost : (cap : VerifyCapValue) (num : ℕ) (reads : List Settled) (v : Verdict)
       → IsVerdict cap num reads v → IsVerdict cap num reads Lost → v ≡ Lost
+  pub ended : (cap : VerifyCapValue) (num : ℕ) (reads : List Settled) (one other : Check)
+      → FailsFirst cap num reads one → FailsFirst cap num reads other → one ≡ other

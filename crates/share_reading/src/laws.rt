@@ -30,7 +30,7 @@ pub fn whole_shares_are_one()
     ensures { AreOne }
 {}
 
-/// A share has at most one kind of verdict.
+/// A share has at most one kind of verdict, and one that was read to its end fails one check first.
 pub fn verdicts_are_exclusive()
     ensures { AreExclusive }
 {}
