@@ -14,6 +14,7 @@ use Rattle.share_holdings.specs.Numbers.{read_count}
 use Rattle.share_holdings.specs.Table.{NoneIsFree}
 use Rattle.download_file.specs.State as file
 use Rattle.download_segments.specs.NoCodeWord.{IsNoCodeWord}
+use Rattle.download_file.specs.Making.{IsInconsistent}
 use Rattle.download_reading.specs.Reading.{AreReading}
 use Rattle.download_reading.specs.State.{ReadingState}
 use Rattle.download_reading.specs.Steps.{Continues, IsAtEnd}
@@ -34,7 +35,7 @@ use Rattle.download_core.proofs.FewLemmas.{few_opened}
 use Rattle.download_core.proofs.Going.{opened_on, read_on}
 use Rattle.download_core.proofs.ReadLemmas.{beside_stays, reading_beside}
 use Rattle.download_core.proofs.FairLemmas.{fair_goes}
-use Rattle.download_core.proofs.Records.{GoesFrom, file_stays}
+use Rattle.download_core.proofs.Records.{GoesFrom, file_stays, no_code_stays}
 
 -- ---- what holds of each download
 
@@ -124,7 +125,7 @@ runs_waits settled.TooFew e = absurd cc
 -- ---- a file is read
 
 module _ (m : Machine) (f : FoundFile) (t : BeginningsState) (r : ReadingState) (is : m.found ≡ Some f) (way : IsUnderWay m) (on : Continues m.beginnings f.reading t r)
-    (blames : AddsBlames (IsCause (verify_cap_of m.cap) t.holdings.requests.entries (found_of (Some f))) m.beginnings.holdings.blamed t.holdings.blamed) (reading : AreReading t r) where
+    (blames : AddsBlames (IsCause (verify_cap_of m.cap) t.holdings.requests.entries (found_of (Some (record f { reading = r })))) m.beginnings.holdings.blamed t.holdings.blamed) (reading : AreReading t r) where
   abbrev pub read_machine : Machine
   read_machine = record m { beginnings = t; found = Some (record f { reading = r }) }
 
@@ -145,7 +146,7 @@ module _ (m : Machine) (f : FoundFile) (t : BeginningsState) (r : ReadingState) 
         (subst (λ (n : ℕ). FewAreLeft r.file.handout.geometry.needed n t.holdings.requests.entries t.holdings.blamed) total_is e.few);
   }
 
-  pub settled_ends : (how : Settled) → (how ≡ settled.Complete → file.IsComplete r.file) → (how ≡ settled.Inconsistent → IsNoCodeWord r.file.handout.ueb)
+  pub settled_ends : (how : Settled) → (how ≡ settled.Complete → file.IsComplete r.file) → (how ≡ settled.Inconsistent → IsInconsistent t.holdings.requests.entries r.file × IsNoCodeWord r.file.handout.ueb)
       → (how ≡ settled.Waits → 0 < outstanding_count t.holdings.requests.entries) → (how ≡ settled.TooFew → IsAtEnd t r) → EndsAs read_machine (status_of how)
   settled_ends settled.Complete complete inconsistent waits few = record { way = settled_way; done = λ e. complete refl; works = λ e. absurd cc; few = λ e. absurd cc; inconsistent = λ e. absurd cc }
   settled_ends settled.Inconsistent complete inconsistent waits few = record { way = settled_way; done = λ e. absurd cc; works = λ e. absurd cc; few = λ e. absurd cc; inconsistent = λ e. inconsistent refl }
@@ -204,7 +205,7 @@ module _ (m : Machine) (status : DownloadStatus) (t : BeginningsState) (k : IsKe
     done = k.done;
     works = λ e. absurd (ended e);
     few = λ e. few (k.few e);
-    inconsistent = k.inconsistent;
+    inconsistent = λ e. no_code_stays m.cap m.from m.to (entries_of m) t.holdings.requests.entries (found_of m.found) goes.stays k.file (k.inconsistent e);
   }
     where
       quiet : outstanding_count (entries_of m) ≡ 0 → outstanding_count t.holdings.requests.entries ≡ 0

@@ -20,10 +20,12 @@ use Rattle.share_beginnings.proofs.Caused.{adds_as, beginning_stays, fault_stays
 use Rattle.download_plan.specs.Plan.{IsPlanned}
 use Rattle.download_file.specs.Asked.{IsPlannedRead}
 use Rattle.download_file.specs.State.{FileState}
-use Rattle.download_reading.specs.Causes.{HasCause, IsBlockFault, IsFileAlike}
+use Rattle.download_reading.specs.Causes.{HasCause, IsBlockFault}
 use Rattle.download_reading.specs.Steps.{IsReadFor}
 use Rattle.download_reading.proofs.Awaited.{goes_stays}
-use Rattle.download_reading.proofs.Causes.{alike_none, block_moved, part_moved}
+use Rattle.download_file.specs.Changes.{IsSameFile}
+use Rattle.download_file.proofs.GrowLemmas.{same_itself}
+use Rattle.download_reading.proofs.Causes.{block_moved, cause_moved, part_moved}
 use Rattle.download_core.specs.Causes.{IsCause}
 use Rattle.download_core.specs.Reads.{MayRead}
 use Rattle.download_core.specs.State.{Found}
@@ -35,8 +37,8 @@ use Rattle.download_core.proofs.Records.{GoesFrom}
 cause_stays : (cap : VerifyCapValue) (es ns : List Request) (f : Option Found) (b : Blame) → StaysTo es ns → IsCause cap es f b → IsCause cap ns f b
 cause_stays cap es ns None b stays k = opening_fault_stays cap es ns b stays k
 cause_stays cap es ns (Some f) b stays (inl (inl k)) = inl (inl (fault_stays cap f.file.handout.geometry es ns b stays k))
-cause_stays cap es ns (Some f) b stays (inl (inr k)) = inl (inr (part_moved es ns f.file f.file b stays (alike_none f.file) k))
-cause_stays cap es ns (Some f) b stays (inr k) = inr (block_moved es ns f.file f.file b stays (alike_none f.file) k)
+cause_stays cap es ns (Some f) b stays (inl (inr k)) = inl (inr (part_moved es ns f.file f.file b stays (same_itself f.file) k))
+cause_stays cap es ns (Some f) b stays (inr k) = inr (block_moved es ns f.file f.file b stays (same_itself f.file) k)
 
 may_stay : (es ns : List Request) (f : Option Found) (server share offset len : ℕ) → StaysTo es ns → MayRead es f server share offset len → MayRead ns f server share offset len
 may_stay es ns None server share offset len stays k = beginning_stays es ns server share offset len stays k
@@ -115,7 +117,7 @@ fair_accepted cap s t g f goes same geometry blames k =
 
 -- ---- a file goes on
 
-pub planned_on : (f g : FileState) (offset len : ℕ) → IsFileAlike f g → IsPlannedRead f offset len → IsPlannedRead g offset len
+pub planned_on : (f g : FileState) (offset len : ℕ) → IsSameFile f g → IsPlannedRead f offset len → IsPlannedRead g offset len
 planned_on f g offset len same k = record {
   from = k.from;
   begins = (let a = k.begins in let b = same.first in omega (arith, a, b));
@@ -123,14 +125,13 @@ planned_on f g offset len same k = record {
   planned = subst (λ (x : Geometry). IsPlanned x k.from g.end offset len) (sym same.geometry) (subst (λ n. IsPlanned f.handout.geometry k.from n offset len) (sym same.end) k.planned);
 }
 
-cause_on : (cap : VerifyCapValue) (es : List Request) (f g : Found) (b : Blame) → IsFileAlike f.file g.file → IsFileAlike g.file f.file → IsCause cap es (Some f) b → IsCause cap es (Some g) b
-cause_on cap es f g b same back (inl (inl k)) = inl (inl (subst (λ (x : Geometry). IsBeginningFault cap x es b) (sym same.geometry) k))
-cause_on cap es f g b same back (inl (inr k)) = inl (inr (part_moved es es g.file f.file b (λ i r there quiet. there) back k))
-cause_on cap es f g b same back (inr k) = inr (block_moved es es g.file f.file b (λ i r there quiet. there) back k)
+cause_on : (cap : VerifyCapValue) (es : List Request) (f g : Found) (b : Blame) → IsSameFile f.file g.file → IsCause cap es (Some f) b → IsCause cap es (Some g) b
+cause_on cap es f g b same (inl k) = inl (cause_moved cap es f.file g.file b same k)
+cause_on cap es f g b same (inr k) = inr (block_moved es es f.file g.file b (λ i r there quiet. there) same k)
 
-pub fair_on : (cap : VerifyCapValue) (s : BeginningsState) (f g : Found) → IsFileAlike f.file g.file → IsFileAlike g.file f.file → IsFair cap s (Some f) → IsFair cap s (Some g)
-fair_on cap s f g same back k = record {
-  causes = λ i b is. cause_on cap s.holdings.requests.entries f g b same back (k.causes i b is);
+pub fair_on : (cap : VerifyCapValue) (s : BeginningsState) (f g : Found) → IsSameFile f.file g.file → IsFair cap s (Some f) → IsFair cap s (Some g)
+fair_on cap s f g same k = record {
+  causes = λ i b is. cause_on cap s.holdings.requests.entries f g b same (k.causes i b is);
   reads = λ place r share offset len there asked. read place r share offset len (k.reads place r share offset len there asked);
 }
   where

@@ -4,7 +4,6 @@ use Rattle.std.specs.Prelude.{slice_get, slice_index_or}
 use Rattle.std.proofs.lemmas.Bool.{cases_lt}
 use Rattle.std.proofs.lemmas.Option.{slice_get-get_or, slice_get_within}
 use Rattle.std.proofs.lemmas.List.{append-nil, append_assoc}
-use Rattle.download_file.proofs.RowFileLemmas.{same_two}
 use Rattle.cap_text.specs.Cap.{ReadCapValue, VerifyCapValue, verify_cap_of}
 use Rattle.ueb.specs.Shape.{Contents}
 use Rattle.share_layout.specs.Geometry.{Geometry}
@@ -26,15 +25,16 @@ use Rattle.download_segments.specs.declared.piece.Piece.{Piece}
 use Rattle.download_segments.specs.State.{HandoutState}
 use Rattle.share_opening.specs.declared.block.Opened.{Opened}
 use Rattle.download_file.specs.Answers as file
-use Rattle.download_file.specs.Answers.{IsRead}
+use Rattle.download_file.specs.Answers.{AnsweredWith, IsRead}
+use Rattle.download_file.specs.Hashed.{IsHashedWith}
+use Rattle.download_file.proofs.GivenLemmas.{hashed_stay}
 use Rattle.download_file.specs.State.{FileState, new_file}
-use Rattle.download_file.proofs.GrowLemmas.{given_keep, same_itself}
+use Rattle.download_file.proofs.GrowLemmas.{given_keep, same_itself, same_two}
 use Rattle.download_reading.specs.Reading.{AreReading}
 use Rattle.download_reading.specs.State.{ReadingState}
 use Rattle.download_reading.specs.Steps.{AddsPieces, Continues}
 use Rattle.download_file.specs.Asked.{IsPlannedRead}
 use Rattle.download_reading.proofs.Awaited.{goes_stays}
-use Rattle.download_reading.proofs.Causes.{alike_back, alike_of}
 use Rattle.download_core.specs.declared.machine.FoundFile.{FoundFile}
 use Rattle.download_core.specs.declared.machine.Machine.{Machine}
 use Rattle.download_core.specs.declared.status.DownloadStatus.{DownloadStatus}
@@ -98,7 +98,7 @@ plans_trans from es ns ms None (Some g) stays grows (inr same) first second = su
 plans_trans from es ns ms (Some f) None stays grows still first second = absurd grows
 plans_trans from es ns ms (Some f) (Some g) stays grows still first second =
     reads_trans (reads_planned g.reading.file) es ns ms stays
-    (λ place r share offset len there le asked. planned_on f.reading.file g.reading.file offset len (alike_of f.reading.file g.reading.file grows.same) (first place r share offset len there le asked))
+    (λ place r share offset len there le asked. planned_on f.reading.file g.reading.file offset len grows.same (first place r share offset len there le asked))
     second
 
 -- as many requests were there before the record went on
@@ -148,7 +148,7 @@ moves_asked m t goes blames reads none = record {
 
 -- a file goes on
 pub moves_read : (m : Machine) (f : FoundFile) (t : BeginningsState) (r : ReadingState) → m.found ≡ Some f → Continues m.beginnings f.reading t r
-    → AddsBlames (IsCause (verify_cap_of m.cap) t.holdings.requests.entries (found_of (Some f))) m.beginnings.holdings.blamed t.holdings.blamed → MovesOn m (record m { beginnings = t; found = Some (record f { reading = r }) })
+    → AddsBlames (IsCause (verify_cap_of m.cap) t.holdings.requests.entries (found_of (Some (record f { reading = r })))) m.beginnings.holdings.blamed t.holdings.blamed → MovesOn m (record m { beginnings = t; found = Some (record f { reading = r }) })
 moves_read m f t r is on blames = record {
   cap = refl;
   verify = refl;
@@ -158,16 +158,17 @@ moves_read m f t r is on blames = record {
   found = subst (λ (o : Option FoundFile). FoundGrows m.from o (Some (record f { reading = r }))) (sym is) (record { place = refl; same = on.same; pieces = on.pieces });
   file = λ k. file (subst (λ (o : Option FoundFile). IsFileIfFound m.cap m.from m.to (entries_of m) (found_of o)) is k);
   fair = λ k. fair (subst (λ (o : Option FoundFile). IsFair (verify_cap_of m.cap) m.beginnings (found_of o)) is k);
-  later = λ place q share offset len there le asked. planned_on f.reading.file r.file offset len (alike_of f.reading.file r.file on.same) (on.reads place q share offset len there le asked);
+  later = λ place q share offset len there le asked. planned_on f.reading.file r.file offset len on.same (on.reads place q share offset len there le asked);
 }
   where
     fair : IsFair (verify_cap_of m.cap) m.beginnings (found_of (Some f)) → IsFair (verify_cap_of m.cap) t (found_of (Some (record f { reading = r })))
     fair k =
         let old : Found = record { place = f.place; file = f.reading.file } in
         let new : Found = record { place = f.place; file = r.file } in
-        let same = alike_of f.reading.file r.file on.same in
-        fair_on (verify_cap_of m.cap) t old new same (alike_back f.reading.file r.file same)
-        (fair_grows (verify_cap_of m.cap) m.beginnings t (Some old) on.goes blames (reads_for t.holdings.requests.entries old (entries_of m) t.holdings.requests.entries on.reads) k)
+        fair_grows (verify_cap_of m.cap) m.beginnings t (Some new) on.goes blames
+        (reads_for t.holdings.requests.entries new (entries_of m) t.holdings.requests.entries
+        (λ place q share offset len there le asked. planned_on f.reading.file r.file offset len on.same (on.reads place q share offset len there le asked)))
+        (fair_on (verify_cap_of m.cap) m.beginnings old new on.same k)
 
     file : IsFileIfFound m.cap m.from m.to (entries_of m) (found_of (Some f)) → IsFileIfFound m.cap m.from m.to t.holdings.requests.entries (found_of (Some (record f { reading = r })))
     file k =
@@ -201,7 +202,7 @@ moves_found m t g is goes handed same blames file = record {
 
 -- a file is read on
 pub read_on : (m : Machine) (f : FoundFile) (t : BeginningsState) (r : ReadingState) → m.found ≡ Some f → IsFor m → IsFileIfFound m.cap m.from m.to (entries_of m) (found_of m.found)
-    → Continues m.beginnings f.reading t r → AddsBlames (IsCause (verify_cap_of m.cap) t.holdings.requests.entries (found_of (Some f))) m.beginnings.holdings.blamed t.holdings.blamed → AreReading t r → IsUnderWay (record m { beginnings = t; found = Some (record f { reading = r }) })
+    → Continues m.beginnings f.reading t r → AddsBlames (IsCause (verify_cap_of m.cap) t.holdings.requests.entries (found_of (Some (record f { reading = r })))) m.beginnings.holdings.blamed t.holdings.blamed → AreReading t r → IsUnderWay (record m { beginnings = t; found = Some (record f { reading = r }) })
 read_on m f t r is wanted file on blames reading = record {
   wanted = record { verify = wanted.verify; some = wanted.some; inside = wanted.inside };
   file = (moves_read m f t r is on blames).file file;
@@ -299,6 +300,32 @@ given_grows from es ns (Some a) (Some b) cap to stays has more p found there giv
       given = more.same.given ns p (given_keep es ns a.reading.file p (keeps_answers es ns stays) has.answers here);
     }
 
+-- what was hashed stays so, where answers stay and the file goes on
+pub record HashesStill (ns : List Request) (o : Option Found) (block input : List ℕ) : Type 0 where
+  pub found : Found
+  pub there : o ≡ Some found
+  pub answer : AnsweredWith ns found.place block
+  pub hashed : IsHashedWith ns found.file block input
+
+hashed_grows : (from : ℕ) (es ns : List Request) (f g : Option FoundFile) (cap : ReadCapValue) (to : ℕ) → StaysTo es ns → IsFileIfFound cap from to es (found_of f) → FoundGrows from f g
+    → (block input : List ℕ) (found : Found) → found_of f ≡ Some found → AnsweredWith es found.place block → IsHashedWith es found.file block input → HashesStill ns (found_of g) block input
+hashed_grows from es ns None g cap to stays has more block input found there answer hashed = absurd cc
+hashed_grows from es ns (Some a) None cap to stays has more block input found there answer hashed = absurd more
+hashed_grows from es ns (Some a) (Some b) cap to stays has more block input found there answer hashed =
+    let same : record { place = a.place; file = a.reading.file } ≡ found = cc in
+    let here : AnsweredWith es a.place block = subst (λ (x : Found). AnsweredWith es x.place block) (sym same) answer in
+    let own : IsHashedWith es a.reading.file block input = subst (λ (x : Found). IsHashedWith es x.file block input) (sym same) hashed in
+    record {
+      found = record { place = b.place; file = b.reading.file };
+      there = refl;
+      answer = subst (λ (n : ℕ). AnsweredWith ns n block) (sym more.place)
+          (record { request = here.request; there = keeps_answers es ns stays a.place here.request _ here.there here.answer; answer = here.answer });
+      hashed = elim own [
+        | inl is ↦ inl is
+        | inr k ↦ inr (hashed_stay es ns a.reading.file b.reading.file input (keeps_answers es ns stays) has.answers more.same k)
+      ];
+    }
+
 -- what a download is for stays, where its record went on before
 pub same_on : (m n : Machine) (t : BeginningsState) (status ended : DownloadStatus) → t.holdings.blamed ≡ m.beginnings.holdings.blamed → StaysTo (entries_of m) t.holdings.requests.entries
     → IsFileIfFound m.cap m.from m.to (entries_of m) (found_of m.found) → MovesOn (record m { beginnings = t }) n
@@ -319,6 +346,10 @@ same_on m n t status ended blamed stays file on servers =
           let k = given_grows m.from (entries_of m) (entries_of n) m.found n.found m.cap m.to (λ i r there quiet. stays_on t n.beginnings on.goes i r (stays i r there quiet) quiet)
           file on.found p g.found g.there g.given in
           record { found = k.found; there = k.there; given = k.given };
+      hashed = λ input h.
+          let k = hashed_grows m.from (entries_of m) (entries_of n) m.found n.found m.cap m.to (λ i r there quiet. stays_on t n.beginnings on.goes i r (stays i r there quiet) quiet)
+          file on.found h.block input h.found h.there h.answer h.hashed in
+          record { found = k.found; there = k.there; block = h.block; answer = k.answer; hashed = k.hashed };
     }
 
 -- a download that runs goes on from a record

@@ -1,5 +1,5 @@
 -- What was given of a download stays given, and is proved by what was hashed.
-use Rattle.std.proofs.Common.{◌≡◌, ℕ, ◌+◌, List, [], ◌∷◌, length, Contains, Option, Some, None, IfSome, refl, sym, subst, ap, ◌∙◌, arith}
+use Rattle.std.proofs.Common.{◌≡◌, ℕ, ◌+◌, List, [], ◌∷◌, length, Contains, Option, Some, None, IfSome, inl, inr, refl, sym, subst, ap, ◌∙◌, arith}
 use Rattle.wire.specs.declared.message.Message.{Message}
 use Rattle.request_record.specs.declared.requests.Request.{Request}
 use Rattle.download_segments.specs.declared.piece.Piece.{Piece}
@@ -7,11 +7,12 @@ use Rattle.download_segments.proofs.GivenLemmas.{given_weaker}
 use Rattle.download_file.specs.Answers.{IsMade}
 use Rattle.download_file.specs.Answers as file
 use Rattle.download_file.specs.Hashed.{IsHashedWith}
+use Rattle.download_file.specs.Hashed as file_hashed
 use Rattle.download_file.specs.Right.{IsFile}
 use Rattle.download_file.specs.State.{FileState}
 use Rattle.download_file.proofs.GivenLemmas.{given_are_hashed}
 use Rattle.download_core.specs.Given.{IsFileIfFound, IsFileOfCap, IsRightIfFound}
-use Rattle.download_core.specs.Hashed.{GivenAreShown, IsGivenBy, IsHashed, StaysGiven}
+use Rattle.download_core.specs.Hashed.{GivenAreShown, IsGivenBy, IsHashed, StaysGiven, StaysHashed}
 use Rattle.download_core.specs.Moves.{TakesPiece, found_handed, with_handed}
 use Rattle.download_core.specs.Right.{IsRight}
 use Rattle.download_core.specs.Sending.{Takes}
@@ -64,7 +65,7 @@ module _ (entries : List Request) (pieces : List Piece) (place : ℕ) (f : Found
 
   module _ (number : ℕ) (segment : List ℕ) (m : file.IsMadeSegment entries f.file number segment) where
     again : IsMade entries after.handout after.readers m.group number
-    again = record { held = m.made.held; segment = m.made.segment; decodes = m.made.decodes; proved = record { size = m.made.proved.size; known = m.made.proved.known } }
+    again = record { right = m.made.right; segment = m.made.segment; decodes = m.made.decodes; proved = record { size = m.made.proved.size; known = m.made.proved.known } }
 
     again_is : again.segment ≡ m.made.segment
     unfolding again
@@ -86,6 +87,36 @@ module _ (entries : List Request) (pieces : List Piece) (place : ℕ) (f : Found
         };
         slice = g.slice;
       }
+
+-- what was hashed stays so too
+pub hashed_itself : (old new : DownloadState) → new ≡ old → StaysHashed old new
+hashed_itself old new same input h = subst (λ (d : DownloadState). IsHashed d input) (sym same) h
+
+pub sent_hashed : (old new : DownloadState) (f : Option (ℕ × Message)) → Takes old f new → StaysHashed old new
+sent_hashed old new None takes = hashed_itself old new takes.1
+sent_hashed old new (Some f) takes = λ input h.
+    subst (λ (d : DownloadState). IsHashed d input) (sym takes.3) (record { found = h.found; there = h.there; block = h.block; answer = h.answer; hashed = h.hashed })
+
+handed_hashed : (entries : List Request) (pieces : List Piece) (place : ℕ) (f : Found) (block input : List ℕ)
+    → IsHashedWith entries f.file block input → IsHashedWith entries (with_handed pieces place f).file block input
+handed_hashed entries pieces place f block input (inl is) = inl is
+handed_hashed entries pieces place f block input (inr (file_hashed.segment number bytes m is)) =
+    inr (file_hashed.segment number bytes
+    (record { group = m.group; among = m.among; from = m.from; before = m.before; made = again entries pieces place f number bytes m; is = again_is entries pieces place f number bytes m ∙ m.is }) is)
+handed_hashed entries pieces place f block input (inr (file_hashed.node k)) =
+    inr (file_hashed.node (record { number = k.number; left = k.left; right = k.right; knows_left = k.knows_left; knows_right = k.knows_right; is = k.is }))
+
+pub taken_hashed : (old new : DownloadState) (o : Option Piece) → TakesPiece old o new → StaysHashed old new
+taken_hashed old new None takes = hashed_itself old new takes.1
+taken_hashed old new (Some q) takes = λ input h.
+    let end : ℕ = q.place + length q.bytes in
+    subst (λ (d : DownloadState). IsHashed d input) (sym takes.1) (record {
+      found = with_handed (ready new) end h.found;
+      there = ap (found_handed (ready new) end) h.there;
+      block = h.block;
+      answer = h.answer;
+      hashed = handed_hashed old.requests.entries (ready new) end h.found h.block input h.hashed;
+    })
 
 pub taken_stays : (old new : DownloadState) (o : Option Piece) → TakesPiece old o new → StaysGiven old new
 taken_stays old new None takes = stays_itself old new takes.1

@@ -11,7 +11,8 @@ use Rattle.request_record.specs.Asking.{after_message, after_tick}
 use Rattle.request_record.proofs.RecordLaws.{counts_is}
 use Rattle.share_holdings.proofs.Records.{AskedAlike, StaysTo, alike_message, alike_tick, stays_message, stays_tick, uncounted}
 use Rattle.download_file.specs.Answers.{KeepsAnswers}
-use Rattle.download_file.proofs.GrowLemmas.{reads_keep}
+use Rattle.download_file.proofs.GrowLemmas.{inconsistent_keeps, reads_keep}
+use Rattle.download_core.specs.Ends.{HasNoCodeWord}
 use Rattle.download_core.specs.Given.{IsFileIfFound, IsHead}
 use Rattle.download_core.specs.State.{Found}
 
@@ -108,3 +109,7 @@ file_stays cap from to es ns (Some f) stays k = record {
   to_is = k.to_is;
   answers = reads_keep es ns f.file (keeps_answers es ns stays) k.answers;
 }
+
+pub no_code_stays : (cap : ReadCapValue) (from to : ℕ) (es ns : List Request) (f : Option Found) → StaysTo es ns → IsFileIfFound cap from to es f → HasNoCodeWord es f → HasNoCodeWord ns f
+no_code_stays cap from to es ns None stays file k = k
+no_code_stays cap from to es ns (Some f) stays file k = (inconsistent_keeps es ns f.file (keeps_answers es ns stays) file.answers k.0, k.1)

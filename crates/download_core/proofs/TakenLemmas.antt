@@ -20,13 +20,13 @@ use Rattle.share_beginnings.specs.Reads.{IsBeside}
 use Rattle.download_segments.specs.declared.piece.Piece.{Piece}
 use Rattle.download_segments.specs.Handout.{TakesPiece}
 use Rattle.download_segments.specs.State.{HandoutState}
-use Rattle.download_file.specs.Changes.{StaysRead}
+use Rattle.download_file.specs.Changes.{IsSameFile, StaysRead}
+use Rattle.download_file.specs.Making.{IsInconsistent}
+use Rattle.request_record.specs.declared.requests.Request.{Request}
 use Rattle.download_core.specs.Reads.{IsPlannedOrBeside, ReadsBeside}
 use Rattle.download_reading.specs.Laws.{with_outgoing}
 use Rattle.download_reading.proofs.Sent.{sent}
 use Rattle.download_core.proofs.Sending.{sent_opened}
-use Rattle.download_reading.specs.Causes.{IsFileAlike}
-use Rattle.download_reading.proofs.Causes.{alike_back}
 use Rattle.download_core.proofs.FairLemmas.{fair_on}
 use Rattle.download_core.specs.Steps.{IsComplete, IsFair, IsInPhase, IsKept, entries_of, found_of}
 
@@ -74,13 +74,27 @@ reads_taken f h (Some p) t =
       held = k.held;
       made = λ group number has from before. (
           let o = k.made group number has from before in
-          record { held = o.held; segment = o.segment; decodes = o.decodes; proved = record { size = o.proved.size; known = o.proved.known } });
+          record { right = o.right; segment = o.segment; decodes = o.decodes; proved = record { size = o.proved.size; known = o.proved.known } });
       ready = λ q among. handed_given es h.ready (p.place + length p.bytes) (record { place = 0; file = f }) q
           (k.ready q (subst (λ (l : List Piece). Contains l q) (sym t.0) (contains_tail p q h.ready among)));
     })
 
+-- a file that is inconsistent stays so
+inconsistent_taken : (es : List Request) (f : FileState) (h : HandoutState) (p : Option Piece) → TakesPiece f.handout p h → IsInconsistent es f → IsInconsistent es (record f { handout = h })
+inconsistent_taken es f h None t k = subst (λ (x : HandoutState). IsInconsistent es (record f { handout = x })) (sym t.1) k
+inconsistent_taken es f h (Some p) t k =
+    subst (λ (x : HandoutState). IsInconsistent es (record f { handout = x })) (sym t.1) (record {
+      number = k.number;
+      next = k.next;
+      enough = k.enough;
+      right = k.right;
+      segment = k.segment;
+      decodes = k.decodes;
+      refuted = record { leaf = k.refuted.leaf; known = k.refuted.known; differs = k.refuted.differs };
+    })
+
 module _ (m : Machine) (f : FoundFile) (r : ReadingState) (p : Option Piece) (status : DownloadStatus) (is : m.found ≡ Some f) (takes : TakesPiece f.reading.file.handout p r.file.handout)
-    (rest : r ≡ record f.reading { file = record f.reading.file { handout = r.file.handout } }) (reading : (s : BeginningsState) → AreReading s f.reading → AreReading s r) (k : IsKept m status) where
+    (rest : r ≡ record f.reading { file = record f.reading.file { handout = r.file.handout } }) (reading : (s : BeginningsState) → AreReading s f.reading → AreReading s r) (goes : IsSameFile f.reading.file r.file) (k : IsKept m status) where
   abbrev pub taken_machine : Machine
   taken_machine = record m { found = Some (record f { reading = r }) }
 
@@ -95,9 +109,6 @@ module _ (m : Machine) (f : FoundFile) (r : ReadingState) (p : Option Piece) (st
 
   end_is : r.file.end ≡ f.reading.file.end
   end_is = ap (λ (x : ReadingState). x.file.end) rest
-
-  alike : IsFileAlike f.reading.file r.file
-  alike = record { key = same.key; ueb = same.ueb; geometry = same.geometry; to = same.to; first = first_is; end = end_is }
 
   taken_file : IsFileIfFound m.cap m.from m.to (entries_of m) (found_of taken_machine.found)
   taken_file =
@@ -138,11 +149,15 @@ module _ (m : Machine) (f : FoundFile) (r : ReadingState) (p : Option Piece) (st
           file = taken_file;
           phase = reading m.beginnings (subst (λ (x : Option FoundFile). IsInPhase m.cap.total m.beginnings x) is way.phase);
         });
-    fair = fair_on (verify_cap_of m.cap) m.beginnings (record { place = f.place; file = f.reading.file }) (record { place = f.place; file = r.file }) alike (alike_back f.reading.file r.file alike)
+    fair = fair_on (verify_cap_of m.cap) m.beginnings (record { place = f.place; file = f.reading.file }) (record { place = f.place; file = r.file }) goes
         (subst (λ (x : Option FoundFile). IsFair (verify_cap_of m.cap) m.beginnings (found_of x)) is k.fair);
     beside = λ ok. read_still (subst (λ (x : Option FoundFile). ReadsBeside (entries_of m) m.beginnings.holdings.blamed (found_of x)) is (k.beside ok));
     done = λ d. complete_still (subst (λ (x : Option FoundFile). IsComplete m.from m.to x) is (k.done d));
     works = k.works;
     few = λ d. (let few = k.few d in record { quiet = few.quiet; few = few.few });
-    inconsistent = λ d. subst IsNoCodeWord (sym same.ueb) (subst (λ (x : Option FoundFile). HasNoCodeWord (found_of x)) is (k.inconsistent d));
+    inconsistent = λ d. (
+        let was = subst (λ (x : Option FoundFile). HasNoCodeWord (entries_of m) (found_of x)) is (k.inconsistent d) in (
+          subst (λ (x : ReadingState). IsInconsistent (entries_of m) x.file) (sym rest) (inconsistent_taken (entries_of m) f.reading.file r.file.handout p takes was.0),
+          subst IsNoCodeWord (sym same.ueb) was.1,
+        ));
   }

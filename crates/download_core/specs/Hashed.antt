@@ -32,6 +32,10 @@ pub record IsHashed (d : DownloadState) (input : List ℕ) : Type 0 where
 abbrev pub StaysGiven : DownloadState → DownloadState → Type 0
 StaysGiven old new = (p : Piece) → IsGivenBy old p → IsGivenBy new p
 
+-- what was hashed stays hashed
+abbrev pub StaysHashed : DownloadState → DownloadState → Type 0
+StaysHashed old new = (input : List ℕ) → IsHashed old input → IsHashed new input
+
 -- the piece is proved, and all that is hashed for it was hashed by the download
 pub record IsShown (d : DownloadState) (p : Piece) : Type 0 where
   pub block : List ℕ

@@ -10,7 +10,7 @@ use Rattle.share_holdings.specs.declared.holding.Blame.{Blame}
 use Rattle.download_segments.specs.declared.piece.Piece.{Piece}
 use Rattle.download_core.specs.declared.status.DownloadStatus.TheVariants.{Running, Done}
 use Rattle.download_core.specs.declared.status.DownloadStatus.TheVariants.{NotEnoughShares}
-use Rattle.download_core.specs.Hashed.{StaysGiven}
+use Rattle.download_core.specs.Hashed.{StaysGiven, StaysHashed}
 use Rattle.download_core.specs.Reads.{PlansMore}
 use Rattle.download_core.specs.State.{DownloadState, Found, accepted, handed, ready, with_record}
 
@@ -36,7 +36,8 @@ abbrev pub StaysAccepted : Option ℕ → Option ℕ → Type 0
 StaysAccepted None new = Unit {0}
 StaysAccepted (Some place) new = new ≡ Some place
 
--- What a download is for stays, and what it has stays in front. What it gave stays given.
+-- What a download is for stays, and what it has stays in front. What it gave stays given, and what
+-- it hashed stays hashed.
 pub record IsSame (old new : DownloadState) : Type 0 where
   pub cap : new.cap ≡ old.cap
   pub range : (new.from ≡ old.from) × (new.to ≡ old.to)
@@ -48,6 +49,7 @@ pub record IsSame (old new : DownloadState) : Type 0 where
   pub blamed : new.blamed ≡ old.blamed ++ others
   pub head : StaysAccepted (accepted old) (accepted new)
   pub stays : StaysGiven old new
+  pub hashed : StaysHashed old new
 
 -- The record goes on from a message or a tick, and while the download runs more may be asked, made
 -- and blamed. Where an extension block is accepted then, what more is read is planned.

@@ -30,7 +30,7 @@ pub record IsRight (d : DownloadState) : Type 0 where
   pub done : d.status ≡ Done → end ≡ d.to
   pub works : d.status ≡ Running → 0 < outstanding_count d.requests.entries
   pub few : d.status ≡ NotEnoughShares → HasTooFew d
-  pub inconsistent : d.status ≡ Inconsistent → HasNoCodeWord d.found
+  pub inconsistent : d.status ≡ Inconsistent → HasNoCodeWord d.requests.entries d.found
   pub asks : AsksOrReads d.requests.entries
   pub once : AsksOnce d.requests.entries
   pub reads : ReadsNoMore d.requests.entries d.found

@@ -160,7 +160,7 @@ pub record EndsAs (m : Machine) (status : DownloadStatus) : Type 0 where
   pub done : status ≡ Done → IsComplete m.from m.to m.found
   pub works : status ≡ Running → 0 < outstanding_count (entries_of m)
   pub few : status ≡ NotEnoughShares → IsTooFew m
-  pub inconsistent : status ≡ Inconsistent → HasNoCodeWord (found_of m.found)
+  pub inconsistent : status ≡ Inconsistent → HasNoCodeWord (entries_of m) (found_of m.found)
 
 -- what is kept of each download
 pub record IsKept (m : Machine) (status : DownloadStatus) : Type 0 where
@@ -175,7 +175,7 @@ pub record IsKept (m : Machine) (status : DownloadStatus) : Type 0 where
   pub done : status ≡ Done → IsComplete m.from m.to m.found
   pub works : status ≡ Running → 0 < outstanding_count (entries_of m)
   pub few : status ≡ NotEnoughShares → IsTooFew m
-  pub inconsistent : status ≡ Inconsistent → HasNoCodeWord (found_of m.found)
+  pub inconsistent : status ≡ Inconsistent → HasNoCodeWord (entries_of m) (found_of m.found)
 
 -- where a download stands whose file stands so
 abbrev pub status_of : Settled → DownloadStatus

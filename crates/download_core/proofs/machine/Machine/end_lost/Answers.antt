@@ -15,12 +15,12 @@ none_blamed m f = adds_none (IsCause (verify_cap_of m.cap) (entries_of m) (found
 pub returns-in-Some-clause-way : goal.returns-in-Some-clause-way
 returns-in-Some-clause-way c =
     let m = c.args.self.now in
-    read_on m c.in-Some.found m.beginnings c.pass.new.self c.in-Some.is c.requires.wanted c.requires.file c.pass.ensures.continues (none_blamed m c.in-Some.found) c.pass.ensures.reading
+    read_on m c.in-Some.found m.beginnings c.pass.new.self c.in-Some.is c.requires.wanted c.requires.file c.pass.ensures.continues (none_blamed m (record c.in-Some.found { reading = c.pass.new.self })) c.pass.ensures.reading
 
 pub returns-in-Some-clause-moves : goal.returns-in-Some-clause-moves
 returns-in-Some-clause-moves c =
     let m = c.args.self.now in
-    moves_read m c.in-Some.found m.beginnings c.pass.new.self c.in-Some.is c.pass.ensures.continues (none_blamed m c.in-Some.found)
+    moves_read m c.in-Some.found m.beginnings c.pass.new.self c.in-Some.is c.pass.ensures.continues (none_blamed m (record c.in-Some.found { reading = c.pass.new.self }))
 
 pub returns-in_default-clause-moves : goal.returns-in_default-clause-moves
 returns-in_default-clause-moves c = moves_none c.args.self.now

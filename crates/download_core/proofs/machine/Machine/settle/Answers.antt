@@ -13,11 +13,11 @@ use Rattle.download_core.proofs.Results.{if_any}
 use Rattle.download_core.proofs.machine.Machine.settle.Goals as goal
 
 -- each blame has its cause
-caused : (c : After-settle) → AddsBlames (IsCause (verify_cap_of c.args.self.now.cap) c.settle.new.beginnings.holdings.requests.entries (found_of (Some c.in-Some.found))) c.args.self.now.beginnings.holdings.blamed c.settle.new.beginnings.holdings.blamed
+caused : (c : After-settle) → AddsBlames (IsCause (verify_cap_of c.args.self.now.cap) c.settle.new.beginnings.holdings.requests.entries (found_of (Some (record c.in-Some.found { reading = c.settle.new.self })))) c.args.self.now.beginnings.holdings.blamed c.settle.new.beginnings.holdings.blamed
 caused c =
     let m = c.args.self.now in
     let f = c.in-Some.found in
-    made_fair (verify_cap_of m.cap) m.beginnings c.settle.new.beginnings (record { place = f.place; file = f.reading.file }) c.settle.ensures.causes
+    made_fair (verify_cap_of m.cap) m.beginnings c.settle.new.beginnings (record { place = f.place; file = c.settle.new.self.file }) c.settle.ensures.causes
 
 pub returns-in_err-settled-in-Some-clause-moves : goal.returns-in_err-settled-in-Some-clause-moves
 returns-in_err-settled-in-Some-clause-moves c = moves_read c.args.self.now c.in-Some.found c.settle.new.beginnings c.settle.new.self c.in-Some.is c.settle.ensures.continues (caused (goal.at.returns-in_err-settled-in-Some-clause-moves c).After-settle)
@@ -31,7 +31,7 @@ returns-in_ok-settled-in-Some-clause-ends c =
     let k = c.in_ok-settled-in-Some in
     subst (EndsAs (record m { beginnings = c.settle.new.beginnings; found = Some (record c.in-Some.found { reading = c.settle.new.self }) })) (sym c.status_by.ensures.status)
     (settled_ends m c.in-Some.found c.settle.new.beginnings c.settle.new.self c.in-Some.is c.requires c.settle.ensures.continues (caused (goal.at.returns-in_ok-settled-in-Some-clause-ends c).After-settle) k.ensures.reading k.settled
-    (λ e. k.ensures.complete.0 e) (λ e. c.settle.ensures.inconsistent (k.was ∙ ap Ok e)) (λ e. c.settle.ensures.waits (k.was ∙ ap Ok e)) (λ e. c.settle.ensures.too_few (k.was ∙ ap Ok e)))
+    (λ e. k.ensures.complete.0 e) (λ e. (c.settle.ensures.inconsistent (k.was ∙ ap Ok e), c.settle.ensures.no_code_word (k.was ∙ ap Ok e))) (λ e. c.settle.ensures.waits (k.was ∙ ap Ok e)) (λ e. c.settle.ensures.too_few (k.was ∙ ap Ok e)))
 
 pub returns-in_ok-settled-in-Some-clause-prompt : goal.returns-in_ok-settled-in-Some-clause-prompt
 returns-in_ok-settled-in-Some-clause-prompt c = λ runs.

@@ -11,12 +11,12 @@ use Rattle.download_core.proofs.Going.{moves_read, read_on}
 use Rattle.download_core.proofs.machine.Machine.take_in.Goals as goal
 
 -- each blame has its cause
-caused : (c : After-hear) → AddsBlames (IsCause (verify_cap_of c.args.self.now.cap) c.hear.new.beginnings.holdings.requests.entries (found_of (Some c.in-Some.found))) c.args.self.now.beginnings.holdings.blamed c.hear.new.beginnings.holdings.blamed
+caused : (c : After-hear) → AddsBlames (IsCause (verify_cap_of c.args.self.now.cap) c.hear.new.beginnings.holdings.requests.entries (found_of (Some (record c.in-Some.found { reading = c.hear.new.self })))) c.args.self.now.beginnings.holdings.blamed c.hear.new.beginnings.holdings.blamed
 caused c =
     let m = c.args.self.now in
     let f = c.in-Some.found in
-    heard_fair (verify_cap_of m.cap) m.beginnings c.hear.new.beginnings (record { place = f.place; file = f.reading.file }) c.hear.ensures.requests
-    (subst (λ (v : VerifyCapValue). AddsBlames (HasCause v (entries_of m) f.reading.file) m.beginnings.holdings.blamed c.hear.new.beginnings.holdings.blamed) c.requires.wanted.verify c.hear.ensures.causes)
+    heard_fair (verify_cap_of m.cap) m.beginnings c.hear.new.beginnings (record { place = f.place; file = c.hear.new.self.file }) c.hear.ensures.requests
+    (subst (λ (v : VerifyCapValue). AddsBlames (HasCause v (entries_of m) c.hear.new.self.file) m.beginnings.holdings.blamed c.hear.new.beginnings.holdings.blamed) c.requires.wanted.verify c.hear.ensures.causes)
 
 pub returns-in-Some-clause-way : goal.returns-in-Some-clause-way
 returns-in-Some-clause-way c =
