@@ -13,6 +13,7 @@ use Rattle.proved_parts.specs.declared.evidence.EvidencePart.{EvidencePart}
 use Rattle.download_source.specs.Blocks.{IsHeld, block_end, block_first}
 use Rattle.download_source.specs.Source.{IsSource, SourceState}
 use Rattle.download_source.proofs.LawLemmas.{joined_long}
+use Rattle.download_source.proofs.PlanLemmas.{block_order}
 use Rattle.download_segments.specs.Decoding.{AreShareNumbers, blocks_in}
 use Rattle.download_segments.specs.State.{HandoutState, ProvesSegment}
 use Rattle.download_segments.proofs.DecodingLemmas.{unique}
@@ -97,7 +98,7 @@ block_long entries s number is held holds =
     let a = block_first s.geometry s.first number in
     let b = block_end s.geometry s.first number in
     let within = held.pieces in
-    let order : a ≤ b = omega arith in
+    let order : a ≤ b = block_order s.geometry s.first number in
     let f : ℕ → List ℕ = answer_at entries in
     let places = slice_range s.held a b in
     let count : length (map f places) ≡ b - a = length-map places f ∙ length-take-le (b - a) (drop a s.held) (let long = length-drop a s.held in omega (arith, long, within)) in

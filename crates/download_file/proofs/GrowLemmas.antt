@@ -14,6 +14,7 @@ use Rattle.ueb.specs.Shape.{Contents}
 use Rattle.share_layout.specs.Geometry.{Geometry}
 use Rattle.proved_parts.specs.Decoding.{DecodesBlocks}
 use Rattle.download_source.specs.Blocks.{IsHeld, block_end, block_first, joined_block}
+use Rattle.download_source.proofs.PlanLemmas.{block_order}
 use Rattle.download_source.specs.Source.{SourceState}
 use Rattle.download_source.specs.Taking.{known_hash}
 use Rattle.download_trees.specs.Trees.{KnowsAllOf, known_leaf}
@@ -77,9 +78,6 @@ hash_stays s t number hash goes known = by s.tree refl
         let k = goes.tree tree e in
         ap (option_and_then (λ tree. known_leaf tree number)) k.1
         ∙ leaf_stays tree k.0 number hash k.2 (sym (ap (option_and_then (λ tree. known_leaf tree number)) e) ∙ known)
-
-block_order : (g : Geometry) (a number : ℕ) → block_first g a number ≤ block_end g a number
-block_order g a number = omega arith
 
 pub held_stays : (s t : SourceState) (number : ℕ) → GoesOn s t → IsHeld s number → IsHeld t number
 held_stays s t number goes held =

@@ -11,6 +11,12 @@ use Rattle.download_file.specs.Steps.{HasBlock}
 use Rattle.download_file.proofs.BlockLemmas.{blocks_more}
 use Rattle.download_file.proofs.blocks.join_blocks.Goals as goal
 
+pub bounds-readers-place : goal.bounds-readers-place
+bounds-readers-place c =
+    let place : ℕ = get_or c.args.places.now c.loop-place.place-index 0 in
+    let has : HasBlock c.args.readers.now c.args.number c.args.size place = c.requires c.loop-place.place-index 0 c.loop-place-test.true in
+    slice_get_within c.args.readers.now place has.r has.there
+
 pub push_block-requires-clause-held : goal.push_block-requires-clause-held
 push_block-requires-clause-held c =
     let place : ℕ = get_or c.args.places.now c.loop-place.place-index 0 in
