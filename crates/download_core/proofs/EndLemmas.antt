@@ -2,7 +2,7 @@
 use Rattle.std.proofs.Common.{◌≡◌, ◌≢◌, ℕ, ◌<◌, ◌≤◌, ◌⊎◌, All, List, Option, Some, None, refl, sym, ap, subst, ◌∙◌, arith}
 use Rattle.cap_text.specs.Cap.{ReadCapValue, verify_cap_of}
 use Rattle.request_record.specs.declared.requests.Request.{Request}
-use Rattle.request_record.specs.Record.{outstanding_count}
+use Rattle.request_record.specs.Record.{IsRecord, outstanding_count}
 use Rattle.request_record.specs.Asking.{AsksOnce}
 use Rattle.share_holdings.specs.Left.{FewAreLeft}
 use Rattle.share_holdings.specs.declared.holding.Blame.{Blame}
@@ -43,7 +43,7 @@ abbrev end_of : ℕ → Option FoundFile → ℕ
 end_of from None = from
 end_of from (Some f) = f.reading.file.handout.reached
 
-module _ (m : Machine) (servers : List ℕ) (status : DownloadStatus) (k : IsKept m status) (asks : AsksOrReads (entries_of m)) (once : AsksOnce (entries_of m)) (right : IsRightIfFound (found_of m.found)) where
+module _ (m : Machine) (servers : List ℕ) (status : DownloadStatus) (k : IsKept m status) (asks : AsksOrReads (entries_of m)) (once : AsksOnce (entries_of m)) (recorded : IsRecord m.beginnings.holdings.requests) (right : IsRightIfFound (found_of m.found)) where
   consecutive : (f : Option FoundFile) → IsRightIfFound (found_of f) → AreConsecutive (handed_in m.from (found_of f)) (ready_in (found_of f)) (end_of m.from f)
   consecutive None r = refl
   consecutive (Some f) r = r.handout.consecutive
@@ -76,6 +76,7 @@ module _ (m : Machine) (servers : List ℕ) (status : DownloadStatus) (k : IsKep
     inconsistent = k.inconsistent;
     asks = asks;
     once = once;
+    recorded = recorded;
     reads = k.fair.reads;
     beside = k.beside;
     causes = k.fair.causes;

@@ -12,7 +12,7 @@ use Rattle.share_layout.specs.Geometry.{Geometry}
 use Rattle.share_holdings.specs.declared.holding.Blame.{Blame}
 use Rattle.share_holdings.proofs.Records.{StaysTo}
 use Rattle.share_holdings.proofs.Telling.{append_cases}
-use Rattle.share_beginnings.specs.Causes.{AddsBlames, IsBeginningFault, IsOpeningFault, IsOtherHeader}
+use Rattle.share_beginnings.specs.Causes.{AddsBlames, IsOpeningFault, IsOtherHeader}
 use Rattle.share_beginnings.specs.Moves.{GoesOn}
 use Rattle.share_beginnings.specs.Reads.{AddsReads, IsInBeginning}
 use Rattle.share_beginnings.specs.State.{BeginningsState}

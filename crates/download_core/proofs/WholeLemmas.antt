@@ -10,7 +10,7 @@ use Rattle.download_file.specs.Whole.{IsWholeFile, joined}
 use Rattle.download_file.proofs.WholeLemmas as file_whole
 use Rattle.download_core.specs.Hashed.{IsGivenBy}
 use Rattle.download_core.specs.Moves.{found_handed}
-use Rattle.download_core.specs.State.{DownloadState, Found, handed, handed_in, ready, ready_in}
+use Rattle.download_core.specs.State.{DownloadState, Found, accepted_in, handed, handed_in, ready, ready_in}
 use Rattle.download_core.specs.Whole.{TakenFollow, WholeFiles}
 use Rattle.download_core.proofs.HashedLemmas.{file_of, right_of}
 
@@ -38,7 +38,10 @@ whole_files d pieces right some given follow =
     let whole : IsWholeFile d.requests.entries f.file (joined pieces) =
     file_whole.whole_files d.requests.entries f.file pieces (right_of d f there right) all (subst (λ (n : ℕ). AreConsecutive 0 pieces n) (sym head.block.size) follow) in
     record {
+      place = f.place;
+      is_accepted = ap accepted_in there;
       extension_block = head.text;
+      answer = record { request = head.request; there = head.there; answer = head.answer };
       contents = f.file.handout.ueb;
       ciphertext = whole.ciphertext;
       file = record {

@@ -63,8 +63,10 @@ pub record GoesOn (r : RequestsState) (old new : DownloadState) : Type 0 where
 abbrev pub Advances : ℕ → Message → ℕ → DownloadState → DownloadState → Type 0
 Advances from m now old new = GoesOn (after_message from m now old.requests) old new
 
-abbrev pub TicksOn : ℕ → DownloadState → DownloadState → Type 0
-TicksOn now old new = GoesOn (after_tick now old.requests) old new
+-- The record goes on from a tick; or nothing changes, where a download that ended finds no memory.
+pub data TicksOn (now : ℕ) (old new : DownloadState) : Type 0 where
+  goes : GoesOn (after_tick now old.requests) old new → TicksOn now old new
+  idles : old.status ≢ Running → new ≡ old → TicksOn now old new
 
 -- A tick finds no memory: the record is as it was, or went on. What the download has stays. Where
 -- an extension block is accepted, what more is read is planned.

@@ -2,7 +2,7 @@
 use Rattle.std.specs.Prelude.{◌≡◌, ◌≢◌, ℕ, ◌<◌, ◌≤◌}
 use Rattle.cap_text.specs.Cap.{verify_cap_of}
 use Rattle.request_record.specs.Asking.{AsksOnce}
-use Rattle.request_record.specs.Record.{outstanding_count}
+use Rattle.request_record.specs.Record.{IsRecord, outstanding_count}
 use Rattle.download_segments.specs.Pieces.{AreConsecutive}
 use Rattle.download_core.specs.declared.status.DownloadStatus.TheVariants.{Running, Done, Failed}
 use Rattle.download_core.specs.declared.status.DownloadStatus.TheVariants.{NotEnoughShares}
@@ -19,7 +19,8 @@ use Rattle.download_core.specs.State.{DownloadState, accepted, handed, ready}
 -- only where too few shares are left, and is inconsistent only where the file is no code word. A
 -- server is asked which shares it holds, and to read shares that it offered, and nothing else. None
 -- is asked the same thing twice, nor for a byte of a share twice, and no more is read than may be.
--- Each share that is blamed failed its check.
+-- No request is sent more than four times, and none that was answered or lost is to send. Each
+-- share that is blamed failed its check.
 pub record IsRight (d : DownloadState) : Type 0 where
   pub end : ℕ
   pub consecutive : AreConsecutive (handed d) (ready d) end
@@ -33,6 +34,7 @@ pub record IsRight (d : DownloadState) : Type 0 where
   pub inconsistent : d.status ≡ Inconsistent → HasNoCodeWord d.requests.entries d.found
   pub asks : AsksOrReads d.requests.entries
   pub once : AsksOnce d.requests.entries
+  pub recorded : IsRecord d.requests
   pub reads : ReadsNoMore d.requests.entries d.found
   pub beside : d.status ≢ Failed → ReadsBeside d.requests.entries d.blamed d.found
   pub causes : AreCaused (verify_cap_of d.cap) d.requests.entries d.found d.blamed

@@ -120,13 +120,15 @@ impl Download {
         }
     }
 
-    /// Takes note of a second. On an `Err` it has failed; what it has stays.
+    /// Takes note of a second. On an `Err`, which only one that runs gives, it has failed; what it
+    /// has stays.
     pub fn tick(&mut self, now: u64) -> Result<(), AllocError>
         ensures ok { OnOk result (TicksOn now self.old self.new) }
         ensures err { OnErr result (self.new.status ≡ Failed) }
         ensures stops { OnErr result (StopsAt now self.old self.new) }
         // Only an `Err` makes it one that failed.
         ensures fails_not { OnOk result (self.old.status ≢ Failed → self.new.status ≢ Failed) }
+        ensures ended { self.old.status ≢ Running → IsOk result }
         // What is there is handed out at once.
         ensures prompt { self.new.status ≡ Running → HoldsNothingBack false self.new }
     {
@@ -142,7 +144,8 @@ impl Download {
         }
     }
 
-    /// Where it stands. While it runs a request is outstanding.
+    /// Where it stands. While it runs a request is outstanding. No request is sent more than four
+    /// times.
     pub fn status(&self) -> DownloadStatus
         ensures value { result ≡ self.now.status }
         ensures right { IsRight self.now }
@@ -241,7 +244,8 @@ pub fn given_are_shown()
 
 /// A law of the definitions: the pieces that a download gave, from the first byte of the cap's file
 /// to its last, are the file of the cap: a ciphertext decrypted, whose segments' hashes have the
-/// root in the cap's extension block. The law is the contract; the call does nothing.
+/// root in the extension block that the download accepted. The law is the contract; the call does
+/// nothing.
 pub fn whole_files()
     ensures { WholeFiles }
 {}

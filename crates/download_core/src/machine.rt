@@ -5,6 +5,7 @@ ghost use Rattle.std.specs.Prelude.{OnErr, OnOk, false, length, nat_eq, true};
 ghost use Rattle.std.specs.List.{IsDistinct};
 ghost use Rattle.cap_text.specs.Cap.{verify_cap_of};
 ghost use Rattle.request_record.specs.Asking.{AsksOnce, begun};
+ghost use Rattle.request_record.specs.Record.{IsRecord};
 ghost use Rattle.share_holdings.specs.Numbers.{read_count};
 ghost use Rattle.share_holdings.specs.Table.{NoneIsFree};
 ghost use Rattle.share_beginnings.specs.Known.{AreBegun};
@@ -132,7 +133,8 @@ impl Machine {
         self.settle(true)
     }
 
-    /// Takes note of a second, and tells where it stands then.
+    /// Takes note of a second, and tells where it stands then. One that ended needs no memory:
+    /// where there is none it takes no note.
     pub(crate) fn pass(
         &mut self,
         status: DownloadStatus,
@@ -145,15 +147,17 @@ impl Machine {
             (state_of self.old servers status) (state_of self.new servers Failed)) }
         ensures kept { IfOk result (IsKept self.new) }
         ensures failed { IsKept self.new Failed }
+        ensures ended { status ≢ Running → IsOk result }
         ensures well { status ≢ Failed → IfOk result (λ ended. ended ≢ Failed) }
         // What is there is handed out at once.
         ensures prompt { IfOk result (λ ended. ended ≡ Running
             → IsPromptIfFound false (entries_of self.new) (found_of self.new.found)) }
     {
-        self.beginnings.tick(now)?;
         if !is_running(status) {
+            let _ = self.beginnings.tick(now);
             return Ok(status);
         }
+        self.beginnings.tick(now)?;
         self.end_lost();
         self.settle(false)
     }
@@ -200,15 +204,16 @@ impl Machine {
     }
 
     /// A law: what is read and made of the file is right, servers are asked which shares they hold
-    /// and for shares that they offered, and no byte is asked twice of one server. The call does
-    /// nothing.
+    /// and for shares that they offered, no byte is asked twice of one server, and no request is
+    /// sent more than four times. The call does nothing.
     #[tactic(auto, using(crate::proofs::ReadLemmas::asks_or_reads))]
     pub(crate) fn is_right(&self)
         ensures file { IsRightIfFound (found_of self.now.found) }
         ensures asks { AsksOrReads (entries_of self.now) }
         ensures once { AsksOnce (entries_of self.now) }
+        ensures recorded { IsRecord self.now.beginnings.holdings.requests }
     {
-        let _ = self.beginnings.holdings().requests();
+        let _ = self.beginnings.holdings().requests().entries();
         if let Some(found) = &self.found {
             let _ = found.reading.file().geometry();
         }

@@ -190,6 +190,10 @@ download_stops now d e a = download_goes Nothing d e a.same.cap a.same.range (el
   | inr on ↦ asks_follow Nothing d.requests (after_tick now d.requests) e.requests on.0 (follows_tick now d.requests) on.1
 ]) a.same.stays
 
+download_ticks : (now : ℕ) (d e : DownloadState) → download.TicksOn now d e → GoesOn Nothing (Downloading d) (Downloading e)
+download_ticks now d e (download.goes a) = download_moves Nothing d e (after_tick now d.requests) (follows_tick now d.requests) a
+download_ticks now d e (download.idles ended same) = same_goes Nothing (Downloading d) (Downloading e) (ap Downloading same)
+
 download_same : (d e : DownloadState) → e.cap ≡ d.cap → (e.from ≡ d.from) × (e.to ≡ d.to) → e.requests.session ≡ d.requests.session → e.requests.entries ≡ d.requests.entries
     → StaysGiven d e → GoesOn Nothing (Downloading d) (Downloading e)
 download_same d e cap range session entries stays = download_goes Nothing d e cap range (follows_same Nothing d.requests e.requests session entries) stays
@@ -246,7 +250,7 @@ advanced from now m (Checking c) (Gone n) a = absurd a
 
 pub ticked_on : (now : ℕ) (old new : Task) → TicksOn now old new → GoesOn Nothing old new
 ticked_on now (Uploading u) (Uploading v) a = upload_ticks now u v a
-ticked_on now (Downloading d) (Downloading e) a = download_moves Nothing d e (after_tick now d.requests) (follows_tick now d.requests) a.0
+ticked_on now (Downloading d) (Downloading e) a = download_ticks now d e a.0
 ticked_on now (Checking c) (Checking e) a = check_ticks now c e a
 ticked_on now (Gone number) new a = same_goes Nothing (Gone number) new a
 ticked_on now (Uploading u) (Downloading e) a = absurd a
@@ -264,7 +268,7 @@ pub download_advanced : (from now : ℕ) (m : Message) (d e : DownloadState) →
 download_advanced from now m d e a = download_moves (IsSaid from m d.requests.session) d e (after_message from m now d.requests) (follows_message from now m d.requests) a
 
 pub download_ticked : {X E : Type 0} (r : Result X E) (now : ℕ) (d e : DownloadState) → OnOk r (download.TicksOn now d e) → OnErr r (download.StopsAt now d e) → GoesOn Nothing (Downloading d) (Downloading e)
-download_ticked (Ok x) now d e a b = download_moves Nothing d e (after_tick now d.requests) (follows_tick now d.requests) a
+download_ticked (Ok x) now d e a b = download_ticks now d e a
 download_ticked (Err x) now d e a b = download_stops now d e b
 
 pub taken : (old new : Task) (f : Option (ℕ × Message)) → Takes old f new → GoesOn Nothing old new
