@@ -86,6 +86,13 @@ module _ {A B : Type 0} where
     | inr h ↦ member_there (f z) (f x) (map f zs) (member_map f zs x h)
   ]
 
+  pub member_map_from : (f : A → B) (xs : List A) (y : B) → Contains (map f xs) y → (x : A) × Contains xs x × (f x ≡ y)
+  member_map_from f [] y c = absurd (member_none y c)
+  member_map_from f (z ∷ zs) y c = elim (member_cases (f z) y (map f zs) c) [
+    | inl e ↦ (z, member_here z zs, e)
+    | inr h ↦ (let p = member_map_from f zs y h in (p.0, member_there z p.0 zs p.1, p.2))
+  ]
+
   pub member_flat : (f : A → List B) (xs : List A) (x : A) (y : B) → Contains xs x → Contains (f x) y → Contains (flat_map f xs) y
   member_flat f [] x y c d = absurd (member_none x c)
   member_flat f (z ∷ zs) x y c d = elim (member_cases z x zs c) [

@@ -21,9 +21,9 @@ use Rattle.upload_core.specs.State.{Goal, UploadState, with_record}
 use Rattle.upload_core.specs.Moves as upload
 use Rattle.upload_core.specs.Rounds.{transfers_of}
 use Rattle.upload_core.specs.Sending as upload_sends
-use Rattle.download_core.specs.Hashed.{StaysGiven}
+use Rattle.download_core.specs.Hashed.{StaysGiven, StaysHashed}
 use Rattle.download_core.specs.State.{DownloadState}
-use Rattle.download_core.proofs.HashedLemmas.{sent_stays, taken_stays}
+use Rattle.download_core.proofs.HashedLemmas.{sent_hashed, sent_stays, taken_hashed, taken_stays}
 use Rattle.download_segments.specs.declared.piece.Piece.{Piece}
 use Rattle.download_core.specs.Moves as download
 use Rattle.download_core.specs.Sending as download_sends
@@ -49,11 +49,12 @@ goes_on New a b c f g = record {
   is_for = λ e h. g.is_for e (f.is_for e h);
   happy = λ pairs h. g.happy pairs (f.happy pairs h);
   given = λ p h. g.given p (f.given p h);
+  hashed = λ input h. g.hashed input (f.hashed input h);
   gone = λ number e. g.gone number (f.gone number e);
 }
 
 pub goes_nowhere : (New : Said) (a : Task) → GoesOn New a a
-goes_nowhere New a = record { follows = follows_itself New (requests_of a); index = refl; is_for = λ e h. h; happy = λ pairs h. h; given = λ p h. h; gone = λ number e. e }
+goes_nowhere New a = record { follows = follows_itself New (requests_of a); index = refl; is_for = λ e h. h; happy = λ pairs h. h; given = λ p h. h; hashed = λ input h. h; gone = λ number e. e }
 
 pub same_goes : (New : Said) (a b : Task) → b ≡ a → GoesOn New a b
 same_goes New a b e = subst (GoesOn New a) (sym e) (goes_nowhere New a)
@@ -73,7 +74,7 @@ record SameUpload (u v : UploadState) : Type 0 where
   pub happy : (pairs : List Pair) → u.status ≡ uploads.Happy pairs → v.status ≡ uploads.Happy pairs
 
 upload_goes : (New : Said) (u v : State) → SameUpload u.course v.course → Follows New u.course.requests v.course.requests → GoesOn New (Uploading u) (Uploading v)
-upload_goes New u v same f = record { follows = f; index = ap (λ (g : Goal). g.cap.storage_index) same.goal; is_for = kept; happy = same.happy; given = λ p h. h; gone = λ number e. absurd cc }
+upload_goes New u v same f = record { follows = f; index = ap (λ (g : Goal). g.cap.storage_index) same.goal; is_for = kept; happy = same.happy; given = λ p h. h; hashed = λ input h. h; gone = λ number e. absurd cc }
   where
     kept : (e : Job) → IsFor e (Uploading u) → IsFor e (Uploading v)
     kept (jobs.Upload file secret p) h = (same.goal ∙ h.0, same.wanted ∙ h.1, h.2)
@@ -164,14 +165,15 @@ upload_takes u v f (upload_sends.sends place server asked body first there tells
 asks_follow : (New : Said) (old r new : RequestsState) (asks : List (ℕ × Asked)) → Follows New old r → new ≡ asked_all asks r → Follows New old new
 asks_follow New old r new asks f is = subst (Follows New old) (sym is) (asks_more New old r asks f)
 
-download_goes : (New : Said) (d e : DownloadState) → e.cap ≡ d.cap → (e.from ≡ d.from) × (e.to ≡ d.to) → Follows New d.requests e.requests → StaysGiven d e
+download_goes : (New : Said) (d e : DownloadState) → e.cap ≡ d.cap → (e.from ≡ d.from) × (e.to ≡ d.to) → Follows New d.requests e.requests → StaysGiven d e → StaysHashed d e
     → GoesOn New (Downloading d) (Downloading e)
-download_goes New d e same range f stays = record {
+download_goes New d e same range f stays hashed = record {
   follows = f;
   index = ap (λ (c : ReadCapValue). (verify_cap_of c).storage_index) same;
   is_for = kept;
   happy = λ pairs h. h;
   given = stays;
+  hashed = hashed;
   gone = λ number e. absurd cc;
 }
   where
@@ -181,37 +183,37 @@ download_goes New d e same range f stays = record {
     kept (jobs.Check cap) h = absurd h
 
 download_moves : (New : Said) (d e : DownloadState) (r : RequestsState) → Follows New d.requests r → download.GoesOn r d e → GoesOn New (Downloading d) (Downloading e)
-download_moves New d e r f a = download_goes New d e a.same.cap a.same.range (asks_follow New d.requests r e.requests a.asks f a.requests) a.same.stays
+download_moves New d e r f a = download_goes New d e a.same.cap a.same.range (asks_follow New d.requests r e.requests a.asks f a.requests) a.same.stays a.same.hashed
 
 -- one that finds no memory at a tick
 download_stops : (now : ℕ) (d e : DownloadState) → download.StopsAt now d e → GoesOn Nothing (Downloading d) (Downloading e)
 download_stops now d e a = download_goes Nothing d e a.same.cap a.same.range (elim a.requests [
   | inl same ↦ follows_same Nothing d.requests e.requests (ap (λ (r : RequestsState). r.session) same) (ap (λ (r : RequestsState). r.entries) same)
   | inr on ↦ asks_follow Nothing d.requests (after_tick now d.requests) e.requests on.0 (follows_tick now d.requests) on.1
-]) a.same.stays
+]) a.same.stays a.same.hashed
 
 download_ticks : (now : ℕ) (d e : DownloadState) → download.TicksOn now d e → GoesOn Nothing (Downloading d) (Downloading e)
 download_ticks now d e (download.goes a) = download_moves Nothing d e (after_tick now d.requests) (follows_tick now d.requests) a
 download_ticks now d e (download.idles ended same) = same_goes Nothing (Downloading d) (Downloading e) (ap Downloading same)
 
 download_same : (d e : DownloadState) → e.cap ≡ d.cap → (e.from ≡ d.from) × (e.to ≡ d.to) → e.requests.session ≡ d.requests.session → e.requests.entries ≡ d.requests.entries
-    → StaysGiven d e → GoesOn Nothing (Downloading d) (Downloading e)
-download_same d e cap range session entries stays = download_goes Nothing d e cap range (follows_same Nothing d.requests e.requests session entries) stays
+    → StaysGiven d e → StaysHashed d e → GoesOn Nothing (Downloading d) (Downloading e)
+download_same d e cap range session entries stays hashed = download_goes Nothing d e cap range (follows_same Nothing d.requests e.requests session entries) stays hashed
 
 download_takes : (d e : DownloadState) (f : Option (ℕ × Message)) → download_sends.Takes d f e → GoesOn Nothing (Downloading d) (Downloading e)
 download_takes d e None t = same_goes Nothing (Downloading d) (Downloading e) (ap Downloading t.1)
 download_takes d e (Some f) t = (let is = t.3 in
     download_same d e (ap (λ (x : DownloadState). x.cap) is) (ap (λ (x : DownloadState). x.from) is, ap (λ (x : DownloadState). x.to) is)
-    (ap (λ (x : DownloadState). x.requests.session) is) (ap (λ (x : DownloadState). x.requests.entries) is) (sent_stays d e (Some f) t))
+    (ap (λ (x : DownloadState). x.requests.session) is) (ap (λ (x : DownloadState). x.requests.entries) is) (sent_stays d e (Some f) t) (sent_hashed d e (Some f) t))
 
 download_hands : (d e : DownloadState) (p : Option Piece) → download.TakesPiece d p e → GoesOn Nothing (Downloading d) (Downloading e)
 download_hands d e None t = same_goes Nothing (Downloading d) (Downloading e) (ap Downloading t.1)
 download_hands d e (Some p) t = (let is = t.1 in
     download_same d e (ap (λ (x : DownloadState). x.cap) is) (ap (λ (x : DownloadState). x.from) is, ap (λ (x : DownloadState). x.to) is)
-    (ap (λ (x : DownloadState). x.requests.session) is) (ap (λ (x : DownloadState). x.requests.entries) is) (taken_stays d e (Some p) t))
+    (ap (λ (x : DownloadState). x.requests.session) is) (ap (λ (x : DownloadState). x.requests.entries) is) (taken_stays d e (Some p) t) (taken_hashed d e (Some p) t))
 
 check_goes : (New : Said) (c e : CheckState) → e.cap ≡ c.cap → Follows New c.requests e.requests → GoesOn New (Checking c) (Checking e)
-check_goes New c e same f = record { follows = f; index = ap (λ (cap : VerifyCapValue). cap.storage_index) same; is_for = kept; happy = λ pairs h. h; given = λ p h. h; gone = λ number e. absurd cc }
+check_goes New c e same f = record { follows = f; index = ap (λ (cap : VerifyCapValue). cap.storage_index) same; is_for = kept; happy = λ pairs h. h; given = λ p h. h; hashed = λ input h. h; gone = λ number e. absurd cc }
   where
     kept : (x : Job) → IsFor x (Checking c) → IsFor x (Checking e)
     kept (jobs.Upload file secret p) h = absurd h

@@ -17,7 +17,7 @@ use Rattle.world_operations.specs.declared.message.Sent.{Sent}
 use Rattle.world_operations.specs.declared.operation.Operation.{Operation}
 use Rattle.world_operations.specs.declared.task.Task.{Task}
 use Rattle.world_operations.specs.declared.task.Task.TheVariants.{Gone}
-use Rattle.world_operations.specs.Given.{AreGivenBy, IsGivenBy}
+use Rattle.world_operations.specs.Given.{AreGivenBy, IsGivenBy, IsHashedBy}
 use Rattle.world_operations.specs.Jobs.{IsFor}
 use Rattle.world_operations.specs.Tasks.{IsHappyTask, index_of, is_download, requests_of}
 
@@ -64,13 +64,14 @@ pub record Follows (New : Said) (old new : RequestsState) : Type 0 where
       → WasAnswered old.entries place s said ⊎ New place s.server s.asked said
 
 -- A machine goes on: it is for the same, its record follows, an upload that is Happy stays so, and
--- what a download gave stays given. One that is gone stays gone.
+-- what a download gave and hashed stays so. One that is gone stays gone.
 pub record GoesOn (New : Said) (old new : Task) : Type 0 where
   pub follows : Follows New (requests_of old) (requests_of new)
   pub index : index_of new ≡ index_of old
   pub is_for : (job : Job) → IsFor job old → IsFor job new
   pub happy : (pairs : List Pair) → IsHappyTask old pairs → IsHappyTask new pairs
   pub given : (p : Piece) → IsGivenBy old p → IsGivenBy new p
+  pub hashed : (input : List ℕ) → IsHashedBy old input → IsHashedBy new input
   pub gone : (number : ℕ) → old ≡ Gone number → new ≡ Gone number
 
 -- a message is a request of this machine, by its number
