@@ -1,6 +1,6 @@
 // Trees over the leaves of 32 bytes 0, 1, 2, ..; the nodes were computed by Python's hashlib.
 
-use merkle::{Partial, Tree, check_path};
+use merkle::{Padding, Partial, Tree, check_path};
 use std::alloc::Global;
 
 const LEAVES: [[u8; 32]; 5] = [[0; 32], [1; 32], [2; 32], [3; 32], [4; 32]];
@@ -222,7 +222,7 @@ fn is_answered_right(
     }
     let count = tree.nodes().len().min(31) as u32;
     let (Ok(mut partial), Some(offers)) = (
-        Partial::new(alloc, &tree.root(), leaves),
+        Partial::new(alloc, &tree.root(), &Padding::of(leaves)),
         offers_of(alloc, tree, set, wrong),
     ) else {
         return false;
@@ -292,7 +292,7 @@ fn leads_far(alloc: Global) -> bool {
         };
         number = number.saturating_sub(1) / 2;
     }
-    let Ok(mut partial) = Partial::new(alloc, &hash, 1 << 20) else {
+    let Ok(mut partial) = Partial::new(alloc, &hash, &Padding::of(1 << 20)) else {
         return false;
     };
     if partial.offer(&offers).is_err() {
@@ -315,7 +315,7 @@ fn needs_less(alloc: Global) -> bool {
     let Ok(tree) = Tree::build(alloc, &LEAVES) else {
         return false;
     };
-    let Ok(mut partial) = Partial::new(alloc, &tree.root(), 5) else {
+    let Ok(mut partial) = Partial::new(alloc, &tree.root(), &Padding::of(5)) else {
         return false;
     };
     let all = match partial.needed(4) {
@@ -336,4 +336,38 @@ fn needs_less(alloc: Global) -> bool {
 #[test]
 fn needed_nodes_are_those_not_known(rt: HostRuntime) {
     assert!(rt; needs_less(rt.alloc()));
+}
+
+// Whether all nodes over empty leaves alone are those of a tree of so many leaves, of which they
+// are known from the first.
+fn padding_is_known(alloc: Global, leaf_count: usize) -> bool {
+    let Ok(leaves) = vec![in alloc; [5; 32]; leaf_count] else {
+        return false;
+    };
+    if leaves.is_empty() || leaves.len() > 1_000 {
+        return false;
+    }
+    let count = leaves.len() as u32;
+    let Ok(tree) = Tree::build(alloc, &leaves) else {
+        return false;
+    };
+    let Ok(partial) = Partial::new(alloc, &tree.root(), &Padding::of(count)) else {
+        return false;
+    };
+    let mut known = 0;
+    for (hash, number) in tree.nodes().iter().zip(0u32..2_047) {
+        match partial.node(number) {
+            Some(told) if told != *hash => return false,
+            Some(_) => known += 1,
+            None => {}
+        }
+    }
+    known > 1
+}
+
+#[test]
+fn padding_is_that_of_the_tree(rt: HostRuntime) {
+    for leaf_count in [3, 7, 129, 300, 600] {
+        assert!(rt; padding_is_known(rt.alloc(), leaf_count), "{leaf_count} leaves");
+    }
 }

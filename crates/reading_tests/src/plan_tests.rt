@@ -10,22 +10,24 @@ pub(crate) type Count = (u32, u64);
 // The size of a file in bytes, at 3 of 10, and its greatest segment; the first segment that is
 // wanted and the one behind the last; the reads of a tree, and those of the blocks. The numbers are
 // from a program of its own, in Python.
-pub(crate) const COUNTS: [((u64, u32), (u32, u32), Count, Count); 7] = [
+pub(crate) const COUNTS: [((u64, u32), (u32, u32), Count, Count); 8] = [
     ((1 << 30, 131_072), (4_095, 4_096), (2, 6_144), (2, 43_691)),
     (
         (1 << 30, 131_072),
         (4_095, 4_104),
         (2, 10_240),
-        (13, 393_219),
+        (18, 393_219),
     ),
     (
         (1 << 30, 131_072),
         (0, 8_192),
         (9, 264_192),
-        (10_923, 357_913_942),
+        (16_384, 357_913_942),
     ),
     ((1 << 20, 131_072), (3, 4), (1, 256), (2, 43_691)),
-    ((1 << 20, 131_072), (0, 8), (1, 256), (11, 349_526)),
+    ((1 << 20, 131_072), (0, 8), (1, 256), (16, 349_526)),
+    // Of 25 blocks of 1,366 bytes 23 share a read.
+    ((100_000, 4_096), (0, 25), (1, 800), (2, 33_334)),
     (
         (1 << 40, 1 << 20),
         (524_287, 524_288),

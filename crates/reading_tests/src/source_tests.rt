@@ -71,7 +71,7 @@ fn a_later_source_begins_with_its_own_block(rt: HostRuntime) -> Result<(), Fail>
     let plan = Plan::of(&geometry, 0, 2);
     let first = Source::new(rt.alloc(), &plan, 0);
     assert!(rt; first.block_offset(0) == 0);
-    assert!(rt; first.block_offset(1) == 10_923);
+    assert!(rt; first.block_offset(1) == 0);
     assert!(rt; !first.is_ready(1));
     let mut later = Source::new(rt.alloc(), &plan, 1);
     assert!(rt; later.block_offset(1) == 0);
