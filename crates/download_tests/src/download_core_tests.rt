@@ -56,11 +56,13 @@ const FAULTS: [(Wrong, usize); 10] = [
 
 // Servers that are silent, where there are not enough shares for all of a file: how many bytes are
 // handed out, of how many segments.
-const SILENCES: [(Shape, Wrong, usize, usize); 3] = [
+const SILENCES: [(Shape, Wrong, usize, usize); 4] = [
     (SMALL, Wrong::Silent(2, 9, 0), 0, 0),
     (TWO, Wrong::Silent(0, 9, 21), 0, 0),
-    // The first of three segments is proved once the second read of each block section came.
-    (THREE, Wrong::Silent(0, 9, 34), 131_073, 1),
+    // The first segment is proved once the second read of each block section came, and the reads of
+    // two shares' other blocks before it.
+    (TWO, Wrong::Silent(0, 9, 34), 131_073, 1),
+    (THREE, Wrong::Silent(0, 9, 38), 131_073, 1),
 ];
 
 fn ends_so(

@@ -234,8 +234,7 @@ const LONG: Shape = Shape {
 
 // Of three shares that are there, the server of the last is silent after so many answers: what was
 // proved is handed out, and it is not enough for more. It told what it holds, three reads of its
-// beginning, two of its trees, and one of its blocks: 32,768 bytes, which are 23 blocks and a part
-// of the next.
+// beginning, two of its trees, and one of its blocks: 23 of them.
 const BEFORE_SILENCE: Wanted = Wanted {
     status: DownloadStatus::NotEnoughShares,
     bytes: 94_254,
