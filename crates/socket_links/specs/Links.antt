@@ -35,7 +35,7 @@ IsCarriedOver calls (Memory link) way m came after =
 IsCarriedOver {E = E} calls (Sockets ends) way m came after =
     (last : Option E) × (after ≡ Sockets last) × IsCarried calls ends way m came last
 
--- Where memory is refused, both ends of a connection are closed, and a link in memory stays as it is.
+-- Where memory is refused both ends of a connection are closed. A link in memory stays as it is.
 abbrev pub IsGivenUp : {E : Type 0} → GridLink E → GridLink E → Type 0
 IsGivenUp (Memory link) after = after ≡ Memory link
 IsGivenUp (Sockets ends) after = after ≡ Sockets None
