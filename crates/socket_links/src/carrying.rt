@@ -1,6 +1,7 @@
 //! A frame goes from one end of a connection to the other.
 
-ghost use Rattle.std.specs.Prelude.{◌≡◌, ◌++◌, ◌≤◌, List, ℕ, IsErrOf, OnOk, length};
+ghost use Rattle.std.specs.Prelude.{◌≡◌, ◌++◌, ◌≤◌, List, ℕ, IsErrOf, OnErr, OnOk, drop, length};
+ghost use Rattle.std.specs.Prelude.{take};
 ghost use Rattle.socket_links.specs.Carrying.{Breaks, Carries, Fails, Passes};
 ghost use Rattle.socket_links.specs.declared.carrying.CarryFault.{CarryFault};
 
@@ -71,10 +72,21 @@ fn carry_piece<E: Ends>(
         × Passes E.calls way ends.old piece.now bytes ends.new) }
     ensures socket { IsErrOf result CarryFault.Socket → Fails E.calls way ends.old }
 {
-    let mut buffer = [0u8; STEP];
-    let room = &mut buffer[..piece.len()];
+    let before = came.len();
+    came.resize(before + piece.len(), 0)?;
     ends.send(way, piece)?;
-    ends.receive(way, room)?;
-    came.extend_from_slice(room)?;
+    receive_behind(ends, way, came.as_mut_slice(), before)?;
     Ok(())
+}
+
+// Fills what stands behind so many bytes with what comes.
+#[tactic(auto, using(std::proofs::lemmas::Slice::overwrites))]
+fn receive_behind<E: Ends>(ends: &mut E, way: Way, came: &mut [u8], before: usize) -> io::Result<()>
+    requires { before ≤ length came.old }
+    ensures ok { OnOk result (E.calls.came ends.old way (drop before came.new) ends.new) }
+    ensures front { take before came.new ≡ take before came.old }
+    ensures long { length came.new ≡ length came.old }
+    ensures err { OnErr result (E.calls.failed ends.old way ends.new) }
+{
+    ends.receive(way, &mut came[before..])
 }
