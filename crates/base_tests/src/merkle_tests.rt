@@ -368,6 +368,9 @@ fn padding_is_known(alloc: Global, leaf_count: usize) -> bool {
 #[test]
 fn padding_is_that_of_the_tree(rt: HostRuntime) {
     for leaf_count in [3, 7, 129, 300, 600] {
-        assert!(rt; padding_is_known(rt.alloc(), leaf_count), "{leaf_count} leaves");
+        assert!(rt;
+            padding_is_known(rt.alloc(), leaf_count),
+            "{leaf_count} leaves"
+        );
     }
 }

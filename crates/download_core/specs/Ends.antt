@@ -14,7 +14,8 @@ pub record HasTooFew (d : DownloadState) : Type 0 where
   pub few : FewAreLeft d.cap.needed d.cap.total d.requests.entries d.blamed
 
 -- An extension block is accepted, and nobody could have encoded its file: by the answers in the
--- record, the next segment is another than the one whose hash is known, though its blocks are right.
+-- record, the next segment is another than the one whose hash is known, though its blocks are
+-- right.
 abbrev pub HasNoCodeWord : List Request → Option Found → Type 0
 HasNoCodeWord entries None = ⊥
 HasNoCodeWord entries (Some f) =

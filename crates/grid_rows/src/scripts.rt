@@ -34,7 +34,13 @@ where
     let mut parts = rest.split(|word| *word == "|");
     let lines = parts.next().unwrap_or(&[]).join(rt.alloc(), " ")?;
     for text in parts {
-        tell_count(rt, numbers, lines.as_str(), text.join(rt.alloc(), " ")?.as_str(), told)?;
+        tell_count(
+            rt,
+            numbers,
+            lines.as_str(),
+            text.join(rt.alloc(), " ")?.as_str(),
+            told,
+        )?;
     }
     fs::remove_file(rt, "script")
 }

@@ -20,8 +20,8 @@ ghost use Rattle.world.specs.Step.{with_sent};
 use crate::liar::Heard;
 use crate::nodes::{nodes_up_to, servers_at};
 use crate::parts::{
-    answer_at, fail_server, flush_at, forget_all, is_live_at, is_request, is_running, push_operation,
-    read_body, restart_server, serve_at, set_life, tick_at, tick_server,
+    answer_at, fail_server, flush_at, forget_all, is_live_at, is_request, is_running,
+    push_operation, read_body, restart_server, serve_at, set_life, tick_at, tick_server,
 };
 use proved_parts::Bytes;
 use server_core::error::ServerFault;

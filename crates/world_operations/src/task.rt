@@ -12,8 +12,8 @@ ghost use Rattle.world_operations.specs.Given.{IsGivenBy};
 ghost use Rattle.world_operations.specs.Jobs.{MayStart};
 ghost use Rattle.world_operations.specs.Moves.{Advances, Begins, Takes, TakesPiece, TicksOn};
 ghost use Rattle.world_operations.specs.Moves.{UploadAdvances, UploadTicks};
-ghost use Rattle.world_operations.specs.Tasks.{IsRightTask, MayFail, is_download, requests_of, runs};
-ghost use Rattle.world_operations.specs.Tasks.{upload_runs};
+ghost use Rattle.world_operations.specs.Tasks.{IsRightTask, MayFail, is_download, requests_of};
+ghost use Rattle.world_operations.specs.Tasks.{runs, upload_runs};
 
 use crate::job::Job;
 use cap_text::{ReadCap, VerifyCap};
