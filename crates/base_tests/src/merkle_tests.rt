@@ -354,11 +354,11 @@ fn padding_is_known(alloc: Global, leaf_count: usize) -> bool {
     let Ok(partial) = Partial::new(alloc, &tree.root(), &Padding::of(count)) else {
         return false;
     };
-    let mut known = 0;
+    let mut known: u32 = 0;
     for (hash, number) in tree.nodes().iter().zip(0u32..2_047) {
         match partial.node(number) {
             Some(told) if told != *hash => return false,
-            Some(_) => known += 1,
+            Some(_) => known = known.saturating_add(1),
             None => {}
         }
     }

@@ -6,7 +6,7 @@ use crate::file_encoding_tests::{
     have_digests, no_code_word, taken,
 };
 use cap_text::{Cap, VerifyCap};
-use file_encoding::{ReadError, RegenerateError, Share, regenerate, regenerate_all};
+use file_encoding::{Encoded, ReadError, RegenerateError, Share, regenerate, regenerate_all};
 use std::alloc::{AllocError, Global};
 use std::test::Fail;
 
@@ -40,13 +40,18 @@ fn store_counted(
 ) -> Result<Stored, Refused> {
     let (size, needed, total, segment) = numbers;
     let file = taken(counted(alloc, size))?;
-    let encoded = taken(encoded(alloc, &file, secret, needed, total, segment))?;
-    match encoded.cap {
-        Cap::Chk(cap) => Ok(Stored {
-            cap: cap.to_verify(),
-            shares: encoded.shares,
-        }),
-        _ => Err(Refused),
+    let Encoded { cap, shares } = taken(encoded(alloc, &file, secret, needed, total, segment))?;
+    match verify_cap(&cap) {
+        Some(cap) => Ok(Stored { cap, shares }),
+        None => Err(Refused),
+    }
+}
+
+// The verify cap of a file's cap.
+fn verify_cap(cap: &Cap) -> Option<VerifyCap> {
+    match cap {
+        Cap::Chk(cap) => Some(cap.to_verify()),
+        Cap::Verify(_) | Cap::Lit(_) => None,
     }
 }
 
