@@ -99,7 +99,7 @@ fn one_share_is_made_anew(rt: HostRuntime) -> Result<(), Fail> {
     assert!(rt; have_digests(alloc, &[Share::from_vec(share)], 633, wanted)?);
     let none = regenerate(alloc, &small.cap, &given, 10);
     assert!(rt; is_refused(none, RegenerateError::BadNumber));
-    let few = regenerate(alloc, &small.cap, &given[1..], 5);
+    let few = regenerate(alloc, &small.cap, given.get(1..).unwrap_or(&[]), 5);
     assert!(rt; is_refused(few, RegenerateError::NotEnoughShares));
     Ok(())
 }
