@@ -2,6 +2,7 @@
 
 use crate::error::StoreError;
 use crate::files::length_of_regular;
+use crate::lengths::look_at;
 use crate::names::ClosedName;
 use crate::shelf::Place;
 use crate::table::{KeptShare, keep_lower};
@@ -17,8 +18,9 @@ const READONLY: &str = "readonly";
 /// What the store of a folder is opened for.
 #[derive(Clone, Copy, PartialEq, Eq)]
 pub enum Purpose {
-    /// Shares are read. No file is looked at before its share is asked for, so that the sum of the
-    /// lengths is not known, and no further share has room.
+    /// Shares are read. No file is looked at before its share is asked for, but where two have the
+    /// names of one share, so that the sum of the lengths is not known, and no further share has
+    /// room.
     Reading,
     /// Shares are written too. The lengths of all closed shares are asked, for the room that is
     /// left.
@@ -44,7 +46,7 @@ pub(crate) fn list_folder<R: Files + AllocGlobal + Clone + Drop>(
     };
     for entry in read_or_make(rt, folder)? {
         match entry {
-            Ok(entry) => take_entry(rt, &mut listing, &entry, purpose)?,
+            Ok(entry) => take_entry(rt, folder, &mut listing, &entry, purpose)?,
             Err(error) if error.kind() == io::ErrorKind::InvalidFilename => {}
             Err(error) => return Err(StoreError::from(error)),
         }
@@ -69,6 +71,7 @@ fn read_or_make<R: Files + AllocGlobal + Clone + Drop>(
 // Takes note of a file, if it is a closed share's or is named `readonly`.
 fn take_entry<R: Files + AllocGlobal>(
     rt: &R,
+    folder: &str,
     listing: &mut Listing,
     entry: &DirEntry<R>,
     purpose: Purpose,
@@ -81,12 +84,18 @@ fn take_entry<R: Files + AllocGlobal>(
     let Some(name) = ClosedName::read(name.as_bytes()) else {
         return Ok(());
     };
-    let length = match purpose {
-        Purpose::Reading => None,
-        Purpose::Writing => match length_of_regular(entry.metadata())? {
+    let is_second = listing.closed.contains_key(&name.place);
+    if is_second {
+        // what is no regular file does not stand before one that is
+        look_at(rt, folder, &mut listing.closed, &name.place)?;
+    }
+    let length = if is_second || purpose == Purpose::Writing {
+        match length_of_regular(entry.metadata())? {
             Some(length) => Some(length),
             None => return Ok(()),
-        },
+        }
+    } else {
+        None
     };
     let digest = name.digest;
     keep_lower(
