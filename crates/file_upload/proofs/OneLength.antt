@@ -1,5 +1,5 @@
 -- The shares of a file can be uploaded: they are few, of one length, and not long.
-use Rattle.std.proofs.Common.{◌≡◌, ℕ, ◌<◌, ◌≤◌, ◌^◌, Bool, true, false, true≢false, inl, inr, List, [], length, get_or, ◌∙◌, ap, sym, subst, arith}
+use Rattle.std.proofs.Common.{◌≡◌, ℕ, ◌<◌, ◌≤◌, Bool, true, false, true≢false, inl, inr, List, [], length, ◌∙◌, ap, sym, subst, arith}
 use Rattle.std.proofs.lemmas.Bool.{cases_lt}
 use Rattle.std.proofs.lemmas.List.{get_or_default}
 use Rattle.cap_text.specs.Cap.{ReadCapValue}
@@ -11,13 +11,7 @@ use Rattle.file_encoding.specs.Params.{AreChosen, IsEncodable, UploadParameters,
 use Rattle.file_encoding.proofs.Encodable.{has_shape, length-shares}
 use Rattle.file_encoding.proofs.OwnShares.{shares_have_one_length}
 use Rattle.file_encoding.proofs.ShareSizes.{shares_are_not_long}
-use Rattle.upload_core.specs.Pieces.{HaveOneLength, length_of}
-
-pub record AreFit (shares : List (List ℕ)) : Type 0 where
-  pub few : length shares ≤ 256
-  pub one_length : HaveOneLength shares
-  pub some : 1 ≤ length_of shares
-  pub short : length_of shares ≤ 2 ^ 41
+use Rattle.file_upload.specs.Shares.{AreFit}
 
 pub are_fit : (file secret : List ℕ) (p : UploadParameters) → AreChosen p.needed p.happy p.total p.max_segment → min_file_size ≤ length file
     → IsEncodable (length file) p → (shares : List (List ℕ)) → shares ≡ (encoding_of file secret (parameters_of p)).shares → AreFit shares

@@ -1,11 +1,10 @@
 -- A file made ready for its upload.
-use Rattle.std.specs.Prelude.{ℕ, List, map}
-use Rattle.tagged_hash.specs.TaggedHash.{share_digest}
+use Rattle.std.specs.Prelude.{ℕ, List}
 use Rattle.cap_text.specs.Cap.{ReadCapValue, verify_cap_of}
 use Rattle.file_encoding.specs.Encoding.{encoding_of}
 use Rattle.file_encoding.specs.Params.{UploadParameters, parameters_of}
-use Rattle.upload_core.specs.Pieces.{length_of}
 use Rattle.upload_core.specs.State.{Goal}
+use Rattle.file_upload.specs.Shares.{shares_goal}
 
 -- a file's cap, how many servers are to hold a share of their own, and the shares by number
 pub record Prepared : Type 0 where
@@ -21,8 +20,4 @@ prepared_of file secret p =
 
 -- what is to be placed: the shares by their digests, for the verify cap
 abbrev pub goal_of : Prepared → Goal
-goal_of p = record {
-  cap = verify_cap_of p.cap;
-  digests = map share_digest p.shares;
-  share_length = length_of p.shares;
-}
+goal_of p = shares_goal (verify_cap_of p.cap) p.shares

@@ -1,4 +1,6 @@
-//! The upload of a file from memory: the file is encoded, and an upload of its shares begins.
+//! The upload of whole shares from memory: of those that a file is encoded to, or of shares that
+//! are there already.
 #![tactic(auto)]
 
 pub mod prepared;
+pub mod shares;

@@ -1,25 +1,24 @@
 //! A file made ready for its upload. Once it is, the file's own bytes are not needed any more.
 
-ghost use Rattle.std.specs.Prelude.{◌≡◌, ◌≤◌, ◌<◌, ◌⊎◌, ◌^◌, length, map, nat_eq};
+ghost use Rattle.std.specs.Prelude.{◌≡◌, ◌≤◌, ◌<◌, ◌⊎◌, length, map, nat_eq};
 ghost use Rattle.std.specs.Prelude.{IfOk, IfErr, IsErrOf};
 ghost use Rattle.std.specs.List.{IsDistinct};
-ghost use Rattle.cap_text.specs.Cap.{verify_cap_of};
 ghost use Rattle.ueb.specs.Limits.{max_file_size, min_file_size};
 ghost use Rattle.file_encoding.specs.Params.{HasTooManySegments, IsEncodable};
 ghost use Rattle.upload_core.specs.Moves.{Begins};
-ghost use Rattle.upload_core.specs.Pieces.{HaveOneLength, length_of};
+ghost use Rattle.upload_core.specs.Pieces.{length_of};
 ghost use Rattle.upload_core.specs.declared.status.ServerInfo.{ServerInfo};
 ghost use Rattle.file_upload.specs.Prepared.{Prepared, goal_of, prepared_of};
 ghost use Rattle.file_upload.specs.declared.prepared.FileUpload.TheVariants.{Literal, Shares};
 
+use crate::shares::PreparedShares;
 use cap_text::{Cap, LitCap, ReadCap};
-use file_encoding::{EncodeError, Encoded, Params, Share, encode_all};
+use file_encoding::{EncodeError, Encoded, Params, encode_all};
 use std::alloc::{AllocError, Global};
 use std::marker::Model;
 use upload_core::Upload;
 use upload_core::pieces::WholeShares;
-use upload_core::status::{ServerInfo, UploadGoal};
-use wire::message::ShareLength;
+use upload_core::status::ServerInfo;
 
 /// A file that was made ready.
 #[derive(Drop)]
@@ -33,21 +32,20 @@ pub enum FileUpload {
 #[derive(Drop)]
 pub struct PreparedUpload {
     cap: ReadCap,
-    happy: u16,
-    pieces: WholeShares,
-    goal: UploadGoal,
+    shares: PreparedShares,
 }
 
 impl Model for PreparedUpload {
     ghost use Rattle.std.specs.Prelude.{◌≡◌};
-    ghost use Rattle.file_upload.specs.Prepared.{Prepared, goal_of};
+    ghost use Rattle.cap_text.specs.Cap.{verify_cap_of};
+    ghost use Rattle.file_upload.specs.Prepared.{Prepared};
 
     ghost Value = { Prepared };
 
-    ghost view = { λ p. record { cap = p.cap; happy = p.happy; shares = p.pieces } };
+    ghost view = { λ p.
+        record { cap = p.cap; happy = p.shares.happy; shares = p.shares.shares } };
 
-    ghost invariant = { λ p.
-        p.goal ≡ goal_of (record { cap = p.cap; happy = p.happy; shares = p.pieces }) };
+    ghost invariant = { λ p. p.shares.cap ≡ verify_cap_of p.cap };
 }
 
 /// Encodes a file and gathers its shares' digests. The secret has at most 64 bytes.
@@ -78,56 +76,14 @@ pub fn prepare(
 {
     let Encoded { cap, shares } = encode_all(alloc, file, secret, params)?;
     match cap {
-        Cap::Chk(cap) => Ok(FileUpload::Shares(prepare_shares(
-            alloc,
-            cap,
-            params.happy(),
-            shares,
-        )?)),
+        Cap::Chk(cap) => {
+            let happy = params.happy();
+            let shares = PreparedShares::gather(alloc, cap.to_verify(), happy, shares)?;
+            Ok(FileUpload::Shares(PreparedUpload { cap, shares }))
+        }
         Cap::Lit(cap) => Ok(FileUpload::Literal(cap)),
         Cap::Verify(_) => unreachable!(),
     }
-}
-
-// The shares of a cap's file made ready.
-fn prepare_shares(
-    alloc: Global,
-    cap: ReadCap,
-    happy: u16,
-    shares: Vec<Share>,
-) -> Result<PreparedUpload, AllocError>
-    requires few { length shares.items ≤ 256 }
-    requires one_length { HaveOneLength shares.items }
-    requires some { 1 ≤ length_of shares.items }
-    requires short { length_of shares.items ≤ 2 ^ 41 }
-    ensures { IfOk result (λ upload. upload
-        ≡ record { cap = cap; happy = happy; shares = shares.items }) }
-{
-    let length = match shares.first() {
-        Some(share) => share.as_slice().len(),
-        None => 0,
-    };
-    let pieces = WholeShares::new(bytes_of(alloc, shares)?);
-    let digests = pieces.digests(alloc)?;
-    let length = ShareLength::new(length as u64).unwrap();
-    let goal = UploadGoal::new(cap.to_verify(), digests, length);
-    Ok(PreparedUpload {
-        cap,
-        happy,
-        pieces,
-        goal,
-    })
-}
-
-// The shares as their bytes, of which none is copied.
-fn bytes_of(alloc: Global, shares: Vec<Share>) -> Result<Vec<Vec<u8>>, AllocError>
-    ensures { IfOk result (λ all. map (λ bytes. bytes.items) all.items ≡ shares.items) }
-{
-    let mut all = Vec::with_capacity(alloc, shares.len())?;
-    for share in shares {
-        all.push(share.into_vec())?;
-    }
-    Ok(all)
 }
 
 impl PreparedUpload {
@@ -142,14 +98,14 @@ impl PreparedUpload {
     pub fn happy(&self) -> u16
         ensures { result ≡ self.now.happy }
     {
-        self.happy
+        self.shares.happy()
     }
 
     /// The bytes of each share.
     pub fn share_length(&self) -> u64
         ensures { result ≡ length_of self.now.shares }
     {
-        self.goal.share_length().get()
+        self.shares.share_length()
     }
 
     /// Begins the upload: each of the servers is asked, in the order of the file, which shares it
@@ -166,12 +122,6 @@ impl PreparedUpload {
             Begins (goal_of self) self.happy servers.now session now upload.course) }
         ensures pieces { IfOk result (λ upload. upload.pieces ≡ self.shares) }
     {
-        let PreparedUpload {
-            cap: _,
-            happy,
-            pieces,
-            goal,
-        } = self;
-        Upload::start(alloc, pieces, goal, happy, servers, session, now)
+        self.shares.start(alloc, servers, session, now)
     }
 }

@@ -1,5 +1,5 @@
 use Rattle.std.proofs.Common.{◌≡◌, map}
-use Rattle.file_upload.proofs.prepared.bytes_of.Given as goal
+use Rattle.file_upload.proofs.shares.bytes_of.Given as goal
 
 abbrev pub invariant-loop-share : goal.invariant-loop-share
 invariant-loop-share l = map (λ bytes. bytes.items) l.all.items ≡ l.yielded
