@@ -35,6 +35,7 @@ use Rattle.checker.specs.Offers.{IsKeptBy, key_of}
 use Rattle.checker.specs.Book.{AreReadAt, HasBytes, IsAbout, IsEnded, IsReadAt, IsReadOnlyAt, IsReading, IsUnread}
 use Rattle.checker.specs.declared.offers.Offer.{Offer}
 use Rattle.checker.proofs.Entries.{about_by, IsSettledBy, settled_from, settled_has}
+use Rattle.checker.proofs.Joining.{joined_both}
 use Rattle.checker.proofs.OfferMoves.{IsOneOf, brought, last, reads_push, all_quiet, next_about, next_asked, one_of, same_next}
 
 -- ---- what a request that waits no more tells
@@ -255,6 +256,7 @@ module _ (cap : VerifyCapValue) (es : List Request) (todo : List ℕ) (o : Offer
           (subst (λ (l : List Settled). Contains l lost) (sym told) (contains_head lost [])),
       refl,
     );
+    held = λ e. absurd cc;
     quiet = all_quiet cap es todo o r place is q there settled;
   }
     where
@@ -340,6 +342,7 @@ module _ (cap : VerifyCapValue) (es : List Request) (todo : List ℕ) (o : Offer
         led = has_led;
         stop = stop;
       });
+      held = λ e. absurd cc;
       quiet = all_quiet cap es todo o r place is q there settled;
     }
 
@@ -394,12 +397,6 @@ module _ (cap : VerifyCapValue) (es : List Request) (todo : List ℕ) (o : Offer
       judged text (verdicts.Corrupt check) a whole held = inr (record { reading = r; last_bytes = bytes; led = has_led; ends = a; bytes = text; full = all_full; whole = whole; fault = held.0; first = held.1; check_is = held.2 })
       judged text verdicts.Lost a whole held = absurd held
 
-      pub is_judged : (text : List ℕ) (v : Verdict) → reading.Advances cap r bytes Whole → text ≡ joined more_reads → IsJudged cap o.share text v → IsEnded cap es o v
-      is_judged text v a same held = record {
-        verdict = judged text v a (subst (IsWhole (brought_of reads)) (sym same) (is_joined a)) held;
-        quiet = all_quiet cap es todo o r place is q there settled;
-      }
-
       -- the same share, with one more request that brought its bytes
       module _ (n : Offer) (kept : IsKeptBy r place o n) where
         key_is : key_of n ≡ key_of o
@@ -418,6 +415,21 @@ module _ (cap : VerifyCapValue) (es : List Request) (todo : List ℕ) (o : Offer
             by : (b : Bool) → AreReadAt es (key_of o) (cond b (o.back.items ++ place ∷ []) o.back.items) (cond b (is.back ++ (reading.next_place r, bytes) ∷ []) is.back)
             by true = reads_snoc es (key_of o) o.back.items is.back place (reading.next_place r, bytes) is.back_at new_read
             by false = is.back_at
+
+        -- its verdict is found
+        pub is_judged : (text : List ℕ) (v : Verdict) → reading.Advances cap r bytes Whole → text ≡ joined more_reads → IsJudged cap o.share text v → IsEnded cap es n v
+        is_judged text v a same found = record {
+          verdict = subst (λ (key : Pair). IsVerdict cap key.1 (settled_of es key.0 key.1) v) (sym key_is) (judged text v a (subst (IsWhole (brought_of reads)) (sym same) (is_joined a)) found);
+          held = λ good. record {
+            front = more_front r bytes is.front;
+            back = more_back r bytes is.back;
+            front_at = subst (λ (key : Pair). AreReadAt es key n.front.items (more_front r bytes is.front)) (sym key_is) front_kept;
+            back_at = subst (λ (key : Pair). AreReadAt es key n.back.items (more_back r bytes is.back)) (sym key_is) back_kept;
+            whole = subst (λ (key : Pair). IsWhole (brought_of (settled_of es key.0 key.1)) (joined (more_front r bytes is.front) ++ joined (more_back r bytes is.back))) (sym key_is)
+                (subst (IsWhole (brought_of reads)) (joined_both (more_front r bytes is.front) (more_back r bytes is.back)) (is_joined a));
+          };
+          quiet = λ i x at about. all_quiet cap es todo o r place is q there settled i x at (subst (λ (key : Pair). IsAbout key x) key_is about);
+        }
 
         only_kept : IsReadOnlyAt es (key_of o) (n.front.items ++ n.back.items)
         only_kept i x at about =

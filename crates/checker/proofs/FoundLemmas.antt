@@ -118,7 +118,7 @@ keys_found : (offers : List Offer) (t : Told) → map pair_of (found_among offer
 keys_found offers t =
     pairs_found (take t.count (drop t.first offers)) ∙ map_take key_of t.count (drop t.first offers) ∙ ap (take t.count) (map_drop key_of t.first offers)
 
-all_found : (P : ShareVerdict → Type 0) (offers : List Offer) (told : List Told) → All (λ (o : Offer). P (found_of o)) offers → All P (flat_map (found_among offers) told)
+pub all_found : (P : ShareVerdict → Type 0) (offers : List Offer) (told : List Told) → All (λ (o : Offer). P (found_of o)) offers → All P (flat_map (found_among offers) told)
 all_found P offers [] all = All-nil P
 all_found P offers (t ∷ ts) all =
     All-append P (found_among offers t) (flat_map (found_among offers) ts)

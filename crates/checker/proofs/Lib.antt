@@ -9,3 +9,4 @@ mod ToldMoves
 mod Keeping
 mod Own
 mod FoundLemmas
+mod GoodLemmas

@@ -17,14 +17,14 @@ use Rattle.share_opening.specs.Reads.{Brought}
 use Rattle.share_opening.specs.declared.opening.Opening.TheVariants.{Start}
 use Rattle.share_reading.specs.Reading as reading
 use Rattle.share_reading.specs.Reads.{more_back, more_front}
-use Rattle.share_reading.specs.Verdict.{IsJudged, IsVerdict}
+use Rattle.share_reading.specs.Verdict.{IsJudged}
 use Rattle.share_reading.specs.Whole.{joined}
 use Rattle.share_reading.specs.declared.reading.Progress.TheVariants.{Next, Whole}
 use Rattle.share_reading.specs.declared.reading.Reading as readings
 use Rattle.share_reading.specs.declared.reading.Reading.TheVariants.{Beginning}
 use Rattle.share_reading.specs.declared.verdict.Verdict.{Verdict}
 use Rattle.share_reading.specs.declared.verdict.Verdict.TheVariants as verdicts
-use Rattle.checker.specs.Shares.{offered_in, offered_pairs, offered_to, settled_of}
+use Rattle.checker.specs.Shares.{offered_in, offered_pairs, offered_to}
 use Rattle.checker.specs.Offers.{IsKeptBy, key_of, with_stage}
 use Rattle.checker.specs.Moves.{is_read}
 use Rattle.checker.specs.Right.{AreOfShares}
@@ -32,6 +32,7 @@ use Rattle.checker.specs.Book.{AllAskOrRead, AreReadAt, AsksMore, AsksNothing, A
 use Rattle.checker.specs.declared.machine.Machine.{Machine}
 use Rattle.checker.specs.declared.machine.Told.{Told}
 use Rattle.checker.specs.declared.offers.Offer.{Offer}
+use Rattle.checker.specs.declared.offers.Stage.{Stage}
 use Rattle.checker.specs.declared.offers.Stage.TheVariants.{Waiting, Read, Ended}
 use Rattle.checker.proofs.OfferMoves.{waits_about}
 use Rattle.checker.proofs.AnswerMoves.{IsSafeToAsk, goes_on, is_judged, is_lost, is_stopped, back_kept, front_kept, next_request, reads_first, safe_next}
@@ -138,10 +139,11 @@ book_begun m new o b at a =
 -- ---- what the request for the next bytes brought
 
 -- what is found of a share is found of it however far it is read
-ended_as : {cap : VerifyCapValue} {entries : List Request} (o n : Offer) (v : Verdict) → n.server ≡ o.server → n.share ≡ o.share → IsEnded cap entries o v → IsEnded cap entries n v
-ended_as {cap} {entries} o n v server share is = record {
-  verdict = subst (λ s. IsVerdict cap n.share (settled_of entries s n.share) v) (sym server) (subst (λ i. IsVerdict cap i (settled_of entries o.server i) v) (sym share) is.verdict);
-  quiet = λ i x e about. is.quiet i x e (subst (λ (key : Pair). IsAbout key x) (ap (λ s. (s, n.share)) server ∙ ap (λ i. (o.server, i)) share) about);
+ended_as : {cap : VerifyCapValue} {entries : List Request} (o : Offer) (stage : Stage) (v : Verdict) → IsEnded cap entries o v → IsEnded cap entries (with_stage stage o) v
+ended_as o stage v is = record {
+  verdict = is.verdict;
+  held = λ good. (let h = is.held good in record { front = h.front; back = h.back; front_at = h.front_at; back_at = h.back_at; whole = h.whole });
+  quiet = is.quiet;
 }
 
 module _ (m : Machine) (place : ℕ) (todo : List ℕ) (k : ℕ) (o : Offer) (r : readings.Reading) (b : HasBook m (place ∷ todo)) (after : length m.told.items ≤ place)
@@ -179,10 +181,10 @@ module _ (m : Machine) (place : ℕ) (todo : List ℕ) (k : ℕ) (o : Offer) (r 
   pub book_stopped : (v : Verdict) → IsReadOn m.cap es r place (Err v) → IsBook m.cap es m.told.items m.owners.items (set m.offers.items k (with_stage (Ended v) o)) m.begun todo
   book_stopped verdicts.Good told = absurd told
   book_stopped (verdicts.Corrupt check) told = ended_by (with_stage (Ended (verdicts.Corrupt check)) o) (verdicts.Corrupt check) refl refl
-      (ended_as o (with_stage (Ended (verdicts.Corrupt check)) o) (verdicts.Corrupt check) refl refl
+      (ended_as o (Ended (verdicts.Corrupt check)) (verdicts.Corrupt check)
       (is_stopped m.cap es (place ∷ todo) o r place is_reading asked is_reading.next.there is_settled told.0 told.1 check told.2))
   book_stopped verdicts.Lost told = ended_by (with_stage (Ended verdicts.Lost) o) verdicts.Lost refl refl
-      (ended_as o (with_stage (Ended verdicts.Lost) o) verdicts.Lost refl refl
+      (ended_as o (Ended verdicts.Lost) verdicts.Lost
       (is_lost m.cap es (place ∷ todo) o r place is_reading asked is_reading.next.there is_settled told))
 
   -- these bytes came, and it is read on
@@ -207,8 +209,8 @@ module _ (m : Machine) (place : ℕ) (todo : List ℕ) (k : ℕ) (o : Offer) (r 
           let found : IsJudged m.cap n.share (joined front ++ joined back) v =
           judged front back (subst (λ (key : Pair). AreReadAt es key n.front.items front) (sym kept_key) kept_front) (subst (λ (key : Pair). AreReadAt es key n.back.items back) (sym kept_key) kept_back) in
           ended_by (with_stage (Ended v) n) v kept_key refl
-          (ended_as o (with_stage (Ended v) n) v kept.server kept.share
-          (is_judged m.cap es (place ∷ todo) o r place is_reading asked is_reading.next.there is_settled bytes has long (joined front ++ joined back) v a (sym (joined_both front back))
+          (ended_as n (Ended v) v
+          (is_judged m.cap es (place ∷ todo) o r place is_reading asked is_reading.next.there is_settled bytes has long n kept (joined front ++ joined back) v a (sym (joined_both front back))
           (subst (λ i. IsJudged m.cap i (joined front ++ joined back) v) kept.share found)))
 
       -- the next bytes are asked for

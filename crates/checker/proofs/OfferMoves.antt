@@ -15,10 +15,12 @@ use Rattle.request_record.specs.declared.requests.Request.{Request}
 use Rattle.request_record.specs.Record.{is_outstanding}
 use Rattle.share_opening.specs.Reads.{Brought}
 use Rattle.share_reading.specs.Reading as reading
-use Rattle.share_reading.specs.Verdict.{IsVerdict, Settled}
+use Rattle.share_reading.specs.Verdict.{IsVerdict, Settled, brought_of}
+use Rattle.share_reading.specs.Whole.{IsWhole, joined}
 use Rattle.share_reading.specs.declared.reading.Reading as readings
 use Rattle.checker.specs.Offers.{key_of}
-use Rattle.checker.specs.Book.{AreReadAt, IsAbout, IsAt, IsNext, IsOffer, IsReadAt, IsReadOnlyAt, IsReading}
+use Rattle.checker.specs.Shares.{settled_of}
+use Rattle.checker.specs.Book.{AreReadAt, IsAbout, IsAt, IsHeld, IsNext, IsOffer, IsReadAt, IsReadOnlyAt, IsReading}
 use Rattle.checker.specs.declared.offers.Offer.{Offer}
 use Rattle.checker.specs.declared.offers.Stage.{Stage}
 use Rattle.checker.specs.declared.offers.Stage.TheVariants.{Waiting, Read, Ended}
@@ -82,6 +84,15 @@ quiet_goes es ns todo key goes quiet i n there about =
     let still = quiet i was.request was.there (about_same key was.request n was.server was.asked about) in
     ap (λ (r : Request). is_outstanding r.outcome) (was.still still) ∙ still
 
+held_goes : (es ns : List Request) (todo : List ℕ) (o : Offer) → GoesTo es ns todo → settled_of ns o.server o.share ≡ settled_of es o.server o.share → IsHeld es o → IsHeld ns o
+held_goes es ns todo o goes same h = record {
+  front = h.front;
+  back = h.back;
+  front_at = reads_go es ns todo (key_of o) o.front.items h.front goes h.front_at;
+  back_at = reads_go es ns todo (key_of o) o.back.items h.back goes h.back_at;
+  whole = subst (λ (l : List Settled). IsWhole (brought_of l) (joined h.front ++ joined h.back)) (sym same) h.whole;
+}
+
 at_goes : (cap : VerifyCapValue) (es ns : List Request) (todo : List ℕ) (o : Offer) (s : Stage) → GoesTo es ns todo → IsAt cap es [] o s → IsAt cap ns todo o s
 at_goes cap es ns todo o Waiting goes is = record { front = is.front; back = is.back; none = only_goes es ns todo (key_of o) [] goes is.none }
 at_goes cap es ns todo o (Read r place) goes is = record {
@@ -95,6 +106,7 @@ at_goes cap es ns todo o (Read r place) goes is = record {
 }
 at_goes cap es ns todo o (Ended v) goes is = record {
   verdict = subst (λ (l : List Settled). IsVerdict cap o.share l v) (sym (settled_stays es ns todo (key_of o) goes is.quiet)) is.verdict;
+  held = λ good. held_goes es ns todo o goes (settled_stays es ns todo (key_of o) goes is.quiet) (is.held good);
   quiet = quiet_goes es ns todo (key_of o) goes is.quiet;
 }
 
@@ -119,6 +131,15 @@ only_push es new key places other only i r there about = elim (get_pushed es new
   | inr last ↦ absurd (other (subst (IsAbout key) (sym last.1) about))
 ]
 
+held_push : (es : List Request) (new : Request) (o : Offer) → settled_of (es ++ new ∷ []) o.server o.share ≡ settled_of es o.server o.share → IsHeld es o → IsHeld (es ++ new ∷ []) o
+held_push es new o same h = record {
+  front = h.front;
+  back = h.back;
+  front_at = reads_push es new (key_of o) o.front.items h.front h.front_at;
+  back_at = reads_push es new (key_of o) o.back.items h.back h.back_at;
+  whole = subst (λ (l : List Settled). IsWhole (brought_of l) (joined h.front ++ joined h.back)) (sym same) h.whole;
+}
+
 at_push : (cap : VerifyCapValue) (es : List Request) (new : Request) (todo : List ℕ) (o : Offer) (s : Stage) → is_outstanding new.outcome ≡ true → (IsAbout (key_of o) new → ⊥)
     → IsAt cap es todo o s → IsAt cap (es ++ new ∷ []) todo o s
 at_push cap es new todo o Waiting waits other is = record { front = is.front; back = is.back; none = only_push es new (key_of o) [] other is.none }
@@ -139,6 +160,7 @@ at_push cap es new todo o (Read r place) waits other is = record {
 }
 at_push cap es new todo o (Ended v) waits other is = record {
   verdict = subst (λ (l : List Settled). IsVerdict cap o.share l v) (sym (settled_push es (key_of o) new waits)) is.verdict;
+  held = λ good. held_push es new o (settled_push es (key_of o) new waits) (is.held good);
   quiet = λ i r there about. elim (get_pushed es new r i there) [
     | inl before ↦ is.quiet i r before about
     | inr last ↦ absurd (other (subst (IsAbout (key_of o)) (sym last.1) about))

@@ -17,7 +17,8 @@ use Rattle.share_opening.specs.Reads.{Brought}
 use Rattle.share_reading.specs.Reading as reading
 use Rattle.share_reading.specs.declared.reading.Reading as readings
 use Rattle.share_reading.specs.Reads.{IsReadBy}
-use Rattle.share_reading.specs.Verdict.{IsVerdict}
+use Rattle.share_reading.specs.Verdict.{IsVerdict, brought_of}
+use Rattle.share_reading.specs.Whole.{IsWhole, joined}
 use Rattle.share_reading.specs.declared.reading.Progress.{Progress}
 use Rattle.share_reading.specs.declared.verdict.Verdict.{Verdict}
 use Rattle.share_reading.specs.declared.verdict.Verdict.TheVariants as verdicts
@@ -82,10 +83,20 @@ pub record IsReading (cap : VerifyCapValue) (entries : List Request) (todo : Lis
   pub next : IsNext entries todo (key_of o) place r
   pub only : IsReadOnlyAt entries (key_of o) (place ∷ (o.front.items ++ o.back.items))
 
+-- the requests at its places brought all bytes of it
+pub record IsHeld (entries : List Request) (o : Offer) : Type 0 where
+  pub front : List Brought
+  pub back : List Brought
+  pub front_at : AreReadAt entries (key_of o) o.front.items front
+  pub back_at : AreReadAt entries (key_of o) o.back.items back
+  pub whole : IsWhole (brought_of (settled_of entries o.server o.share))
+      (joined front ++ joined back)
+
 -- its verdict is found, and nothing more is read of it
 pub record IsEnded (cap : VerifyCapValue) (entries : List Request) (o : Offer) (v : Verdict)
     : Type 0 where
   pub verdict : IsVerdict cap o.share (settled_of entries o.server o.share) v
+  pub held : v ≡ verdicts.Good → IsHeld entries o
   pub quiet : (i : ℕ) (r : Request) → slice_get entries i ≡ Some r → IsAbout (key_of o) r
       → is_outstanding r.outcome ≡ false
 

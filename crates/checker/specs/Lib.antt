@@ -4,6 +4,7 @@ pub mod Shares
 pub mod Moves
 pub mod Sending
 pub mod Report
+pub mod Good
 pub mod Right
 -- words of private clauses
 pub mod Offers

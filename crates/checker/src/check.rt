@@ -1,15 +1,17 @@
 //! A check of a file's shares by its verify cap.
 
 ghost use Rattle.std.specs.Prelude.{◌≡◌, ◌≢◌, ◌↔◌, [], None, IfOk, IfSome, IsOk, OnErr, OnOk};
-ghost use Rattle.std.specs.Prelude.{is_some, nat_eq};
+ghost use Rattle.std.specs.Prelude.{is_some, map, nat_eq};
 ghost use Rattle.std.specs.List.{IsDistinct};
 ghost use Rattle.request_record.specs.Asking.{after_message};
+ghost use Rattle.checker.specs.Good.{AreGoodShares};
 ghost use Rattle.checker.specs.Moves.{Advances, Begins, Stops, StopsAt, TicksOn};
 ghost use Rattle.checker.specs.Report.{IsReport};
 ghost use Rattle.checker.specs.Right.{IsRight};
 ghost use Rattle.checker.specs.Sending.{Takes, first_to_send};
 ghost use Rattle.checker.specs.declared.status.CheckStatus.TheVariants.{Done, Failed, Running};
 
+use crate::good::good_shares_of;
 use crate::machine::Machine;
 use crate::report::report_of;
 use crate::status::{CheckStatus, Report};
@@ -133,6 +135,21 @@ impl Check {
     {
         match self.status {
             CheckStatus::Done => Ok(Some(report_of(alloc, &self.machine)?)),
+            CheckStatus::Running | CheckStatus::Failed => Ok(None),
+        }
+    }
+
+    /// The good shares that it found, once it is done: of the lowest numbers that have one, as many
+    /// as are needed or as there are, each number with the bytes of its share. `None` before, and
+    /// where it failed.
+    pub fn good_shares(&self, alloc: Global) -> Result<Option<Vec<(u16, Vec<u8>)>>, AllocError>
+        ensures good { IfOk result (λ told. IfSome told (λ l. AreGoodShares self.now.cap
+            self.now.requests.entries (map (λ s. s.0) l.items)
+            (map (λ s. s.1.items) l.items))) }
+        ensures none { IfOk result (λ told. (told ≡ None) ↔ (self.now.status ≢ Done)) }
+    {
+        match self.status {
+            CheckStatus::Done => Ok(Some(good_shares_of(alloc, &self.machine)?)),
             CheckStatus::Running | CheckStatus::Failed => Ok(None),
         }
     }

@@ -11,6 +11,7 @@
 #![tactic(auto)]
 
 mod check;
+mod good;
 mod machine;
 mod offers;
 mod report;

@@ -285,12 +285,23 @@ impl Machine {
             → IsJudged self.now.cap o.share (joined front ++ joined back) verdict) }
     {
         let found = &self.offers[offer];
-        let front = size_at(&self.requests, &found.front);
-        let back = size_at(&self.requests, &found.back);
-        let mut bytes = Vec::with_capacity(self.alloc, front.saturating_add(back))?;
-        join(&mut bytes, &self.requests, &found.front)?;
-        join(&mut bytes, &self.requests, &found.back)?;
+        let bytes = self.bytes_of(self.alloc, found)?;
         Ok(judge(&self.cap, u16::from(found.share), &bytes))
+    }
+
+    /// The bytes that were read of a share: joined by place where it was read whole.
+    pub(crate) fn bytes_of(&self, alloc: Global, offer: &Offer) -> Result<Vec<u8>, AllocError>
+        ensures { IfOk result (λ bytes. (front back : List Brought)
+            → AreReadAt self.now.requests.entries (key_of offer.now) offer.now.front.items front
+            → AreReadAt self.now.requests.entries (key_of offer.now) offer.now.back.items back
+            → bytes.items ≡ joined front ++ joined back) }
+    {
+        let front = size_at(&self.requests, &offer.front);
+        let back = size_at(&self.requests, &offer.back);
+        let mut bytes = Vec::with_capacity(alloc, front.saturating_add(back))?;
+        join(&mut bytes, &self.requests, &offer.front)?;
+        join(&mut bytes, &self.requests, &offer.back)?;
+        Ok(bytes)
     }
 
     // Begins to read more shares, while fewer requests wait than may, and tells where it stands.
