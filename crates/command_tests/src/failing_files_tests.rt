@@ -320,12 +320,13 @@ fn puts_again(rt: &HostRuntime) -> bool {
     puts_zeros(rt) && has_share(rt, CLOSED, true)
 }
 
-// Whether `put` may end so: a fault of its file or of its server leaves no closed share, and
-// nothing in the way of a second try.
+// Whether `put` may end so: a fault of its file or of its server leaves no closed share, or a whole
+// one whose name may not be on the disk, and nothing in the way of a second try.
 fn is_put_ending(rt: &HostRuntime, ending: Ending) -> bool {
     match ending {
         Ending::Whole => has_share(rt, CLOSED, true),
-        Ending::FileFault | Ending::Unhappy => has_share(rt, CLOSED, false) && puts_again(rt),
+        Ending::FileFault => has_share(rt, CLOSED, false) && puts_again(rt),
+        Ending::Unhappy => (has_share(rt, CLOSED, false) || zeros_come(rt)) && puts_again(rt),
         _ => false,
     }
 }

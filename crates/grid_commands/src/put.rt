@@ -11,8 +11,8 @@ use grid_clients::upload::UploadClient;
 use grid_clients::watched::Watched;
 use grid_rules::{Fault, Work, reached_happiness, servers_of};
 use grid_servers::{
-    FolderGrid, MAX_SERVERS, Purpose, SESSION, at_path, can_be_grid, make_grid, open_servers,
-    read_at_most, server_names,
+    Durability, FolderGrid, MAX_SERVERS, Purpose, SESSION, at_path, can_be_grid, make_grid,
+    open_servers, read_at_most, server_names,
 };
 use std::alloc::Global;
 use std::io::{IsTerminal, Write};
@@ -157,7 +157,8 @@ where
     R: Files + Net + AllocGlobal + Clone + Drop,
 {
     let numbers: Vec<NodeId> = (0..servers).collect(rt.alloc())?;
-    open_servers(rt, words.grid, &numbers, Purpose::Writing, words.net)
+    let purpose = Purpose::Writing(Durability::Synced);
+    open_servers(rt, words.grid, &numbers, purpose, words.net)
 }
 
 // The upload to the first servers.

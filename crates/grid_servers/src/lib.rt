@@ -10,4 +10,4 @@ mod servers;
 pub use files::{at_path, read_at_most};
 pub use folders::{MAX_SERVERS, can_be_grid, is_grid, make_grid};
 pub use servers::{FolderGrid, SESSION, open_servers, server_names, standing_servers};
-pub use share_store::folder::Purpose;
+pub use share_store::folder::{Durability, Purpose};

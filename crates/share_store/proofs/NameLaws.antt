@@ -1,13 +1,13 @@
 -- The names of files.
-use Rattle.std.proofs.Common.{◌≡◌, ℕ, ◌+◌, ◌-◌, ◌<◌, true, false, List, [], ◌∷◌, ◌++◌, length, take, drop, refl, sym, ap, ◌∙◌, arith}
+use Rattle.std.proofs.Common.{◌≡◌, ℕ, ◌+◌, ◌-◌, ◌<◌, Bool, true, false, not, List, [], ◌∷◌, ◌++◌, length, take, drop, refl, sym, ap, ◌∙◌, arith}
 use mathlib.Core.Bool.{true≢false}
-use Rattle.std.specs.Prelude.{Option, Some, None, MatchOption, IfSome, IsSomeAnd, nat_eq, decimal}
+use Rattle.std.specs.Prelude.{Option, Some, None, MatchOption, IfSome, IsSomeAnd, nat_eq, decimal, codes}
 use Rattle.std.specs.Cmp.Lexicographic.{pointwise, bytes_decides}
 use Rattle.std.proofs.lemmas.List.{take-append-drop, take_at, drop_at, append_assoc, length-append, same_from_push}
 use Rattle.cap_text.specs.Base32.{base32}
 use Rattle.cap_text.proofs.Reading.{spelled, sizes}
 use Rattle.share_store.specs.Shelf.{Place}
-use Rattle.share_store.specs.Names.{closed_name, IsNamed}
+use Rattle.share_store.specs.Names.{closed_name, open_name, IsNamed, IsPlace}
 
 -- what is left of a text without a first and a last dot
 pub stands_between : {X : Type 0} (N : Type 0) (f : X → List ℕ) (text mid : List ℕ) (r : Option X) → pointwise nat_eq (take 1 text) (46 ∷ []) ≡ true → mid ≡ drop 1 text
@@ -91,3 +91,55 @@ long_enough name place digest named is short =
     let last = length-append (decimal place.1) (46 ∷ base32 digest) in
     let whole : length name ≡ length (base32 place.0 ++ (46 ∷ (decimal place.1 ++ (46 ∷ base32 digest)))) = ap length (is ∙ from_left place digest) in
     omega (arith, whole, first, last, letters_16 place.0 named.0.len, letters_32 digest named.2.len, short)
+
+-- an open share's name, from the left
+open_from_left : (place : Place) → open_name place ≡ base32 place.0 ++ (mid place.1 ++ codes "open")
+unfolding mid
+open_from_left place =
+    append_assoc (base32 place.0 ++ 46 ∷ []) (decimal place.1) (codes ".open") ∙ append_assoc (base32 place.0) (46 ∷ []) (decimal place.1 ++ codes ".open")
+    ∙ ap (λ (xs : List ℕ). base32 place.0 ++ (46 ∷ xs)) (sym (append_assoc (decimal place.1) (46 ∷ []) (codes "open")))
+
+pub open_index_part : (name : List ℕ) (place : Place) → IsPlace place → name ≡ open_name place → take 26 name ≡ base32 place.0
+open_index_part name place placed is = ap (take 26) (is ∙ open_from_left place) ∙ take_at (base32 place.0) (mid place.1 ++ codes "open") 26 (letters_16 place.0 placed.0.len)
+
+open_rest_part : (name : List ℕ) (place : Place) → IsPlace place → name ≡ open_name place → drop 26 name ≡ mid place.1 ++ codes "open"
+open_rest_part name place placed is = ap (drop 26) (is ∙ open_from_left place) ∙ drop_at (base32 place.0) (mid place.1 ++ codes "open") 26 (letters_16 place.0 placed.0.len)
+
+before_end : (n : ℕ) → length (mid n) ≡ length (mid n ++ codes "open") - 4
+before_end n =
+    let long : length (mid n ++ codes "open") ≡ length (mid n) + 4 = length-append (mid n) (codes "open") in
+    omega (arith, long)
+
+pub open_share_part : (name : List ℕ) (place : Place) → IsPlace place → name ≡ open_name place
+    → take (length (drop 26 name) - 4) (drop 26 name) ≡ 46 ∷ (decimal place.1 ++ 46 ∷ [])
+unfolding mid
+open_share_part name place placed is =
+    ap (λ (xs : List ℕ). take (length xs - 4) xs) (open_rest_part name place placed is) ∙ take_at (mid place.1) (codes "open") _ (before_end place.1)
+
+pub open_end_part : (name : List ℕ) (place : Place) → IsPlace place → name ≡ open_name place → drop (length (drop 26 name) - 4) (drop 26 name) ≡ codes "open"
+open_end_part name place placed is =
+    ap (λ (xs : List ℕ). drop (length xs - 4) xs) (open_rest_part name place placed is) ∙ drop_at (mid place.1) (codes "open") _ (before_end place.1)
+
+pub open_long_enough : (name : List ℕ) (place : Place) → IsPlace place → name ≡ open_name place → length name < 30 → ⊥
+open_long_enough name place placed is short =
+    let first = length-append (base32 place.0) (mid place.1 ++ codes "open") in
+    let last : length (mid place.1 ++ codes "open") ≡ length (mid place.1) + 4 = length-append (mid place.1) (codes "open") in
+    let whole : length name ≡ length (base32 place.0 ++ (mid place.1 ++ codes "open")) = ap length (is ∙ open_from_left place) in
+    omega (arith, whole, first, last, letters_16 place.0 placed.0.len, short)
+
+-- what its parts are put together to
+pub open_parts : (name front rest share end index : List ℕ) (n : ℕ) → front ≡ take 26 name → rest ≡ drop 26 name → share ≡ take (length rest - 4) rest
+    → end ≡ drop (length rest - 4) rest → end ≡ codes "open" → share ≡ 46 ∷ (decimal n ++ 46 ∷ []) → front ≡ base32 index → name ≡ open_name (index, n)
+unfolding mid
+open_parts name front rest share end index n front_is rest_is share_is end_is open_is mid_is index_is =
+    sym (take-append-drop 26 name) ∙ ap (λ (xs : List ℕ). xs ++ drop 26 name) (sym front_is ∙ index_is)
+    ∙ ap (λ (xs : List ℕ). base32 index ++ xs) (sym rest_is ∙ sym (take-append-drop (length rest - 4) rest) ∙ ap (λ (xs : List ℕ). xs ++ drop (length rest - 4) rest) (sym share_is ∙ mid_is)
+    ∙ ap (λ (xs : List ℕ). mid n ++ xs) (sym end_is ∙ open_is)) ∙ sym (open_from_left (index, n))
+
+-- what is not found to differ is the end of an open share's name
+pub same_end : (end : List ℕ) (differs : Bool) → differs ≡ false → differs ≡ not (pointwise nat_eq end (codes "open")) → end ≡ codes "open"
+same_end end differs not_so is =
+    (bytes_decides end (codes "open")).0 (elim (pointwise nat_eq end (codes "open")) as (λ b. not b ≡ false → b ≡ true) [
+      | true ↦ λ e. refl
+      | false ↦ λ e. absurd (true≢false e)
+    ] (sym is ∙ not_so))

@@ -12,7 +12,11 @@ closed_name place digest =
 abbrev pub open_name : Place → List ℕ
 open_name place = base32 place.0 ++ codes "." ++ decimal place.1 ++ codes ".open"
 
--- such a name a share's file may have
+-- such a name an open share's file may have
+abbrev pub IsPlace : Place → Type 0
+IsPlace place = IsBytes 16 place.0 × (place.1 < 256)
+
+-- such a name a closed share's file may have
 abbrev pub IsNamed : Place → List ℕ → Type 0
 IsNamed place digest = IsBytes 16 place.0 × (place.1 < 256) × IsBytes 32 digest
 

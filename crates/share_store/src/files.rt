@@ -5,9 +5,11 @@ ghost use Rattle.std.specs.Prelude.{◌≡◌, ◌+◌, ◌≤◌, length, IfOk,
 ghost use Rattle.share_store.specs.declared.error.StoreError.{StoreError};
 ghost use Rattle.wire.specs.Limits.{most_data};
 
+use crate::disk::Durability;
 use crate::error::StoreError;
 use crate::shelf::Place;
 use std::alloc::Global;
+use std::cell::Cell;
 use std::fs::{File, Metadata, OpenFile, OpenOptions};
 use std::io::{Read, Seek, SeekFrom, Write};
 use std::os::unix::fs::MetadataExt;
@@ -44,6 +46,8 @@ pub(crate) struct OpenShare<F> {
     file: F,
     /// How many bytes were written to it.
     pub(crate) length: u64,
+    // Whether its bytes could not be put on the disk.
+    is_lost: Cell<bool>,
 }
 
 /// Makes the file of an open share. One that was left there, or that another store is writing, is
@@ -58,7 +62,11 @@ pub(crate) fn begin_share<R: Files>(rt: &R, path: &str) -> Result<OpenShare<R::F
         }
         outcome => outcome?,
     };
-    Ok(OpenShare { file, length: 0 })
+    Ok(OpenShare {
+        file,
+        length: 0,
+        is_lost: Cell::new(false),
+    })
 }
 
 // Makes a file where nothing stands. What is written to it comes at its end, also where another
@@ -95,18 +103,65 @@ impl<F: Write> OpenShare<F> {
     }
 }
 
+/// What the file of an open share is closed with.
+#[derive(Drop)]
+pub(crate) struct Closing<'a, R> {
+    pub(crate) rt: &'a R,
+    pub(crate) durability: Durability,
+    /// The folder's path.
+    pub(crate) folder: &'a str,
+    /// The file's path while it is open.
+    pub(crate) open: &'a str,
+    /// The file's path once it is closed.
+    pub(crate) closed: &'a str,
+}
+
 impl<F: OpenFile> OpenShare<F> {
-    /// How many bytes the file has, which stands at this path. It is a fault if another file stands
-    /// there, or if it has more or fewer bytes than were written.
-    pub(crate) fn whole_length<R: Files>(&self, rt: &R, path: &str) -> Result<u64, StoreError>
-        ensures { IfOk result (λ length. length ≡ self.now.length) }
-    {
-        let there = fs::symlink_metadata(rt, path)?;
+    /// Gives the file its closed name. It is a fault if another file has the open name, or if the
+    /// file has more or fewer bytes than were written. Synced, its bytes are on the disk before
+    /// that, and its name after it.
+    pub(crate) fn close<R: Files>(&self, closing: &Closing<'_, R>) -> Result<(), StoreError> {
+        match closing.durability {
+            Durability::Synced => self.rename_synced(closing),
+            Durability::Unsynced => self.rename(closing),
+        }
+    }
+
+    // Nothing asks for memory once the file is renamed, and the folder is opened before.
+    fn rename_synced<R: Files>(&self, closing: &Closing<'_, R>) -> Result<(), StoreError> {
+        self.sync()?;
+        let folder = File::open(closing.rt, closing.folder)?;
+        self.rename(closing)?;
+        as_fault(folder.sync_all())
+    }
+
+    // Puts the bytes on the disk. Where that fails once the file is of no use any more: the system
+    // may forget which bytes are not there, and then a later call goes well without them.
+    fn sync(&self) -> Result<(), StoreError> {
+        if self.is_lost.get() {
+            return Err(StoreError::StoreFault);
+        }
+        let outcome = as_fault(self.file.sync_all());
+        self.is_lost.set(outcome.is_err());
+        outcome
+    }
+
+    fn rename<R: Files>(&self, closing: &Closing<'_, R>) -> Result<(), StoreError> {
+        let there = fs::symlink_metadata(closing.rt, closing.open)?;
         let own = self.file.metadata()?;
         if !is_same_file(&there, &own) || own.len() != self.length {
             return Err(StoreError::StoreFault);
         }
-        Ok(self.length)
+        fs::rename(closing.rt, closing.open, closing.closed)?;
+        Ok(())
+    }
+}
+
+// A fault, whatever the cause.
+fn as_fault(outcome: io::Result<()>) -> Result<(), StoreError> {
+    match outcome {
+        Ok(()) => Ok(()),
+        Err(_) => Err(StoreError::StoreFault),
     }
 }
 

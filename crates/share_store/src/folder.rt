@@ -12,8 +12,9 @@ ghost use Rattle.share_store.specs.Folder.{FolderState, counted, kept_digest, ke
 ghost use Rattle.share_store.specs.Folder.{length_of, IsOpenedAt, OthersStay, LooksAt};
 ghost use Rattle.share_store.specs.Folder.{folder_calls, length_at, lengths_of};
 
+pub use crate::disk::Durability;
 use crate::error::StoreError;
-use crate::files::{OpenShare, RecentFile, begin_share, open_closed};
+use crate::files::{Closing, OpenShare, RecentFile, begin_share, open_closed};
 use crate::lengths::{look_at, look_at_all};
 pub use crate::listing::Purpose;
 use crate::listing::{Listing, list_folder};
@@ -33,6 +34,14 @@ use wire::message::{Digest, HeldList, ReadData, ReadLength, ShareId, StorageInde
 /// A store over the files of a folder. The names of the closed shares are read once, when it is
 /// opened. A share's file is looked at when its share is asked for, and stays open while it is
 /// written, or read.
+///
+/// A synced store puts a share's bytes on the disk, renames its file and then puts the names of its
+/// folder on the disk: where one of them fails, so does the close, and the share is open as it was.
+/// No further close of it goes well until it is begun anew. Where only the names could not be put
+/// on the disk, the file stands under its closed name, whole, and a power failure may take that
+/// name away. Once the share is begun anew, a close under the same digest puts the new file, which
+/// is whole too, in its place; one under another digest stands beside it. A store that is opened
+/// later finds the share closed.
 #[derive(Drop)]
 pub struct FolderStore<R: Files> {
     rt: R,
@@ -42,6 +51,7 @@ pub struct FolderStore<R: Files> {
     closed_bytes: u64,
     failures: u64,
     readonly: bool,
+    durability: Durability,
     // The file that was read last: a share is read part by part.
     recent: Option<RecentFile<R::File>>,
 }
@@ -66,7 +76,8 @@ impl<R: Files + AllocGlobal + Clone + Drop> FolderStore<R> {
     /// ignored, and so are files with other names and what is no regular file. Of two closed files
     /// of one share the one with the lower digest text counts.
     ///
-    /// `StoreFault` where the folder cannot be made or read.
+    /// `StoreFault` where the folder cannot be made or read, or what a synced store finds there not
+    /// be put on the disk.
     pub fn open(rt: &R, folder: &str, purpose: Purpose) -> Result<FolderStore<R>, StoreError>
         ensures { IfOk result (λ s. (s.folder ≡ folder.now) × (s.opened ≡ [])
             × (s.used ≡ kept_bytes s.closed) × (s.failures ≡ 0)) }
@@ -81,6 +92,7 @@ impl<R: Files + AllocGlobal + Clone + Drop> FolderStore<R> {
             opened: BTreeMap::new(alloc),
             failures: 0,
             readonly,
+            durability: purpose.durability(),
             recent: None,
         })
     }
@@ -165,29 +177,23 @@ fn forget_open<F: Drop>(opened: &mut BTreeMap<Place, OpenShare<F>>, place: &Plac
     opened.remove(place);
 }
 
-// How many bytes an open share has, of which nothing may have been written. It is a fault if that
-// is not what its file has, at this path.
-#[tactic(auto, using(crate::proofs::FolderLaws::length_is))]
-fn whole_length<R: Files>(
-    rt: &R,
+// Gives an open share's file, to which nothing may have been written, its closed name.
+fn close_file<R: Files>(
+    closing: &Closing<'_, R>,
     opened: &BTreeMap<Place, OpenShare<R::File>>,
     place: &Place,
-    path: &str,
-) -> Result<u64, StoreError>
-    ensures { IfOk result
-        (λ length. length ≡ length_at place.now (lengths_of opened.now.entries)) }
-{
+) -> Result<(), StoreError> {
     match opened.get(place) {
-        Some(share) => share.whole_length(rt, path),
-        None => begin_share(rt, path)?.whole_length(rt, path),
+        Some(share) => share.close(closing),
+        None => begin_share(closing.rt, closing.open)?.close(closing),
     }
 }
 
-// Renames an open share's file to a closed one's, and puts the share into the table.
-fn rename_closed<R: Files>(
-    rt: &R,
+// Gives an open share's file its closed name, and puts the share into the table.
+fn put_closed<R: Files>(
+    closing: &Closing<'_, R>,
+    opened: &BTreeMap<Place, OpenShare<R::File>>,
     closed: &mut BTreeMap<Place, KeptShare>,
-    paths: (&str, &str),
     place: &Place,
     share: &KeptShare,
 ) -> Result<(), StoreError>
@@ -196,9 +202,9 @@ fn rename_closed<R: Files>(
         (closed.new.entries ≡ insert_entry order closed.old.entries place.now share.now) }
     ensures err { OnErr result (closed.new.entries ≡ closed.old.entries) }
 {
-    // room first: once the file is renamed, nothing may fail
+    // room first: once the file is renamed, no memory is asked for
     if let Entry::Vacant(room) = closed.entry(*place)? {
-        fs::rename(rt, paths.0, paths.1)?;
+        close_file(closing, opened, place)?;
         room.insert(*share);
     }
     Ok(())
@@ -288,13 +294,20 @@ impl<R: Files + AllocGlobal + Drop> FolderStore<R> {
     {
         let place = place_of(id);
         let alloc = self.rt.alloc();
-        let from = open_path(alloc, self.folder.as_str(), &place)?;
-        let to = closed_path(alloc, self.folder.as_str(), &place, digest)?;
-        let length = whole_length(&self.rt, &self.opened, &place, from.as_str())?;
-        rename_closed(
-            &self.rt,
+        let folder = self.folder.as_str();
+        let open = open_path(alloc, folder, &place)?;
+        let closed = closed_path(alloc, folder, &place, digest)?;
+        let length = written_length(&self.opened, &place);
+        put_closed(
+            &Closing {
+                rt: &self.rt,
+                durability: self.durability,
+                folder,
+                open: open.as_str(),
+                closed: closed.as_str(),
+            },
+            &self.opened,
             &mut self.closed,
-            (from.as_str(), to.as_str()),
             &place,
             &KeptShare {
                 length: Some(length),

@@ -1,6 +1,7 @@
 //! Where a server keeps its shares: what a store is, and two stores.
 #![tactic(auto)]
 
+pub mod disk;
 pub mod error;
 mod files;
 pub mod folder;

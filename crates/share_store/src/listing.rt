@@ -1,5 +1,6 @@
 //! What a server's folder holds when its store is opened.
 
+use crate::disk::{Durability, make_folder, sync_folder};
 use crate::error::StoreError;
 use crate::files::length_of_regular;
 use crate::lengths::look_at;
@@ -22,9 +23,19 @@ pub enum Purpose {
     /// names of one share, so that the sum of the lengths is not known, and no further share has
     /// room.
     Reading,
-    /// Shares are written too. The lengths of all closed shares are asked, for the room that is
-    /// left.
-    Writing,
+    /// Shares are written too, and outlast a power failure or not. The lengths of all closed shares
+    /// are asked, for the room that is left.
+    Writing(Durability),
+}
+
+impl Purpose {
+    /// Whether what is written outlasts a power failure. For reading nothing is put on the disk.
+    pub(crate) fn durability(self) -> Durability {
+        match self {
+            Purpose::Reading => Durability::Unsynced,
+            Purpose::Writing(durability) => durability,
+        }
+    }
 }
 
 /// The closed shares of a folder, by the names of its files, and whether it has a file `readonly`.
@@ -34,7 +45,9 @@ pub(crate) struct Listing {
     pub(crate) readonly: bool,
 }
 
-/// What a folder holds, which is made where it is not there.
+/// What a folder holds, which is made where it is not there. For synced writing the folder's name
+/// is on the disk then, where it was made, and so are the names of the closed shares: they were
+/// left by a program that may have ended before it had put them there.
 pub(crate) fn list_folder<R: Files + AllocGlobal + Clone + Drop>(
     rt: &R,
     folder: &str,
@@ -44,12 +57,16 @@ pub(crate) fn list_folder<R: Files + AllocGlobal + Clone + Drop>(
         closed: BTreeMap::new(rt.alloc()),
         readonly: false,
     };
-    for entry in read_or_make(rt, folder)? {
+    let durability = purpose.durability();
+    for entry in read_or_make(rt, folder, durability)? {
         match entry {
             Ok(entry) => take_entry(rt, folder, &mut listing, &entry, purpose)?,
             Err(error) if error.kind() == io::ErrorKind::InvalidFilename => {}
             Err(error) => return Err(StoreError::from(error)),
         }
+    }
+    if durability == Durability::Synced && !listing.closed.is_empty() {
+        sync_folder(rt, folder)?;
     }
     Ok(listing)
 }
@@ -58,10 +75,11 @@ pub(crate) fn list_folder<R: Files + AllocGlobal + Clone + Drop>(
 fn read_or_make<R: Files + AllocGlobal + Clone + Drop>(
     rt: &R,
     folder: &str,
+    durability: Durability,
 ) -> io::Result<ReadDir<R>> {
     match fs::read_dir(rt, folder) {
         Err(error) if error.kind() == io::ErrorKind::NotFound => {
-            fs::create_dir_all(rt, folder)?;
+            make_folder(rt, folder, durability)?;
             fs::read_dir(rt, folder)
         }
         entries => entries,
@@ -89,7 +107,7 @@ fn take_entry<R: Files + AllocGlobal>(
         // what is no regular file does not stand before one that is
         look_at(rt, folder, &mut listing.closed, &name.place)?;
     }
-    let length = if is_second || purpose == Purpose::Writing {
+    let length = if is_second || purpose != Purpose::Reading {
         match length_of_regular(entry.metadata())? {
             Some(length) => Some(length),
             None => return Ok(()),

@@ -6,7 +6,7 @@ ghost use Rattle.std.specs.Prelude.{◌≡◌, ◌++◌, ◌<◌, ℕ, List, cod
 ghost use Rattle.std.specs.Prelude.{IsSomeAnd, IsOkUnless};
 ghost use Rattle.std.specs.String.{string_bytes};
 ghost use Rattle.cap_text.specs.Base32.{base32};
-ghost use Rattle.share_store.specs.Names.{IsNamed, closed_name, open_name, in_folder};
+ghost use Rattle.share_store.specs.Names.{IsNamed, IsPlace, closed_name, open_name, in_folder};
 ghost use Rattle.share_store.specs.Shelf.{Place};
 
 use crate::error::StoreError;
@@ -20,6 +20,9 @@ use wire::message::Digest;
 const INDEX_LETTERS: usize = 26;
 
 const DIGEST_LETTERS: usize = 52;
+
+// What stands in an open share's name in place of a digest.
+const OPEN: &[u8] = b"open";
 
 /// What a closed share's file is named by.
 #[derive(Clone, Copy)]
@@ -94,6 +97,27 @@ pub fn open_path(alloc: Global, folder: &str, place: &Place) -> Result<String, S
 {
     let index = base32_of(alloc, &place.0)?;
     Ok(format!(in alloc; "{folder}/{index}.{}.open", place.1)?)
+}
+
+/// The share of an open share's file, by its name; `None` for every other name.
+pub fn read_open_name(name: &[u8]) -> Option<Place>
+    ensures value { IfSome result (λ place. name.now ≡ open_name place) }
+    ensures only { (place : Place) → IsPlace place → name.now ≡ open_name place → IsSome result }
+{
+    if name.len() < INDEX_LETTERS + OPEN.len() {
+        return None;
+    }
+    let (index_text, rest) = name.split_at(INDEX_LETTERS);
+    let (share_text, end) = rest.split_at(rest.len() - OPEN.len());
+    if end != OPEN {
+        return None;
+    }
+    let share = read_between(share_text)?;
+    let mut index = [0; 16];
+    if !from_base32(index_text, &mut index) {
+        return None;
+    }
+    Some((index, share))
 }
 
 /// The base32 text of some bytes.

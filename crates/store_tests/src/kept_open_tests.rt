@@ -1,9 +1,12 @@
 //! The files that a store over a folder keeps open, which other programs change meanwhile, and a
 //! store that is opened for reading.
 
-use crate::share_store_tests::{Call, INDEX, SEVENS, file, fill, gives, open_for, remove, share};
+use crate::share_store_tests::{
+    Call, INDEX, INDEX_TEXT, SEVENS, file, fill, gives, open, open_for, remove, share,
+};
 use share_store::error::StoreError;
 use share_store::folder::{FolderStore, Purpose};
+use share_store::names::read_open_name;
 use share_store::store::Store;
 use std::fs;
 use std::test::Fail;
@@ -48,7 +51,7 @@ fn make_change(rt: &HostRuntime, change: Change) -> Result<(), Fail> {
 // and what stands under its closed name then.
 fn closes_after(rt: &HostRuntime, changed: Change) -> Result<(bool, bool), Fail> {
     remove(rt)?;
-    let mut store = open_for(rt, Purpose::Writing)?;
+    let mut store = open(rt)?;
     let alloc = rt.alloc();
     gives(alloc, &mut store, Call::Write(INDEX, 3, 0, b"\x01\x02\x03"))?;
     make_change(rt, changed)?;
@@ -73,7 +76,7 @@ fn changed_files_are_not_closed(rt: HostRuntime) -> Result<(), Fail> {
 #[test]
 fn shares_begin_anew(rt: HostRuntime) -> Result<(), Fail> {
     remove(&rt)?;
-    let mut store = open_for(&rt, Purpose::Writing)?;
+    let mut store = open(&rt)?;
     fs::write(&rt, file(&rt, ".3.open", "")?.as_str(), b"left".as_slice())?;
     for call in [
         Call::Write(INDEX, 3, 0, b"\x09\x09"),
@@ -126,5 +129,27 @@ fn a_store_for_reading(rt: HostRuntime) -> Result<(), Fail> {
     let read = gives(rt.alloc(), &mut other, Call::Read(INDEX, 6, 0, 9, b""));
     assert!(rt; read == Err(StoreError::StoreFault) && other.failures() == 1);
     remove(&rt)?;
+    Ok(())
+}
+
+// What comes after the index in a name, and the number of the open share that has it.
+const OPEN_NAMES: [(&str, Option<u8>); 8] = [
+    (".0.open", Some(0)),
+    (".255.open", Some(255)),
+    (".256.open", None),
+    (".01.open", None),
+    (".1.opem", None),
+    (".1.open.damaged", None),
+    ("_1.open", None),
+    ("", None),
+];
+
+#[test]
+fn open_names_are_read(rt: HostRuntime) -> Result<(), Fail> {
+    for (rest, number) in OPEN_NAMES {
+        let name = format!(in rt.alloc(); "{INDEX_TEXT}{rest}")?;
+        let read = read_open_name(name.as_bytes());
+        assert!(rt; read == number.map(|number| (INDEX, number)), "{rest}");
+    }
     Ok(())
 }

@@ -9,4 +9,6 @@ mod server_core_tests;
 #[cfg(test)]
 mod share_store_tests;
 #[cfg(test)]
+mod synced_tests;
+#[cfg(test)]
 mod two_stores_tests;

@@ -7,7 +7,7 @@
 use server_core::error::ServerFault;
 use server_core::keeping;
 use server_core::server::Server;
-use share_store::folder::{FolderStore, Purpose};
+use share_store::folder::{Durability, FolderStore, Purpose};
 use share_store::memory::MemoryStore;
 use share_store::store::Store;
 use std::alloc::Global;
@@ -276,7 +276,7 @@ fn happens_in_folder(
 
 // How many rows in turn go as they are to, with a server that starts over the folder as it is.
 fn right_rows_in_folder(rt: &HostRuntime, folder: &str, rows: &[Row]) -> Option<usize> {
-    let store = FolderStore::open(rt, folder, Purpose::Writing).ok()?;
+    let store = FolderStore::open(rt, folder, Purpose::Writing(Durability::Synced)).ok()?;
     let mut server = Server::start(rt.alloc(), store, 100, false);
     for (i, row) in rows.iter().enumerate() {
         if happens_in_folder(rt.alloc(), &mut server, row) != row.3 {

@@ -6,7 +6,7 @@
 // refused.
 
 use share_store::error::StoreError;
-use share_store::folder::{FolderStore, Purpose};
+use share_store::folder::{Durability, FolderStore, Purpose};
 use share_store::memory::MemoryStore;
 use share_store::names::ClosedName;
 use share_store::store::Store;
@@ -18,7 +18,7 @@ use wire::message::{Digest, HeldShare, ReadLength, ShareId, StorageIndex};
 // The bytes 0 to 15, and their text.
 pub(crate) const INDEX: StorageIndex = [0, 1, 2, 3, 4, 5, 6, 7, 8, 9, 10, 11, 12, 13, 14, 15];
 
-const INDEX_TEXT: &str = "aaaqeayeaudaocajbifqydiob4";
+pub(crate) const INDEX_TEXT: &str = "aaaqeayeaudaocajbifqydiob4";
 
 const OTHER_INDEX: StorageIndex = [0, 1, 2, 3, 4, 5, 6, 7, 8, 9, 10, 11, 12, 13, 14, 16];
 
@@ -269,7 +269,7 @@ fn errors_have_numbers(rt: HostRuntime) {
 }
 
 // A path in a folder that is this process's own.
-fn path(rt: &HostRuntime, rest: &str) -> Result<String, AllocError> {
+pub(crate) fn path(rt: &HostRuntime, rest: &str) -> Result<String, AllocError> {
     let process = std::process::id(rt.process());
     format!(in rt.alloc(); "/tmp/share-store-tests-{process}{rest}")
 }
@@ -289,6 +289,8 @@ pub(crate) fn remove(rt: &HostRuntime) -> io::Result<()> {
     Ok(())
 }
 
+pub(crate) const WRITING: Purpose = Purpose::Writing(Durability::Synced);
+
 // The store of the folder, which is made where it is not there.
 pub(crate) fn open_for(
     rt: &HostRuntime,
@@ -298,7 +300,7 @@ pub(crate) fn open_for(
 }
 
 pub(crate) fn open(rt: &HostRuntime) -> Result<FolderStore<HostRuntime>, StoreError> {
-    open_for(rt, Purpose::Writing)
+    open_for(rt, WRITING)
 }
 
 // How many calls in turn give what they are to give in the folder's store, once it is opened.
@@ -349,8 +351,8 @@ fn refused_memory_in_folder(rt: HostRuntime) {
     if remove(&rt).is_err() {
         return;
     }
-    let written = right_in_folder_at_last(&rt, Purpose::Writing, &LISTS);
-    let kept = right_in_folder_at_last(&rt, Purpose::Writing, &LISTED);
+    let written = right_in_folder_at_last(&rt, WRITING, &LISTS);
+    let kept = right_in_folder_at_last(&rt, WRITING, &LISTED);
     let read = right_in_folder_at_last(&rt, Purpose::Reading, &LISTED[..4]);
     assert!(rt; remove(&rt).is_ok() || remove(&rt).is_ok());
     assert_eq!(rt; written, 18);
@@ -430,7 +432,7 @@ fn folder_fails(rt: HostRuntime) -> Result<(), Fail> {
     assert!(rt; fails(&rt, &mut store, Call::Read(INDEX, 0, 0, 9, b"\x01\x02"), 1));
     fs::write(&rt, closed.as_str(), [1u8].as_slice())?;
     assert!(rt; fails(&rt, &mut store, Call::Read(INDEX, 0, 0, 9, b"\x01\x02"), 2));
-    let outcome = FolderStore::open(&rt, closed.as_str(), Purpose::Writing);
+    let outcome = FolderStore::open(&rt, closed.as_str(), WRITING);
     assert!(rt; matches!(&outcome, Err(StoreError::StoreFault)));
     remove(&rt)?;
     assert!(rt; fails(&rt, &mut store, Call::Write(INDEX, 1, 0, b"\x01"), 3));

@@ -1,0 +1,277 @@
+//! What a store puts on the disk, and when: over the host's files, whose syncs and renames are
+//! noted, and one of which fails.
+
+use crate::share_store_tests::{Call, INDEX, SEVENS, file, gives, path, remove};
+use share_store::error::StoreError;
+use share_store::folder::{Durability, FolderStore, Purpose};
+use std::alloc::{Allocator, Global};
+use std::cell::{Cell, RefCell};
+use std::fs::{File, Metadata, OpenFile, OpenOptions};
+use std::io::{Read, Seek, SeekFrom, Write};
+use std::rt::Files;
+use std::test::Fail;
+use std::{fs, io};
+
+// A call that is noted.
+#[derive(Clone, Copy, PartialEq, Eq)]
+enum Step {
+    SyncFile,
+    SyncFolder,
+    Rename,
+}
+
+// The calls so far, and the one that fails.
+#[derive(Drop)]
+struct Steps {
+    noted: RefCell<Vec<Step>>,
+    failing: Cell<Option<Step>>,
+}
+
+impl Steps {
+    fn new(alloc: Global) -> Steps {
+        Steps {
+            noted: RefCell::new(Vec::new(alloc)),
+            failing: Cell::new(None),
+        }
+    }
+
+    // Notes a call, which fails where it is the failing one.
+    fn note(&self, step: Step) -> io::Result<()> {
+        if self.failing.get() == Some(step) {
+            return Err(io::Error::from(io::ErrorKind::BrokenPipe));
+        }
+        if let Ok(mut noted) = self.noted.try_borrow_mut() {
+            noted.push(step)?;
+        }
+        Ok(())
+    }
+
+    // Whether these calls were noted, which are forgotten then.
+    fn were(&self, steps: &[Step]) -> bool {
+        let Ok(mut noted) = self.noted.try_borrow_mut() else {
+            return false;
+        };
+        let same = noted.as_slice() == steps;
+        noted.clear();
+        same
+    }
+}
+
+// The host's files.
+#[derive(Clone, Copy)]
+struct NotedFiles<'a> {
+    rt: HostRuntime,
+    steps: &'a Steps,
+}
+
+#[derive(Drop)]
+struct NotedFile<'a> {
+    file: File,
+    steps: &'a Steps,
+}
+
+impl<'a> Alloc for NotedFiles<'a> {
+    type A = Global;
+
+    fn alloc(&self) -> Global {
+        self.rt.alloc()
+    }
+}
+
+impl<'a> Files for NotedFiles<'a> {
+    type File = NotedFile<'a>;
+
+    type Dir = <HostRuntime as Files>::Dir;
+
+    fn open_file(&self, how: &OpenOptions, path: &str) -> io::Result<NotedFile<'a>> {
+        Ok(NotedFile {
+            file: self.rt.open_file(how, path)?,
+            steps: self.steps,
+        })
+    }
+
+    fn open_dir(&self, path: &str) -> io::Result<Self::Dir> {
+        self.rt.open_dir(path)
+    }
+
+    fn metadata(&self, path: &str) -> io::Result<Metadata> {
+        self.rt.metadata(path)
+    }
+
+    fn symlink_metadata(&self, path: &str) -> io::Result<Metadata> {
+        self.rt.symlink_metadata(path)
+    }
+
+    fn copy(&self, from: &str, to: &str) -> io::Result<u64> {
+        self.rt.copy(from, to)
+    }
+
+    fn rename(&self, from: &str, to: &str) -> io::Result<()> {
+        self.steps.note(Step::Rename)?;
+        self.rt.rename(from, to)
+    }
+
+    fn remove_file(&self, path: &str) -> io::Result<()> {
+        self.rt.remove_file(path)
+    }
+
+    fn create_dir(&self, path: &str) -> io::Result<()> {
+        self.rt.create_dir(path)
+    }
+
+    fn remove_dir(&self, path: &str) -> io::Result<()> {
+        self.rt.remove_dir(path)
+    }
+
+    fn remove_dir_all<B: Allocator>(&self, alloc: B, path: &str) -> io::Result<()> {
+        self.rt.remove_dir_all(alloc, path)
+    }
+}
+
+impl<'a> Read for NotedFile<'a> {
+    fn read(&mut self, buf: &mut [u8]) -> io::Result<usize> {
+        self.file.read(buf)
+    }
+}
+
+impl<'a> Write for NotedFile<'a> {
+    fn write(&mut self, buf: &[u8]) -> io::Result<usize> {
+        self.file.write(buf)
+    }
+
+    fn flush(&mut self) -> io::Result<()> {
+        self.file.flush()
+    }
+}
+
+impl<'a> Seek for NotedFile<'a> {
+    fn seek(&mut self, to: SeekFrom) -> io::Result<u64> {
+        self.file.seek(to)
+    }
+}
+
+impl<'a> OpenFile for NotedFile<'a> {
+    fn metadata(&self) -> io::Result<Metadata> {
+        self.file.metadata()
+    }
+
+    fn set_len(&self, size: u64) -> io::Result<()> {
+        self.file.set_len(size)
+    }
+
+    fn sync_all(&self) -> io::Result<()> {
+        let step = if self.file.metadata()?.is_dir() {
+            Step::SyncFolder
+        } else {
+            Step::SyncFile
+        };
+        self.steps.note(step)?;
+        self.file.sync_all()
+    }
+
+    fn sync_data(&self) -> io::Result<()> {
+        self.file.sync_data()
+    }
+}
+
+// The store of a folder in the tests' own, whose calls are noted.
+fn open_noted<'a>(
+    rt: &HostRuntime,
+    steps: &'a Steps,
+    purpose: Purpose,
+) -> Result<FolderStore<NotedFiles<'a>>, StoreError> {
+    FolderStore::open(
+        &NotedFiles { rt: *rt, steps },
+        path(rt, "")?.as_str(),
+        purpose,
+    )
+}
+
+// Whether a share is written and closed in that store.
+fn closes_one<'a>(
+    rt: &HostRuntime,
+    store: &mut FolderStore<NotedFiles<'a>>,
+    number: u8,
+) -> Result<bool, StoreError> {
+    for call in [
+        Call::Write(INDEX, number, 0, b"\x01\x02"),
+        Call::Write(INDEX, number, 2, b"\x03"),
+        Call::Close(INDEX, number, 7),
+    ] {
+        if !gives(rt.alloc(), store, call)? {
+            return Ok(false);
+        }
+    }
+    Ok(true)
+}
+
+const CLOSE: [Step; 3] = [Step::SyncFile, Step::Rename, Step::SyncFolder];
+
+// The folder's name is put on the disk where the folder is made. Of a share first the bytes are put
+// there, and its name once it is renamed. What stands in the folder counts once its names are
+// there.
+#[test]
+fn bytes_come_before_names(rt: HostRuntime) -> Result<(), Fail> {
+    remove(&rt)?;
+    let steps = Steps::new(rt.alloc());
+    let mut store = open_noted(&rt, &steps, Purpose::Writing(Durability::Synced))?;
+    assert!(rt; steps.were(&[Step::SyncFolder]));
+    assert!(rt; closes_one(&rt, &mut store, 3)? && steps.were(&CLOSE));
+    assert!(rt; gives(rt.alloc(), &mut store, Call::Close(INDEX, 4, 7))? && steps.were(&CLOSE));
+    drop(open_noted(&rt, &steps, Purpose::Writing(Durability::Synced))?);
+    assert!(rt; steps.were(&[Step::SyncFolder]));
+    remove(&rt)?;
+    Ok(())
+}
+
+// Unsynced, and for reading, nothing is put there.
+#[test]
+fn nothing_is_synced_unasked(rt: HostRuntime) -> Result<(), Fail> {
+    remove(&rt)?;
+    let steps = Steps::new(rt.alloc());
+    let mut store = open_noted(&rt, &steps, Purpose::Writing(Durability::Unsynced))?;
+    assert!(rt; closes_one(&rt, &mut store, 3)?);
+    drop(open_noted(&rt, &steps, Purpose::Reading)?);
+    assert!(rt; steps.were(&[Step::Rename]));
+    remove(&rt)?;
+    Ok(())
+}
+
+// A call that fails in a close, whether the closed file stands then, and whether a further close
+// goes well.
+const FAILURES: [(Step, bool, bool); 3] = [
+    (Step::SyncFile, false, false),
+    (Step::Rename, false, true),
+    (Step::SyncFolder, true, false),
+];
+
+// A failed close leaves the share open, and a whole file under its closed name or none. It can be
+// begun anew and closed.
+fn fails_and_closes(rt: &HostRuntime, failure: (Step, bool, bool)) -> Result<bool, Fail> {
+    let (failing, stands, closes_again) = failure;
+    remove(rt)?;
+    let steps = Steps::new(rt.alloc());
+    let mut store = open_noted(rt, &steps, Purpose::Writing(Durability::Synced))?;
+    steps.failing.set(Some(failing));
+    let first = closes_one(rt, &mut store, 3);
+    let closed = file(rt, ".3.", SEVENS)?;
+    let has_name = fs::exists(rt, closed.as_str())?;
+    steps.failing.set(None);
+    let again = gives(rt.alloc(), &mut store, Call::Close(INDEX, 3, 7));
+    if first != Err(StoreError::StoreFault) || has_name != stands || again.is_ok() != closes_again {
+        return Ok(false);
+    }
+    Ok(
+        (closes_again || closes_one(rt, &mut store, 3)?)
+            && fs::read(rt, closed.as_str())?.as_slice() == b"\x01\x02\x03".as_slice(),
+    )
+}
+
+#[test]
+fn failed_closes(rt: HostRuntime) -> Result<(), Fail> {
+    for failure in FAILURES {
+        assert!(rt; fails_and_closes(&rt, failure)?);
+    }
+    remove(&rt)?;
+    Ok(())
+}
