@@ -19,7 +19,7 @@ use Rattle.upload_core.specs.declared.pieces.PieceFault.{PieceFault}
 use Rattle.upload_core.specs.declared.pieces.PieceFault.TheVariants.{OutOfMemory}
 use Rattle.upload_core.specs.State.{Goal, UploadState, with_record}
 use Rattle.upload_core.specs.Right.{IsRight}
-use Rattle.upload_core.specs.Moves.{Advances, AdvancesAt, Begins, GoesOn, Stops, StopsAt, TicksOn, TicksWith, all_follow_ups, at_once, ends, follow_ups_at, initial, later, places, waits}
+use Rattle.upload_core.specs.Moves.{Advances, AdvancesAt, Begins, FailsAt, GoesOn, Stops, StopsAt, TicksOn, TicksWith, all_follow_ups, at_once, ends, follow_ups_at, initial, later, places, waits}
 use Rattle.upload_core.specs.Sending.{one_sent}
 use Rattle.upload_core.specs.Course.{CanGoOn, IsCourse, IsInside, IsKept, IsRound, Stands, asked_servers, is_holdings}
 use Rattle.upload_core.specs.Trails.{AreFollowed, rank_of, share_of}
@@ -174,10 +174,7 @@ module _ (now : ℕ) (old new : UploadState) (stands : Stands old) (kept : IsKep
   tick_moves : TicksOn now old new → Moves new
   tick_moves a = elim (is_running old.status) [
     | inl running ↦ by running (lost_by_tick now old.requests) refl (a.running running) (tick_can (kept.going running))
-    | inr over ↦ elim (a.ended over) [
-      | inl on ↦ over_moves old after new over on (tick_settled now old.requests) stands
-      | inr same ↦ subst Moves (sym same) (record { stands = stands; going = λ is. absurd (over is) })
-    ]
+    | inr over ↦ over_moves old after new over (a.ended over) (tick_settled now old.requests) stands
   ]
     where
       by : old.status ≡ Running → (lost : List ℕ) → lost_by_tick now old.requests ≡ lost → TicksWith lost after old new → CanGoOn (with_record old (asked_all (all_follow_ups old.goal after.entries lost) after)) → Moves new
@@ -247,8 +244,29 @@ stops_failed (Ok x) q old mid new stops e = tt
 stops_failed (Err x) q old mid new stops e =
     subst (Stops q old) (sym e) (record { goal = stops.goal; wanted = stops.wanted; servers = stops.servers; asks = stops.asks; requests = stops.requests })
 
-pub stops_at : {X E : Type 0} (r : Result X E) (now : ℕ) (old mid new : UploadState) → OnErr r ((mid ≡ old) ⊎ Stops (after_tick now old.requests) old mid) → OnErr r (new ≡ record mid { status = Failed OutOfMemory })
-    → OnErr r (StopsAt now old new)
-stops_at (Ok x) now old mid new why e = tt
-stops_at (Err x) now old mid new (inl same) e = at_once (e ∙ ap (λ (u : UploadState). record u { status = Failed OutOfMemory }) same)
-stops_at {X} (Err x) now old mid new (inr stops) e = later (stops_failed {X = X} (Err x) (after_tick now old.requests) old mid new stops e)
+pub stops_at : {X E : Type 0} (r : Result X E) (now : ℕ) (old mid new : UploadState) → old.status ≡ Running → OnErr r ((mid ≡ old) ⊎ Stops (after_tick now old.requests) old mid)
+    → OnErr r (new ≡ record mid { status = Failed OutOfMemory }) → OnErr r (StopsAt now old new)
+stops_at (Ok x) now old mid new runs why e = tt
+stops_at {X} (Err x) now old mid new runs why e = record { running = λ _. fails why; ended = λ over. absurd (over runs) }
+  where
+    fails : (mid ≡ old) ⊎ Stops (after_tick now old.requests) old mid → FailsAt now old new
+    fails (inl same) = at_once (e ∙ ap (λ (u : UploadState). record u { status = Failed OutOfMemory }) same)
+    fails (inr stops) = later (ap (λ (u : UploadState). u.status) e) (stops_failed {X = X} (Err x) (after_tick now old.requests) old mid new stops e)
+
+-- ---- a second of one that ended
+
+module _ {X E : Type 0} (now : ℕ) (old new : UploadState) (over : old.status ≢ Running) where
+  pub noted_kept : (r : Result X E) → OnOk r (new ≡ with_record old (after_tick now old.requests)) → OnErr r (new ≡ old) → IsCourse new → IsKept old → IsKept new
+  noted_kept (Ok x) e n course kept = (let moves = over_moves old (after_tick now old.requests) new over e (tick_settled now old.requests) kept.stands in kept_of new moves.stands course moves.going)
+  noted_kept (Err x) e n course kept = subst IsKept (sym n) kept
+
+  pub noted_ok : (r : Result X E) → OnOk r (new ≡ with_record old (after_tick now old.requests)) → OnOk r (TicksOn now old new)
+  noted_ok r e = on_ok r _ _ (λ is. record { running = λ runs. absurd (over runs); ended = λ _. is }) e
+
+  pub noted_stops : (r : Result X E) → OnErr r (new ≡ old) → OnErr r (StopsAt now old new)
+  noted_stops (Ok x) n = tt
+  noted_stops (Err x) n = record { running = λ runs. absurd (over runs); ended = λ _. n }
+
+  pub noted_goal : (r : Result X E) → OnOk r (new ≡ with_record old (after_tick now old.requests)) → OnErr r (new ≡ old) → new.goal ≡ old.goal
+  noted_goal (Ok x) e n = ap (λ (u : UploadState). u.goal) e
+  noted_goal (Err x) e n = ap (λ (u : UploadState). u.goal) n

@@ -1,5 +1,5 @@
 -- What the calls of an upload do.
-use Rattle.std.specs.Prelude.{◌≡◌, ◌≢◌, ◌⊎◌, ℕ, List, [], ◌∷◌, Option, Some, None, map}
+use Rattle.std.specs.Prelude.{◌≡◌, ◌≢◌, ℕ, List, [], ◌∷◌, Option, Some, None, map}
 use Rattle.std.specs.Prelude.{length, slice_get, slice_index_or, IsPermutation, AllPairs}
 use Rattle.std.specs.List.{flat_map, range_with_len}
 use Rattle.std.specs.declared.cmp.Ordering.TheVariants.{Less}
@@ -75,17 +75,21 @@ TicksWith [] r old new = new ≡ with_record old r
 TicksWith (first ∷ others) r old new =
     GoesOn old (asked_all (all_follow_ups old.goal r.entries (first ∷ others)) r) new
 
--- One that ended takes no note, where it finds no memory.
 pub record TicksOn (now : ℕ) (old new : UploadState) : Type 0 where
   pub running : old.status ≡ Running
       → TicksWith (lost_by_tick now old.requests) (after_tick now old.requests) old new
-  pub ended : old.status ≢ Running
-      → (new ≡ with_record old (after_tick now old.requests)) ⊎ (new ≡ old)
+  pub ended : old.status ≢ Running → new ≡ with_record old (after_tick now old.requests)
 
--- A tick finds no memory: the upload fails, and its record is as it was, or went on.
-pub data StopsAt (now : ℕ) (old new : UploadState) : Type 0 where
-  at_once : new ≡ record old { status = Failed OutOfMemory } → StopsAt now old new
-  later : Stops (after_tick now old.requests) old new → StopsAt now old new
+-- A tick that finds no memory makes an upload fail, and its record is as it was, or went on.
+pub data FailsAt (now : ℕ) (old new : UploadState) : Type 0 where
+  at_once : new ≡ record old { status = Failed OutOfMemory } → FailsAt now old new
+  later : new.status ≡ Failed OutOfMemory → Stops (after_tick now old.requests) old new
+      → FailsAt now old new
+
+-- A tick finds no memory: an upload that runs fails, and one that ended is as it was.
+pub record StopsAt (now : ℕ) (old new : UploadState) : Type 0 where
+  pub running : old.status ≡ Running → FailsAt now old new
+  pub ended : old.status ≢ Running → new ≡ old
 
 -- the node of the server at a place
 abbrev pub node_at : List ServerInfo → ℕ → ℕ

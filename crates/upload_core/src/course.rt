@@ -119,20 +119,26 @@ impl Course {
         self.go_on()
     }
 
-    /// Takes note of a second. One that ended needs no memory: where there is none it takes no
-    /// note.
+    /// Takes note of a second in the record alone, once it ended. Without memory it is as it was.
+    pub(crate) fn note(&mut self, now: u64) -> Result<(), AllocError>
+        ensures ok { OnOk result
+            (self.new ≡ with_record self.old (after_tick now self.old.requests)) }
+        ensures err { OnErr result (self.new ≡ self.old) }
+        ensures right { IsCourse self.new }
+    {
+        self.requests.tick(now)?;
+        Ok(())
+    }
+
+    /// Takes note of a second while it runs.
     pub(crate) fn pass(&mut self, now: u64) -> Result<(), AllocError>
-        requires { self.old.status ≡ UploadStatus.Running → CanGoOn self.old }
+        requires runs { self.old.status ≡ UploadStatus.Running }
+        requires can { CanGoOn self.old }
         ensures ok { OnOk result (TicksOn now self.old self.new) }
         ensures err { OnErr result ((self.new ≡ self.old)
             ⊎ Stops (after_tick now self.old.requests) self.old self.new) }
-        ensures ended { self.old.status ≢ UploadStatus.Running → IsOk result }
         ensures goal { self.new.goal ≡ self.old.goal }
     {
-        if !self.is_running() {
-            let _ = self.requests.tick(now);
-            return Ok(());
-        }
         let lost = self.requests.tick(now)?;
         if lost.is_empty() {
             return Ok(());

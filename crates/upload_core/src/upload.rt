@@ -81,14 +81,15 @@ impl<P: Pieces + Drop> Upload<P> {
         outcome
     }
 
-    /// Takes note of a second. On an `Err`, which only one that runs gives, it has failed.
+    /// Takes note of a second. On an `Err` one that ran has failed, and one that ended is as it was.
     pub fn tick(&mut self, now: u64) -> Result<(), AllocError>
         ensures ok { OnOk result (TicksOn now self.old.course self.new.course) }
-        ensures err { OnErr result (self.new.course.status ≡ Failed OutOfMemory) }
         ensures stops { OnErr result (StopsAt now self.old.course self.new.course) }
-        ensures ended { self.old.course.status ≢ Running → IsOk result }
         ensures pieces { self.new.pieces ≡ self.old.pieces }
     {
+        if !self.course.is_running() {
+            return self.course.note(now);
+        }
         let outcome = self.course.pass(now);
         self.course.fail_by(&outcome);
         outcome

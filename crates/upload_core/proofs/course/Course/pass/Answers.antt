@@ -2,42 +2,33 @@ use Rattle.std.proofs.Common.{◌≡◌, ◌≢◌, ◌<◌, ◌∙◌, All, inl
 use Rattle.std.proofs.lemmas.Bool.{eq-eqb}
 use Rattle.request_record.specs.Asking.{after_tick, lost_by_tick}
 use Rattle.request_record.specs.Record.{RequestsState, asked_all}
-use Rattle.upload_core.specs.declared.status.UploadStatus.TheVariants.{Running}
 use Rattle.upload_core.specs.State.{UploadState, with_record}
 use Rattle.upload_core.specs.Moves.{GoesOn, all_follow_ups}
 use Rattle.std.specs.List.{IsDistinct}
-use Rattle.lemmas.proofs.Results.{on_ok, settled_by}
+use Rattle.lemmas.proofs.Results.{on_ok}
 use Rattle.request_record.specs.declared.requests.Asked.{Asked}
 use Rattle.upload_core.proofs.Records.{on_err, on_err_all}
-use Rattle.upload_core.specs.Course.{CanGoOn, IsCourse}
+use Rattle.upload_core.specs.Course.{CanGoOn}
 use Rattle.upload_core.specs.Trails.{AreFollowed, IsAtEnd}
 use Rattle.upload_core.proofs.Ends.{lost_ends, lost_once}
 use Rattle.upload_core.proofs.Followed.{followed_tick}
 use Rattle.upload_core.proofs.Goes.{goes_on_from, lost_there, stops_then, tick_course, ticks_with}
 use Rattle.upload_core.proofs.course.Course.pass.Goals as goal
 
-pub invariant_of-self : goal.invariant_of-self
-invariant_of-self c =
-    let u : UploadState = record { goal = c.self.inside.goal; wanted = c.self.inside.wanted; servers = c.self.inside.servers.items; requests = c.self.inside.requests; round = c.self.inside.round; status = c.self.inside.status } in
-    elim (settled_by c.tick.result (c.tick.new.self ≡ after_tick c.args.now u.requests) (c.tick.new.self ≡ u.requests) c.tick.ensures.ok c.tick.ensures.err) [
-      | inl is ↦ tick_course u c.args.now c.tick.new.self is c.self.invariant
-      | inr same ↦ subst (λ (r : RequestsState). IsCourse (with_record u r)) (sym same) c.self.invariant
-    ]
-
 pub invariant_of-self-then-is_empty : goal.invariant_of-self-then-is_empty
 invariant_of-self-then-is_empty c =
     let u : UploadState = record { goal = c.self.inside.goal; wanted = c.self.inside.wanted; servers = c.self.inside.servers.items; requests = c.self.inside.requests; round = c.self.inside.round; status = c.self.inside.status } in
-    tick_course u c.args.now c.tick-2.new.self c.in_ok-lost.ensures.ok c.self.invariant
+    tick_course u c.args.now c.tick.new.self c.in_ok-lost.ensures.ok c.self.invariant
 
 pub invariant_of-self-2 : goal.invariant_of-self-2
 invariant_of-self-2 c =
     let u : UploadState = record { goal = c.self.inside.goal; wanted = c.self.inside.wanted; servers = c.self.inside.servers.items; requests = c.self.inside.requests; round = c.self.inside.round; status = c.self.inside.status } in
-    tick_course u c.args.now c.tick-2.new.self c.in_ok-lost.ensures.ok c.self.invariant
+    tick_course u c.args.now c.tick.new.self c.in_ok-lost.ensures.ok c.self.invariant
 
 pub follow_all-requires-clause-there : goal.follow_all-requires-clause-there
 follow_all-requires-clause-there c =
     let u : UploadState = record { goal = c.self.inside.goal; wanted = c.self.inside.wanted; servers = c.self.inside.servers.items; requests = c.self.inside.requests; round = c.self.inside.round; status = c.self.inside.status } in
-    subst (λ (xs : List ℕ). All (λ (p : ℕ). p < length c.tick-2.new.self.entries) xs) (sym (c.deref.ensures.value ∙ c.in_ok-lost.ensures.lost))
+    subst (λ (xs : List ℕ). All (λ (p : ℕ). p < length c.tick.new.self.entries) xs) (sym (c.deref.ensures.value ∙ c.in_ok-lost.ensures.lost))
     (subst (λ (r : RequestsState). All (λ (p : ℕ). p < length r.entries) (lost_by_tick c.args.now u.requests)) (sym c.in_ok-lost.ensures.ok) (lost_there c.args.now u.requests))
 
 pub returns-clause-ok : goal.returns-clause-ok
@@ -45,9 +36,8 @@ returns-clause-ok c =
     let u : UploadState = record { goal = c.self.inside.goal; wanted = c.self.inside.wanted; servers = c.self.inside.servers.items; requests = c.self.inside.requests; round = c.self.inside.round; status = c.self.inside.status } in
     let v : UploadState = c.args.self.now in
     let R : RequestsState = after_tick c.args.now v.requests in
-    let new : c.tick-2.new.self ≡ R = c.in_ok-lost.ensures.ok ∙ ap (λ (s : UploadState). after_tick c.args.now s.requests) c.self.view_is in
-    let running : u.status ≡ Running = ap (λ (s : UploadState). s.status) c.self.view_is ∙ c.is_running.ensures.0 c.if-not-is_running.false in
-    let w : with_record u c.tick-2.new.self ≡ with_record v R = ap (with_record u) new ∙ ap (λ (s : UploadState). with_record s R) c.self.view_is in
+    let new : c.tick.new.self ≡ R = c.in_ok-lost.ensures.ok ∙ ap (λ (s : UploadState). after_tick c.args.now s.requests) c.self.view_is in
+    let w : with_record u c.tick.new.self ≡ with_record v R = ap (with_record u) new ∙ ap (λ (s : UploadState). with_record s R) c.self.view_is in
     let lost : List ℕ = lost_by_tick c.args.now v.requests in
     let are : c.in_ok-lost.lost.items ≡ lost = c.in_ok-lost.ensures.lost ∙ ap (λ (s : UploadState). lost_by_tick c.args.now s.requests) c.self.view_is in
     let some : lost ≢ [] = λ (e : lost ≡ []).
@@ -60,13 +50,13 @@ returns-clause-ok c =
     ∙ ap (λ (xs : List ℕ). with_record v (asked_all (all_follow_ups v.goal R.entries xs) R)) (c.deref.ensures.value ∙ are) in
     on_ok c.go_on.result _ _ (λ g. record {
       running = λ r. ticks_with v R lost c.go_on.new.self some (goes_on_from v S c.go_on.new.self (subst (λ (s : UploadState). GoesOn s s.requests c.go_on.new.self) followed g));
-      ended = λ ne. absurd (ne (ap (λ (s : UploadState). s.status) (sym c.self.view_is) ∙ running));
+      ended = λ ne. absurd (ne c.requires.runs);
     }) c.go_on.ensures.ok
 
 pub follow_all-requires-clause-at_end : goal.follow_all-requires-clause-at_end
 follow_all-requires-clause-at_end c =
     let u : UploadState = record { goal = c.self.inside.goal; wanted = c.self.inside.wanted; servers = c.self.inside.servers.items; requests = c.self.inside.requests; round = c.self.inside.round; status = c.self.inside.status } in
-    subst (λ (xs : List ℕ). All (IsAtEnd c.tick-2.new.self.entries) xs) (sym (c.deref.ensures.value ∙ c.in_ok-lost.ensures.lost))
+    subst (λ (xs : List ℕ). All (IsAtEnd c.tick.new.self.entries) xs) (sym (c.deref.ensures.value ∙ c.in_ok-lost.ensures.lost))
     (subst (λ (r : RequestsState). All (IsAtEnd r.entries) (lost_by_tick c.args.now u.requests)) (sym c.in_ok-lost.ensures.ok) (lost_ends u.goal c.args.now u.requests c.self.invariant.trails))
 
 pub follow_all-requires-clause-once : goal.follow_all-requires-clause-once
@@ -78,9 +68,8 @@ pub go_on-requires : goal.go_on-requires
 go_on-requires c =
     let u : UploadState = record { goal = c.self.inside.goal; wanted = c.self.inside.wanted; servers = c.self.inside.servers.items; requests = c.self.inside.requests; round = c.self.inside.round; status = c.self.inside.status } in
     let R : RequestsState = after_tick c.args.now u.requests in
-    let running : u.status ≡ Running = ap (λ (s : UploadState). s.status) c.self.view_is ∙ c.is_running.ensures.0 c.if-not-is_running.false in
-    let going : CanGoOn u = subst CanGoOn (sym c.self.view_is) (c.requires (ap (λ (s : UploadState). s.status) (sym c.self.view_is) ∙ running)) in
-    let w : with_record u c.tick-2.new.self ≡ with_record u R = ap (with_record u) c.in_ok-lost.ensures.ok in
+    let going : CanGoOn u = subst CanGoOn (sym c.self.view_is) c.requires.can in
+    let w : with_record u c.tick.new.self ≡ with_record u R = ap (with_record u) c.in_ok-lost.ensures.ok in
     let S : RequestsState = asked_all (all_follow_ups u.goal R.entries c.deref.result.now) R in
     let followed : c.follow_all.new.self ≡ with_record u S = c.in_ok-follow_all.ensures.ok ∙ ap (λ (s : UploadState). with_record s (asked_all (all_follow_ups s.goal s.requests.entries c.deref.result.now) s.requests)) w in
     subst (λ (s : UploadState). AreFollowed s.goal s.requests.entries) (sym followed) (followed_tick u.goal c.args.now u.requests c.self.invariant.inside going.followed c.deref.result.now)
@@ -88,18 +77,7 @@ go_on-requires c =
 pub follow_all-requires-clause-right : goal.follow_all-requires-clause-right
 follow_all-requires-clause-right c =
     let u : UploadState = record { goal = c.self.inside.goal; wanted = c.self.inside.wanted; servers = c.self.inside.servers.items; requests = c.self.inside.requests; round = c.self.inside.round; status = c.self.inside.status } in
-    tick_course u c.args.now c.tick-2.new.self c.in_ok-lost.ensures.ok c.self.invariant
-
-pub returns-then-not-is_running-clause-ok : goal.returns-then-not-is_running-clause-ok
-returns-then-not-is_running-clause-ok c =
-    let u : UploadState = record { goal = c.self.inside.goal; wanted = c.self.inside.wanted; servers = c.self.inside.servers.items; requests = c.self.inside.requests; round = c.self.inside.round; status = c.self.inside.status } in
-    record {
-      running = λ r. absurd (true≢false (sym (c.is_running.ensures.1 r) ∙ c.if-not-is_running.true));
-      ended = λ _. elim (settled_by c.tick.result (c.tick.new.self ≡ after_tick c.args.now u.requests) (c.tick.new.self ≡ u.requests) c.tick.ensures.ok c.tick.ensures.err) [
-        | inl is ↦ inl (ap (with_record u) is ∙ ap (λ (s : UploadState). with_record s (after_tick c.args.now s.requests)) c.self.view_is)
-        | inr same ↦ inr (ap (with_record u) same ∙ c.self.view_is)
-      ];
-    }
+    tick_course u c.args.now c.tick.new.self c.in_ok-lost.ensures.ok c.self.invariant
 
 pub returns-in_err-lost-clause-err : goal.returns-in_err-lost-clause-err
 returns-in_err-lost-clause-err c =
@@ -111,17 +89,17 @@ returns-in_err-follow_all-clause-err c =
     let u : UploadState = record { goal = c.self.inside.goal; wanted = c.self.inside.wanted; servers = c.self.inside.servers.items; requests = c.self.inside.requests; round = c.self.inside.round; status = c.self.inside.status } in
     let v : UploadState = c.args.self.now in
     let R : RequestsState = after_tick c.args.now v.requests in
-    let new : c.tick-2.new.self ≡ R = c.in_ok-lost.ensures.ok ∙ ap (λ (s : UploadState). after_tick c.args.now s.requests) c.self.view_is in
-    let w : with_record u c.tick-2.new.self ≡ with_record v R = ap (with_record u) new ∙ ap (λ (s : UploadState). with_record s R) c.self.view_is in
-    on_err_all c.from_residual-in_err-follow_all.result _ (inr (stops_then v R [] (with_record u c.tick-2.new.self) c.follow_all.new.self w c.in_err-follow_all.ensures.err))
+    let new : c.tick.new.self ≡ R = c.in_ok-lost.ensures.ok ∙ ap (λ (s : UploadState). after_tick c.args.now s.requests) c.self.view_is in
+    let w : with_record u c.tick.new.self ≡ with_record v R = ap (with_record u) new ∙ ap (λ (s : UploadState). with_record s R) c.self.view_is in
+    on_err_all c.from_residual-in_err-follow_all.result _ (inr (stops_then v R [] (with_record u c.tick.new.self) c.follow_all.new.self w c.in_err-follow_all.ensures.err))
 
 pub returns-clause-err : goal.returns-clause-err
 returns-clause-err c =
     let u : UploadState = record { goal = c.self.inside.goal; wanted = c.self.inside.wanted; servers = c.self.inside.servers.items; requests = c.self.inside.requests; round = c.self.inside.round; status = c.self.inside.status } in
     let v : UploadState = c.args.self.now in
     let R : RequestsState = after_tick c.args.now v.requests in
-    let new : c.tick-2.new.self ≡ R = c.in_ok-lost.ensures.ok ∙ ap (λ (s : UploadState). after_tick c.args.now s.requests) c.self.view_is in
-    let w : with_record u c.tick-2.new.self ≡ with_record v R = ap (with_record u) new ∙ ap (λ (s : UploadState). with_record s R) c.self.view_is in
+    let new : c.tick.new.self ≡ R = c.in_ok-lost.ensures.ok ∙ ap (λ (s : UploadState). after_tick c.args.now s.requests) c.self.view_is in
+    let w : with_record u c.tick.new.self ≡ with_record v R = ap (with_record u) new ∙ ap (λ (s : UploadState). with_record s R) c.self.view_is in
     let asks : List (ℕ × Asked) = all_follow_ups v.goal R.entries c.deref.result.now in
     let followed : c.follow_all.new.self ≡ with_record v (asked_all asks R) =
     c.in_ok-follow_all.ensures.ok ∙ ap (λ (s : UploadState). with_record s (asked_all (all_follow_ups s.goal s.requests.entries c.deref.result.now) s.requests)) w in
