@@ -18,7 +18,7 @@ const SIZE: usize = 131_074;
 const NODES: [NodeId; 10] = [0, 1, 2, 3, 4, 5, 6, 7, 8, 9];
 
 // The share with which something is wrong.
-const WRONG: usize = 3;
+const WRONG: usize = 1;
 
 // What is wrong.
 #[derive(Clone, Copy)]
@@ -226,7 +226,7 @@ fn found_of(verdict: Verdict) -> Found {
 }
 
 // A check to its end. `None` where more requests wait at once than servers and 64 more.
-fn end_of(alloc: Global, encoded: &Encoded, wrong: Wrong) -> Option<Ending> {
+fn ended(alloc: Global, encoded: &Encoded, wrong: Wrong) -> Option<Check> {
     let cap = verify_cap(encoded)?;
     let mut check = Check::start(alloc, cap, &NODES, 5, 0).ok()?;
     let mut now: u64 = 0;
@@ -254,7 +254,12 @@ fn end_of(alloc: Global, encoded: &Encoded, wrong: Wrong) -> Option<Ending> {
             }
         }
     }
-    let report = check.report(alloc).ok()??;
+    Some(check)
+}
+
+// What a check told at its end.
+fn end_of(alloc: Global, encoded: &Encoded, wrong: Wrong) -> Option<Ending> {
+    let report = ended(alloc, encoded, wrong)?.report(alloc).ok()??;
     let mut found = Found::Nothing;
     let mut good: usize = 0;
     for verdict in report.verdicts.as_slice() {
@@ -273,6 +278,21 @@ fn end_of(alloc: Global, encoded: &Encoded, wrong: Wrong) -> Option<Ending> {
         recoverable: report.recoverable,
         happiness: report.happiness,
     })
+}
+
+// The numbers of the good shares that a check hands out. `None` where the bytes of one are not
+// those of the file's share.
+fn handed_out(alloc: Global, encoded: &Encoded, wrong: Wrong) -> Option<Vec<u16>> {
+    let shares = ended(alloc, encoded, wrong)?.good_shares(alloc).ok()??;
+    let mut numbers = Vec::new(alloc);
+    for (number, bytes) in &shares {
+        let share = encoded.shares.get(usize::from(*number))?;
+        if bytes.as_slice() != share.as_slice() {
+            return None;
+        }
+        numbers.push(*number).ok()?;
+    }
+    Some(numbers)
 }
 
 // One share that is wrong among ten.
@@ -369,6 +389,40 @@ fn good_shares_are_counted(rt: HostRuntime) {
 }
 
 #[test]
+fn good_shares_are_handed_out(rt: HostRuntime) {
+    let shares = encoded(rt.alloc());
+    assert!(rt; shares.is_some());
+    if let Some(encoded) = &shares {
+        let cases: [(Wrong, &[u16]); 8] = [
+            (Wrong::Nothing, &[0, 1, 2]),
+            (Wrong::Copied, &[0, 1, 2]),
+            // The bytes behind the extension block are no part of it.
+            (Wrong::Grown, &[0, 1, 2]),
+            // Corrupt in its data and in its beginning, and lost.
+            (Wrong::Byte(36_000), &[0, 2, 3]),
+            (Wrong::Byte(3), &[0, 2, 3]),
+            (Wrong::NoShare, &[0, 2, 3]),
+            (Wrong::Gone(2), &[0, 1]),
+            (Wrong::Gone(0), &[]),
+        ];
+        for (i, (wrong, expected)) in cases.iter().enumerate() {
+            let is_expected = match handed_out(rt.alloc(), encoded, *wrong) {
+                Some(numbers) => numbers.as_slice() == *expected,
+                None => false,
+            };
+            assert!(rt; is_expected, "check {i}");
+        }
+        assert!(rt; hands_nothing_out_yet(rt.alloc(), encoded) == Some(true));
+    }
+}
+
+// Whether a check that runs hands nothing out.
+fn hands_nothing_out_yet(alloc: Global, encoded: &Encoded) -> Option<bool> {
+    let check = Check::start(alloc, verify_cap(encoded)?, &NODES, 5, 0).ok()?;
+    Some(check.good_shares(alloc).ok()?.is_none())
+}
+
+#[test]
 fn a_check_without_servers_is_done(rt: HostRuntime) {
     let is_done = match without_servers(rt.alloc()) {
         Some(is_done) => is_done,
@@ -381,11 +435,13 @@ fn without_servers(alloc: Global) -> Option<bool> {
     let cap = verify_cap(&encoded(alloc)?)?;
     let check = Check::start(alloc, cap, &[], 5, 0).ok()?;
     let report = check.report(alloc).ok()??;
+    let shares = check.good_shares(alloc).ok()??;
     Some(
         check.status() == CheckStatus::Done
             && !check.has_outgoing()
             && !report.healthy
             && !report.recoverable
-            && report.happiness == 0,
+            && report.happiness == 0
+            && shares.is_empty(),
     )
 }

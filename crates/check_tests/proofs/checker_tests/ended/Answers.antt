@@ -1,6 +1,6 @@
 use Rattle.std.proofs.Common.{refl}
 use Rattle.std.specs.List.{IsDistinct}
-use Rattle.check_tests.proofs.checker_tests.end_of.Goals as goal
+use Rattle.check_tests.proofs.checker_tests.ended.Goals as goal
 
 pub start-requires : goal.start-requires
 unfolding IsDistinct
