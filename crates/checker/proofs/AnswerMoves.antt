@@ -1,10 +1,10 @@
 -- What comes of the answer to the request for the next bytes of a share.
-use Rattle.std.proofs.Common.{◌≡◌, ℕ, ◌+◌, ◌≤◌, Bool, true, false, cond, List, [], ◌∷◌, ◌++◌, length, Option, Some, None, ap, refl, sym, subst, ◌∙◌, arith, inl, inr, ◌⊎◌, true≢false}
+use Rattle.std.proofs.Common.{◌≡◌, ℕ, ◌+◌, ◌≤◌, Bool, true, false, cond, List, [], ◌∷◌, ◌++◌, length, Some, None, ap, refl, sym, subst, ◌∙◌, arith, inl, inr, ◌⊎◌, true≢false}
 use Rattle.std.specs.Prelude.{Contains, slice_get}
 use Rattle.std.proofs.lemmas.List.Elements.{Contains-append_left, Contains-append_right, Contains-append_cases, Contains-push, Contains-push_cases}
 use Rattle.std.proofs.lemmas.Option.{same_Some}
 use Rattle.share_opening.proofs.ReadLemmas.{more_led}
-use Rattle.lemmas.proofs.Members.{contains_at, flat_map_from, contains_cases, contains_head, contains_none, contains_tail}
+use Rattle.lemmas.proofs.Members.{contains_cases, contains_head, contains_none, contains_tail}
 use Rattle.lemmas.proofs.Places.{get_pushed, get_last}
 use Rattle.cap_text.specs.Cap.{VerifyCapValue}
 use Rattle.placement.specs.Matching.{Pair}
@@ -20,7 +20,7 @@ use Rattle.share_opening.specs.Reads.{Brought}
 use Rattle.share_opening.specs.declared.opening.Opening.TheVariants.{Start, Second, Header, Block}
 use Rattle.share_reading.specs.Reading as reading
 use Rattle.share_reading.specs.Reads.{AsksNone, IsAsked, IsReadBy, more_back, more_front}
-use Rattle.share_reading.specs.Verdict.{AreAnswered, AreFull, HasLed, IsJudged, IsVerdict, Settled, brought_at, brought_by, brought_of}
+use Rattle.share_reading.specs.Verdict.{AreAnswered, AreFull, HasLed, IsJudged, IsVerdict, Settled, brought_of}
 use Rattle.share_reading.specs.Whole.{IsWhole, joined}
 use Rattle.share_reading.specs.declared.reading.Progress.{Progress}
 use Rattle.share_reading.specs.declared.reading.Progress.TheVariants.{Next, Whole}
@@ -29,7 +29,7 @@ use Rattle.share_reading.specs.declared.reading.Reading.TheVariants.{Beginning, 
 use Rattle.share_reading.specs.declared.verdict.Verdict.{Verdict}
 use Rattle.share_reading.specs.declared.verdict.Verdict.TheVariants as verdicts
 use Rattle.share_reading.proofs.ReadingLemmas.{ask, end_whole, go_on}
-use Rattle.share_reading.proofs.VerdictLemmas.{brought_has}
+use Rattle.share_reading.proofs.VerdictLemmas.{IsBroughtBy, brought_from, brought_has}
 use Rattle.checker.specs.Shares.{offered_pairs, settled_in, settled_of}
 use Rattle.checker.specs.Offers.{IsKeptBy, key_of}
 use Rattle.checker.specs.Book.{AreReadAt, HasBytes, IsAbout, IsEnded, IsReadAt, IsReadOnlyAt, IsReading, IsUnread}
@@ -149,30 +149,12 @@ pub more_new : {X : Type 0} (behind : Bool) (front back : List X) (new : X) → 
 more_new true front back new = Contains-append_right front (back ++ new ∷ []) new (Contains-push back new)
 more_new false front back new = Contains-append_left (front ++ new ∷ []) back new (Contains-push front new)
 
-pub record IsBroughtBy (reads : List Settled) (b : Brought) : Type 0 where
-  pub read : Settled
-  pub among : Contains reads read
-  pub place : read.place ≡ b.0
-  pub answer : read.answer ≡ Some b.1
-
-brought_in : (place : ℕ) (answer : Option (List ℕ)) (b : Brought) → Contains (brought_at place answer) b → (place ≡ b.0) × (answer ≡ Some b.1)
-brought_in place None b at = absurd (contains_none b at)
-brought_in place (Some bytes) b at =
-    let same : (place, bytes) ≡ b = only_one b (place, bytes) ((place, bytes) ∷ []) refl at in
-    (ap (λ (x : Brought). x.0) same, ap (λ (x : Brought). Some x.1) same)
-
-pub brought_from : (reads : List Settled) (b : Brought) → Contains (brought_of reads) b → IsBroughtBy reads b
-brought_from reads b at =
-    let found = flat_map_from brought_by reads b at in
-    let parts = brought_in found.source.place found.source.answer b found.has in
-    record { read = found.source; among = contains_at reads found.place found.source found.there; place = parts.0; answer = parts.1 }
-
 -- ---- the next request
 
 pub more_asked : (cap : VerifyCapValue) (reads more : List Brought) (place len : ℕ) → ((b : Brought) → Contains reads b → Contains more b) → IsAsked cap reads place len → IsAsked cap more place len
 more_asked cap reads more place len grows is = elim is [
   | inl opens ↦ inl (record { opening = opens.opening; led = more_led reads more grows opens.opening opens.led; place_is = opens.place_is; len_is = opens.len_is })
-  | inr rest ↦ inr (record { u = rest.u; block = rest.block; ueb = rest.ueb; brought = grows _ rest.brought; low = rest.low; high = rest.high })
+  | inr rest ↦ inr (record { u = rest.u; block = rest.block; ueb = rest.ueb; brought = grows _ rest.brought; some = rest.some; low = rest.low; high = rest.high })
 ]
 
 abbrev place_in : Asked → ℕ

@@ -29,6 +29,7 @@ use Rattle.checker.specs.declared.offers.Stage.{Stage}
 use Rattle.checker.specs.declared.offers.Stage.TheVariants.{Waiting, Read, Ended}
 use Rattle.checker.specs.declared.status.CheckStatus.TheVariants.{Done}
 use Rattle.checker.specs.declared.status.ShareVerdict.{ShareVerdict}
+use Rattle.checker.proofs.ApartLemmas.{settled_apart}
 use Rattle.checker.proofs.Entries.{about_read}
 use Rattle.checker.proofs.Keeping.{none_waits}
 
@@ -157,8 +158,9 @@ pub are_verdicts : (m : Machine) → IsDone m → AreVerdicts m.cap m.requests.e
 are_verdicts m done = record {
   pairs = pairs_are m done.book;
   right = right;
-  good = λ v at is. exclusive.good m.cap v.share (settled_of m.requests.entries v.server v.share) v.verdict (right v at) is;
-  lost = λ v at is. exclusive.lost m.cap v.share (settled_of m.requests.entries v.server v.share) v.verdict (right v at) is;
+  only = λ v verdict at is.
+      exclusive.one m.cap v.share (settled_of m.requests.entries v.server v.share) v.verdict verdict
+      (settled_apart m.cap m.requests.entries done.safe.once done.safe.reads (v.server, v.share)) (right v at) is;
 }
   where
     by_offer : (k : ℕ) (o : Offer) → slice_get m.offers.items k ≡ Some o → (over : IsOver o) → IsVerdictBy m.cap m.requests.entries (found_of o) (verdict_in o.stage)

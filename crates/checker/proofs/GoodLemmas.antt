@@ -134,7 +134,7 @@ good_offered m done num has =
     let from = map_from pair_of all pair (subst (λ (l : List Pair). Contains l pair) (sym are.pairs) has.1.1.0) in
     let v = from.0 in
     let good : v.verdict ≡ verdicts.Good =
-    are.good v from.1 (subst (λ (p : Pair). IsVerdict m.cap p.1 (settled_of m.requests.entries p.0 p.1) verdicts.Good) (sym from.2) has.1.1.1) in
+    are.only v verdicts.Good from.1 (subst (λ (p : Pair). IsVerdict m.cap p.1 (settled_of m.requests.entries p.0 p.1) verdicts.Good) (sym from.2) has.1.1.1) in
     let is = offer_of m done v from.1 in
     let verdict : is.over.0 ≡ verdicts.Good = ap verdict_in (sym is.over.1) ∙ ap (λ (x : ShareVerdict). x.verdict) (sym is.found) ∙ good in
     record {

@@ -8,5 +8,6 @@ mod MachineMoves
 mod ToldMoves
 mod Keeping
 mod Own
+mod ApartLemmas
 mod FoundLemmas
 mod GoodLemmas

@@ -28,12 +28,12 @@ use Rattle.share_reading.specs.Reading as reading
 use Rattle.share_reading.specs.Reads.{IsAsked}
 use Rattle.share_reading.specs.Verdict.{Settled, brought_of}
 use Rattle.share_reading.specs.declared.reading.Reading as readings
-use Rattle.share_reading.proofs.VerdictLemmas.{brought_has}
+use Rattle.share_reading.proofs.VerdictLemmas.{brought_from, brought_has}
 use Rattle.checker.specs.Book.{AsksOrReads}
 use Rattle.checker.specs.Right.{AreOfShares}
 use Rattle.checker.specs.Shares.{offered_in, offered_pairs, offered_to, settled_of}
 use Rattle.checker.proofs.Entries.{BecomesAt, GoesTo, IsSettledBy, about_by, get_set_same, is_waiting, settled_from, settled_has, settled_push, unsettled, was_at}
-use Rattle.checker.proofs.AnswerMoves.{IsSafeToAsk, brought_from, more_asked, next_request}
+use Rattle.checker.proofs.AnswerMoves.{IsSafeToAsk, more_asked, next_request}
 
 -- ---- a message
 

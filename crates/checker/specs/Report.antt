@@ -35,16 +35,14 @@ abbrev pub IsVerdictBy : VerifyCapValue → List Request → ShareVerdict → Ve
 IsVerdictBy cap entries v verdict =
     IsVerdict cap v.share (settled_of entries v.server v.share) verdict
 
--- There is a verdict on each share that was offered, once, by server as asked and then as told. The
--- good and the lost ones are told exactly.
+-- There is a verdict on each share that was offered, once, by server as asked and then as told. It
+-- is the only one by what was read of the share there.
 pub record AreVerdicts (cap : VerifyCapValue) (entries : List Request)
     (verdicts : List ShareVerdict) : Type 0 where
   pub pairs : map pair_of verdicts ≡ offered_pairs cap.total entries
   pub right : (v : ShareVerdict) → Contains verdicts v → IsVerdictBy cap entries v v.verdict
-  pub good : (v : ShareVerdict) → Contains verdicts v → IsVerdictBy cap entries v Good
-      → v.verdict ≡ Good
-  pub lost : (v : ShareVerdict) → Contains verdicts v → IsVerdictBy cap entries v Lost
-      → v.verdict ≡ Lost
+  pub only : (v : ShareVerdict) (verdict : Verdict) → Contains verdicts v
+      → IsVerdictBy cap entries v verdict → v.verdict ≡ verdict
 
 pub record IsReport (cap : VerifyCapValue) (entries : List Request) (r : Report) : Type 0 where
   pub verdicts : AreVerdicts cap entries r.verdicts

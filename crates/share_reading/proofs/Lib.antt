@@ -1,3 +1,4 @@
 pub mod ConsecutiveLemmas
 pub mod ReadingLemmas
+pub mod StopLemmas
 pub mod VerdictLemmas

@@ -1,9 +1,11 @@
 -- The reads of a share, as its reading goes on.
-use Rattle.std.proofs.Common.{◌≡◌, ℕ, ◌+◌, ◌≤◌, List, [], ◌∷◌, ◌++◌, length, ap, refl, sym, subst, ◌∙◌, arith, inl, inr}
+use Rattle.std.proofs.Common.{◌≡◌, ℕ, ◌+◌, ◌<◌, ◌≤◌, List, [], ◌∷◌, ◌++◌, length, ap, refl, sym, subst, ◌∙◌, arith, inl, inr}
 use Rattle.std.specs.Prelude.{Contains}
 use Rattle.std.proofs.lemmas.List.Elements.{Contains-append_left, Contains-append_right, Contains-append_cases, Contains-push}
 use Rattle.lemmas.proofs.Members.{contains_head, contains_none}
 use Rattle.cap_text.specs.Cap.{VerifyCapValue}
+use Rattle.share_layout.specs.declared.layout.Layout.{Layout}
+use Rattle.share_layout.specs.declared.layout.Layout.TheVariants.{One, Two}
 use Rattle.share_layout.specs.declared.places.Places.{Places}
 use Rattle.share_layout.specs.Geometry.{Geometry}
 use Rattle.share_layout.specs.Layout.{header_size, places_of, width}
@@ -24,10 +26,10 @@ use Rattle.share_opening.specs.declared.header.HeaderStart.{HeaderStart}
 use Rattle.share_opening.specs.declared.opening.Opening.{Opening}
 use Rattle.share_opening.specs.declared.opening.Opening.TheVariants.{Start, Second, Header, Block}
 use Rattle.share_opening.specs.declared.opening.Progress.TheVariants as progress
-use Rattle.share_opening.proofs.ReadLemmas.{lead_on, rise, behind, more_header, more_length}
+use Rattle.share_opening.proofs.ReadLemmas.{lead_on, rise, behind, more_header, more_led, more_length}
 use Rattle.share_opening.proofs.BlameLemmas.{refused_fail}
 use Rattle.share_reading.specs.Reading.{next_length, next_place}
-use Rattle.share_reading.specs.Reads.{Ask, AsksNone, End, GoOn, HasHeaderBy, IsReadBy, IsRest, IsRestBy, Stop}
+use Rattle.share_reading.specs.Reads.{Ask, AsksNone, End, GoOn, HasHeaderBy, IsAsked, IsOpenedBy, IsReadBy, IsRest, IsRestBy, Stop}
 use Rattle.share_reading.specs.Whole.{AreConsecutive}
 use Rattle.share_reading.specs.declared.reading.Reading.{Reading}
 use Rattle.share_reading.specs.declared.reading.Reading.TheVariants.{Beginning, Remaining}
@@ -99,13 +101,37 @@ ask cap front back (Remaining r) is = (inr rest, apart cap front back (Remaining
   where
     rest : IsRest cap (front ++ back) r.next (next_length (Remaining r))
     rest = record {
-      u = is.u;
-      block = is.block;
-      ueb = is.ueb;
-      brought = subst (λ (p : Places). Contains (front ++ back) (p.extension_block + width p.layout, is.block)) is.places (in_back front back _ is.brought);
-      low = subst (λ (p : Places). header_size p.layout ≤ r.next) is.places r.behind;
-      high = subst (λ (p : Places). r.next + next_length (Remaining r) ≤ p.extension_block) is.places (omega (arith, r.more));
+      u = is.begun.opened.ueb;
+      block = is.begun.bytes;
+      ueb = is.begun.ends.1.ueb;
+      brought = subst (λ (p : Places). Contains (front ++ back) (p.extension_block + width p.layout, is.begun.bytes)) told is.begun.brought;
+      some = omega (arith, r.more);
+      low = subst (λ (p : Places). header_size p.layout ≤ r.next) same r.behind;
+      high = subst (λ (p : Places). r.next + next_length (Remaining r) ≤ p.extension_block) same (omega (arith, r.more));
     }
+      where
+        told : is.begun.block.header.places ≡ places_of (geometry_by is.begun.opened.ueb)
+        told = places_are cap is.begun.block.header is.begun.bytes is.begun.opened is.begun.ends.1
+
+        same : r.places ≡ places_of (geometry_by is.begun.opened.ueb)
+        same = is.places ∙ is.begun.ends.1.places ∙ ap places_of is.begun.ends.1.geometry
+
+-- each read asks for a byte at least
+width_some : (l : Layout) → 0 < width l
+width_some One = omega arith
+width_some Two = omega arith
+
+opening_some : (o : Opening) → 0 < opening.next_length o
+opening_some Start = omega arith
+opening_some (Second s) = omega arith
+opening_some (Header h) = width_some h.places.layout
+opening_some (Block b) = b.some
+
+pub asked_some : (cap : VerifyCapValue) (reads : List Brought) (place len : ℕ) → IsAsked cap reads place len → 0 < len
+asked_some cap reads place len is = elim is [
+  | inl opens ↦ subst (λ n. 0 < n) (sym opens.len_is) (opening_some opens.opening)
+  | inr rest ↦ rest.some
+]
 
 -- ---- going on
 
@@ -114,6 +140,18 @@ first_front front bytes place is = ap (λ (l : List Brought). l ++ (place, bytes
 
 grown : (reads : List Brought) (more : Brought) (read : Brought) → Contains reads read → Contains (reads ++ more ∷ []) read
 grown reads more read at = Contains-append_left reads (more ∷ []) read at
+
+front_grown : (front back : List Brought) (more read : Brought) → Contains (front ++ back) read → Contains ((front ++ more ∷ []) ++ back) read
+front_grown front back more read at = elim (Contains-append_cases front back read at) [
+  | inl here ↦ in_front (front ++ more ∷ []) back read (grown front more read here)
+  | inr here ↦ in_back (front ++ more ∷ []) back read here
+]
+
+behind_grown : (front back : List Brought) (more read : Brought) → Contains (front ++ back) read → Contains (front ++ (back ++ more ∷ [])) read
+behind_grown front back more read at = elim (Contains-append_cases front back read at) [
+  | inl here ↦ in_front front (back ++ more ∷ []) read here
+  | inr here ↦ in_back front (back ++ more ∷ []) read (grown back more read here)
+]
 
 -- the reads of a header that is there whole
 header_start : (cap : VerifyCapValue) (bytes : List ℕ) (h : ShareHeader) → opening.Advances cap Start bytes (progress.Next (Header h)) → HasHeaderBy ((0, bytes) ∷ []) h
@@ -130,25 +168,41 @@ header_second cap s bytes h a = record {
   consecutive = (refl, (omega (arith, s.long), omega (arith, (rise cap (Second s) (Header h) bytes a).0, s.long, a.0)));
 }
 
+-- more reads have the beginning too
+abbrev pub opened_more : (cap : VerifyCapValue) (reads more : List Brought) → ((read : Brought) → Contains reads read → Contains more read) → IsOpenedBy cap reads → IsOpenedBy cap more
+opened_more cap reads more grows is = record {
+  block = is.block;
+  led = more_led reads more grows (Block is.block) is.led;
+  bytes = is.bytes;
+  brought = grows _ is.brought;
+  opened = is.opened;
+  ends = is.ends;
+}
+
 -- the extension block is there, and the rest is read from this place on
 rest_by : (cap : VerifyCapValue) (front back : List Brought) (b : PendingBlock) (bytes : List ℕ) (o : Opened) (r : Rest)
-    → IsReadBy cap front back (Beginning (Block b)) → IsOpened cap (text_of b.header) bytes o
+    → IsReadBy cap front back (Beginning (Block b)) → opening.Advances cap (Block b) bytes (progress.Done o)
     → r.places ≡ o.places → r.next ≡ header_size o.places.layout → IsRestBy cap front (back ++ (next_place (Beginning (Block b)), bytes) ∷ []) r
-rest_by cap front back b bytes o r is opened places next =
+rest_by cap front back b bytes o r is ends places next =
+    let opened = ends.1 in
+    let more = back ++ (next_place (Beginning (Block b)), bytes) ∷ [] in
     let of : o.places ≡ places_of (geometry_by o.ueb) = opened.places ∙ ap places_of opened.geometry in
     let told : b.header.places ≡ places_of (geometry_by o.ueb) = places_are cap b.header bytes o opened in
     let same : r.places ≡ b.header.places = places ∙ of ∙ sym told in
     let start : header_size b.header.places.layout ≡ r.next = ap (λ (p : Places). header_size p.layout) (told ∙ sym of) ∙ sym next in
     record {
-      u = o.ueb;
-      block = bytes;
-      ueb = opened.ueb;
-      places = places ∙ of;
-      brought = subst (λ (p : Places). Contains (back ++ (next_place (Beginning (Block b)), bytes) ∷ []) (p.extension_block + width p.layout, bytes)) (sym same)
-          (Contains-push back (next_place (Beginning (Block b)), bytes));
+      begun = record {
+        block = b;
+        led = more_led (front ++ back) (front ++ more) (behind_grown front back (next_place (Beginning (Block b)), bytes)) (Block b) (led_by cap front back (Block b) is);
+        bytes = bytes;
+        brought = in_back front more _ (Contains-push back (next_place (Beginning (Block b)), bytes));
+        opened = o;
+        ends = ends;
+      };
+      places = places;
       before = subst (AreConsecutive 0 front) start is.0.consecutive;
       end = next_place (Beginning (Block b)) + length bytes;
-      behind = subst (λ (p : Places). AreConsecutive p.extension_block (back ++ (next_place (Beginning (Block b)), bytes) ∷ []) (next_place (Beginning (Block b)) + length bytes)) (sym same)
+      behind = subst (λ (p : Places). AreConsecutive p.extension_block more (next_place (Beginning (Block b)) + length bytes)) (sym same)
           (push b.header.places.extension_block (next_place (Beginning (Block b))) back bytes is.2);
     }
 
@@ -196,14 +250,11 @@ go_on cap front back (Beginning (Block b)) (Beginning (Block d)) bytes is a = ab
 go_on cap front back (Beginning Start) (Remaining r) bytes is a = absurd a.1
 go_on cap front back (Beginning (Second s)) (Remaining r) bytes is a = absurd a.1
 go_on cap front back (Beginning (Header h)) (Remaining r) bytes is a = absurd a.1
-go_on cap front back (Beginning (Block b)) (Remaining r) bytes is a = rest_by cap front back b bytes a.0 r is a.1.1 a.2.0 a.2.1
+go_on cap front back (Beginning (Block b)) (Remaining r) bytes is a = rest_by cap front back b bytes a.0 r is a.1 a.2.0 a.2.1
 go_on cap front back (Remaining r) (Beginning o) bytes is a = absurd a
 go_on cap front back (Remaining r) (Remaining t) bytes is a = record {
-  u = is.u;
-  block = is.block;
-  ueb = is.ueb;
+  begun = opened_more cap (front ++ back) ((front ++ (r.next, bytes) ∷ []) ++ back) (front_grown front back (r.next, bytes)) is.begun;
   places = a.1 ∙ is.places;
-  brought = subst (λ (p : Places). Contains back (p.extension_block + width p.layout, is.block)) (sym a.1) is.brought;
   before = subst (AreConsecutive 0 (front ++ (r.next, bytes) ∷ [])) (ap (λ n. r.next + n) a.0 ∙ sym a.2) (push 0 r.next front bytes is.before);
   end = is.end;
   behind = subst (λ (p : Places). AreConsecutive p.extension_block back is.end) (sym a.1) is.behind;

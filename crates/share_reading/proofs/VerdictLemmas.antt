@@ -1,9 +1,9 @@
 -- A share has at most one kind of verdict.
-use Rattle.std.proofs.Common.{◌≡◌, ℕ, List, [], ◌∷◌, ◌++◌, length, Some, ap, refl, sym, subst, ◌∙◌, inl, inr}
+use Rattle.std.proofs.Common.{◌≡◌, ℕ, List, [], ◌∷◌, ◌++◌, length, Option, None, Some, ap, refl, sym, subst, ◌∙◌, inl, inr}
 use Rattle.std.specs.Prelude.{Contains}
 use Rattle.std.proofs.lemmas.List.Elements.{Contains-append_left, Contains-append_right}
 use Rattle.std.proofs.lemmas.Option.{none-some, same_Some}
-use Rattle.lemmas.proofs.Members.{contains_head, contains_cases, contains_none}
+use Rattle.lemmas.proofs.Members.{contains_at, contains_head, contains_cases, contains_none, flat_map_from}
 use Rattle.cap_text.specs.Cap.{VerifyCapValue}
 use Rattle.share_verify.specs.Checks.{check_of}
 use Rattle.share_verify.proofs.Faults.{first_fails, no_reading_fault, one_reading_fault, same_reading}
@@ -15,14 +15,23 @@ use Rattle.share_verify.specs.declared.fault.ShareFault.TheVariants.{Layout, Unu
 use Rattle.share_layout.specs.Share.{Sections}
 use Rattle.ueb.specs.Shape.{Contents}
 use Rattle.share_verify.specs.declared.check.Check.{Check}
-use Rattle.share_opening.specs.Reads.{Brought}
+use Rattle.share_opening.specs.Reads.{Brought, IsLedToBy}
 use Rattle.share_opening.specs.Blame.{HasReads}
-use Rattle.share_reading.specs.Reading.{next_place}
-use Rattle.share_reading.specs.Verdict.{AreAnswered, AreExclusive, AreFull, FailsFirst, IsGood, IsLost, IsStopped, IsVerdict, Settled, brought_at, brought_by, brought_of}
+use Rattle.share_opening.specs.declared.opening.Opening.{Opening}
+use Rattle.share_opening.specs.declared.opening.Opening.TheVariants.{Start, Second, Header, Block}
+use Rattle.share_opening.proofs.ReadLemmas.{more_led}
+use Rattle.share_reading.specs.Reading.{Advances, IsStop, next_place}
+use Rattle.share_reading.specs.Reads.{IsOpenedBy}
+use Rattle.share_reading.specs.declared.reading.Progress.TheVariants.{Whole}
+use Rattle.share_reading.specs.declared.reading.Reading.{Reading}
+use Rattle.share_reading.specs.declared.reading.Reading.TheVariants.{Beginning, Remaining}
+use Rattle.share_reading.specs.declared.rest.Rest.{Rest}
+use Rattle.share_reading.specs.Verdict.{AreAnswered, AreApart, AreExclusive, AreFull, FailsFirst, HasLed, IsGood, IsLost, IsStopped, IsVerdict, Settled, brought_at, brought_by, brought_of}
 use Rattle.share_reading.specs.declared.verdict.Verdict.{Verdict}
 use Rattle.share_reading.specs.declared.verdict.Verdict.TheVariants.{Good, Corrupt, Lost}
 use Rattle.share_reading.proofs.ConsecutiveLemmas.{are_one}
-use Rattle.share_reading.proofs.ReadingLemmas.{stop}
+use Rattle.share_reading.proofs.ReadingLemmas.{led_by, opened_more, stop}
+use Rattle.share_reading.proofs.StopLemmas.{one_check, refused_or_opened}
 
 -- ---- what reads brought
 
@@ -154,5 +163,100 @@ ended_alone cap num reads one other a b =
     let faults : a.fault ≡ b.fault = one_first_fault cap num b.bytes a.fault b.fault (subst (λ (share : List ℕ). IsFirstFault cap num share a.fault) same a.first) b.first in
     a.check_is ∙ ap check_of faults ∙ sym b.check_is
 
+-- ---- where reading stopped
+
+pub record IsBroughtBy (reads : List Settled) (b : Brought) : Type 0 where
+  pub read : Settled
+  pub among : Contains reads read
+  pub place : read.place ≡ b.0
+  pub answer : read.answer ≡ Some b.1
+
+brought_in : (place : ℕ) (answer : Option (List ℕ)) (b : Brought) → Contains (brought_at place answer) b → (place ≡ b.0) × (answer ≡ Some b.1)
+brought_in place None b at = absurd (contains_none b at)
+brought_in place (Some bytes) b at = elim (contains_cases (place, bytes) b [] at) [
+  | inl same ↦ (ap (λ (x : Brought). x.0) same, ap (λ (x : Brought). Some x.1) same)
+  | inr none ↦ absurd (contains_none b none)
+]
+
+pub brought_from : (reads : List Settled) (b : Brought) → Contains (brought_of reads) b → IsBroughtBy reads b
+brought_from reads b at =
+    let found = flat_map_from brought_by reads b at in
+    let parts = brought_in found.source.place found.source.answer b found.has in
+    record { read = found.source; among = contains_at reads found.place found.source found.there; place = parts.0; answer = parts.1 }
+
+brought_apart : (reads : List Settled) → AreApart reads → (one other : Brought) → Contains (brought_of reads) one → Contains (brought_of reads) other → one.0 ≡ other.0 → one ≡ other
+brought_apart reads apart one other a b e =
+    let from = brought_from reads one a in
+    let also = brought_from reads other b in
+    let same : from.read ≡ also.read = apart from.read also.read from.among also.among (from.place ∙ e ∙ sym also.place) in
+    let bytes : one.1 ≡ other.1 = same_Some one.1 other.1 (sym from.answer ∙ ap (λ (x : Settled). x.answer) same ∙ also.answer) in
+    ap (λ n. (n, one.1)) e ∙ ap (λ (l : List ℕ). (other.0, l)) bytes
+
+-- what the reads brought, where they led to a reading and then to these bytes
+module _ (cap : VerifyCapValue) (reads : List Settled) where
+  last_at : (r : Reading) (bytes : List ℕ) → HasLed cap reads r bytes → Contains (brought_of reads) (next_place r, bytes)
+  last_at r bytes l = brought_has reads _ bytes l.last refl
+
+  led_at : (o : Opening) (bytes : List ℕ) → HasLed cap reads (Beginning o) bytes → IsLedToBy (brought_of reads) o
+  led_at o bytes l = more_led (l.front ++ l.back) (brought_of reads) l.among o (led_by cap l.front l.back o l.led)
+
+  -- the beginning was read where bytes behind it were asked for, and where all were read
+  rest_opened : (r : Rest) (bytes : List ℕ) → HasLed cap reads (Remaining r) bytes → IsOpenedBy cap (brought_of reads)
+  rest_opened r bytes l = opened_more cap (l.front ++ l.back) (brought_of reads) l.among l.led.begun
+
+  ends_opened : (r : Reading) (bytes : List ℕ) → HasLed cap reads r bytes → Advances cap r bytes Whole → IsOpenedBy cap (brought_of reads)
+  ends_opened (Beginning Start) bytes l a = absurd a.1
+  ends_opened (Beginning (Second s)) bytes l a = absurd a.1
+  ends_opened (Beginning (Header h)) bytes l a = absurd a.1
+  ends_opened (Beginning (Block b)) bytes l a =
+      record { block = b; led = led_at (Block b) bytes l; bytes = bytes; brought = last_at (Beginning (Block b)) bytes l; opened = a.0; ends = a.1 }
+  ends_opened (Remaining r) bytes l a = rest_opened r bytes l
+
+  module _ (apart : AreApart reads) where
+    one_stop : (r t : Reading) (bytes more : List ℕ) (one other : Check) → HasLed cap reads r bytes → HasLed cap reads t more → IsStop cap r bytes one → IsStop cap t more other → one ≡ other
+    one_stop (Beginning o) (Beginning p) bytes more one other l k why also =
+        why.2
+        ∙ one_check cap (brought_of reads) (brought_apart reads apart) o p bytes more why.0 also.0
+        (record { led = led_at o bytes l; at = last_at (Beginning o) bytes l; why = why.1 })
+        (record { led = led_at p more k; at = last_at (Beginning p) more k; why = also.1 })
+        ∙ sym also.2
+    one_stop (Beginning o) (Remaining t) bytes more one other l k why also =
+        absurd (refused_or_opened cap (brought_of reads) (brought_apart reads apart) o bytes why.0 (led_at o bytes l) (last_at (Beginning o) bytes l) why.1 (rest_opened t more k))
+    one_stop (Remaining r) (Beginning p) bytes more one other l k why also =
+        absurd (refused_or_opened cap (brought_of reads) (brought_apart reads apart) p more also.0 (led_at p more k) (last_at (Beginning p) more k) also.1 (rest_opened r bytes l))
+    one_stop (Remaining r) (Remaining t) bytes more one other l k why also = why.1 ∙ sym also.1
+
+    stopped_or_ended : (r t : Reading) (bytes more : List ℕ) (check : Check) → HasLed cap reads r bytes → IsStop cap r bytes check → AreFull reads
+        → HasLed cap reads t more → Advances cap t more Whole → ⊥
+    stopped_or_ended (Beginning o) t bytes more check l why full k a =
+        refused_or_opened cap (brought_of reads) (brought_apart reads apart) o bytes why.0 (led_at o bytes l) (last_at (Beginning o) bytes l) why.1 (ends_opened t more k a)
+    stopped_or_ended (Remaining r) t bytes more check l why full k a = why.0 (full_last reads _ bytes full l.last refl)
+
+    stopped_alone : (num : ℕ) (check : Check) (v : Verdict) → IsStopped cap reads check → IsVerdict cap num reads v → v ≡ Corrupt check
+    stopped_alone num check Good s is = absurd (stopped_or_good cap num reads check s is)
+    stopped_alone num check Lost s is = absurd (lost_or_answered reads s.answered is)
+    stopped_alone num check (Corrupt other) s is = elim is [
+      | inl also ↦ ap Corrupt (one_stop also.reading s.reading also.bytes s.bytes other check also.led s.led also.stop s.stop)
+      | inr fails ↦ absurd (stopped_or_ended s.reading fails.reading s.bytes fails.last_bytes check s.led s.stop fails.full fails.led fails.ends)
+    ]
+
+    one_verdict : (num : ℕ) (v w : Verdict) → IsVerdict cap num reads v → IsVerdict cap num reads w → v ≡ w
+    one_verdict num Good w is other = sym (good_alone cap num reads w other is)
+    one_verdict num Lost w is other = sym (lost_alone cap num reads w other is)
+    one_verdict num (Corrupt check) Good is other = good_alone cap num reads (Corrupt check) is other
+    one_verdict num (Corrupt check) Lost is other = lost_alone cap num reads (Corrupt check) is other
+    one_verdict num (Corrupt check) (Corrupt also) is other = elim is [
+      | inl stopped ↦ sym (stopped_alone num check (Corrupt also) stopped other)
+      | inr fails ↦ elim other [
+        | inl stopped ↦ stopped_alone num also (Corrupt check) stopped (inr fails)
+        | inr too ↦ ap Corrupt (ended_alone cap num reads check also fails too)
+      ]
+    ]
+
 pub exclusive : AreExclusive
-exclusive = record { good = good_alone; lost = lost_alone; ended = ended_alone }
+exclusive = record {
+  good = good_alone;
+  lost = lost_alone;
+  ended = ended_alone;
+  one = λ cap num reads v w apart is other. one_verdict cap reads apart num v w is other;
+}

@@ -1,6 +1,6 @@
 -- Which reads lead to a reading. They ask for each byte of a share once, and for none behind its
 -- end.
-use Rattle.std.specs.Prelude.{◌≡◌, ◌⊎◌, ℕ, ◌+◌, ◌≤◌, List, [], ◌∷◌, ◌++◌, length, Contains}
+use Rattle.std.specs.Prelude.{◌≡◌, ◌⊎◌, ℕ, ◌+◌, ◌<◌, ◌≤◌, List, [], ◌∷◌, ◌++◌, length, Contains}
 use Rattle.std.specs.Prelude.{if◌then◌else◌}
 use Rattle.cap_text.specs.Cap.{VerifyCapValue}
 use Rattle.ueb.specs.Shape.{Contents}
@@ -10,10 +10,14 @@ use Rattle.share_verify.specs.CapBlock.{IsUebFor, geometry_by}
 use Rattle.share_verify.specs.Checks.{Passes}
 use Rattle.share_verify.specs.declared.check.Check.{Check}
 use Rattle.share_opening.specs.Blame.{HasAt, HasReads}
+use Rattle.share_opening.specs.Opening as opening
 use Rattle.share_opening.specs.Opening.{text_of}
-use Rattle.share_opening.specs.Reads.{Brought, IsHeaderBy, IsLengthBy, IsOpening}
+use Rattle.share_opening.specs.Reads.{Brought, IsHeaderBy, IsLedToBy, IsLengthBy, IsOpening}
+use Rattle.share_opening.specs.declared.block.Opened.{Opened}
+use Rattle.share_opening.specs.declared.block.PendingBlock.{PendingBlock}
 use Rattle.share_opening.specs.declared.header.ShareHeader.{ShareHeader}
 use Rattle.share_opening.specs.declared.opening.Opening.TheVariants.{Start, Second, Header, Block}
+use Rattle.share_opening.specs.declared.opening.Progress.TheVariants as progress
 use Rattle.share_reading.specs.Reading.{Advances, IsStop, is_behind, next_length}
 use Rattle.share_reading.specs.Reading.{next_place}
 use Rattle.share_reading.specs.Whole.{AreConsecutive, IsWhole, joined}
@@ -26,13 +30,14 @@ use Rattle.share_reading.specs.declared.reading.Progress.TheVariants.{Next, Whol
 abbrev pub block_place : Places → ℕ
 block_place p = p.extension_block + width p.layout
 
--- a read of so many bytes is one of the rest: it lies between the header and the extension block,
--- by an extension block of the cap's file that these reads brought
+-- a read of so many bytes, one at least, is one of the rest: it lies between the header and the
+-- extension block, by an extension block of the cap's file that these reads brought
 pub record IsRest (cap : VerifyCapValue) (reads : List Brought) (place len : ℕ) : Type 0 where
   pub u : Contents
   pub block : List ℕ
   pub ueb : IsUebFor cap block u
   pub brought : Contains reads (block_place (places_of (geometry_by u)), block)
+  pub some : 0 < len
   pub low : header_size (places_of (geometry_by u)).layout ≤ place
   pub high : place + len ≤ (places_of (geometry_by u)).extension_block
 
@@ -45,14 +50,21 @@ pub record HasHeaderBy (front : List Brought) (h : ShareHeader) : Type 0 where
   pub header : IsHeaderBy front h.places.layout (text_of h)
   pub consecutive : AreConsecutive 0 front (header_size h.places.layout)
 
--- `front` brought the bytes from the share's beginning up to those to read next, and `back` the
--- extension block that stands behind them, by which the share has these places
+-- These reads brought the beginning of a share of the cap's file: its header, the length of its
+-- extension block, and its extension block.
+pub record IsOpenedBy (cap : VerifyCapValue) (reads : List Brought) : Type 0 where
+  pub block : PendingBlock
+  pub led : IsLedToBy reads (Block block)
+  pub bytes : List ℕ
+  pub brought : Contains reads (opening.next_place (Block block), bytes)
+  pub opened : Opened
+  pub ends : opening.Advances cap (Block block) bytes (progress.Done opened)
+
+-- the beginning was read, which tells the share's places; `front` brought the bytes up to those to
+-- read next, and `back` those from the extension block's length on
 pub record IsRestBy (cap : VerifyCapValue) (front back : List Brought) (r : Rest) : Type 0 where
-  pub u : Contents
-  pub block : List ℕ
-  pub ueb : IsUebFor cap block u
-  pub places : r.places ≡ places_of (geometry_by u)
-  pub brought : Contains back (r.places.extension_block + width r.places.layout, block)
+  pub begun : IsOpenedBy cap (front ++ back)
+  pub places : r.places ≡ begun.opened.places
   pub before : AreConsecutive 0 front r.next
   pub end : ℕ
   pub behind : AreConsecutive r.places.extension_block back end

@@ -106,8 +106,14 @@ IsJudged cap num share (Corrupt check) =
     (fault : ShareFault) × IsFirstFault cap num share fault × (check ≡ check_of fault)
 IsJudged cap num share Lost = ⊥
 
--- a law: a share has at most one kind of verdict, and one that was read to its end fails one check
--- first
+-- no two of the reads begin at one place
+abbrev pub AreApart : List Settled → Type 0
+AreApart reads = (one other : Settled) → Contains reads one → Contains reads other
+    → one.place ≡ other.place → one ≡ other
+
+-- A law: a share has at most one kind of verdict, and one that was read to its end fails one check
+-- first. By reads of which no two begin at one place it has one verdict: so one whose reading
+-- stopped fails the check of the first fault of its beginning, and no other.
 pub record AreExclusive : Type 0 where
   pub good : (cap : VerifyCapValue) (num : ℕ) (reads : List Settled) (v : Verdict)
       → IsVerdict cap num reads v → IsVerdict cap num reads Good → v ≡ Good
@@ -115,3 +121,5 @@ pub record AreExclusive : Type 0 where
       → IsVerdict cap num reads v → IsVerdict cap num reads Lost → v ≡ Lost
   pub ended : (cap : VerifyCapValue) (num : ℕ) (reads : List Settled) (one other : Check)
       → FailsFirst cap num reads one → FailsFirst cap num reads other → one ≡ other
+  pub one : (cap : VerifyCapValue) (num : ℕ) (reads : List Settled) (v w : Verdict)
+      → AreApart reads → IsVerdict cap num reads v → IsVerdict cap num reads w → v ≡ w

@@ -31,6 +31,8 @@ pub fn whole_shares_are_one()
 {}
 
 /// A share has at most one kind of verdict, and one that was read to its end fails one check first.
+/// Where no two of its reads begin at one place, it has one verdict; so where its reading stopped,
+/// it fails the check of the first fault of its beginning, and no other.
 pub fn verdicts_are_exclusive()
     ensures { AreExclusive }
 {}
