@@ -7,7 +7,7 @@
 //! that offer many shares and then say nothing do: their reads may take all of those places until
 //! they are lost, 20 seconds later. Its record keeps every answer that counted, so a check holds
 //! the shares that it read; beside it at most one share is joined at a time, when its last bytes
-//! came.
+//! came. The good shares that it hands out are joined anew, as many as are needed at most.
 #![tactic(auto)]
 
 mod check;
