@@ -113,6 +113,13 @@ impl Check {
         self.status
     }
 
+    /// The verify cap.
+    pub fn cap(&self) -> &VerifyCap
+        ensures { result.now ≡ self.now.cap }
+    {
+        &self.machine.cap
+    }
+
     /// Takes the next message to send, and the node that it is for.
     pub fn take_outgoing(&mut self) -> Option<(NodeId, Message)>
         ensures { Takes self.old result self.new }
