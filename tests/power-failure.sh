@@ -1,0 +1,86 @@
+#!/bin/sh
+# What a power failure leaves of the shares of a `put`.
+#
+#     tests/power-failure.sh [PROGRAM [WORD..]]
+#
+# Run by hand. PROGRAM is a built program, `./grid` if there is none: this one is built first where
+# it is not. WORDs are given to `put` too. A preloaded library records each call that changes a file
+# or a folder. Then each folder is made that a power failure can leave, after any of these calls and
+# with any part left out that was not synced, and its shares are looked at
+# (`tests/power-failure.py`). This is done for three puts into one grid, of two files and then of
+# the first again, and for a put that is killed after each of its calls and made again. The grid's
+# folder stands before, as a disk that is mounted does.
+#
+# It needs gcc, nm and python3. Each record has a line, `calls N folders N told N faults N`, after
+# lines for its first faults. The status is 0 where there are no faults, 1 where there are, 2 where
+# nothing could be run or recorded.
+
+here=$(cd "$(dirname "$0")/.." && pwd) || exit 2
+program=${1:-$here/grid}
+[ $# = 0 ] || shift
+case $program in
+    /*) ;;
+    *) program=$PWD/$program ;;
+esac
+"$program" cap URI:LIT: > /dev/null || exit 2
+room=$(cd "$(mktemp -d)" && pwd -P) || exit 2
+trap 'rm -rf "$room"' EXIT
+trap 'exit 2' HUP INT TERM
+
+# Calls that change files and are not recorded.
+others='pwrite|pwrite64|pwritev|writev|link|linkat|symlink|symlinkat|truncate|truncate64|mmap|splice'
+others="$others|sendfile|sendfile64|copy_file_range|fallocate|sync_file_range|syncfs|sync|syscall"
+found=$(nm -D --undefined-only "$program" 2> /dev/null | sed 's/@.*//; s/.* //' |
+    grep -xE "$others" | tr '\n' ' ')
+if [ -n "$found" ]; then
+    echo "not recorded: $found" >&2
+    exit 2
+fi
+
+gcc -O1 -Wall -shared -fPIC -o "$room/record.so" "$here/tests/record.c" || exit 2
+head -c 56 /dev/urandom > "$room/small" || exit 2
+head -c 200000 /dev/urandom > "$room/large" || exit 2
+
+# A new record, and an empty grid.
+begin() {
+    rm -rf "$room/grid" "$room/record" || exit 2
+    mkdir "$room/grid" || exit 2
+}
+
+# Puts a file, and records it. With a number it ends after so many calls.
+puts() {
+    put_file=$1 put_end=$2
+    shift 2
+    RECORD_ROOT=$room/grid RECORD_FILE=$room/record RECORD_END=$put_end LD_PRELOAD=$room/record.so \
+        "$program" put "$room/$put_file" --grid "$room/grid" "$@" > /dev/null
+}
+
+# Looks at what a power failure leaves of the record.
+status=0
+looks() {
+    python3 "$here/tests/power-failure.py" "$room/record" "$room/grid"
+    case $? in
+        0) ;;
+        1) status=1 ;;
+        *) exit 2 ;;
+    esac
+}
+
+begin
+for file in large small large; do
+    puts "$file" 0 "$@" || exit 2
+done
+looks
+
+end=0
+ended=9
+while [ "$ended" = 9 ]; do
+    end=$((end + 1))
+    begin
+    puts large "$end" "$@"
+    ended=$?
+    puts large 0 "$@" || exit 2
+    looks
+done
+[ "$ended" = 0 ] || exit 2
+exit $status
