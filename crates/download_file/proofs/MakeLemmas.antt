@@ -15,7 +15,7 @@ use Rattle.share_layout.specs.Pieces.{block_length}
 use Rattle.share_layout.proofs.CutLemmas as cut
 use Rattle.share_verify.specs.CapBlock.{geometry_by}
 use Rattle.proved_parts.specs.Decoding.{DecodesBlocks}
-use Rattle.download_trees.specs.Trees.{IsBlockRoot, IsBlockTree, LeadTo, known_leaf, share_places}
+use Rattle.download_trees.specs.Trees.{IsBlockTree, LeadTo, known_leaf, share_places}
 use Rattle.download_source.specs.Blocks.{IsHeld, IsReady}
 use Rattle.download_source.specs.Taking.{IsProved}
 use Rattle.download_segments.specs.Decoding.{AreShareNumbers, blocks_in}
@@ -165,22 +165,20 @@ module _ (entries : List Request) (f : FileState) (number size : ℕ) (is : IsFi
         let low_share = own.share in
         let total = ap (λ (h : Geometry). h.total) by_u in
         let h = is.handout in
-        let root : IsBlockRoot u.share_root_hash u.total_shares share tree.0.root = record {
-          tree = f.handout.trees.shares;
-          leads = record {
-            sound = h.trees.shares.sound;
-            of_root = h.roots.shares;
-            leaves = h.trees.shares.leaves ∙ ap (λ (x : Geometry). share_places x.total) (h.roots.geometry ∙ by_u);
-          };
-          known = subst (λ (n : ℕ). known_leaf f.handout.trees.shares n ≡ Some tree.0.root) (sym same) (subst (TellsRoot f.handout.trees.shares r.0.share) tree.1 own.root);
+        let shares : LeadTo f.handout.trees.shares u.share_root_hash (share_places u.total_shares) = record {
+          sound = h.trees.shares.sound;
+          of_root = h.roots.shares;
+          leaves = h.trees.shares.leaves ∙ ap (λ (x : Geometry). share_places x.total) (h.roots.geometry ∙ by_u);
         } in
-        let leads : LeadTo tree.0 tree.0.root (segment_count (geometry_by u)) =
-        subst (λ (h : Geometry). LeadTo tree.0 tree.0.root (segment_count h)) (own.geometry ∙ by_u)
-        (subst (λ (o : Option PartialState). IfSome o (λ t. IsBlockTree t (segment_count r.0.source.geometry))) tree.1 own.source.leads).leads in
+        let known : known_leaf f.handout.trees.shares share ≡ Some tree.0.root =
+        subst (λ (n : ℕ). known_leaf f.handout.trees.shares n ≡ Some tree.0.root) (sym same) (subst (TellsRoot f.handout.trees.shares r.0.share) tree.1 own.root) in
+        let leads : IsBlockTree tree.0 (segment_count (geometry_by u)) =
+        subst (λ (h : Geometry). IsBlockTree tree.0 (segment_count h)) (own.geometry ∙ by_u)
+        (subst (λ (o : Option PartialState). IfSome o (λ t. IsBlockTree t (segment_count r.0.source.geometry))) tree.1 own.source.leads) in
         let size_is : length block ≡ block_length (geometry_by u) number =
         sym (ap length block_is) ∙ ap length (ap (λ (l : List ℕ). nth_block l size i) joins ∙ nth_own i place.0 r.0 place.1 r.1)
         ∙ sym (ap (λ (o : Option ReaderState). length (block_in entries number o)) r.1) ∙ its_length place.0 live ∙ long ∙ ap (λ (h : Geometry). block_length h number) by_u in
-        blocks_lead u tree.0 share number block (omega (arith, same, low_share, total)) (subst (λ (h : Geometry). number < segment_count h) by_u there) root leads
+        blocks_lead u f.handout.trees.shares tree.0 share number block (omega (arith, same, low_share, total)) (subst (λ (h : Geometry). number < segment_count h) by_u there) shares h.trees.share_hashes known leads
         (sym (ap (option_and_then (λ t. known_leaf t number)) tree.1) ∙ proves) size_is
 
     pub is_no_code_word : (numbers segment : List ℕ) → numbers ≡ numbers_of f.readers f.live → AreShareNumbers f.handout.geometry numbers

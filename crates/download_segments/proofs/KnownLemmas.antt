@@ -6,7 +6,7 @@ use Rattle.tagged_hash.specs.declared.tag.Tag.TheVariants.{CiphertextSegment}
 use Rattle.merkle.specs.Inputs.{path_inputs}
 use Rattle.merkle.specs.Known.{IsKnownInput}
 use Rattle.merkle.specs.Partial.{PartialState, known_siblings}
-use Rattle.merkle.proofs.KnownLemmas.{known_paths, siblings_long}
+use Rattle.merkle.proofs.KnownLemmas.{known_paths}
 use Rattle.merkle.proofs.StateLemmas.{known-lead}
 use Rattle.share_layout.specs.Geometry.{Geometry, segment_count}
 use Rattle.share_layout.specs.Pieces.{segment_length}
@@ -29,8 +29,8 @@ module _ (h : HandoutState) (number : ℕ) (segment : List ℕ) (k : IsHandout h
   known_segment = record {
     there = subst (λ (g : Geometry). number < segment_count g) k.geometry there;
     size = subst (λ (g : Geometry). length segment ≡ segment_length g number) k.geometry proves.size;
-    hashes = siblings_long tree number leaf k.trees.ciphertext.sound inside proves.known k.trees.hashes;
-    path = leaf_leads h number leaf k there proves.known;
+    hashes = (leaf_leads h number leaf k there proves.known).hashes;
+    path = (leaf_leads h number leaf k there proves.known).leads;
   }
 
   -- what is hashed for it

@@ -1,13 +1,15 @@
 -- Laws of segments, of their blocks, and of what is handed out of them.
 use Rattle.std.specs.Prelude.{◌≡◌, ℕ, ◌+◌, ◌<◌, List, length, Some, None, slice_get}
 use Rattle.std.specs.Prelude.{if◌then◌else◌, nat_lt}
+use Rattle.merkle.specs.Known.{KnowsHashes}
 use Rattle.merkle.specs.Partial.{PartialState}
 use Rattle.ueb.specs.Shape.{Contents}
 use Rattle.share_layout.specs.Geometry.{Geometry, IsGeometry, segment_count}
 use Rattle.share_layout.specs.Pieces.{block_length}
 use Rattle.share_verify.specs.CapBlock.{geometry_by}
 use Rattle.proved_parts.specs.Decoding.{DecodesBlocks}
-use Rattle.download_trees.specs.Trees.{FileTreesState, IsBlockRoot, LeadTo, ProvesBlock}
+use Rattle.download_trees.specs.Trees.{FileTreesState, IsBlockTree, LeadTo, ProvesBlock}
+use Rattle.download_trees.specs.Trees.{known_leaf, share_places}
 use Rattle.download_segments.specs.State.{HandoutState, IsHandout, ProvesSegment, RefutesSegment}
 use Rattle.download_segments.specs.State.{TreesGrow}
 use Rattle.download_segments.specs.Handout.{handed_out, next_end, next_segment}
@@ -20,12 +22,14 @@ SegmentsAreUnique = (g : Geometry) (numbers : List ℕ) (blocks : List (List ℕ
     (s t : List ℕ) → IsGeometry g → AreShareNumbers g numbers
     → DecodesBlocks g numbers blocks number s → DecodesBlocks g numbers blocks number t → s ≡ t
 
--- a law: a block that the block tree of a share proves leads to the root of the share tree
+-- a law: a block that the block tree of a share proves leads to the root of the share tree, by
+-- hashes of 32 bytes each
 abbrev pub BlocksLead : Type 0
-BlocksLead = (u : Contents) (tree : PartialState) (share number : ℕ) (block : List ℕ)
+BlocksLead = (u : Contents) (shares tree : PartialState) (share number : ℕ) (block : List ℕ)
     → share < u.total_shares → number < segment_count (geometry_by u)
-    → IsBlockRoot u.share_root_hash u.total_shares share tree.root
-    → LeadTo tree tree.root (segment_count (geometry_by u)) → ProvesBlock tree number block
+    → LeadTo shares u.share_root_hash (share_places u.total_shares) → KnowsHashes shares
+    → known_leaf shares share ≡ Some tree.root
+    → IsBlockTree tree (segment_count (geometry_by u)) → ProvesBlock tree number block
     → length block ≡ block_length (geometry_by u) number → IsBlockBy u share number block
 
 -- a law: where proved blocks decode to a segment that is refuted, the file is no code word

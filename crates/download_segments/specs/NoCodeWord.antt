@@ -2,6 +2,7 @@
 use Rattle.std.specs.Prelude.{◌≡◌, ◌≢◌, ℕ, List, length, Some, slice_get}
 use Rattle.tagged_hash.specs.TaggedHash.{tagged_hash}
 use Rattle.tagged_hash.specs.declared.tag.Tag.TheVariants.{Block, CiphertextSegment}
+use Rattle.merkle.specs.Inputs.{AreHashes}
 use Rattle.merkle.specs.Path.{LeadsBy}
 use Rattle.ueb.specs.Shape.{Contents}
 use Rattle.share_layout.specs.Geometry.{segment_count}
@@ -10,16 +11,24 @@ use Rattle.share_verify.specs.CapBlock.{geometry_by}
 use Rattle.proved_parts.specs.Decoding.{DecodesBlocks}
 use Rattle.download_segments.specs.Decoding.{AreShareNumbers}
 
+-- The hash leads from this leaf to the root by these siblings, in a tree of so many leaves. It and
+-- each of them has 32 bytes.
+pub record LeadsByHashes (count : ℕ) (root : List ℕ) (leaf : ℕ) (hash : List ℕ)
+    (siblings : List (List ℕ)) : Type 0 where
+  pub leads : LeadsBy count root leaf hash siblings
+  pub long : length hash ≡ 32
+  pub hashes : AreHashes siblings
+
 -- This is the block that a share has of the segment with this number: its hash leads to the root of
 -- the share's block tree, and that to the root of the share tree.
 pub record IsBlockBy (u : Contents) (share number : ℕ) (block : List ℕ) : Type 0 where
   pub size : length block ≡ block_length (geometry_by u) number
   pub root : List ℕ
   pub in_share : List (List ℕ)
-  pub leads_in_share : LeadsBy (segment_count (geometry_by u)) root number
+  pub leads_in_share : LeadsByHashes (segment_count (geometry_by u)) root number
       (tagged_hash Block block) in_share
   pub in_file : List (List ℕ)
-  pub leads_in_file : LeadsBy u.total_shares u.share_root_hash share root in_file
+  pub leads_in_file : LeadsByHashes u.total_shares u.share_root_hash share root in_file
 
 -- Blocks of one segment, of as many different shares as are needed, are proved. They decode to a
 -- segment whose hash is not the one that is proved for it.
@@ -35,5 +44,6 @@ pub record IsNoCodeWord (u : Contents) : Type 0 where
   pub decoded : DecodesBlocks (geometry_by u) numbers blocks number segment
   pub leaf : List ℕ
   pub siblings : List (List ℕ)
-  pub leads : LeadsBy (segment_count (geometry_by u)) u.crypttext_root_hash number leaf siblings
+  pub leads : LeadsByHashes (segment_count (geometry_by u)) u.crypttext_root_hash number leaf
+      siblings
   pub differs : leaf ≢ tagged_hash CiphertextSegment segment
