@@ -81,7 +81,8 @@ impl<P: Pieces + Drop> Upload<P> {
         outcome
     }
 
-    /// Takes note of a second. On an `Err` one that ran has failed, and one that ended is as it was.
+    /// Takes note of a second. On an `Err` one that ran has failed, and one that ended is as it
+    /// was.
     pub fn tick(&mut self, now: u64) -> Result<(), AllocError>
         ensures ok { OnOk result (TicksOn now self.old.course self.new.course) }
         ensures stops { OnErr result (StopsAt now self.old.course self.new.course) }
