@@ -8,6 +8,7 @@ mod FewLemmas
 mod Sending
 mod EndLemmas
 mod TakenLemmas
+mod TickLemmas
 mod BeginLemmas
 mod EvidenceLemmas
 mod NewsLemmas

@@ -8,7 +8,7 @@ use Rattle.request_record.specs.Asking.{after_message, after_tick, begun}
 use Rattle.request_record.specs.Record.{RequestsState, asked_all}
 use Rattle.share_holdings.specs.declared.holding.Blame.{Blame}
 use Rattle.download_segments.specs.declared.piece.Piece.{Piece}
-use Rattle.download_core.specs.declared.status.DownloadStatus.TheVariants.{Running, Done}
+use Rattle.download_core.specs.declared.status.DownloadStatus.TheVariants.{Running, Done, Failed}
 use Rattle.download_core.specs.declared.status.DownloadStatus.TheVariants.{NotEnoughShares}
 use Rattle.download_core.specs.Hashed.{StaysGiven, StaysHashed}
 use Rattle.download_core.specs.Reads.{PlansMore}
@@ -63,18 +63,19 @@ pub record GoesOn (r : RequestsState) (old new : DownloadState) : Type 0 where
 abbrev pub Advances : ℕ → Message → ℕ → DownloadState → DownloadState → Type 0
 Advances from m now old new = GoesOn (after_message from m now old.requests) old new
 
--- The record goes on from a tick; or nothing changes, where a download that ended finds no memory.
-pub data TicksOn (now : ℕ) (old new : DownloadState) : Type 0 where
-  goes : GoesOn (after_tick now old.requests) old new → TicksOn now old new
-  idles : old.status ≢ Running → new ≡ old → TicksOn now old new
+abbrev pub TicksOn : ℕ → DownloadState → DownloadState → Type 0
+TicksOn now old new = GoesOn (after_tick now old.requests) old new
 
--- A tick finds no memory: the record is as it was, or went on. What the download has stays. Where
--- an extension block is accepted, what more is read is planned.
+-- A tick finds no memory. A download that ended is as it was. One that runs fails; its record is as
+-- it was, or went on, and what it has stays. Where an extension block is accepted, what more is
+-- read is planned.
 pub record StopsAt (now : ℕ) (old new : DownloadState) : Type 0 where
   pub same : IsSame old new
   pub requests : (new.requests ≡ old.requests) ⊎ ((asks : List (ℕ × Asked))
       × (new.requests ≡ asked_all asks (after_tick now old.requests)))
   pub later : PlansMore new.found old.requests.entries new.requests.entries
+  pub failed : old.status ≡ Running → new.status ≡ Failed
+  pub ended : old.status ≢ Running → new ≡ old
 
 -- the file whose pieces were taken up to a place, where these are left
 abbrev pub with_handed : List Piece → ℕ → Found → Found

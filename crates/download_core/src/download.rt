@@ -19,7 +19,7 @@ ghost use Rattle.download_core.specs.declared.status.DownloadStatus.TheVariants.
 ghost use Rattle.download_core.specs.declared.status.DownloadStatus.TheVariants.{Inconsistent};
 ghost use Rattle.download_core.specs.declared.status.DownloadStatus.TheVariants.{Running};
 
-use crate::machine::Machine;
+use crate::machine::{Machine, is_running};
 use crate::status::{Blame, DownloadError, DownloadStatus, Piece};
 use cap_text::ReadCap;
 use proved_parts::Evidence;
@@ -120,19 +120,20 @@ impl Download {
         }
     }
 
-    /// Takes note of a second. On an `Err`, which only one that runs gives, it has failed; what it
-    /// has stays.
+    /// Takes note of a second. On an `Err` one that ran has failed, and what it has stays; one that
+    /// ended is as it was.
     pub fn tick(&mut self, now: u64) -> Result<(), AllocError>
         ensures ok { OnOk result (TicksOn now self.old self.new) }
-        ensures err { OnErr result (self.new.status ≡ Failed) }
         ensures stops { OnErr result (StopsAt now self.old self.new) }
         // Only an `Err` makes it one that failed.
         ensures fails_not { OnOk result (self.old.status ≢ Failed → self.new.status ≢ Failed) }
-        ensures ended { self.old.status ≢ Running → IsOk result }
         // What is there is handed out at once.
         ensures prompt { self.new.status ≡ Running → HoldsNothingBack false self.new }
     {
-        match self.machine.pass(self.status, now) {
+        if !is_running(self.status) {
+            return self.machine.note(now);
+        }
+        match self.machine.pass(now) {
             Ok(status) => {
                 self.status = status;
                 Ok(())

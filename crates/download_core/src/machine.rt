@@ -133,30 +133,32 @@ impl Machine {
         self.settle(true)
     }
 
-    /// Takes note of a second, and tells where it stands then. One that ended needs no memory:
-    /// where there is none it takes no note.
-    pub(crate) fn pass(
-        &mut self,
-        status: DownloadStatus,
-        now: u64,
-    ) -> Result<DownloadStatus, AllocError>
-        requires { IsKept self.old status }
+    /// Takes note of a second in the record alone, once it ended. Without memory it is as it was.
+    pub(crate) fn note(&mut self, now: u64) -> Result<(), AllocError>
+        ensures ok { (status : DownloadStatus) → status ≢ Running → IsKept self.old status
+            → OnOk result ((servers : List ℕ) → TicksOn now (state_of self.old servers status)
+            (state_of self.new servers status)) }
+        ensures err { OnErr result (self.new ≡ self.old) }
+        ensures kept { (status : DownloadStatus) → status ≢ Running → IsKept self.old status
+            → IsKept self.new status }
+    {
+        self.beginnings.tick(now)
+    }
+
+    /// Takes note of a second while it runs, and tells where it stands then.
+    pub(crate) fn pass(&mut self, now: u64) -> Result<DownloadStatus, AllocError>
+        requires { IsKept self.old Running }
         ensures ok { IfOk result (λ ended. (servers : List ℕ) → TicksOn now
-            (state_of self.old servers status) (state_of self.new servers ended)) }
+            (state_of self.old servers Running) (state_of self.new servers ended)) }
         ensures err { OnErr result ((servers : List ℕ) → StopsAt now
-            (state_of self.old servers status) (state_of self.new servers Failed)) }
+            (state_of self.old servers Running) (state_of self.new servers Failed)) }
         ensures kept { IfOk result (IsKept self.new) }
         ensures failed { IsKept self.new Failed }
-        ensures ended { status ≢ Running → IsOk result }
-        ensures well { status ≢ Failed → IfOk result (λ ended. ended ≢ Failed) }
+        ensures well { IfOk result (λ ended. ended ≢ Failed) }
         // What is there is handed out at once.
         ensures prompt { IfOk result (λ ended. ended ≡ Running
             → IsPromptIfFound false (entries_of self.new) (found_of self.new.found)) }
     {
-        if !is_running(status) {
-            let _ = self.beginnings.tick(now);
-            return Ok(status);
-        }
         self.beginnings.tick(now)?;
         self.end_lost();
         self.settle(false)
@@ -342,8 +344,8 @@ impl Machine {
     }
 }
 
-// Whether a download that stands so runs.
-fn is_running(status: DownloadStatus) -> bool
+/// Whether a download that stands so runs.
+pub(crate) fn is_running(status: DownloadStatus) -> bool
     ensures { IsTrue result ↔ (status ≡ Running) }
 {
     matches!(status, DownloadStatus::Running)

@@ -1,123 +1,88 @@
-use Rattle.std.proofs.Common.{◌≡◌, ◌∙◌, ℕ, inl, inr, List, ap, subst, sym, true≢false}
-use Rattle.lemmas.proofs.Results.{if_ok_then, settled_by}
+use Rattle.std.proofs.Common.{◌≡◌, ◌∙◌, ℕ, inl, inr, List, ap, refl}
+use Rattle.lemmas.proofs.Results.{if_ok_then}
 use Rattle.request_record.specs.Record.{RequestsState, asked_all}
 use Rattle.request_record.specs.Asking.{after_tick}
 use Rattle.share_beginnings.specs.State.{BeginningsState}
-use Rattle.download_core.specs.declared.status.DownloadStatus.TheVariants.{Failed}
-use Rattle.download_core.specs.Moves.{StopsAt, TicksOn, goes, idles}
+use Rattle.download_core.specs.declared.status.DownloadStatus.TheVariants.{Failed, Running}
+use Rattle.download_core.specs.Moves.{StopsAt, TicksOn}
 use Rattle.download_core.specs.Steps.{entries_of, EndsAs, found_of, IsKept, state_of}
-use Rattle.download_core.proofs.EndLemmas.{fair_still, kept_ends, kept_fails, kept_still}
+use Rattle.download_core.proofs.EndLemmas.{fair_still, kept_ends, kept_fails}
 use Rattle.download_core.proofs.Results.{if_any, on_any}
-use Rattle.download_core.proofs.Going.{goes_on, moves_none, moves_trans, plans_from, plans_none, same_on, stands_still}
+use Rattle.download_core.proofs.Going.{goes_on, moves_none, moves_trans, plans_from, plans_none, same_on}
 use Rattle.download_core.proofs.NewsLemmas.{passes_of}
 use Rattle.download_core.proofs.Records.{from_same, from_tick}
 use Rattle.download_core.proofs.machine.Machine.pass.Goals as goal
 
--- one that ended takes note of the second, or finds no memory and does not
-pub returns-then-not-is_running-clause-ok : goal.returns-then-not-is_running-clause-ok
-returns-then-not-is_running-clause-ok c servers =
-    let m = c.args.self.now in
-    let t = c.tick.new.self in
-    elim (settled_by c.tick.result _ _ c.tick.ensures.ok c.tick.ensures.err) [
-      | inl ticks ↦ goes
-          (stands_still m t (after_tick c.args.now m.beginnings.holdings.requests) c.args.status ticks.requests ticks.same.blamed
-          (from_tick c.args.now m.beginnings.holdings.requests t.holdings.requests ticks.requests).stays c.requires.file servers)
-      | inr e ↦ idles (λ run. true≢false (sym (c.is_running.ensures.1 run) ∙ c.if-not-is_running.true)) (ap (λ (x : BeginningsState). state_of (record m { beginnings = x }) servers c.args.status) e)
-    ]
-
-pub returns-then-not-is_running-clause-kept : goal.returns-then-not-is_running-clause-kept
-returns-then-not-is_running-clause-kept c =
-    let m = c.args.self.now in
-    let t = c.tick.new.self in
-    elim (settled_by c.tick.result _ _ c.tick.ensures.ok c.tick.ensures.err) [
-      | inl ticks ↦
-          kept_still m c.args.status t c.requires (from_tick c.args.now m.beginnings.holdings.requests t.holdings.requests ticks.requests) ticks.same.blamed
-          (λ run. true≢false (sym (c.is_running.ensures.1 run) ∙ c.if-not-is_running.true))
-      | inr e ↦ subst (λ (x : BeginningsState). IsKept (record m { beginnings = x }) c.args.status) (sym e) c.requires
-    ]
-
-pub returns-then-not-is_running-clause-failed : goal.returns-then-not-is_running-clause-failed
-returns-then-not-is_running-clause-failed c =
-    let m = c.args.self.now in
-    let t = c.tick.new.self in
-    elim (settled_by c.tick.result _ _ c.tick.ensures.ok c.tick.ensures.err) [
-      | inl ticks ↦
-          kept_fails m c.args.status t c.requires (from_tick c.args.now m.beginnings.holdings.requests t.holdings.requests ticks.requests) ticks.same.blamed (record m { beginnings = t })
-          (moves_none (record m { beginnings = t }))
-      | inr e ↦
-          kept_fails m c.args.status t c.requires (from_same (entries_of m) t.holdings.requests.entries (ap (λ (x : BeginningsState). x.holdings.requests.entries) e)) (ap (λ (x : BeginningsState). x.holdings.blamed) e)
-          (record m { beginnings = t }) (moves_none (record m { beginnings = t }))
-    ]
-
 pub returns-in_err-tick-clause-err : goal.returns-in_err-tick-clause-err
 returns-in_err-tick-clause-err c =
     let m = c.args.self.now in
-    let t = c.tick-2.new.self in
+    let t = c.tick.new.self in
     let e : t ≡ m.beginnings = c.in_err-tick.ensures.err in
-    on_any c.from_residual.result ((servers : List ℕ) → StopsAt c.args.now (state_of m servers c.args.status) (state_of (record m { beginnings = t }) servers Failed))
+    on_any c.from_residual.result ((servers : List ℕ) → StopsAt c.args.now (state_of m servers Running) (state_of (record m { beginnings = t }) servers Failed))
     (λ servers. record {
-      same = same_on m (record m { beginnings = t }) t c.args.status Failed (ap (λ (x : BeginningsState). x.holdings.blamed) e)
+      same = same_on m (record m { beginnings = t }) t Running Failed (ap (λ (x : BeginningsState). x.holdings.blamed) e)
           (from_same (entries_of m) t.holdings.requests.entries (ap (λ (x : BeginningsState). x.holdings.requests.entries) e)).stays c.requires.file (moves_none (record m { beginnings = t })) servers;
       requests = inl (ap (λ (x : BeginningsState). x.holdings.requests) e);
       later = plans_none (found_of m.found) (entries_of m) t.holdings.requests.entries (ap (λ (x : BeginningsState). x.holdings.requests.entries) e);
+      failed = λ running. refl;
+      ended = λ other. absurd (other refl);
     })
 
 pub end_lost-requires : goal.end_lost-requires
 end_lost-requires c =
     let m = c.args.self.now in
-    let t = c.tick-2.new.self in
+    let t = c.tick.new.self in
     let ticks = c.in_ok-tick.ensures.ok in
-    passes_of m t c.args.now (c.requires.way (c.is_running.ensures.0 c.if-not-is_running.false)) (from_tick c.args.now m.beginnings.holdings.requests t.holdings.requests ticks.requests) ticks c.in_ok-tick.ensures.begun c.in_ok-tick.ensures.known c.in_ok-tick.ensures.opening
+    passes_of m t c.args.now (c.requires.way refl) (from_tick c.args.now m.beginnings.holdings.requests t.holdings.requests ticks.requests) ticks c.in_ok-tick.ensures.begun c.in_ok-tick.ensures.known c.in_ok-tick.ensures.opening
 
 pub returns-clause-ok : goal.returns-clause-ok
 returns-clause-ok c =
     let m = c.args.self.now in
-    let t = c.tick-2.new.self in
+    let t = c.tick.new.self in
     let n = c.settle.new.self in
     let ticks = c.in_ok-tick.ensures.ok in
     let r : RequestsState = after_tick c.args.now m.beginnings.holdings.requests in
-    if_any c.settle.result (λ ended. (servers : List ℕ) → TicksOn c.args.now (state_of m servers c.args.status) (state_of n servers ended))
-    (λ ended servers. goes (goes_on m n t r c.args.status ended ticks.requests ticks.same.blamed (from_tick c.args.now m.beginnings.holdings.requests t.holdings.requests ticks.requests).stays c.requires.file (c.is_running.ensures.0 c.if-not-is_running.false)
-    (moves_trans (record m { beginnings = t }) c.end_lost.new.self n c.end_lost.ensures.moves c.settle.ensures.moves (inl c.settle.ensures.none)) servers))
+    if_any c.settle.result (λ ended. (servers : List ℕ) → TicksOn c.args.now (state_of m servers Running) (state_of n servers ended))
+    (λ ended servers. goes_on m n t r Running ended ticks.requests ticks.same.blamed (from_tick c.args.now m.beginnings.holdings.requests t.holdings.requests ticks.requests).stays c.requires.file refl
+    (moves_trans (record m { beginnings = t }) c.end_lost.new.self n c.end_lost.ensures.moves c.settle.ensures.moves (inl c.settle.ensures.none)) servers)
 
 pub returns-clause-err : goal.returns-clause-err
 returns-clause-err c =
     let m = c.args.self.now in
-    let t = c.tick-2.new.self in
+    let t = c.tick.new.self in
     let n = c.settle.new.self in
     let ticks = c.in_ok-tick.ensures.ok in
     let on = moves_trans (record m { beginnings = t }) c.end_lost.new.self n c.end_lost.ensures.moves c.settle.ensures.moves (inl c.settle.ensures.none) in
-    on_any c.settle.result ((servers : List ℕ) → StopsAt c.args.now (state_of m servers c.args.status) (state_of n servers Failed))
+    on_any c.settle.result ((servers : List ℕ) → StopsAt c.args.now (state_of m servers Running) (state_of n servers Failed))
     (λ servers. record {
-      same = same_on m n t c.args.status Failed ticks.same.blamed (from_tick c.args.now m.beginnings.holdings.requests t.holdings.requests ticks.requests).stays c.requires.file on servers;
+      same = same_on m n t Running Failed ticks.same.blamed (from_tick c.args.now m.beginnings.holdings.requests t.holdings.requests ticks.requests).stays c.requires.file on servers;
       requests = inr (on.goes.asks, on.goes.requests ∙ ap (asked_all on.goes.asks) ticks.requests);
+      failed = λ running. refl;
+      ended = λ other. absurd (other refl);
       later = plans_from (found_of n.found) (entries_of m) t.holdings.requests.entries (entries_of n) (from_tick c.args.now m.beginnings.holdings.requests t.holdings.requests ticks.requests).alike on.later;
     })
 
 pub returns-clause-kept : goal.returns-clause-kept
 returns-clause-kept c =
     let m = c.args.self.now in
-    let t = c.tick-2.new.self in
+    let t = c.tick.new.self in
     let n = c.settle.new.self in
     let ticks = c.in_ok-tick.ensures.ok in
-    let fair = fair_still m c.args.status t c.requires (from_tick c.args.now m.beginnings.holdings.requests t.holdings.requests ticks.requests) ticks.same.blamed in
+    let fair = fair_still m Running t c.requires (from_tick c.args.now m.beginnings.holdings.requests t.holdings.requests ticks.requests) ticks.same.blamed in
     if_ok_then c.settle.result (EndsAs n) (IsKept n) c.settle.ensures.ends (λ ended k. kept_ends n ended (c.settle.ensures.moves.fair (c.end_lost.ensures.moves.fair fair)) k)
 
 pub returns-clause-failed : goal.returns-clause-failed
 returns-clause-failed c =
     let m = c.args.self.now in
-    let t = c.tick-2.new.self in
+    let t = c.tick.new.self in
     let ticks = c.in_ok-tick.ensures.ok in
-    kept_fails m c.args.status t c.requires (from_tick c.args.now m.beginnings.holdings.requests t.holdings.requests ticks.requests) ticks.same.blamed c.settle.new.self
+    kept_fails m Running t c.requires (from_tick c.args.now m.beginnings.holdings.requests t.holdings.requests ticks.requests) ticks.same.blamed c.settle.new.self
     (moves_trans (record m { beginnings = t }) c.end_lost.new.self c.settle.new.self c.end_lost.ensures.moves c.settle.ensures.moves (inl c.settle.ensures.none))
 
 pub returns-in_err-tick-clause-failed : goal.returns-in_err-tick-clause-failed
 returns-in_err-tick-clause-failed c =
     let m = c.args.self.now in
-    let t = c.tick-2.new.self in
+    let t = c.tick.new.self in
     let e : t ≡ m.beginnings = c.in_err-tick.ensures.err in
-    kept_fails m c.args.status t c.requires (from_same (entries_of m) t.holdings.requests.entries (ap (λ (x : BeginningsState). x.holdings.requests.entries) e)) (ap (λ (x : BeginningsState). x.holdings.blamed) e)
+    kept_fails m Running t c.requires (from_same (entries_of m) t.holdings.requests.entries (ap (λ (x : BeginningsState). x.holdings.requests.entries) e)) (ap (λ (x : BeginningsState). x.holdings.blamed) e)
     (record m { beginnings = t }) (moves_none (record m { beginnings = t }))
-
-pub returns-then-not-is_running-clause-prompt : goal.returns-then-not-is_running-clause-prompt
-returns-then-not-is_running-clause-prompt c = λ run. absurd (true≢false (sym (c.is_running.ensures.1 run) ∙ c.if-not-is_running.true))
