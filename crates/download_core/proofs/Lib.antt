@@ -14,3 +14,4 @@ mod EvidenceLemmas
 mod NewsLemmas
 mod WholeLemmas
 mod ProvingLemmas
+mod SectionLemmas

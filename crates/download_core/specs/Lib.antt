@@ -10,6 +10,7 @@ pub mod Moves
 pub mod Prompt
 pub mod Sending
 pub mod Right
+pub mod Sections
 pub mod Whole
 pub mod Proving
 pub mod Refusals

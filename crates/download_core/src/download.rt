@@ -12,6 +12,8 @@ ghost use Rattle.download_core.specs.Moves.{asked_servers};
 ghost use Rattle.download_core.specs.Prompt.{HoldsNothingBack};
 ghost use Rattle.download_core.specs.Proving.{EvidenceIsOfTheGiven};
 ghost use Rattle.download_core.specs.Right.{IsRight};
+ghost use Rattle.download_core.specs.Sections.{LaterReadsLieInSections, ReadsInPlace};
+ghost use Rattle.download_core.specs.Sections.{ReadsStayInPlace};
 ghost use Rattle.download_core.specs.Sending.{Takes, first_to_send};
 ghost use Rattle.download_core.specs.Whole.{TakenFollow, WholeFiles};
 ghost use Rattle.download_core.specs.declared.status.DownloadStatus.TheVariants.{Done, Failed};
@@ -164,11 +166,14 @@ impl Download {
 
     /// Takes the next message to send, and the node that it is for. One that failed sends nothing.
     pub fn take_outgoing(&mut self) -> Option<(NodeId, Message)>
-        ensures { Takes self.old result self.new }
+        ensures takes { Takes self.old result self.new }
+        // A Read asks for bytes of a beginning, or of one section for the range.
+        ensures reads { IfSome result (ReadsInPlace self.old) }
     {
         if has_failed(self.status) {
             return None;
         }
+        self.machine.is_right();
         self.machine.take_outgoing()
     }
 
@@ -241,6 +246,20 @@ fn has_failed(status: DownloadStatus) -> bool
 /// The law is the contract; the call does nothing.
 pub fn given_are_shown()
     ensures { GivenAreShown }
+{}
+
+/// A law of the definitions: before an extension block is accepted a download reads a share only in
+/// its header and where that names the extension block, and then within one section for its range.
+/// The law is the contract; the call does nothing.
+pub fn reads_stay_in_place()
+    ensures { ReadsStayInPlace }
+{}
+
+/// A law of the definitions: what a download asks for once an extension block is accepted, of any
+/// share, lies in blocks of segments that its range touches, or in a tree. The law is the contract;
+/// the call does nothing.
+pub fn later_reads_lie_in_sections()
+    ensures { LaterReadsLieInSections }
 {}
 
 /// A law of the definitions: the pieces that a download gave, from the first byte of the cap's file
