@@ -193,8 +193,7 @@ download_stops now d e a = download_goes Nothing d e a.same.cap a.same.range (el
 ]) a.same.stays a.same.hashed
 
 download_ticks : (now : ℕ) (d e : DownloadState) → download.TicksOn now d e → GoesOn Nothing (Downloading d) (Downloading e)
-download_ticks now d e (download.goes a) = download_moves Nothing d e (after_tick now d.requests) (follows_tick now d.requests) a
-download_ticks now d e (download.idles ended same) = same_goes Nothing (Downloading d) (Downloading e) (ap Downloading same)
+download_ticks now d e a = download_moves Nothing d e (after_tick now d.requests) (follows_tick now d.requests) a
 
 download_same : (d e : DownloadState) → e.cap ≡ d.cap → (e.from ≡ d.from) × (e.to ≡ d.to) → e.requests.session ≡ d.requests.session → e.requests.entries ≡ d.requests.entries
     → StaysGiven d e → StaysHashed d e → GoesOn Nothing (Downloading d) (Downloading e)
