@@ -332,7 +332,7 @@ fn is_put_ending(rt: &HostRuntime, ending: Ending) -> bool {
 }
 
 // More calls than `put` makes here: in the last run none fails.
-const PUT_CALLS: u64 = 40;
+const PUT_CALLS: u64 = 60;
 
 #[test]
 fn put_tells_each_failed_call(rt: HostRuntime) {

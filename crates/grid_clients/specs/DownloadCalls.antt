@@ -1,5 +1,5 @@
 -- A download as a client of the loop, which writes what the download hands out.
-use Rattle.std.specs.Prelude.{◌≡◌, ℕ, ◌+◌, List, [], ◌∷◌, ◌++◌, length, Bool, true, false, ◌&&◌}
+use Rattle.std.specs.Prelude.{◌≡◌, ◌⊎◌, ℕ, ◌+◌, List, [], ◌∷◌, ◌++◌, length, Bool, true, false, ◌&&◌}
 use Rattle.std.specs.Prelude.{not, Option}
 use Rattle.std.specs.Io.KnownBytes.{Appends}
 use Rattle.std.specs.List.{flat_map}
@@ -72,6 +72,10 @@ pub record MovesDownload (moves : DownloadState → DownloadState → Type 0)
   pub written : new.written ≡ old.written
   pub failed : new.failed ≡ old.failed
 
+-- what a call does without memory: nothing, or the download fails
+abbrev pub GivesUp : DownloadState → DownloadState → Type 0
+GivesUp was is = (is ≡ was) ⊎ (is.status ≡ Failed)
+
 -- what the calls of a download do
 abbrev pub download_calls : ClientCalls Downloading
 download_calls = record {
@@ -79,5 +83,5 @@ download_calls = record {
   takes = λ old taken new. MovesDownload (λ was is. Takes was taken is) old new;
   hears = λ old from m now new. MovesAndWrites (Advances from m now) old new;
   ticks = λ old now new. MovesAndWrites (TicksOn now) old new;
-  gives_up = MovesDownload (λ was is. is.status ≡ Failed);
+  gives_up = MovesDownload GivesUp;
 }

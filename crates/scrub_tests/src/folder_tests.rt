@@ -104,7 +104,7 @@ fn tells(
     let handling = Handling {
         set_aside,
         remove_open,
-        now: SystemTime::now(rt)? + Duration::from_secs(seconds),
+        now: later(SystemTime::now(rt)?, seconds),
     };
     let mut scrub = Scrub::begin(rt, path(rt, "")?.as_str(), None)?;
     let mut count = Count { bytes: 0 };
@@ -116,6 +116,12 @@ fn tells(
     }
     let is_end = as_io(scrub.next(&handling, &mut count))?.is_none();
     Ok(is_end && count.bytes == bytes && scrub.total() >= bytes)
+}
+
+// A time so many seconds later.
+fn later(time: SystemTime, seconds: u64) -> SystemTime {
+    time.checked_add(Duration::from_secs(seconds))
+        .unwrap_or(time)
 }
 
 // Closed shares that are whole, damaged and empty, a folder and a link with the names of closed
