@@ -5,6 +5,10 @@ use Rattle.cap_text.specs.declared.error.CapError.{CapError}
 use Rattle.cap_text.specs.declared.error.CapError.TheVariants as caps
 use Rattle.file_encoding.specs.declared.error.EncodeError.{EncodeError}
 use Rattle.file_encoding.specs.declared.error.EncodeError.TheVariants as encodings
+use Rattle.file_encoding.specs.declared.reading.ReadError.{ReadError}
+use Rattle.file_encoding.specs.declared.reading.ReadError.TheVariants as readings
+use Rattle.file_upload.specs.declared.shares.SharesError.{SharesError}
+use Rattle.file_upload.specs.declared.shares.SharesError.TheVariants as uploads
 use Rattle.download_core.specs.declared.status.DownloadError.{DownloadError}
 use Rattle.download_core.specs.declared.status.DownloadError.TheVariants as downloads
 use Rattle.local_grid.specs.declared.error.LoopError.{LoopError}
@@ -30,7 +34,7 @@ fault_number Inconsistent = 72
 fault_number BadRange = 73
 fault_number BadEvent = 80
 fault_number Stopped = 81
-fault_number (File _) = 90
+fault_number (File _ _) = 90
 fault_number Socket = 91
 fault_number TurnLimit = 92
 fault_number (BadScript _) = 93
@@ -49,7 +53,7 @@ fault_status Inconsistent = 6
 fault_status BadRange = 3
 fault_status BadEvent = 3
 fault_status Stopped = 7
-fault_status (File _) = 7
+fault_status (File _ _) = 7
 fault_status Socket = 7
 fault_status TurnLimit = 7
 fault_status (BadScript _) = 3
@@ -71,6 +75,17 @@ fault_of_encoding encodings.OutOfMemory = OutOfMemory
 fault_of_encoding encodings.BadParameters = BadParameters
 fault_of_encoding encodings.TooLarge = TooLarge
 fault_of_encoding encodings.TooManySegments = TooManySegments
+
+-- the fault that the refusal to read shares becomes
+abbrev pub fault_of_reading : ReadError → Fault
+fault_of_reading readings.OutOfMemory = OutOfMemory
+fault_of_reading readings.NotEnoughShares = NotEnoughShares
+fault_of_reading readings.Inconsistent = Inconsistent
+
+-- the fault that the refusal of an upload of shares becomes
+abbrev pub fault_of_shares : SharesError → Fault
+fault_of_shares uploads.OutOfMemory = OutOfMemory
+fault_of_shares uploads.BadParameters = BadParameters
 
 -- the fault that the refusal of a download's start becomes
 abbrev pub fault_of_download : DownloadError → Fault

@@ -1,30 +1,36 @@
 -- The line that tells how far a command is.
-use Rattle.std.specs.Prelude.{ℕ, List, ◌++◌, codes, decimal}
+use Rattle.std.specs.Prelude.{ℕ, List, [], ◌++◌, ◌*◌, ◌-◌, ◌/◌, codes, decimal}
+use Rattle.grid_rules.specs.ReportLines.{server_name}
 use Rattle.grid_rules.specs.declared.progress.Amount.{Amount}
-use Rattle.grid_rules.specs.declared.progress.Work.{Work}
-use Rattle.grid_rules.specs.declared.progress.Work.TheVariants.{Encode, Place, Write, Read}
+use Rattle.grid_rules.specs.declared.progress.Remark.{Remark}
+use Rattle.grid_rules.specs.declared.progress.Remark.TheVariants.{Nothing, Left, WaitsFor}
+use Rattle.grid_rules.specs.declared.progress.Verb.{Verb}
+use Rattle.grid_rules.specs.declared.progress.Verb.TheVariants.{Put, Get, Check, Repair, Scrub}
 
--- the bytes of a file
-abbrev pub encode_line : ℕ → List ℕ
-encode_line size = codes "put: encoding " ++ (decimal size ++ codes " bytes")
+abbrev pub verb_text : Verb → List ℕ
+verb_text Put = codes "put"
+verb_text Get = codes "get"
+verb_text Check = codes "check"
+verb_text Repair = codes "repair"
+verb_text Scrub = codes "scrub"
 
--- so many shares of all, and so many bytes of all
-abbrev pub place_line : ℕ → ℕ → ℕ → ℕ → List ℕ
-place_line shares total bytes size =
-    codes "put: " ++ (decimal shares ++ (codes " of " ++ (decimal total
-    ++ (codes " shares, " ++ (decimal bytes ++ (codes " of " ++ (decimal size
-    ++ codes " bytes")))))))
+abbrev pub remark_text : Remark → List ℕ
+remark_text Nothing = []
+remark_text (Left seconds) = codes ", " ++ (decimal seconds ++ codes " s left")
+remark_text (WaitsFor server) = codes ", waiting for " ++ server_name server
 
--- bytes of a file, from so many shares
-abbrev pub write_line : ℕ → ℕ → ℕ → List ℕ
-write_line needed bytes size =
-    codes "get: " ++ (decimal needed ++ (codes " shares, " ++ (decimal bytes
-    ++ (codes " of " ++ (decimal size ++ codes " bytes")))))
+-- so many thousand bytes of how many
+abbrev pub progress_line : Verb → Amount → Remark → List ℕ
+progress_line verb amount remark =
+    verb_text verb ++ (codes ": " ++ (decimal (amount.done / 1000) ++ (codes " of "
+    ++ (decimal (amount.total / 1000) ++ (codes " kB" ++ remark_text remark)))))
 
-abbrev pub progress_line : Work → Amount → List ℕ
-progress_line (Encode size) done = encode_line size
-progress_line (Place total size) done = place_line done.shares total done.bytes size
-progress_line (Write needed size) done = write_line needed done.bytes size
-progress_line Read done =
-    codes "check: " ++ (decimal done.shares
-    ++ (codes " shares, " ++ (decimal done.bytes ++ codes " bytes")))
+-- a file of so many bytes
+abbrev pub encoding_line : Verb → ℕ → List ℕ
+encoding_line verb size =
+    verb_text verb ++ (codes ": encoding " ++ (decimal (size / 1000) ++ codes " kB"))
+
+-- The time that is left is to the time that went by, in milliseconds, as the bytes that are left are
+-- to those that are done.
+abbrev pub seconds_left : ℕ → Amount → ℕ
+seconds_left elapsed amount = elapsed * (amount.total - amount.done) / amount.done / 1000

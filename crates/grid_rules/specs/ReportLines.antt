@@ -50,6 +50,7 @@ last_line r = codes "healthy " ++ (word_of r.healthy
 abbrev pub report_lines : Report → List ℕ
 report_lines r = flat_map verdict_line r.verdicts ++ last_line r
 
--- 0 where the file can be recovered, else that of too few shares
-abbrev pub report_status : Report → ℕ
-report_status r = if r.recoverable then 0 else 5
+-- 0 where the file can be recovered, or is healthy where that is asked for, else that of too few
+-- shares
+abbrev pub report_status : Report → Bool → ℕ
+report_status r strict = if (if strict then r.healthy else r.recoverable) then 0 else 5

@@ -22,11 +22,17 @@ pub fn report_lines(alloc: Global, report: &Report) -> Result<String, AllocError
     Ok(lines)
 }
 
-/// The exit status of a check: 0 where the file can be recovered, else 5.
-pub fn report_status(report: &Report) -> u8
-    ensures { result ≡ report_status report.now }
+/// The exit status of a check: 0 where the file can be recovered, or is healthy where that is asked
+/// for, else 5.
+pub fn report_status(report: &Report, strict: bool) -> u8
+    ensures { result ≡ report_status report.now strict }
 {
-    if report.recoverable { 0 } else { 5 }
+    let is_well = if strict {
+        report.healthy
+    } else {
+        report.recoverable
+    };
+    if is_well { 0 } else { 5 }
 }
 
 // A line for each verdict.
@@ -66,7 +72,7 @@ fn word_of(holds: bool) -> &'static str
 }
 
 // What is told of a share.
-fn verdict_text(verdict: &Verdict) -> &'static str
+pub(crate) fn verdict_text(verdict: &Verdict) -> &'static str
     ensures { result.now ≡ verdict_text verdict.now }
 {
     match verdict {

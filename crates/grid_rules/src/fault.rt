@@ -3,11 +3,13 @@
 ghost use Rattle.std.specs.Prelude.{◌≡◌, ◌≢◌, ◌↔◌, IsTrue};
 ghost use Rattle.std.specs.IoError.{error_kind};
 ghost use Rattle.grid_rules.specs.Fault.{fault_number, fault_of_cap, fault_of_encoding};
-ghost use Rattle.grid_rules.specs.Fault.{fault_of_download, fault_of_loop, fault_status};
+ghost use Rattle.grid_rules.specs.Fault.{fault_of_download, fault_of_loop, fault_of_reading};
+ghost use Rattle.grid_rules.specs.Fault.{fault_of_shares, fault_status};
 
 use cap_text::CapError;
 use download_core::status::DownloadError;
-use file_encoding::EncodeError;
+use file_encoding::{EncodeError, ReadError};
+use file_upload::shares::SharesError;
 use local_grid::error::LoopError;
 use std::alloc::{AllocError, AllocFailed};
 use std::io::{self, ErrorKind};
@@ -49,9 +51,10 @@ pub enum Fault {
     /// The world of a script was stopped before.
     #[error("Stopped")]
     Stopped,
-    /// The file or the folder of this path could not be read or written.
+    /// The file or the folder of this path could not be read or written, and the system's reason,
+    /// which its text leaves out.
     #[error("FileFault {0}")]
-    File(String),
+    File(String, io::Error),
     /// No socket could be made at which a server listens.
     #[error("SocketFault")]
     Socket,
@@ -83,7 +86,7 @@ impl Fault {
             Fault::BadRange => 73,
             Fault::BadEvent => 80,
             Fault::Stopped => 81,
-            Fault::File(_) => 90,
+            Fault::File(..) => 90,
             Fault::Socket => 91,
             Fault::TurnLimit => 92,
             Fault::BadScript(_) => 93,
@@ -111,7 +114,7 @@ impl Fault {
             Fault::Inconsistent => 6,
             Fault::OutOfMemory
             | Fault::Stopped
-            | Fault::File(_)
+            | Fault::File(..)
             | Fault::Socket
             | Fault::TurnLimit => 7,
         }
@@ -119,14 +122,15 @@ impl Fault {
 
     /// The fault of the file or folder of this path, on which a call failed: one of memory where
     /// the call found none.
-    pub fn of_path(path: String, error: &io::Error) -> Fault
-        ensures memory { error_kind error.now ≡ ErrorKind.OutOfMemory → result ≡ Fault.OutOfMemory }
-        ensures path { error_kind error.now ≢ ErrorKind.OutOfMemory → result ≡ Fault.File path }
+    pub fn of_path(path: String, error: io::Error) -> Fault
+        ensures memory { error_kind error ≡ ErrorKind.OutOfMemory → result ≡ Fault.OutOfMemory }
+        ensures path { error_kind error ≢ ErrorKind.OutOfMemory
+            → result ≡ Fault.File path error }
     {
-        if is_memory(error) {
+        if is_memory(&error) {
             return Fault::OutOfMemory;
         }
-        Fault::File(path)
+        Fault::File(path, error)
     }
 }
 
@@ -157,6 +161,29 @@ impl From<EncodeError> for Fault {
             EncodeError::BadParameters => Fault::BadParameters,
             EncodeError::TooLarge => Fault::TooLarge,
             EncodeError::TooManySegments => Fault::TooManySegments,
+        }
+    }
+}
+
+impl From<ReadError> for Fault {
+    ghost from_gives = { λ error fault. fault ≡ fault_of_reading error };
+
+    fn from(error: ReadError) -> Fault {
+        match error {
+            ReadError::OutOfMemory => Fault::OutOfMemory,
+            ReadError::NotEnoughShares => Fault::NotEnoughShares,
+            ReadError::Inconsistent => Fault::Inconsistent,
+        }
+    }
+}
+
+impl From<SharesError> for Fault {
+    ghost from_gives = { λ error fault. fault ≡ fault_of_shares error };
+
+    fn from(error: SharesError) -> Fault {
+        match error {
+            SharesError::OutOfMemory => Fault::OutOfMemory,
+            SharesError::BadParameters => Fault::BadParameters,
         }
     }
 }

@@ -1,72 +1,105 @@
 //! How far a command is, in one line.
 
-ghost use Rattle.std.specs.Prelude.{◌≡◌, ◌<◌, length, IfOk};
+ghost use Rattle.std.specs.Prelude.{◌≡◌, ◌<◌, length, IfOk, IfSome};
 ghost use Rattle.std.specs.String.{string_bytes};
-ghost use Rattle.grid_rules.specs.ProgressLine.{encode_line, place_line};
-ghost use Rattle.grid_rules.specs.ProgressLine.{progress_line, write_line};
+ghost use Rattle.grid_rules.specs.ProgressLine.{encoding_line, progress_line};
+ghost use Rattle.grid_rules.specs.ProgressLine.{remark_text, seconds_left, verb_text};
 
+use crate::servers::server_name;
 use std::alloc::{AllocError, Global};
+use wire::message::NodeId;
 
-/// What a command has to do.
+/// What a command does.
 #[derive(Clone, Copy, PartialEq, Eq)]
-pub enum Work {
-    /// To encode a file of so many bytes.
-    Encode(u64),
-    /// To place so many shares, which have so many bytes together.
-    Place(u16, u64),
-    /// To write so many bytes of a file, from so many shares.
-    Write(u16, u64),
-    /// To read the shares that are found.
-    Read,
+pub enum Verb {
+    Put,
+    Get,
+    Check,
+    Repair,
+    Scrub,
 }
 
-/// How much of it is done: shares placed or found, and bytes sent, written or read.
+/// How many bytes are done, of how many.
 #[derive(Clone, Copy, PartialEq, Eq)]
 pub struct Amount {
-    pub shares: u16,
-    pub bytes: u64,
+    pub done: u64,
+    pub total: u64,
 }
 
-/// The line, of fewer than 80 columns, without an end.
-#[tactic(auto, using(crate::proofs::Lines::read_short))]
-pub fn progress_line(alloc: Global, work: &Work, done: &Amount) -> Result<String, AllocError>
+/// What is told beside it.
+#[derive(Clone, Copy, PartialEq, Eq)]
+pub enum Remark {
+    Nothing,
+    /// So many seconds are left, if it goes on as it did.
+    Left(u64),
+    /// Nothing came for some seconds, and this server was asked last.
+    WaitsFor(NodeId),
+}
+
+/// The line of a command that moves bytes, of fewer than 80 columns, without an end. It counts
+/// 1,000 bytes as one kB.
+#[tactic(auto, using(crate::proofs::Lines::progress_short))]
+pub fn progress_line(
+    alloc: Global,
+    verb: Verb,
+    amount: &Amount,
+    remark: Remark,
+) -> Result<String, AllocError>
     ensures short { IfOk result (λ line. length (string_bytes line) < 80) }
-    ensures line { IfOk result (λ line. string_bytes line ≡ progress_line work.now done.now) }
+    ensures line { IfOk result (λ line. string_bytes line
+        ≡ progress_line verb amount.now remark) }
 {
-    let (shares, bytes) = (done.shares, done.bytes);
-    match work {
-        Work::Encode(size) => encode_line(alloc, *size),
-        Work::Place(total, size) => place_line(alloc, *total, *size, done),
-        Work::Write(needed, size) => write_line(alloc, *needed, *size, bytes),
-        Work::Read => format!(in alloc; "check: {shares} shares, {bytes} bytes"),
+    let (done, total) = (amount.done / 1000, amount.total / 1000);
+    let verb = verb_text(verb);
+    let remark = remark_text(alloc, remark)?;
+    format!(in alloc; "{verb}: {done} of {total} kB{remark}")
+}
+
+/// The line of a command that encodes a file of so many bytes, of fewer than 80 columns, without an
+/// end.
+#[tactic(auto, using(crate::proofs::Lines::encoding_short))]
+pub fn encoding_line(alloc: Global, verb: Verb, size: u64) -> Result<String, AllocError>
+    ensures short { IfOk result (λ line. length (string_bytes line) < 80) }
+    ensures line { IfOk result (λ line. string_bytes line ≡ encoding_line verb size) }
+{
+    let (verb, size) = (verb_text(verb), size / 1000);
+    format!(in alloc; "{verb}: encoding {size} kB")
+}
+
+/// How many seconds are left after so many milliseconds, if it goes on as it did. `None` where
+/// nothing is done yet.
+pub fn seconds_left(elapsed: u64, amount: &Amount) -> Option<u64>
+    ensures { IfSome result (λ seconds. seconds ≡ seconds_left elapsed amount.now) }
+{
+    if amount.done == 0 {
+        return None;
+    }
+    let rest = amount.total.saturating_sub(amount.done);
+    let left = u128::from(elapsed) * u128::from(rest) / u128::from(amount.done) / 1000;
+    u64::try_from(left).ok()
+}
+
+fn verb_text(verb: Verb) -> &'static str
+    ensures { result.now ≡ verb_text verb }
+{
+    match verb {
+        Verb::Put => "put",
+        Verb::Get => "get",
+        Verb::Check => "check",
+        Verb::Repair => "repair",
+        Verb::Scrub => "scrub",
     }
 }
 
-// The bytes of a file that is encoded.
-#[tactic(auto, using(crate::proofs::Lines::encode_short))]
-fn encode_line(alloc: Global, size: u64) -> Result<String, AllocError>
-    ensures short { IfOk result (λ line. length (string_bytes line) < 80) }
-    ensures line { IfOk result (λ line. string_bytes line ≡ encode_line size) }
+fn remark_text(alloc: Global, remark: Remark) -> Result<String, AllocError>
+    ensures { IfOk result (λ text. string_bytes text ≡ remark_text remark) }
 {
-    format!(in alloc; "put: encoding {size} bytes")
-}
-
-// So many shares of all, and so many bytes of all.
-#[tactic(auto, using(crate::proofs::Lines::place_short))]
-fn place_line(alloc: Global, total: u16, size: u64, done: &Amount) -> Result<String, AllocError>
-    ensures short { IfOk result (λ line. length (string_bytes line) < 80) }
-    ensures line { IfOk result (λ line. string_bytes line
-        ≡ place_line done.now.shares total done.now.bytes size) }
-{
-    let (shares, bytes) = (done.shares, done.bytes);
-    format!(in alloc; "put: {shares} of {total} shares, {bytes} of {size} bytes")
-}
-
-// Bytes of a file, from so many shares.
-#[tactic(auto, using(crate::proofs::Lines::write_short))]
-fn write_line(alloc: Global, needed: u16, size: u64, bytes: u64) -> Result<String, AllocError>
-    ensures short { IfOk result (λ line. length (string_bytes line) < 80) }
-    ensures line { IfOk result (λ line. string_bytes line ≡ write_line needed bytes size) }
-{
-    format!(in alloc; "get: {needed} shares, {bytes} of {size} bytes")
+    match remark {
+        Remark::Nothing => Ok(String::new(alloc)),
+        Remark::Left(seconds) => format!(in alloc; ", {seconds} s left"),
+        Remark::WaitsFor(server) => {
+            let name = server_name(alloc, server)?;
+            format!(in alloc; ", waiting for {name}")
+        }
+    }
 }

@@ -1,10 +1,11 @@
 //! The servers of a grid, by the names of their folders.
 
-ghost use Rattle.std.specs.Prelude.{◌≡◌, ◌≤◌, IfOk, length, map, nat_eq};
+ghost use Rattle.std.specs.Prelude.{◌≡◌, IfOk, map, nat_eq};
 ghost use Rattle.std.specs.List.{IsDistinct, range_with_len};
 ghost use Rattle.std.specs.String.{string_bytes};
 ghost use Rattle.sha1.specs.Sha1.{sha1};
 ghost use Rattle.grid_rules.specs.ReportLines.{server_name};
+ghost use Rattle.grid_rules.specs.Servers.{server_of};
 ghost use Rattle.upload_core.specs.declared.status.ServerInfo.{ServerInfo};
 
 use placement::ServerId;
@@ -13,25 +14,36 @@ use std::alloc::{AllocError, Global};
 use upload_core::status::ServerInfo;
 use wire::message::NodeId;
 
-/// The servers whose folders have these names: the one at place i is node i, and its id is the
-/// SHA-1 of its folder's name.
-pub fn servers_of(alloc: Global, names: &[String]) -> Result<Vec<ServerInfo>, AllocError>
-    requires { length names.now ≤ 256 }
-    ensures nodes { IfOk result (λ servers. map (λ (s : ServerInfo). s.node) servers.items
-        ≡ range_with_len 0 (length names.now)) }
-    ensures ids { IfOk result (λ servers. map (λ (s : ServerInfo). s.id.0) servers.items
-        ≡ map (λ name. sha1 (string_bytes name)) names.now) }
-    ensures distinct { IfOk result
-        (λ servers. IsDistinct nat_eq (map (λ (s : ServerInfo). s.node) servers.items)) }
+/// The numbers of the first servers.
+pub fn first_servers(alloc: Global, count: u16) -> Result<Vec<NodeId>, AllocError>
+    ensures numbers { IfOk result (λ numbers. numbers.items ≡ range_with_len 0 count) }
+    ensures distinct { IfOk result (λ numbers. IsDistinct nat_eq numbers.items) }
 {
-    let mut servers = Vec::with_capacity(alloc, names.len())?;
-    for (place, name) in names.iter().enumerate() {
-        servers.push(ServerInfo {
-            node: place as u16,
-            id: server_id(name.as_str()),
-        })?;
+    (0..count).collect(alloc)
+}
+
+/// The servers of these numbers: the number is the node, and the id is the SHA-1 of the folder's
+/// name.
+pub fn servers_of(alloc: Global, numbers: &[NodeId]) -> Result<Vec<ServerInfo>, AllocError>
+    ensures servers { IfOk result (λ servers. servers.items ≡ map server_of numbers.now) }
+    ensures nodes { IfOk result (λ servers. map (λ (s : ServerInfo). s.node) servers.items
+        ≡ numbers.now) }
+{
+    let mut servers = Vec::with_capacity(alloc, numbers.len())?;
+    for number in numbers {
+        servers.push(server_of(alloc, *number)?)?;
     }
     Ok(servers)
+}
+
+fn server_of(alloc: Global, number: NodeId) -> Result<ServerInfo, AllocError>
+    ensures { IfOk result (λ server. server ≡ server_of number) }
+{
+    let name = server_name(alloc, number)?;
+    Ok(ServerInfo {
+        node: number,
+        id: server_id(name.as_str()),
+    })
 }
 
 /// The name of a server's folder: its number has three digits.

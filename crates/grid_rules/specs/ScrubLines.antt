@@ -1,0 +1,70 @@
+-- What a scrub tells: a line, or an object for programs, of each file that is not as it should be,
+-- and one of all.
+use Rattle.std.specs.Prelude.{ℕ, List, [], ◌++◌, ◌+◌, ◌≡◌, Bool, true, false, codes, decimal, min}
+use Rattle.std.specs.Prelude.{if◌then◌else◌, ◌&&◌, nat_eq, Option, None, Some}
+use Rattle.cap_text.specs.Base32.{base32}
+use Rattle.share_scrub.specs.declared.folder.Action.{Action}
+use Rattle.share_scrub.specs.declared.folder.Action.TheVariants.{Left, Done, Failed}
+use Rattle.share_scrub.specs.declared.folder.Finding.{Finding}
+use Rattle.share_scrub.specs.declared.folder.State.{State}
+use Rattle.share_scrub.specs.declared.folder.State.TheVariants.{Whole, Damaged, Unreadable, LeftOpen}
+use Rattle.share_scrub.specs.declared.name.ShareFile.{ShareFile}
+use Rattle.grid_rules.specs.ReportLines.{server_name}
+use Rattle.grid_rules.specs.declared.scrubbing.Scrubbed.{Scrubbed}
+
+-- what became of a damaged file, and of one that was left open
+abbrev pub aside_text : Action → List ℕ
+aside_text Left = []
+aside_text Done = codes " set-aside"
+aside_text (Failed _) = codes " not-set-aside"
+
+abbrev pub removed_text : Action → List ℕ
+removed_text Left = []
+removed_text Done = codes " removed"
+removed_text (Failed _) = codes " not-removed"
+
+-- how a file was found
+abbrev pub state_text : State → List ℕ
+state_text Whole = codes "whole"
+state_text (Damaged action) = codes "damaged" ++ aside_text action
+state_text (Unreadable _) = codes "unreadable"
+state_text (LeftOpen bytes action) = codes "open " ++ (decimal bytes ++ removed_text action)
+
+-- the line of a file: server, storage index, number of the share, and how it was found
+abbrev pub finding_line : ℕ → Finding → List ℕ
+finding_line server f = server_name server ++ (codes " " ++ (base32 f.file.place.0
+    ++ (codes " " ++ (decimal f.file.place.1 ++ (codes " " ++ (state_text f.state ++ codes "\n"))))))
+
+-- the object of a file
+abbrev pub finding_json : ℕ → Finding → List ℕ
+finding_json server f = codes "{\"server\":\"" ++ (server_name server
+    ++ (codes "\",\"index\":\"" ++ (base32 f.file.place.0
+    ++ (codes "\",\"share\":" ++ (decimal f.file.place.1
+    ++ (codes ",\"verdict\":\"" ++ (state_text f.state ++ codes "\"}\n")))))))
+
+-- the line and the object of all
+abbrev pub last_line : Scrubbed → List ℕ
+last_line s = codes "shares " ++ (decimal s.shares ++ (codes " damaged " ++ (decimal s.damaged
+    ++ (codes " unreadable " ++ (decimal s.unreadable ++ codes "\n")))))
+
+abbrev pub last_json : Scrubbed → List ℕ
+last_json s = codes "{\"shares\":" ++ (decimal s.shares ++ (codes ",\"damaged\":"
+    ++ (decimal s.damaged ++ (codes ",\"unreadable\":" ++ (decimal s.unreadable ++ codes "}\n")))))
+
+-- one more, up to the most that are counted
+abbrev pub one_more : ℕ → ℕ
+one_more n = min (n + 1) 18446744073709551615
+
+-- A closed share is one of those that were looked at, whichever way it was found. Files that were
+-- left open are told, and not counted.
+abbrev pub counted : Scrubbed → State → Scrubbed
+counted s Whole = record { shares = one_more s.shares; damaged = s.damaged; unreadable = s.unreadable }
+counted s (Damaged _) =
+    record { shares = one_more s.shares; damaged = one_more s.damaged; unreadable = s.unreadable }
+counted s (Unreadable _) =
+    record { shares = one_more s.shares; damaged = s.damaged; unreadable = one_more s.unreadable }
+counted s (LeftOpen _ _) = s
+
+-- 0 where each share is whole, else that of too few shares
+abbrev pub scrub_status : Scrubbed → ℕ
+scrub_status s = if nat_eq s.damaged 0 && nat_eq s.unreadable 0 then 0 else 5
