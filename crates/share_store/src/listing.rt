@@ -1,6 +1,6 @@
 //! What a server's folder holds when its store is opened.
 
-use crate::disk::{Durability, make_folder, sync_folder};
+use crate::disk::{Durability, make_folder, sync_folder, sync_name};
 use crate::error::StoreError;
 use crate::files::length_of_regular;
 use crate::lengths::look_at;
@@ -46,8 +46,8 @@ pub(crate) struct Listing {
 }
 
 /// What a folder holds, which is made where it is not there. For synced writing the folder's name
-/// is on the disk then, where it was made, and so are the names of the closed shares: they were
-/// left by a program that may have ended before it had put them there.
+/// is on the disk then, and so are the names of the closed shares: they were left by a program that
+/// may have ended before it had put them there.
 pub(crate) fn list_folder<R: Files + AllocGlobal + Clone + Drop>(
     rt: &R,
     folder: &str,
@@ -71,7 +71,7 @@ pub(crate) fn list_folder<R: Files + AllocGlobal + Clone + Drop>(
     Ok(listing)
 }
 
-// The entries of a folder, which is made where it is not there.
+// The entries of a folder, which is made where it is not there. Synced, its name is on the disk.
 fn read_or_make<R: Files + AllocGlobal + Clone + Drop>(
     rt: &R,
     folder: &str,
@@ -82,7 +82,11 @@ fn read_or_make<R: Files + AllocGlobal + Clone + Drop>(
             make_folder(rt, folder, durability)?;
             fs::read_dir(rt, folder)
         }
-        entries => entries,
+        Err(error) => Err(error),
+        Ok(entries) => {
+            sync_name(rt, folder, durability)?;
+            Ok(entries)
+        }
     }
 }
 

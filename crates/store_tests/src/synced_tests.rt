@@ -2,6 +2,7 @@
 //! noted, and one of which fails.
 
 use crate::share_store_tests::{Call, INDEX, SEVENS, file, gives, path, remove};
+use share_store::disk::make_folder;
 use share_store::error::StoreError;
 use share_store::folder::{Durability, FolderStore, Purpose};
 use std::alloc::{Allocator, Global};
@@ -207,19 +208,74 @@ fn closes_one<'a>(
 
 const CLOSE: [Step; 3] = [Step::SyncFile, Step::Rename, Step::SyncFolder];
 
-// The folder's name is put on the disk where the folder is made. Of a share first the bytes are put
-// there, and its name once it is renamed. What stands in the folder counts once its names are
-// there.
+// The name of the folder above is put on the disk before the folder is made, and then its own. Of a
+// share first the bytes are put there, and its name once it is renamed. What stands in the folder
+// counts once its name and those in it are there.
 #[test]
 fn bytes_come_before_names(rt: HostRuntime) -> Result<(), Fail> {
     remove(&rt)?;
     let steps = Steps::new(rt.alloc());
     let mut store = open_noted(&rt, &steps, Purpose::Writing(Durability::Synced))?;
-    assert!(rt; steps.were(&[Step::SyncFolder]));
+    assert!(rt; steps.were(&[Step::SyncFolder, Step::SyncFolder]));
     assert!(rt; closes_one(&rt, &mut store, 3)? && steps.were(&CLOSE));
     assert!(rt; gives(rt.alloc(), &mut store, Call::Close(INDEX, 4, 7))? && steps.were(&CLOSE));
     drop(open_noted(&rt, &steps, Purpose::Writing(Durability::Synced))?);
+    assert!(rt; steps.were(&[Step::SyncFolder, Step::SyncFolder]));
+    remove(&rt)?;
+    Ok(())
+}
+
+// The name of a folder that stands is put on the disk, whoever made it, and no store is opened
+// where that fails.
+#[test]
+fn standing_folders(rt: HostRuntime) -> Result<(), Fail> {
+    remove(&rt)?;
+    fs::create_dir_all(&rt, path(&rt, "")?.as_str())?;
+    let steps = Steps::new(rt.alloc());
+    drop(open_noted(&rt, &steps, Purpose::Writing(Durability::Synced))?);
     assert!(rt; steps.were(&[Step::SyncFolder]));
+    steps.failing.set(Some(Step::SyncFolder));
+    let outcome = open_noted(&rt, &steps, Purpose::Writing(Durability::Synced));
+    assert!(rt; matches!(&outcome, Err(StoreError::StoreFault)));
+    remove(&rt)?;
+    Ok(())
+}
+
+// A path, and how many folders are synced where the last one of it is made, and where it stands.
+const PATHS: [(&str, usize, usize); 5] = [
+    ("/a", 2, 1),
+    ("/a/", 2, 1),
+    ("/a/b/c", 6, 1),
+    ("/a//b/", 4, 1),
+    ("/a/b/..", 6, 1),
+];
+
+// Whether a folder is made, and stands when it is made again, with so many syncs.
+fn is_made(rt: &HostRuntime, case: (&str, usize, usize)) -> Result<bool, Fail> {
+    let (name, made, standing) = case;
+    remove(rt)?;
+    fs::create_dir_all(rt, path(rt, "")?.as_str())?;
+    let steps = Steps::new(rt.alloc());
+    let noted = NotedFiles {
+        rt: *rt,
+        steps: &steps,
+    };
+    let folder = path(rt, name)?;
+    for syncs in [made, standing] {
+        make_folder(&noted, folder.as_str(), Durability::Synced)?;
+        let all = vec![in rt.alloc(); Step::SyncFolder; syncs]?;
+        if !steps.were(all.as_slice()) || !fs::metadata(rt, folder.as_str())?.is_dir() {
+            return Ok(false);
+        }
+    }
+    Ok(true)
+}
+
+#[test]
+fn made_folders(rt: HostRuntime) -> Result<(), Fail> {
+    for case in PATHS {
+        assert!(rt; is_made(&rt, case)?);
+    }
     remove(&rt)?;
     Ok(())
 }
