@@ -8,8 +8,9 @@
 # or a folder. Then each folder is made that a power failure can leave, after any of these calls and
 # with any part left out that was not synced, and its shares are looked at
 # (`tests/power-failure.py`). This is done for three puts into one grid, of two files and then of
-# the first again, and for a put that is killed after each of its calls and made again. The grid's
-# folder stands before, as a disk that is mounted does.
+# the first again, and for a put that is killed after each of its calls and made again. The first
+# put makes the grid's folder and the one above it, in a folder that stands before, as a disk that
+# is mounted does.
 #
 # It needs gcc, nm and python3. Each record has a line, `calls N folders N told N faults N`, after
 # lines for its first faults. The status is 0 where there are no faults, 1 where there are, 2 where
@@ -41,24 +42,24 @@ gcc -O1 -Wall -shared -fPIC -o "$room/record.so" "$here/tests/record.c" || exit 
 head -c 56 /dev/urandom > "$room/small" || exit 2
 head -c 200000 /dev/urandom > "$room/large" || exit 2
 
-# A new record, and an empty grid.
+# A new record, and an empty disk.
 begin() {
-    rm -rf "$room/grid" "$room/record" || exit 2
-    mkdir "$room/grid" || exit 2
+    rm -rf "$room/disk" "$room/record" || exit 2
+    mkdir "$room/disk" || exit 2
 }
 
 # Puts a file, and records it. With a number it ends after so many calls.
 puts() {
     put_file=$1 put_end=$2
     shift 2
-    RECORD_ROOT=$room/grid RECORD_FILE=$room/record RECORD_END=$put_end LD_PRELOAD=$room/record.so \
-        "$program" put "$room/$put_file" --grid "$room/grid" "$@" > /dev/null
+    RECORD_ROOT=$room/disk RECORD_FILE=$room/record RECORD_END=$put_end LD_PRELOAD=$room/record.so \
+        "$program" put "$room/$put_file" --grid "$room/disk/above/grid" "$@" > /dev/null
 }
 
 # Looks at what a power failure leaves of the record.
 status=0
 looks() {
-    python3 "$here/tests/power-failure.py" "$room/record" "$room/grid"
+    python3 "$here/tests/power-failure.py" "$room/record" "$room/disk"
     case $? in
         0) ;;
         1) status=1 ;;
