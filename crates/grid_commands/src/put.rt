@@ -112,7 +112,7 @@ where
     E: Write + IsTerminal,
     requires { servers ≤ MAX_SERVERS }
 {
-    make_grid(rt, words.grid)?;
+    make_grid(rt, words.grid, Durability::Synced)?;
     let cap = *upload.cap();
     progress.begin(Work::Place(cap.total(), share_bytes(&upload)));
     let happiness = run_upload(rt, words, servers, upload, progress)?;

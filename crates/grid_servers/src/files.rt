@@ -1,13 +1,31 @@
-//! Files, read to an end that is known before.
+//! Files and standard input, read to an end that is known before.
 
 ghost use Rattle.std.specs.Prelude.{◌≡◌, ◌≤◌, length, Ok, Some, IfOk, IfErr, IfSome};
 
 use grid_rules::{Fault, is_memory};
 use std::alloc::Global;
 use std::fs::{File, OpenFile};
-use std::io;
-use std::io::Read;
+use std::io::{self, Input, Read};
 use std::rt::Files;
+
+/// The path that stands for standard input.
+const STANDARD_INPUT: &str = "-";
+
+/// The bytes of a file, or for the path `-` those of standard input, where there are at most
+/// `limit`, and none where there are more. No more than that and one byte is read. Memory is asked
+/// for by the file's length, and else by what came.
+pub fn read_input<R: Files + Input + AllocGlobal>(
+    rt: &R,
+    path: &str,
+    limit: u64,
+) -> io::Result<Option<Vec<u8>>>
+    ensures { IfOk result (λ read. IfSome read (λ bytes. length bytes.items ≤ limit)) }
+{
+    if path == STANDARD_INPUT {
+        return read_to_limit(rt.alloc(), rt.reader(), 0, limit);
+    }
+    read_at_most(rt, path, limit)
+}
 
 /// The bytes of a file, where there are at most `limit`, and none where there are more. No more
 /// than that and one byte is read, and memory is asked for once, by the file's length.
@@ -26,7 +44,7 @@ pub fn read_at_most<R: Files + AllocGlobal>(
     read_to_limit(rt.alloc(), file, length, limit)
 }
 
-// The same of a file that is open, and has so many bytes by what its folder says.
+// The same of what is open, and has so many bytes as far as that is known.
 fn read_to_limit<F: Read + Drop>(
     alloc: Global,
     file: F,

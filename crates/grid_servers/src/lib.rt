@@ -7,7 +7,9 @@ mod files;
 mod folders;
 mod servers;
 
-pub use files::{at_path, read_at_most};
-pub use folders::{MAX_SERVERS, can_be_grid, is_grid, make_grid};
-pub use servers::{FolderGrid, SESSION, open_servers, server_names, standing_servers};
+pub use files::{at_path, read_at_most, read_input};
+pub use folders::{MAX_SERVERS, can_be_grid, folder_fault, is_grid, make_grid, server_folder};
+pub use servers::{
+    FolderGrid, SECOND_SESSION, SESSION, open_servers, server_names, standing_servers,
+};
 pub use share_store::folder::{Durability, Purpose};

@@ -4,7 +4,7 @@ ghost use Rattle.std.specs.Prelude.{◌≡◌, ◌≤◌, length, nat_eq, IfOk, 
 ghost use Rattle.std.specs.List.{IsDistinct};
 
 use crate::files::if_there;
-use crate::folders::MAX_SERVERS;
+use crate::folders::{MAX_SERVERS, server_folder};
 use grid_rules::{Fault, is_memory, server_name};
 use local_grid::grid::LocalGrid;
 use local_grid::link::MemoryLink;
@@ -19,8 +19,11 @@ use std::net::Net;
 use std::rt::Files;
 use wire::message::NodeId;
 
-/// The session of a command's one operation.
+/// The session of a command's one operation, or of its first one.
 pub const SESSION: u64 = 1;
+
+/// The session of a second operation over the same links, as the upload of a repair.
+pub const SECOND_SESSION: u64 = 2;
 
 /// A link to a server, in memory or over sockets.
 type ServerLink<R> = GridLink<SocketPair<<R as Net>::Stream>>;
@@ -52,18 +55,17 @@ where
     let alloc = rt.alloc();
     let mut servers = Vec::new(alloc);
     for server in 0..MAX_SERVERS {
-        let name = server_name(alloc, server)?;
-        if is_standing(rt, grid, name.as_str())? {
+        if is_standing(rt, grid, server)? {
             servers.push(server)?;
         }
     }
     Ok(servers)
 }
 
-// Whether there is such a folder in a grid.
-fn is_standing<R: Files + AllocGlobal>(rt: &R, grid: &str, name: &str) -> Result<bool, Fault> {
-    let path = format!(in rt.alloc(); "{grid}/{name}")?;
-    let found = if_there(fs::metadata(rt, path.as_str()))?;
+// Whether there is a server's folder in a grid.
+fn is_standing<R: Files + AllocGlobal>(rt: &R, grid: &str, server: NodeId) -> Result<bool, Fault> {
+    let folder = server_folder(rt.alloc(), grid, server)?;
+    let found = if_there(fs::metadata(rt, folder.as_str()))?;
     Ok(found.is_some_and(|file| file.is_dir()))
 }
 
@@ -157,8 +159,7 @@ where
     R: Files + Net + AllocGlobal + Clone + Drop,
 {
     let alloc = rt.alloc();
-    let name = server_name(alloc, server)?;
-    let folder = format!(in alloc; "{grid}/{name}")?;
+    let folder = server_folder(alloc, grid, server)?;
     match FolderStore::open(rt, folder.as_str(), purpose) {
         Ok(store) => {
             let readonly = store.is_readonly();
