@@ -68,7 +68,7 @@ pub fn at_path<T>(alloc: Global, outcome: io::Result<T>, path: &str) -> Result<T
 {
     match outcome {
         Ok(value) => Ok(value),
-        Err(error) => Err(Fault::of_path(String::from_str(alloc, path)?, &error)),
+        Err(error) => Err(Fault::of_path(String::from_str(alloc, path)?, error)),
     }
 }
 
