@@ -6,6 +6,7 @@ ghost use Rattle.grid_clients.specs.DownloadCalls.{Writes, download_calls, is_to
 use download_core::Download;
 use download_core::status::DownloadStatus;
 use local_grid::client::Client;
+use share_holdings::holding::Blame;
 use std::alloc::{AllocError, Global};
 use std::io::{self, Write};
 use std::marker::Model;
@@ -53,6 +54,13 @@ impl<W: Write> DownloadClient<W> {
         ensures { result ≡ self.now.download.status }
     {
         self.download.status()
+    }
+
+    /// The shares that failed a check.
+    pub fn blamed(&self) -> &[Blame]
+        ensures { result.now ≡ self.now.download.blamed }
+    {
+        self.download.blamed()
     }
 
     /// Has the writer failed?

@@ -9,20 +9,20 @@ use wire::message::{Message, NodeId};
 
 /// What looks on while a client is carried on. It is told of each message, and changes none.
 pub trait Watch {
-    /// The client asks this.
-    fn asked(&mut self, message: &Message);
+    /// The client asks this server so.
+    fn asked(&mut self, server: NodeId, message: &Message);
 
-    /// The client hears this.
-    fn heard(&mut self, message: &Message);
+    /// The client hears this from a server.
+    fn heard(&mut self, server: NodeId, message: &Message);
 }
 
 impl<W: Watch> Watch for &mut W {
-    fn asked(&mut self, message: &Message) {
-        (**self).asked(message);
+    fn asked(&mut self, server: NodeId, message: &Message) {
+        (**self).asked(server, message);
     }
 
-    fn heard(&mut self, message: &Message) {
-        (**self).heard(message);
+    fn heard(&mut self, server: NodeId, message: &Message) {
+        (**self).heard(server, message);
     }
 }
 
@@ -55,6 +55,15 @@ impl<C: Client, W: Watch> Watched<C, W> {
     }
 }
 
+impl<C: Client, W: Watch + Drop> Watched<C, W> {
+    /// The client, without what looked on.
+    pub fn into_client(self) -> C
+        ensures { result ≡ self }
+    {
+        self.client
+    }
+}
+
 impl<C: Client, W: Watch> Client for Watched<C, W> {
     ghost calls = { C.calls };
 
@@ -64,14 +73,14 @@ impl<C: Client, W: Watch> Client for Watched<C, W> {
 
     fn take_outgoing(&mut self, alloc: Global) -> Result<Option<(NodeId, Message)>, AllocError> {
         let taken = self.client.take_outgoing(alloc)?;
-        if let Some((_, message)) = &taken {
-            self.watch.asked(message);
+        if let Some((server, message)) = &taken {
+            self.watch.asked(*server, message);
         }
         Ok(taken)
     }
 
     fn on_message(&mut self, from: NodeId, message: Message, now: u64) -> Result<(), AllocError> {
-        self.watch.heard(&message);
+        self.watch.heard(from, &message);
         self.client.on_message(from, message, now)
     }
 

@@ -1,0 +1,245 @@
+//! How far a command is, told in one line of a terminal, and notes beside it.
+
+use grid_clients::watched::Watch;
+use grid_rules::{Amount, Remark, Verb, encoding_line, progress_line, seconds_left};
+use std::alloc::{AllocError, Global};
+use std::io::{IsTerminal, Write};
+use std::rt::Clock;
+use std::time::{Duration, Instant};
+use wire::message::{Body, Message, NodeId};
+
+// How long a command runs before it tells how far it is, in milliseconds.
+const PATIENCE: u64 = 1000;
+
+// How long it goes on before it tells so again.
+const PAUSE: u64 = 100;
+
+// How long nothing comes before the server is told that it waits for.
+const WAITING: u64 = 3000;
+
+// Back to the line's beginning, and the line is cleared.
+const CLEAR: &str = "\r\x1b[K";
+
+// The least file in bytes whose encoding takes about a second.
+const LONG_ENCODING: u64 = 1 << 24;
+
+// So many servers are there at most.
+const SERVERS: usize = 256;
+
+/// Which bytes count as done.
+#[derive(Clone, Copy, PartialEq, Eq)]
+pub enum Counting {
+    /// Those of shares that are written to servers.
+    Stored,
+    /// Those of shares that servers answer; each share that a server holds has about so many.
+    Answered(u64),
+    /// Those that the command adds by itself.
+    Added,
+}
+
+// When a stage began, when its line was told last, and when the last byte came.
+#[derive(Clone, Copy)]
+struct Times {
+    began: Instant,
+    told: Instant,
+    moved: Instant,
+}
+
+/// Tells how far a command is, in one line that is written anew in its place, where there is a
+/// terminal. A fault of the clock or of the line is passed over.
+#[derive(Drop)]
+pub struct Progress<'a, R, E> {
+    rt: &'a R,
+    alloc: Global,
+    to: &'a mut E,
+    // `None` where nothing is told
+    times: Option<Times>,
+    pause: u64,
+    is_shown: bool,
+    verb: Verb,
+    counting: Counting,
+    amount: Amount,
+    // by the servers' numbers: which took no shares
+    refusals: [bool; SERVERS],
+}
+
+impl<'a, R, E> Progress<'a, R, E>
+where
+    R: Clock + AllocGlobal,
+    E: Write + IsTerminal,
+{
+    /// A command that begins.
+    pub fn new(rt: &'a R, to: &'a mut E) -> Progress<'a, R, E> {
+        let times = if to.is_terminal() {
+            times_from(rt)
+        } else {
+            None
+        };
+        Progress {
+            rt,
+            alloc: rt.alloc(),
+            to,
+            times,
+            pause: PATIENCE,
+            is_shown: false,
+            verb: Verb::Get,
+            counting: Counting::Added,
+            amount: NOTHING,
+            refusals: [false; SERVERS],
+        }
+    }
+
+    /// A stage of this command begins, of so many bytes.
+    pub fn begin(&mut self, verb: Verb, counting: Counting, total: u64) {
+        self.verb = verb;
+        self.counting = counting;
+        self.amount = Amount { done: 0, total };
+        if let (Some(times), Ok(now)) = (self.times, Instant::now(self.rt)) {
+            self.times = Some(Times {
+                began: now,
+                told: times.told,
+                moved: now,
+            });
+        }
+    }
+
+    /// A file of so many bytes is encoded now, by one call.
+    pub fn encode(&mut self, verb: Verb, size: u64) {
+        self.begin(verb, Counting::Added, size);
+        if self.times.is_some() && size >= LONG_ENCODING {
+            self.show(encoding_line(self.alloc, verb, size));
+        }
+    }
+
+    /// So many more bytes are done.
+    pub fn add(&mut self, bytes: u64) {
+        self.move_on(bytes, None);
+    }
+
+    /// Clears the line, where one is shown.
+    pub fn clear(&mut self) {
+        if self.is_shown {
+            self.is_shown = false;
+            let _ = self.to.write_all(CLEAR.as_bytes());
+        }
+    }
+
+    /// Tells a line of its own, which ends itself, wherever standard error leads. A fault of it is
+    /// passed over.
+    pub fn note(&mut self, line: &str) {
+        self.clear();
+        let _ = self.to.write_all(line.as_bytes());
+    }
+
+    /// Whether a server said that it takes no further shares, or has no room for one.
+    pub fn is_refusal(&self, server: NodeId) -> bool {
+        self.refusals
+            .get(usize::from(server))
+            .is_some_and(|refused| *refused)
+    }
+
+    // So many more bytes are done, and this server is asked, where one is.
+    fn move_on(&mut self, bytes: u64, server: Option<NodeId>) {
+        let done = self.amount.done.saturating_add(bytes);
+        self.amount.done = done.min(self.amount.total);
+        let Some(times) = self.times else {
+            return;
+        };
+        let Ok(now) = Instant::now(self.rt) else {
+            return;
+        };
+        let moved = if bytes == 0 { times.moved } else { now };
+        let is_due = now.duration_since(times.told) >= Duration::from_millis(self.pause);
+        let told = if is_due { now } else { times.told };
+        self.times = Some(Times {
+            began: times.began,
+            told,
+            moved,
+        });
+        if is_due {
+            self.pause = PAUSE;
+            let remark = self.remark(&times, now, server);
+            self.show(progress_line(self.alloc, self.verb, &self.amount, remark));
+        }
+    }
+
+    // The server that is waited for, or the time that is left.
+    fn remark(&self, times: &Times, now: Instant, server: Option<NodeId>) -> Remark {
+        let is_waiting = now.duration_since(times.moved) >= Duration::from_millis(WAITING);
+        match server {
+            Some(server) if is_waiting => Remark::WaitsFor(server),
+            _ => {
+                let elapsed = now.duration_since(times.began).as_millis();
+                seconds_left(elapsed as u64, &self.amount).map_or(Remark::Nothing, Remark::Left)
+            }
+        }
+    }
+
+    // Writes the line in the place of the last one, by one write.
+    fn show(&mut self, line: Result<String, AllocError>) {
+        let Ok(line) = line else {
+            return;
+        };
+        if let Ok(text) = format!(in self.alloc; "{CLEAR}{line}") {
+            self.is_shown = true;
+            let _ = self.to.write_all(text.as_bytes());
+        }
+    }
+
+    // Takes note of an answer that refuses a share.
+    fn refuse(&mut self, server: NodeId) {
+        if let Some(refused) = self.refusals.get_mut(usize::from(server)) {
+            *refused = true;
+        }
+    }
+}
+
+const NOTHING: Amount = Amount { done: 0, total: 0 };
+
+// All from now on; `None` without a clock.
+fn times_from<R: Clock>(rt: &R) -> Option<Times> {
+    let now = Instant::now(rt).ok()?;
+    Some(Times {
+        began: now,
+        told: now,
+        moved: now,
+    })
+}
+
+impl<'a, R, E> Watch for Progress<'a, R, E>
+where
+    R: Clock + AllocGlobal,
+    E: Write + IsTerminal,
+{
+    fn asked(&mut self, server: NodeId, message: &Message) {
+        let bytes = match (&message.body, self.counting) {
+            (Body::Write(_, _, data), Counting::Stored) => data.as_slice().len() as u64,
+            _ => 0,
+        };
+        self.move_on(bytes, Some(server));
+    }
+
+    fn heard(&mut self, server: NodeId, message: &Message) {
+        match (&message.body, self.counting) {
+            (Body::Have(true, _) | Body::Full, Counting::Stored) => self.refuse(server),
+            (Body::Have(_, held), Counting::Answered(share)) => {
+                let more = share.saturating_mul(held.as_slice().len() as u64);
+                self.amount.total = self.amount.total.saturating_add(more);
+            }
+            (Body::Data(data), Counting::Answered(_)) => {
+                self.move_on(data.as_slice().len() as u64, Some(server));
+            }
+            _ => {}
+        }
+    }
+}
+
+impl<'a, R, E> share_scrub::Watch for Progress<'a, R, E>
+where
+    R: Clock + AllocGlobal,
+    E: Write + IsTerminal,
+{
+    fn on_read(&mut self, bytes: u64) {
+        self.add(bytes);
+    }
+}
