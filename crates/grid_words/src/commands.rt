@@ -1,0 +1,211 @@
+//! The commands, and what their help says.
+
+use crate::arguments::{
+    file, flag, grid_folder, happy, json, max_segment, mend, needed, net, no_sync, operand, output,
+    place, read_cap, secret, secret_file, servers, total, verbose, verify_cap,
+};
+use clap::{Arg, Command};
+use std::alloc::{AllocError, Global};
+
+/// The program's version.
+pub const VERSION: &str = "0.1.0";
+
+const STATUSES: &str =
+    "Exit status: 0 done, 2 wrong words, 3 refused input, 4 unhappy, 5 shares missing or damaged, \
+6 inconsistent, 7 file, socket or memory. A refusal is one line on standard error, with its number \
+and name.";
+
+/// The commands of `grid`.
+#[derive(Clone, Copy)]
+enum Name {
+    Put,
+    Get,
+    Check,
+    Repair,
+    Scrub,
+    World,
+    Cap,
+}
+
+// In the order in which the help tells them.
+const NAMES: [Name; 7] = [
+    Name::Put,
+    Name::Get,
+    Name::Check,
+    Name::Repair,
+    Name::Scrub,
+    Name::World,
+    Name::Cap,
+];
+
+/// `grid` with all its commands. Without a word it shows its help, as a fault.
+pub(crate) fn grid_command<'a>(alloc: Global) -> Result<Command<'a>, AllocError> {
+    let mut command = Command::new(alloc, "grid")
+        .bin_name("grid")?
+        .version(VERSION)
+        .about(
+            "Keeps files on a grid of servers that need not be trusted: \
+encrypted, erasure-coded and checked.",
+        )
+        .after_help(STATUSES)
+        .subcommand_required(true)
+        .arg_required_else_help(true);
+    for name in NAMES {
+        command = command.subcommand(command_of(alloc, name)?)?;
+    }
+    Ok(command)
+}
+
+fn command_of<'a>(alloc: Global, name: Name) -> Result<Command<'a>, AllocError> {
+    match name {
+        Name::Put => put_command(alloc),
+        Name::Get => get_command(alloc),
+        Name::Check => check_command(alloc),
+        Name::Repair => repair_command(alloc),
+        Name::Scrub => scrub_command(alloc),
+        Name::World => world_command(alloc),
+        Name::Cap => cap_command(alloc),
+    }
+}
+
+fn put_command<'a>(alloc: Global) -> Result<Command<'a>, AllocError> {
+    command(
+        alloc,
+        "put",
+        "Stores a file and prints its cap, which gives it back, and how many servers hold shares \
+of their own.",
+    )
+    .args(put_arguments(alloc)?)
+}
+
+fn put_arguments<'a>(alloc: Global) -> Result<Vec<Arg<'a>>, AllocError> {
+    Ok(vec![in alloc;
+        file(alloc),
+        grid_folder(alloc),
+        needed(alloc),
+        happy(alloc),
+        total(alloc),
+        max_segment(alloc),
+        servers(alloc),
+        secret(alloc),
+        secret_file(alloc)?,
+        net(alloc),
+        no_sync(alloc),
+        mend(alloc),
+        flag(alloc, "quiet", "Print the cap alone").short('q'),
+        verbose(alloc),
+    ]?)
+}
+
+fn get_command<'a>(alloc: Global) -> Result<Command<'a>, AllocError> {
+    let arguments = vec![in alloc;
+        read_cap(alloc),
+        grid_folder(alloc),
+        place(alloc, "from", "The place of the first byte").default_value("0"),
+        place(
+            alloc,
+            "to",
+            "The place behind the last byte [default: the file's size]",
+        ),
+        output(alloc),
+        net(alloc),
+        verbose(alloc),
+    ]?;
+    command(
+        alloc,
+        "get",
+        "Writes the file of a cap, or a range of its bytes, to standard output or to a file.",
+    )
+    .args(arguments)
+}
+
+fn check_command<'a>(alloc: Global) -> Result<Command<'a>, AllocError> {
+    let arguments = vec![in alloc;
+        verify_cap(alloc),
+        grid_folder(alloc),
+        net(alloc),
+        json(alloc),
+        flag(
+            alloc,
+            "strict",
+            "End with status 5 where the file is not healthy",
+        ),
+        verbose(alloc),
+    ]?;
+    command(
+        alloc,
+        "check",
+        "Reads each share of a cap's file that a server offers, and prints a verdict on each and \
+on the file.",
+    )
+    .args(arguments)
+}
+
+fn repair_command<'a>(alloc: Global) -> Result<Command<'a>, AllocError> {
+    let arguments = vec![in alloc;
+        verify_cap(alloc),
+        grid_folder(alloc),
+        happy(alloc),
+        net(alloc),
+        no_sync(alloc),
+        mend(alloc),
+        verbose(alloc),
+    ]?;
+    command(
+        alloc,
+        "repair",
+        "Makes the missing shares of a cap's file again, stores them, and prints how many servers \
+hold shares of their own.",
+    )
+    .args(arguments)
+}
+
+fn scrub_command<'a>(alloc: Global) -> Result<Command<'a>, AllocError> {
+    let arguments = vec![in alloc;
+        grid_folder(alloc),
+        flag(
+            alloc,
+            "set-aside",
+            "Rename each damaged file to NAME.damaged",
+        ),
+        flag(
+            alloc,
+            "remove-open",
+            "Remove open files that nobody wrote to for 600 seconds",
+        ),
+        json(alloc),
+        verbose(alloc),
+    ]?;
+    command(
+        alloc,
+        "scrub",
+        "Reads every closed share of every server folder and compares it with the digest in its \
+name. Prints those that are damaged, and open files that nobody wrote to for 600 seconds.",
+    )
+    .args(arguments)
+}
+
+fn world_command<'a>(alloc: Global) -> Result<Command<'a>, AllocError> {
+    command(
+        alloc,
+        "world",
+        "Runs the script of a world: honest nodes and liars, with every delivery and fault as the \
+script has it. Prints what became of each operation, and whether all bytes agree.",
+    )
+    .arg(operand(alloc, "SCRIPT", "The file of the script"))
+}
+
+fn cap_command<'a>(alloc: Global) -> Result<Command<'a>, AllocError> {
+    command(
+        alloc,
+        "cap",
+        "Prints what a cap says: its kind, its numbers, and the verify cap that checks without \
+reading.",
+    )
+    .arg(operand(alloc, "CAP", "The cap"))
+}
+
+// A command without its arguments.
+fn command<'a>(alloc: Global, name: &'a str, about: &'a str) -> Command<'a> {
+    Command::new(alloc, name).about(about).after_help(STATUSES)
+}

@@ -1,0 +1,12 @@
+//! The command line of `grid`: which words there are, what they ask for, and the help that tells
+//! them. Each command stands in `commands`, its arguments in `arguments`, and `words` reads them.
+#![tactic(auto)]
+
+mod arguments;
+mod commands;
+mod words;
+
+pub use commands::VERSION;
+pub use words::{
+    CheckWords, GetWords, PutWords, RepairWords, Request, ScrubWords, SecretWords, read_words,
+};
