@@ -1,30 +1,28 @@
 //! `grid check`: a verdict on each share of a cap's file that the servers of a grid offer.
 
-use crate::get::read_cap;
-use crate::progress::Progress;
-use crate::words::CheckWords;
-use crate::{DONE, Failure, print};
+use crate::notes::{note_blame, note_servers};
+use crate::{DONE, Failure, LITERAL, print, read_cap};
 use cap_text::{Cap, VerifyCap};
 use checker::Check;
 use checker::status::Report;
 use grid_clients::check::CheckClient;
 use grid_clients::watched::Watched;
-use grid_rules::{Fault, Work, report_lines, report_status};
-use grid_servers::{FolderGrid, Purpose, SESSION, is_grid, open_servers, standing_servers};
-use local_grid::error::LoopError;
+use grid_rules::{Fault, Verb, missing_shares, report_json, report_lines, report_status};
+use grid_servers::{FIRST_SESSION, FolderGrid, Purpose, is_grid, open_servers, standing_servers};
+use grid_telling::{Counting, Progress};
+use grid_words::CheckWords;
+use share_reading::Verdict;
 use std::alloc::Global;
 use std::io::{IsTerminal, Write};
 use std::net::Net;
 use std::rt::{Clock, Files};
-
-// What is told of a cap that holds its file.
-const LITERAL: &[u8] = b"literal\n";
+use wire::message::NodeId;
 
 /// Writes what is found of the shares of a cap's file, and gives the exit status: that of too few
 /// shares where the file cannot be recovered. A cap that holds its file has no shares.
 pub(crate) fn check<R, O, E>(
     rt: &R,
-    words: &CheckWords,
+    words: &CheckWords<'_>,
     out: &mut O,
     progress: &mut Progress<'_, R, E>,
 ) -> Result<u8, Failure>
@@ -33,33 +31,73 @@ where
     O: Write,
     E: Write + IsTerminal,
 {
-    let cap = match read_cap(words.cap)? {
-        Cap::Chk(cap) => cap.to_verify(),
-        Cap::Verify(cap) => cap,
-        Cap::Lit(_) => {
-            print(out, LITERAL)?;
-            return Ok(DONE);
-        }
+    let Some(cap) = verify_cap(read_cap(words.cap)?) else {
+        print(out, LITERAL)?;
+        return Ok(DONE);
     };
+    let total = cap.total();
     let found = find_shares(rt, words, cap, progress);
     progress.clear();
-    tell(rt.alloc(), &found?, out)
+    let report = found?;
+    note_report(rt, words.grid, &report, total, progress)?;
+    print(out, text_of(rt.alloc(), words, &report, total)?.as_bytes())?;
+    Ok(report_status(&report, words.strict))
 }
 
-// Writes a report, and gives its exit status.
-fn tell<O: Write>(alloc: Global, report: &Report, out: &mut O) -> Result<u8, Failure> {
-    print(out, lines_of(alloc, report)?.as_bytes())?;
-    Ok(report_status(report))
+/// The verify cap of a cap; none of one that holds its file.
+pub(crate) fn verify_cap(cap: Cap) -> Option<VerifyCap> {
+    match cap {
+        Cap::Chk(cap) => Some(cap.to_verify()),
+        Cap::Verify(cap) => Some(cap),
+        Cap::Lit(_) => None,
+    }
 }
 
-fn lines_of(alloc: Global, report: &Report) -> Result<String, Fault> {
-    Ok(report_lines(alloc, report)?)
+// What is told of a report.
+fn text_of(
+    alloc: Global,
+    words: &CheckWords<'_>,
+    report: &Report,
+    total: u16,
+) -> Result<String, Fault> {
+    let text = if words.json {
+        report_json(alloc, report, total)
+    } else {
+        report_lines(alloc, report)
+    };
+    Ok(text?)
+}
+
+// Tells of each server with a corrupt share, and of each number that nobody holds.
+fn note_report<R, E>(
+    rt: &R,
+    grid: &str,
+    report: &Report,
+    total: u16,
+    progress: &mut Progress<'_, R, E>,
+) -> Result<(), Fault>
+where
+    R: Clock + AllocGlobal,
+    E: Write + IsTerminal,
+{
+    if !progress.is_verbose() {
+        return Ok(());
+    }
+    for found in report.verdicts.as_slice() {
+        if matches!(found.verdict, Verdict::Corrupt(_)) {
+            note_blame(rt, grid, found.server, found.share, progress)?;
+        }
+    }
+    for number in missing_shares(rt.alloc(), report, total)?.as_slice() {
+        progress.note(format!(in rt.alloc(); "share {number} missing\n")?.as_str());
+    }
+    Ok(())
 }
 
 // What a check finds at the servers whose folders stand in a grid.
 fn find_shares<R, E>(
     rt: &R,
-    words: &CheckWords,
+    words: &CheckWords<'_>,
     cap: VerifyCap,
     progress: &mut Progress<'_, R, E>,
 ) -> Result<Report, Fault>
@@ -69,37 +107,36 @@ where
 {
     is_grid(rt, words.grid)?;
     let standing = standing_servers(rt, words.grid)?;
-    let mut servers = open_servers(rt, words.grid, &standing, Purpose::Reading, words.net)?;
-    match Check::start(rt.alloc(), cap, &standing, SESSION, 0) {
-        Ok(check) => carry(rt, &mut servers, check, progress),
-        Err(error) => Err(Fault::from(error)),
-    }
+    let servers = standing.as_slice();
+    let mut nodes = open_servers(rt, words.grid, servers, Purpose::Reading, words.net)?;
+    progress.begin(Verb::Check, Counting::Answered(share_bytes(&cap)), 0);
+    let client = carry_check(rt.alloc(), cap, servers, &mut nodes, progress)?;
+    note_servers(rt, words.grid, servers, &nodes, Purpose::Reading, progress)?;
+    // One without a report found no memory.
+    client.report(rt.alloc())?.ok_or(Fault::OutOfMemory)
 }
 
-// Carries a check to its end, and gives what it found.
-fn carry<R, E>(
-    rt: &R,
-    servers: &mut FolderGrid<R>,
-    check: Check,
+/// About how many bytes a share of a file has: those of its blocks.
+pub(crate) fn share_bytes(cap: &VerifyCap) -> u64 {
+    let needed = u64::from(cap.needed()).max(1);
+    cap.size().div_ceil(needed)
+}
+
+/// Carries a check of a cap's file to its end over these servers.
+pub(crate) fn carry_check<R, E>(
+    alloc: Global,
+    cap: VerifyCap,
+    servers: &[NodeId],
+    nodes: &mut FolderGrid<R>,
     progress: &mut Progress<'_, R, E>,
-) -> Result<Report, Fault>
+) -> Result<CheckClient, Fault>
 where
-    R: Files + Net + Clock + AllocGlobal + Drop,
+    R: Files + Net + Clock + AllocGlobal + Clone + Drop,
     E: Write + IsTerminal,
 {
-    progress.begin(Work::Read);
+    let now = nodes.clock();
+    let check = Check::start(alloc, cap, servers, FIRST_SESSION, now)?;
     let mut client = Watched::new(CheckClient::new(check), progress);
-    let carried = servers.run(&mut client);
-    found_by(rt.alloc(), carried, client.client())
-}
-
-// What a check found that was carried to its end. One without a report found no memory.
-fn found_by(
-    alloc: Global,
-    carried: Result<(), LoopError>,
-    client: &CheckClient,
-) -> Result<Report, Fault> {
-    carried?;
-    let report = client.report(alloc)?;
-    report.ok_or(Fault::OutOfMemory)
+    nodes.run(&mut client)?;
+    Ok(client.into_client())
 }

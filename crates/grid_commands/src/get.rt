@@ -1,31 +1,26 @@
 //! `grid get`: bytes of a cap's file, from the servers of a grid.
 
-ghost use Rattle.std.specs.Prelude.{◌≡◌, ◌≤◌, length, nat_eq};
-ghost use Rattle.std.specs.List.{IsDistinct};
+ghost use Rattle.std.specs.Prelude.{◌≡◌, ◌≤◌, length};
 ghost use Rattle.grid_rules.specs.Range.{IsWithin};
 
-use crate::progress::{Counted, Progress, Writing};
-use crate::words::GetWords;
-use crate::{Failure, print};
+use crate::notes::note_servers;
+use crate::output::Part;
+use crate::spans::Spans;
+use crate::{Failure, print, read_cap};
 use cap_text::{Cap, ReadCap};
-use download_core::Download;
-use grid_clients::download::DownloadClient;
-use grid_clients::watched::Watched;
-use grid_rules::{ByteRange, Fault, Work, range_of, reached_range_end};
-use grid_servers::{FolderGrid, Purpose, SESSION, is_grid, open_servers, standing_servers};
-use local_grid::error::LoopError;
-use std::alloc::Global;
-use std::cell::Cell;
+use grid_rules::{ByteRange, Fault, Verb, range_of};
+use grid_servers::{Purpose, is_grid, open_servers, standing_servers};
+use grid_telling::{Counting, Progress};
+use grid_words::GetWords;
 use std::io::{IsTerminal, Write};
 use std::net::Net;
 use std::rt::{Clock, Files};
-use wire::message::NodeId;
 
-/// Writes bytes of the file of a cap: from the cap itself where it holds the file, else from what
-/// the servers answer, each segment once it is proved.
+/// Writes bytes of the file of a cap, to a file where one is named: from the cap itself where it
+/// holds the file, else from what the servers answer, each segment once it is proved.
 pub(crate) fn get<R, O, E>(
     rt: &R,
-    words: &GetWords,
+    words: &GetWords<'_>,
     out: &mut O,
     progress: &mut Progress<'_, R, E>,
 ) -> Result<(), Failure>
@@ -34,21 +29,47 @@ where
     O: Write,
     E: Write + IsTerminal,
 {
-    match read_cap(words.cap)? {
-        Cap::Chk(cap) => get_range(rt, words, cap, out, progress),
-        Cap::Verify(_) => Err(Failure::Fault(Fault::NeedsReadCap)),
-        Cap::Lit(cap) => {
-            let range = range_of(words.from, words.to, cap.data().len() as u64)?;
-            print(out, bytes_in(cap.data(), &range))
-        }
+    let cap = read_cap(words.cap)?;
+    let range = range_of(words.from, words.to, size_of(&cap)?)?;
+    match words.output {
+        None => write_bytes(rt, words, &cap, &range, out, progress),
+        Some(path) => write_file(rt, words, path, &cap, &range, progress),
     }
 }
 
-// Writes bytes of the file of a cap from what the servers answer.
-fn get_range<R, O, E>(
+// The size of a cap's file. A verify cap does not read.
+fn size_of(cap: &Cap) -> Result<u64, Fault> {
+    match cap {
+        Cap::Chk(cap) => Ok(cap.size()),
+        Cap::Verify(_) => Err(Fault::NeedsReadCap),
+        Cap::Lit(cap) => Ok(cap.data().len() as u64),
+    }
+}
+
+// Writes a range of a cap's file to a file of this path.
+fn write_file<R, E>(
     rt: &R,
-    words: &GetWords,
-    cap: ReadCap,
+    words: &GetWords<'_>,
+    path: &str,
+    cap: &Cap,
+    range: &ByteRange,
+    progress: &mut Progress<'_, R, E>,
+) -> Result<(), Failure>
+where
+    R: Files + Net + Clock + AllocGlobal + Clone + Drop,
+    E: Write + IsTerminal,
+{
+    let mut part = Part::create(rt, path)?;
+    let written = write_bytes(rt, words, cap, range, &mut part, progress);
+    part.finish(rt, written)
+}
+
+// Writes a range of a cap's file.
+fn write_bytes<R, O, E>(
+    rt: &R,
+    words: &GetWords<'_>,
+    cap: &Cap,
+    range: &ByteRange,
     out: &mut O,
     progress: &mut Progress<'_, R, E>,
 ) -> Result<(), Failure>
@@ -57,84 +78,53 @@ where
     O: Write,
     E: Write + IsTerminal,
 {
-    let range = range_of(words.from, words.to, cap.size())?;
-    progress.begin(Work::Write(cap.needed(), range.to.saturating_sub(range.from)));
-    let (mut servers, download) = begin(rt, words, cap, &range)?;
-    carry(&mut servers, download, &mut *out, progress)?;
-    print(out, &[])
+    match cap {
+        Cap::Chk(cap) => get_range(rt, words, cap, range, out, progress),
+        Cap::Verify(_) => Err(Failure::Fault(Fault::NeedsReadCap)),
+        Cap::Lit(cap) => print(out, bytes_in(cap.data(), range)),
+    }
 }
 
-/// The cap that a text spells.
-pub(crate) fn read_cap(text: &str) -> Result<Cap, Fault> {
-    Ok(Cap::parse(text.as_bytes())?)
+// The bytes of a range, where they are there.
+fn bytes_in<'a>(bytes: &'a [u8], range: &ByteRange) -> &'a [u8] {
+    bytes
+        .get(range.from as usize..range.to as usize)
+        .unwrap_or(&[])
 }
 
-// The bytes of a range.
-fn bytes_in<'a>(bytes: &'a [u8], range: &ByteRange) -> &'a [u8]
-    requires { IsWithin (length bytes.now) range.now }
-{
-    &bytes[range.from as usize..range.to as usize]
-}
-
-// The servers whose folders stand in a grid, and the download of a range of a file from them.
-fn begin<R>(
+// Writes a range of a cap's file from what the servers answer.
+fn get_range<R, O, E>(
     rt: &R,
-    words: &GetWords,
-    cap: ReadCap,
+    words: &GetWords<'_>,
+    cap: &ReadCap,
     range: &ByteRange,
-) -> Result<(FolderGrid<R>, Download), Fault>
+    out: &mut O,
+    progress: &mut Progress<'_, R, E>,
+) -> Result<(), Failure>
 where
-    R: Files + Net + AllocGlobal + Clone + Drop,
+    R: Files + Net + Clock + AllocGlobal + Clone + Drop,
+    O: Write,
+    E: Write + IsTerminal,
 {
     is_grid(rt, words.grid)?;
     let standing = standing_servers(rt, words.grid)?;
-    let servers = open_servers(rt, words.grid, &standing, Purpose::Reading, words.net)?;
-    match begin_download(rt.alloc(), cap, range, &standing) {
-        Ok(download) => Ok((servers, download)),
-        Err(fault) => Err(fault),
-    }
-}
-
-// The download of a range of a file, from these servers, which are distinct.
-fn begin_download(
-    alloc: Global,
-    cap: ReadCap,
-    range: &ByteRange,
-    servers: &[NodeId],
-) -> Result<Download, Fault>
-    requires { IsDistinct nat_eq servers.now }
-{
-    let (from, to) = (range.from, range.to);
-    Ok(Download::start(alloc, cap, from, to, servers, SESSION, 0)?)
-}
-
-// Carries a download to its end, and writes what it hands out.
-fn carry<R, O, E>(
-    servers: &mut FolderGrid<R>,
-    download: Download,
-    out: &mut O,
-    progress: &mut Progress<'_, R, E>,
-) -> Result<(), Failure>
-where
-    R: Files + Net + Clock + AllocGlobal + Drop,
-    O: Write,
-    E: Write + IsTerminal,
-{
-    let taken = Cell::new(0);
-    let client = DownloadClient::new(download, Counted::new(out, &taken));
-    let mut watched = Watched::new(client, Writing::new(progress, &taken));
-    let carried = servers.run(&mut watched);
-    end_of(carried, watched.client())
-}
-
-// How a download ended that was carried as far as it goes.
-fn end_of<W: Write>(
-    carried: Result<(), LoopError>,
-    client: &DownloadClient<W>,
-) -> Result<(), Failure> {
-    carried.map_err(Fault::from)?;
-    if client.has_failed() {
-        return Err(Failure::Writer);
-    }
-    Ok(reached_range_end(client.status())?)
+    let servers = standing.as_slice();
+    let nodes = open_servers(rt, words.grid, servers, Purpose::Reading, words.net)?;
+    progress.begin(
+        Verb::Get,
+        Counting::Added,
+        range.to.saturating_sub(range.from),
+    );
+    let mut spans = Spans::new(rt, words.grid, nodes);
+    let written = spans.write_range(servers, cap, range, out, progress);
+    note_servers(
+        rt,
+        words.grid,
+        servers,
+        spans.nodes(),
+        Purpose::Reading,
+        progress,
+    )?;
+    written?;
+    print(out, &[])
 }

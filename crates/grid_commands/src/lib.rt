@@ -1,29 +1,36 @@
 //! The commands of `grid`, which keeps files on a grid of servers that need not be trusted.
 //!
 //! `grid` takes the words of the command line and two writers, and gives the exit status. A `put`
-//! is an upload, a `get` a download, and a `check` a check, which `local_grid` carries on, and what
-//! is told stands in `grid_rules`; `world` is a script that `grid_scripts` runs. What stands here
-//! is which words there are.
+//! is an upload, a `get` one download or several, a `check` a check, and a `repair` a check and an
+//! upload, which `local_grid` carries on; a `scrub` reads the servers' folders; `world` is a script
+//! that `grid_scripts` runs. Which words there are stands in `grid_words`, and what is told in
+//! `grid_rules` and `grid_telling`.
 #![tactic(auto)]
 
 mod check;
 mod get;
-mod progress;
+mod mending;
+mod notes;
+mod output;
+mod placing;
 mod put;
+mod repair;
 mod script;
-mod words;
+mod scrub;
+mod spans;
 
 ghost use Rattle.std.specs.Prelude.{◌≡◌};
 
+use cap_text::Cap;
 use clap::error::ErrorKind;
 use grid_rules::{Fault, cap_lines};
-use progress::Progress;
-use std::alloc::Global;
+use grid_telling::Progress;
+use grid_words::{Request, read_words};
+use std::alloc::{AllocError, Global};
 use std::convert::AsStr;
 use std::io::{self, IsTerminal};
 use std::net::Net;
 use std::rt::{Clock, Files};
-use words::{Request, read_words};
 
 // The exit status of what is done, that of wrong words, and that of a failed file, writer or
 // allocation.
@@ -32,6 +39,9 @@ const DONE: u8 = 0;
 const WRONG_WORDS: u8 = 2;
 
 const FAILED: u8 = 7;
+
+// What is told of a cap that holds its file.
+const LITERAL: &[u8] = b"literal\n";
 
 /// Why a run ended without its result.
 #[derive(Drop)]
@@ -53,12 +63,24 @@ impl From<Fault> for Failure {
     }
 }
 
+impl From<AllocError> for Failure {
+    ghost use Rattle.grid_commands.specs.declared.Failure.TheVariants as failures;
+    ghost use Rattle.grid_rules.specs.declared.fault.Fault.TheVariants as faults;
+
+    ghost from_gives = { λ _ failure. failure ≡ failures.Fault faults.OutOfMemory };
+
+    fn from(_error: AllocError) -> Failure {
+        Failure::Fault(Fault::OutOfMemory)
+    }
+}
+
 /// Runs the command that `words` asks for, of which the first is the program's name. Its result
 /// goes to `out`, and a fault, as one line with its number and name, to `err`. A `get` writes as it
 /// reads, so that a beginning of its range may stand on `out` where it ends with a fault.
 ///
-/// Where `err` is a terminal, a `put`, `get` or `check` that takes more than a second tells there
-/// how far it is, and clears that line before it ends. A fault of that line is passed over.
+/// Where `err` is a terminal, a command that takes more than a second tells there how far it is,
+/// and clears that line before it ends. With `-v` it tells a line of each server that serves badly.
+/// A fault of these lines is passed over.
 ///
 /// | Status | Where it ended |
 /// |---|---|
@@ -66,7 +88,7 @@ impl From<Fault> for Failure {
 /// | 2 | the words are wrong |
 /// | 3 | its input is refused |
 /// | 4 | an upload is unhappy |
-/// | 5 | there are too few shares, also where a `check` finds too few good ones and prints so |
+/// | 5 | there are too few shares, also where a `check` finds so or a `scrub` finds damaged ones |
 /// | 6 | shares are inconsistent, or a `world` prints that its bytes do not agree |
 /// | 7 | a file, a folder, a socket or memory failed, or `out` or `err` |
 ///
@@ -80,13 +102,14 @@ where
 {
     let mut progress = Progress::new(rt, &mut *err);
     let ended = run(rt, words, out, &mut progress);
+    let verbose = progress.is_verbose();
     progress.clear();
     match ended {
         Ok(status) => status,
         Err(Failure::Writer) => FAILED,
-        Err(Failure::Fault(fault)) => report(rt.alloc(), err, &fault),
+        Err(Failure::Fault(fault)) => report(rt.alloc(), err, &fault, verbose),
         Err(Failure::Words(error)) => match error.kind() {
-            ErrorKind::OutOfMemory => report(rt.alloc(), err, &Fault::OutOfMemory),
+            ErrorKind::OutOfMemory => report(rt.alloc(), err, &Fault::OutOfMemory, false),
             _ if error.use_stderr() => show(rt.alloc(), err, &error, WRONG_WORDS),
             _ => show(rt.alloc(), out, &error, DONE),
         },
@@ -98,7 +121,7 @@ where
 pub fn refuse_words<E: io::Write>(alloc: Global, error: &io::Error, err: &mut E) -> u8 {
     match error.kind() {
         io::ErrorKind::InvalidData => write(err, NOT_UTF8, WRONG_WORDS),
-        _ => report(alloc, err, &Fault::OutOfMemory),
+        _ => report(alloc, err, &Fault::OutOfMemory, false),
     }
 }
 
@@ -120,11 +143,33 @@ where
 {
     match read_words(rt.alloc(), words) {
         Err(error) => Err(Failure::Words(error)),
-        Ok(Request::Put(words)) => done(print(out, &put::put(rt, &words, progress)?)),
-        Ok(Request::Get(words)) => done(get::get(rt, &words, out, progress)),
-        Ok(Request::Check(words)) => check::check(rt, &words, out, progress),
-        Ok(Request::World(path)) => script::world(rt, path, out),
-        Ok(Request::Describe(text)) => done(print(out, &describe(rt.alloc(), text)?)),
+        Ok(request) => {
+            progress.set_verbose(request.is_verbose());
+            run_request(rt, &request, out, progress)
+        }
+    }
+}
+
+// The same of words that were read.
+fn run_request<R, O, E>(
+    rt: &R,
+    request: &Request<'_>,
+    out: &mut O,
+    progress: &mut Progress<'_, R, E>,
+) -> Result<u8, Failure>
+where
+    R: Files + Net + Clock + AllocGlobal + Clone + Drop,
+    O: io::Write,
+    E: io::Write + IsTerminal,
+{
+    match request {
+        Request::Put(words) => done(print(out, &put::put(rt, words, progress)?)),
+        Request::Get(words) => done(get::get(rt, words, out, progress)),
+        Request::Check(words) => check::check(rt, words, out, progress),
+        Request::Repair(words) => done(print(out, &repair::repair(rt, words, progress)?)),
+        Request::Scrub(words) => scrub::scrub(rt, words, out, progress),
+        Request::World(path) => script::world(rt, path, out),
+        Request::Describe(text) => done(print(out, &describe(rt.alloc(), text)?)),
     }
 }
 
@@ -141,14 +186,27 @@ fn print<O: io::Write>(out: &mut O, bytes: &[u8]) -> Result<(), Failure> {
     Ok(())
 }
 
+// The cap that a text spells.
+fn read_cap(text: &str) -> Result<Cap, Fault> {
+    Ok(Cap::parse(text.as_bytes())?)
+}
+
 // The lines that tell what the cap says that this text spells.
 fn describe(alloc: Global, text: &str) -> Result<Vec<u8>, Fault> {
-    let cap = get::read_cap(text)?;
+    let cap = read_cap(text)?;
     Ok(cap_lines(alloc, &cap)?.into_bytes())
 }
 
-// Writes a fault's line, and gives its exit status.
-fn report<E: io::Write>(alloc: Global, err: &mut E, fault: &Fault) -> u8 {
+// Writes a fault's line, with the system's reason before it where that is asked for, and gives the
+// exit status.
+fn report<E: io::Write>(alloc: Global, err: &mut E, fault: &Fault, verbose: bool) -> u8 {
+    if let Fault::File(path, error) = fault {
+        if verbose {
+            if let Ok(line) = format!(in alloc; "{path}: {error}\n") {
+                let _ = err.write_all(line.as_bytes());
+            }
+        }
+    }
     match format!(in alloc; "grid: {} {fault}\n", fault.number()) {
         Ok(line) => write(err, line.as_bytes(), fault.status()),
         Err(_) => write(err, b"grid: 1 OutOfMemory\n", FAILED),

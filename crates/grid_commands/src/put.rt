@@ -1,19 +1,21 @@
 //! `grid put`: a file becomes shares on servers, and a cap.
 
-ghost use Rattle.std.specs.Prelude.{◌≤◌, ◌<◌, length, IfOk};
+ghost use Rattle.std.specs.Prelude.{◌≤◌, ◌<◌, length, IfOk, nat_eq};
+ghost use Rattle.std.specs.List.{IsDistinct};
 
-use crate::progress::Progress;
-use crate::words::PutWords;
-use cap_text::{Cap, LitCap, ReadCap};
+use crate::mending::mend_servers;
+use crate::notes::note_limits;
+use crate::placing::{Placing, carry_upload, durability_of};
+use cap_text::{Cap, LitCap};
 use file_encoding::Params;
 use file_upload::prepared::{FileUpload, PreparedUpload, prepare};
-use grid_clients::upload::UploadClient;
-use grid_clients::watched::Watched;
-use grid_rules::{Fault, Work, reached_happiness, servers_of};
+use grid_rules::{Fault, Limit, Verb, first_servers, servers_of};
 use grid_servers::{
-    Durability, FolderGrid, MAX_SERVERS, Purpose, SESSION, at_path, can_be_grid, make_grid,
-    open_servers, read_at_most, server_names,
+    FIRST_SESSION, MAX_SERVERS, Purpose, at_path, can_be_grid, make_grid, open_servers,
+    read_at_most, read_input,
 };
+use grid_telling::{Counting, Progress};
+use grid_words::{PutWords, SecretWords};
 use std::alloc::Global;
 use std::io::{IsTerminal, Write};
 use std::net::Net;
@@ -25,6 +27,12 @@ use wire::message::NodeId;
 /// The greatest convergence secret, in bytes.
 const MAX_SECRET_SIZE: usize = 64;
 
+/// The greatest number of shares.
+const MAX_SHARES: u64 = 256;
+
+/// The greatest segment that may be chosen, in bytes.
+const MAX_SEGMENT_SIZE: u64 = 1 << 20;
+
 /// The greatest file, in bytes.
 const MAX_FILE_SIZE: u64 = 1 << 40;
 
@@ -35,21 +43,42 @@ const MAX_LITERAL_SIZE: usize = 55;
 /// it, and no server is needed.
 pub(crate) fn put<R, E>(
     rt: &R,
-    words: &PutWords,
+    words: &PutWords<'_>,
     progress: &mut Progress<'_, R, E>,
 ) -> Result<Vec<u8>, Fault>
 where
     R: Files + Net + Clock + AllocGlobal + Clone + Drop,
     E: Write + IsTerminal,
 {
+    note_limits(rt, &limits_of(words), progress)?;
     let params = Params::new(words.needed, words.happy, words.total, words.max_segment)?;
     let servers = server_count(words.servers)?;
-    if words.secret.len() > MAX_SECRET_SIZE {
-        return Err(Fault::BadParameters);
-    }
-    match prepare_file(rt, words, &params, progress)? {
-        FileUpload::Shares(upload) => place_shares(rt, words, servers, upload, progress),
+    let secret = read_secret(rt, &words.secret)?;
+    match prepare_file(rt, words, secret.as_slice(), &params, progress)? {
+        FileUpload::Shares(upload) => place_file(rt, words, servers, upload, progress),
         FileUpload::Literal(cap) => literal_line(rt.alloc(), cap),
+    }
+}
+
+// The numbers of a put, and their ranges.
+fn limits_of<'a>(words: &PutWords<'a>) -> [Limit<'a>; 5] {
+    let total = words.total.min(MAX_SHARES);
+    [
+        limit("--k", words.needed, total),
+        limit("--happy", words.happy, total),
+        limit("--n", words.total, MAX_SHARES),
+        limit("--segment", words.max_segment, MAX_SEGMENT_SIZE),
+        limit("--servers", words.servers, u64::from(MAX_SERVERS)),
+    ]
+}
+
+// A number from 1 to the most.
+fn limit<'a>(option: &'a str, value: u64, most: u64) -> Limit<'a> {
+    Limit {
+        option,
+        value,
+        least: 1,
+        most,
     }
 }
 
@@ -69,22 +98,53 @@ fn server_count(servers: u64) -> Result<u16, Fault>
     Ok(servers as u16)
 }
 
+// The bytes of the secret: of a file all but one line feed at its end.
+fn read_secret<R>(rt: &R, words: &SecretWords<'_>) -> Result<Vec<u8>, Fault>
+where
+    R: Files + AllocGlobal,
+    ensures { IfOk result (λ secret. length secret.items ≤ 64) }
+{
+    let secret = match words {
+        SecretWords::Text(text) => Vec::from_slice(rt.alloc(), text.as_bytes())?,
+        SecretWords::File(path) => read_secret_file(rt, path)?,
+    };
+    if secret.len() > MAX_SECRET_SIZE {
+        return Err(Fault::BadParameters);
+    }
+    Ok(secret)
+}
+
+fn read_secret_file<R>(rt: &R, path: &str) -> Result<Vec<u8>, Fault>
+where
+    R: Files + AllocGlobal,
+{
+    let read = read_at_most(rt, path, MAX_SECRET_SIZE as u64 + 1);
+    match at_path(rt.alloc(), read, path)? {
+        Some(mut secret) => {
+            if secret.last() == Some(&b'\n') {
+                secret.pop();
+            }
+            Ok(secret)
+        }
+        None => Err(Fault::BadParameters),
+    }
+}
+
 // Reads the file and encodes it. Its bytes are let go before the shares are placed. A fault of the
 // file comes first, then one of the grid's folder, which a small file does not need.
 fn prepare_file<R, E>(
     rt: &R,
-    words: &PutWords,
+    words: &PutWords<'_>,
+    secret: &[u8],
     params: &Params,
     progress: &mut Progress<'_, R, E>,
 ) -> Result<FileUpload, Fault>
 where
     R: Files + Clock + AllocGlobal + Clone + Drop,
     E: Write + IsTerminal,
-    requires { length words.now.secret.now ≤ 64 }
+    requires { length secret.now ≤ 64 }
 {
-    let alloc = rt.alloc();
-    let read = read_at_most(rt, words.file, MAX_FILE_SIZE);
-    let file = at_path(alloc, read, words.file)?;
+    let file = read_input(rt, words.file, MAX_FILE_SIZE)?;
     if !file
         .as_ref()
         .is_some_and(|bytes| bytes.len() <= MAX_LITERAL_SIZE)
@@ -94,15 +154,15 @@ where
     let Some(file) = file else {
         return Err(Fault::TooLarge);
     };
-    progress.encode(file.len() as u64);
-    Ok(prepare(alloc, &file, words.secret.as_bytes(), params)?)
+    progress.encode(Verb::Put, file.len() as u64);
+    Ok(prepare(rt.alloc(), &file, secret, params)?)
 }
 
 // Places the shares on the servers, and gives the lines with the cap and the happiness, where it is
 // as great as was wanted.
-fn place_shares<R, E>(
+fn place_file<R, E>(
     rt: &R,
-    words: &PutWords,
+    words: &PutWords<'_>,
     servers: u16,
     upload: PreparedUpload,
     progress: &mut Progress<'_, R, E>,
@@ -110,14 +170,49 @@ fn place_shares<R, E>(
 where
     R: Files + Net + Clock + AllocGlobal + Clone + Drop,
     E: Write + IsTerminal,
-    requires { servers ≤ MAX_SERVERS }
 {
-    make_grid(rt, words.grid, Durability::Synced)?;
+    let alloc = rt.alloc();
     let cap = *upload.cap();
-    progress.begin(Work::Place(cap.total(), share_bytes(&upload)));
-    let happiness = run_upload(rt, words, servers, upload, progress)?;
+    let numbers = first_servers(alloc, servers)?;
+    let placing = Placing {
+        grid: words.grid,
+        servers: numbers.as_slice(),
+        durability: durability_of(words.no_sync),
+    };
+    make_grid(rt, words.grid, placing.durability)?;
+    if words.mend {
+        let index = *cap.to_verify().storage_index();
+        mend_servers(rt, words.grid, numbers.as_slice(), &index, progress)?;
+    }
+    let happiness = run_upload(rt, &placing, words.net, upload, progress)?;
     progress.clear();
-    put_lines(rt.alloc(), &cap, happiness)
+    let line = if words.quiet {
+        format!(in alloc; "{cap}\n")
+    } else {
+        format!(in alloc; "{cap}\nhappiness {happiness}\n")
+    };
+    Ok(line?.into_bytes())
+}
+
+// Carries the upload to its end, and gives the happiness that it reached.
+fn run_upload<R, E>(
+    rt: &R,
+    placing: &Placing<'_>,
+    net: bool,
+    upload: PreparedUpload,
+    progress: &mut Progress<'_, R, E>,
+) -> Result<usize, Fault>
+where
+    R: Files + Net + Clock + AllocGlobal + Clone + Drop,
+    E: Write + IsTerminal,
+    requires { IsDistinct nat_eq placing.now.servers.now }
+{
+    let wanted = upload.happy();
+    progress.begin(Verb::Put, Counting::Stored, share_bytes(&upload));
+    let upload = begin_upload(rt.alloc(), placing.servers, upload)?;
+    let purpose = Purpose::Writing(placing.durability);
+    let mut nodes = open_servers(rt, placing.grid, placing.servers, purpose, net)?;
+    carry_upload(rt, placing, &mut nodes, upload, wanted, progress)
 }
 
 // The bytes of all shares together.
@@ -126,50 +221,14 @@ fn share_bytes(upload: &PreparedUpload) -> u64 {
     upload.share_length().saturating_mul(total)
 }
 
-// The lines of a file that was put.
-fn put_lines(alloc: Global, cap: &ReadCap, happiness: usize) -> Result<Vec<u8>, Fault> {
-    Ok(format!(in alloc; "{cap}\nhappiness {happiness}\n")?.into_bytes())
-}
-
-// Carries the upload to its end, and gives the happiness that it reached.
-fn run_upload<R, E>(
-    rt: &R,
-    words: &PutWords,
-    servers: u16,
-    upload: PreparedUpload,
-    progress: &mut Progress<'_, R, E>,
-) -> Result<usize, Fault>
-where
-    R: Files + Net + Clock + AllocGlobal + Clone + Drop,
-    E: Write + IsTerminal,
-    requires { servers ≤ MAX_SERVERS }
-{
-    let wanted = upload.happy();
-    let upload = begin_upload(rt.alloc(), servers, upload)?;
-    let mut client = Watched::new(UploadClient::new(upload), progress);
-    open_first_servers(rt, words, servers)?.run(&mut client)?;
-    reached_happiness(client.client().status(), wanted)
-}
-
-// So many servers, the first ones.
-fn open_first_servers<R>(rt: &R, words: &PutWords, servers: u16) -> Result<FolderGrid<R>, Fault>
-where
-    R: Files + Net + AllocGlobal + Clone + Drop,
-{
-    let numbers: Vec<NodeId> = (0..servers).collect(rt.alloc())?;
-    let purpose = Purpose::Writing(Durability::Synced);
-    open_servers(rt, words.grid, &numbers, purpose, words.net)
-}
-
-// The upload to the first servers.
+// The upload to these servers, which are distinct.
 fn begin_upload(
     alloc: Global,
-    servers: u16,
+    servers: &[NodeId],
     upload: PreparedUpload,
 ) -> Result<Upload<WholeShares>, Fault>
-    requires { servers ≤ MAX_SERVERS }
+    requires { IsDistinct nat_eq servers.now }
 {
-    let names = server_names(alloc, servers)?;
-    let infos = servers_of(alloc, &names)?;
-    Ok(upload.start(alloc, &infos, SESSION, 0)?)
+    let infos = servers_of(alloc, servers)?;
+    Ok(upload.start(alloc, &infos, FIRST_SESSION, 0)?)
 }

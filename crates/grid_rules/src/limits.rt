@@ -7,6 +7,7 @@ ghost use Rattle.grid_rules.specs.Limits.{IsKept, limit_line};
 use std::alloc::{AllocError, Global};
 
 /// What was given for an option, and the numbers that may be given.
+#[derive(Clone, Copy)]
 pub struct Limit<'a> {
     pub option: &'a str,
     pub value: u64,

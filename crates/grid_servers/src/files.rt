@@ -1,30 +1,42 @@
-//! Files and standard input, read to an end that is known before.
+//! Files, read to an end that is known before.
 
 ghost use Rattle.std.specs.Prelude.{◌≡◌, ◌≤◌, length, Ok, Some, IfOk, IfErr, IfSome};
 
-use grid_rules::{Fault, is_memory};
+use grid_rules::{Fault, is_memory, told_path};
 use std::alloc::Global;
 use std::fs::{File, OpenFile};
-use std::io::{self, Input, Read};
+use std::io::{ErrorKind, Read};
 use std::rt::Files;
+use std::{fs, io};
 
-/// The path that stands for standard input.
+/// The path that stands for standard input, the path at which the system has it, and how it is told.
 const STANDARD_INPUT: &str = "-";
 
-/// The bytes of a file, or for the path `-` those of standard input, where there are at most
-/// `limit`, and none where there are more. No more than that and one byte is read. Memory is asked
-/// for by the file's length, and else by what came.
-pub fn read_input<R: Files + Input + AllocGlobal>(
+const INPUT_PATH: &str = "/dev/stdin";
+
+const INPUT_NAME: &str = "standard input";
+
+const NO_FILE: &str = "standard input, which is no file and cannot be read twice";
+
+/// The bytes of a file, or for the path `-` those of the file that standard input is read from,
+/// where there are at most `limit`, and none where there are more. A fault of the file where it
+/// cannot be read, and where standard input is a pipe or a terminal.
+pub fn read_input<R: Files + AllocGlobal>(
     rt: &R,
     path: &str,
     limit: u64,
-) -> io::Result<Option<Vec<u8>>>
+) -> Result<Option<Vec<u8>>, Fault>
     ensures { IfOk result (λ read. IfSome read (λ bytes. length bytes.items ≤ limit)) }
 {
-    if path == STANDARD_INPUT {
-        return read_to_limit(rt.alloc(), rt.reader(), 0, limit);
+    let alloc = rt.alloc();
+    if path != STANDARD_INPUT {
+        return at_path(alloc, read_at_most(rt, path, limit), path);
     }
-    read_at_most(rt, path, limit)
+    let found = at_path(alloc, fs::metadata(rt, INPUT_PATH), INPUT_NAME)?;
+    if !found.is_file() {
+        return at_path(alloc, Err(io::Error::from(ErrorKind::NotSeekable)), NO_FILE);
+    }
+    at_path(alloc, read_at_most(rt, INPUT_PATH, limit), INPUT_NAME)
 }
 
 /// The bytes of a file, where there are at most `limit`, and none where there are more. No more
@@ -44,7 +56,7 @@ pub fn read_at_most<R: Files + AllocGlobal>(
     read_to_limit(rt.alloc(), file, length, limit)
 }
 
-// The same of what is open, and has so many bytes as far as that is known.
+// The same of a file that is open, and has so many bytes by what its folder says.
 fn read_to_limit<F: Read + Drop>(
     alloc: Global,
     file: F,
@@ -61,14 +73,14 @@ fn read_to_limit<F: Read + Drop>(
     Ok(Some(bytes))
 }
 
-/// The result of a call on a path, with a fault that names the path.
+/// The result of a call on a path, with a fault that names the path, as it is told.
 pub fn at_path<T>(alloc: Global, outcome: io::Result<T>, path: &str) -> Result<T, Fault>
     ensures ok { IfOk outcome (λ value. result ≡ Ok value) }
     ensures taken { IfOk result (λ value. outcome ≡ Ok value) }
 {
     match outcome {
         Ok(value) => Ok(value),
-        Err(error) => Err(Fault::of_path(String::from_str(alloc, path)?, error)),
+        Err(error) => Err(Fault::of_path(told_path(alloc, path)?, error)),
     }
 }
 

@@ -10,6 +10,6 @@ mod servers;
 pub use files::{at_path, read_at_most, read_input};
 pub use folders::{MAX_SERVERS, can_be_grid, folder_fault, is_grid, make_grid, server_folder};
 pub use servers::{
-    FolderGrid, SECOND_SESSION, SESSION, open_servers, server_names, standing_servers,
+    FIRST_SESSION, FolderGrid, is_silent, open_servers, servers_without, standing_servers,
 };
 pub use share_store::folder::{Durability, Purpose};

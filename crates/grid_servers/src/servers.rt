@@ -2,10 +2,11 @@
 
 ghost use Rattle.std.specs.Prelude.{◌≡◌, ◌≤◌, length, nat_eq, IfOk, OnOk};
 ghost use Rattle.std.specs.List.{IsDistinct};
+ghost use Rattle.grid_servers.specs.Servers.{servers_without};
 
 use crate::files::if_there;
 use crate::folders::{MAX_SERVERS, server_folder};
-use grid_rules::{Fault, is_memory, server_name};
+use grid_rules::{Fault, is_memory};
 use local_grid::grid::LocalGrid;
 use local_grid::link::MemoryLink;
 use local_grid::node::Node;
@@ -19,11 +20,8 @@ use std::net::Net;
 use std::rt::Files;
 use wire::message::NodeId;
 
-/// The session of a command's one operation, or of its first one.
-pub const SESSION: u64 = 1;
-
-/// The session of a second operation over the same links, as the upload of a repair.
-pub const SECOND_SESSION: u64 = 2;
+/// The session of a command's first operation. Each further one over the same links has the next.
+pub const FIRST_SESSION: u64 = 1;
 
 /// A link to a server, in memory or over sockets.
 type ServerLink<R> = GridLink<SocketPair<<R as Net>::Stream>>;
@@ -33,18 +31,6 @@ type ServerNode<R> = Node<FolderStore<R>, ServerLink<R>>;
 
 /// The servers of a grid in this process.
 pub type FolderGrid<R> = LocalGrid<FolderStore<R>, ServerLink<R>>;
-
-/// The names of the folders of the first servers.
-pub fn server_names(alloc: Global, servers: u16) -> Result<Vec<String>, Fault>
-    requires { servers ≤ MAX_SERVERS }
-    ensures { IfOk result (λ names. length names.items ≡ servers) }
-{
-    let mut names = Vec::with_capacity(alloc, usize::from(servers))?;
-    for server in 0..servers {
-        names.push(server_name(alloc, server)?)?;
-    }
-    Ok(names)
-}
 
 /// The numbers of the servers whose folders stand in a grid, rising.
 pub fn standing_servers<R>(rt: &R, grid: &str) -> Result<Vec<NodeId>, Fault>
@@ -169,4 +155,35 @@ where
         Err(StoreError::StoreFault) => Ok(None),
         Err(StoreError::OutOfMemory) => Err(Fault::OutOfMemory),
     }
+}
+
+/// Whether nothing comes from a server of a grid any more, or nothing ever came.
+pub fn is_silent<R>(grid: &FolderGrid<R>, server: NodeId) -> bool
+where
+    R: Files + Net + AllocGlobal + Clone + Drop,
+{
+    match grid.nodes().get(usize::from(server)) {
+        Some(Some(node)) => node.is_silent(),
+        _ => true,
+    }
+}
+
+/// These servers without those, in their order.
+#[tactic(auto, using(crate::proofs::Left::filtered_distinct))]
+pub fn servers_without(
+    alloc: Global,
+    servers: &[NodeId],
+    without: &[NodeId],
+) -> Result<Vec<NodeId>, AllocError>
+    ensures left { IfOk result (λ left. left.items ≡ servers_without servers.now without.now) }
+    ensures distinct { IsDistinct nat_eq servers.now
+        → IfOk result (λ left. IsDistinct nat_eq left.items) }
+{
+    let mut left = Vec::new(alloc);
+    for server in servers {
+        if !without.contains(server) {
+            left.push(*server)?;
+        }
+    }
+    Ok(left)
 }

@@ -39,6 +39,7 @@ impl<'a, O: Write> Write for Counted<'a, O> {
 pub struct Writing<'a, 'b, R, E> {
     progress: &'a mut Progress<'b, R, E>,
     taken: &'a Cell<u64>,
+    told: u64,
 }
 
 impl<'a, 'b, R, E> Writing<'a, 'b, R, E>
@@ -51,12 +52,18 @@ where
         progress: &'a mut Progress<'b, R, E>,
         taken: &'a Cell<u64>,
     ) -> Writing<'a, 'b, R, E> {
-        Writing { progress, taken }
+        Writing {
+            progress,
+            taken,
+            told: 0,
+        }
     }
 
     // Tells of the bytes that were taken since the last message.
     fn look(&mut self) {
-        self.progress.add(self.taken.replace(0));
+        let taken = self.taken.get();
+        self.progress.add(taken.saturating_sub(self.told));
+        self.told = taken;
     }
 }
 

@@ -59,6 +59,7 @@ pub struct Progress<'a, R, E> {
     verb: Verb,
     counting: Counting,
     amount: Amount,
+    verbose: bool,
     // by the servers' numbers: which took no shares
     refusals: [bool; SERVERS],
 }
@@ -85,8 +86,19 @@ where
             verb: Verb::Get,
             counting: Counting::Added,
             amount: NOTHING,
+            verbose: false,
             refusals: [false; SERVERS],
         }
+    }
+
+    /// Whether notes are told from now on.
+    pub fn set_verbose(&mut self, verbose: bool) {
+        self.verbose = verbose;
+    }
+
+    /// Whether notes are told.
+    pub fn is_verbose(&self) -> bool {
+        self.verbose
     }
 
     /// A stage of this command begins, of so many bytes.
@@ -111,6 +123,11 @@ where
         }
     }
 
+    /// So many more bytes are to be done.
+    pub fn expect(&mut self, bytes: u64) {
+        self.amount.total = self.amount.total.saturating_add(bytes);
+    }
+
     /// So many more bytes are done.
     pub fn add(&mut self, bytes: u64) {
         self.move_on(bytes, None);
@@ -124,11 +141,13 @@ where
         }
     }
 
-    /// Tells a line of its own, which ends itself, wherever standard error leads. A fault of it is
-    /// passed over.
+    /// Tells a line of its own, which ends itself, where notes are told, whether standard error is
+    /// a terminal or not. A fault of it is passed over.
     pub fn note(&mut self, line: &str) {
-        self.clear();
-        let _ = self.to.write_all(line.as_bytes());
+        if self.verbose {
+            self.clear();
+            let _ = self.to.write_all(line.as_bytes());
+        }
     }
 
     /// Whether a server said that it takes no further shares, or has no room for one.
@@ -223,8 +242,7 @@ where
         match (&message.body, self.counting) {
             (Body::Have(true, _) | Body::Full, Counting::Stored) => self.refuse(server),
             (Body::Have(_, held), Counting::Answered(share)) => {
-                let more = share.saturating_mul(held.as_slice().len() as u64);
-                self.amount.total = self.amount.total.saturating_add(more);
+                self.expect(share.saturating_mul(held.as_slice().len() as u64));
             }
             (Body::Data(data), Counting::Answered(_)) => {
                 self.move_on(data.as_slice().len() as u64, Some(server));

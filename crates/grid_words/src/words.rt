@@ -19,6 +19,20 @@ pub enum Request<'a> {
     Describe(&'a str),
 }
 
+impl<'a> Request<'a> {
+    /// Whether notes are asked for, with `-v`.
+    pub fn is_verbose(&self) -> bool {
+        match self {
+            Request::Put(words) => words.verbose,
+            Request::Get(words) => words.verbose,
+            Request::Check(words) => words.verbose,
+            Request::Repair(words) => words.verbose,
+            Request::Scrub(words) => words.verbose,
+            Request::World(_) | Request::Describe(_) => false,
+        }
+    }
+}
+
 /// The secret that a file's key depends on, as the user wrote it, of any length yet.
 #[derive(Drop)]
 pub enum SecretWords<'a> {
