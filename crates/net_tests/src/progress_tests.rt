@@ -103,7 +103,7 @@ fn others_tell(rt: &HostRuntime) -> io::Result<bool> {
         checked
             && got.status == 0
             && got.out.len() == 131_074
-            && are_lines(got.err.as_slice(), "get: 3 shares, "),
+            && are_lines(got.err.as_slice(), "get: "),
     )
 }
 
