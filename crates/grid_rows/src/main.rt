@@ -31,6 +31,8 @@
 //! - `list FOLDER`: tells the names in a folder, and the sizes of files.
 //! - `count FOLDER`: tells the names in a folder of folders, and how many names each of them has.
 //! - `compare FILE FILE`: tells whether two files are the same.
+//! - `save FOLDER COPY`: copies a folder of folders with the files in these.
+//! - `alike FOLDER FOLDER`: tells whether two such folders have the same names and bytes.
 //!
 //! Words are parted by spaces. What stands between two `"` is one word, and may be empty. A path
 //! whose last part is `*` is that of the only name in a folder, as that of a server's only share.
@@ -43,6 +45,7 @@ mod folders;
 mod names;
 mod rows;
 mod scripts;
+mod trees;
 
 use names::{Names, assignment, words_of};
 use rows::play;

@@ -8,6 +8,7 @@ use crate::changes::{append, cut, flip, splice};
 use crate::commands::{play_both, play_command};
 use crate::names::no_such_row;
 use crate::scripts::{play_script, play_scripts};
+use crate::trees::{alike, save};
 use std::io;
 use std::net::Net;
 use std::rt::Runtime;
@@ -37,10 +38,12 @@ enum Verb {
     List,
     Count,
     Compare,
+    Save,
+    Alike,
 }
 
 // The word that begins each row.
-const VERBS: [(&str, Verb); 22] = [
+const VERBS: [(&str, Verb); 24] = [
     ("grid", Verb::Grid),
     ("both", Verb::Both),
     ("script", Verb::Script),
@@ -63,6 +66,8 @@ const VERBS: [(&str, Verb); 22] = [
     ("list", Verb::List),
     ("count", Verb::Count),
     ("compare", Verb::Compare),
+    ("save", Verb::Save),
+    ("alike", Verb::Alike),
 ];
 
 // What a row does that begins with this word.
@@ -93,6 +98,7 @@ pub(crate) fn play<R: Runtime + AllocGlobal + Net>(
         Some(Verb::List) => list(rt, rest, told),
         Some(Verb::Count) => count(rt, rest, told),
         Some(Verb::Compare) => compare(rt, rest, told),
+        Some(Verb::Alike) => alike(rt, rest, told),
         Some(verb) => act(rt, verb, rest),
     }
 }
@@ -115,7 +121,8 @@ fn act<R: Runtime + AllocGlobal>(rt: &R, verb: Verb, words: &[&str]) -> io::Resu
         Verb::Rename => rename(rt, words),
         Verb::Copy => copy(rt, words),
         Verb::Link => link(rt, words),
+        Verb::Save => save(rt, words),
         Verb::Grid | Verb::Both | Verb::Script | Verb::Scripts => Ok(()),
-        Verb::List | Verb::Count | Verb::Compare => Ok(()),
+        Verb::List | Verb::Count | Verb::Compare | Verb::Alike => Ok(()),
     }
 }
