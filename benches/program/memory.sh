@@ -1,6 +1,6 @@
 #!/bin/bash
-# Measures what the built program holds and reads: the peak memory of put, get and check by the
-# file's size, and the time and the bytes read of a get of one byte. Its words: the program (that of
+# Measures what the built program holds and reads: the peak memory of put, get, check and repair by
+# the file's size, that of a get of a large file, and the time and the bytes read of a get of one byte. Its words: the program (that of
 # this repository if none, which is built first), and the MiB of the file of which one byte is got
 # (1,024 if none; a put of it holds 5.5 times as much).
 set -e
@@ -37,6 +37,8 @@ for mib in 16 64; do
     told "get of $mib MiB" "$(peak "$program" get "$cap" --grid grid)" $size
     cmp -s out file || { echo "the file that came back is another"; exit 1; }
     told "check of $mib MiB" "$(peak "$program" check "$cap" --grid grid)" $size
+    rm grid/server-00[0-6]/*
+    told "repair of $mib MiB" "$(peak "$program" repair "$cap" --grid grid)" $size
 done
 
 head -c $((large << 20)) /dev/urandom > file
@@ -49,6 +51,8 @@ for _ in 1 2 3 4 5 6; do
     { time "$program" get "$cap" --grid grid --from $place --to $((place + 1)) > out; } 2>> times
 done
 cmp -s out <(tail -c +$((place + 1)) file | head -c 1) || { echo "another byte came back"; exit 1; }
+told "get of $large MiB" "$(peak "$program" get "$cap" --grid grid)" $((large << 20))
+cmp -s out file || { echo "the file that came back is another"; exit 1; }
 # The kernel counts what a shell and the commands that it waited for read.
 read_by() { bash -c '"$@" > out; awk "/rchar/ { print \$2 }" /proc/$$/io' read "$@"; }
 with=$(read_by "$program" get "$cap" --grid grid --from $place --to $((place + 1)))

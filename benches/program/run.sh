@@ -2,7 +2,8 @@
 # Times the built program by processor time (user and system of its process), in turn with two
 # bases: SHA-256 of the kit over as many bytes as have to be hashed, built as the program is, and
 # `sha256sum` of the file. The best of six runs of each counts. After the file come files of 1 MiB
-# in 256 shares at 256 servers, of which one and 256 are needed. Its words: the file's size in MiB
+# in 256 shares at 256 servers, of which one and 256 are needed. A repair makes seven of ten shares
+# again, and is compared with a put. Its words: the file's size in MiB
 # (16 if none), the program (that of this repository if none, which is built first), and the
 # processor that the program was built for (this machine's if none).
 set -e
@@ -34,7 +35,7 @@ same() { cmp -s out "$1" || { echo "the file that came back is another"; exit 1;
 
 # The shares of the lowest numbers go, so that each block is decoded.
 without_lowest() {
-    for number in 0 1 2; do
+    for number in $(seq 0 $(($1 - 1))); do
         rm -f grid/server-*/*."$number".*
     done
 }
@@ -50,9 +51,12 @@ for _ in 1 2 3 4 5 6; do
     same file
     base_check=$(least "$base_check" "$(spent "$base" $((size * 334 / 100)))")
     checks=$(least "$checks" "$(spent "$program" check "$cap" --grid grid)")
-    without_lowest
+    without_lowest 3
     decodes=$(least "$decodes" "$(spent "$program" get "$cap" --grid grid)")
     same file
+    without_lowest 7
+    repairs=$(least "$repairs" "$(spent "$program" repair "$cap" --grid grid)")
+    "$program" check "$cap" --grid grid --strict > out
 done
 
 head -c 1048576 /dev/urandom > small
@@ -78,6 +82,8 @@ ratio put "$puts" "$base_put" "$sum"
 ratio get "$gets" "$base_get" "$sum"
 ratio "get of other shares" "$decodes" "$base_get" "$sum"
 ratio "check of ten shares" "$checks" "$base_check" "$sum"
+awk -v a="$repairs" -v b="$puts" \
+    'BEGIN { printf "%-22s %6d ms, %5.2f of a put\n", "repair of seven shares", a, a / b }'
 echo "$smalls" | while read -r needed small_get base_small sum_small; do
     [ -z "$needed" ] || ratio "get of 1 MiB, $needed of 256" "$small_get" "$base_small" "$sum_small"
 done
