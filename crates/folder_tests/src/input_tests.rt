@@ -1,18 +1,18 @@
-//! What is read of a file or of standard input, which stands in memory here.
+//! What is read of a file, or of the file that standard input is read from.
 
+use grid_rules::Fault;
 use grid_servers::read_input;
 use std::alloc::{Allocator, Global};
 use std::fs::{Metadata, OpenOptions};
-use std::io::{BufRead, Input, Lines};
 use std::rt::Files;
 use std::test::Fail;
 use std::{fs, io};
 
-// The host, with other bytes on standard input.
+// The host, where standard input is what stands at this path.
 #[derive(Clone, Copy)]
 struct Fed<'a> {
     rt: HostRuntime,
-    input: &'a [u8],
+    input: &'a str,
 }
 
 impl<'a> Alloc for Fed<'a> {
@@ -23,19 +23,14 @@ impl<'a> Alloc for Fed<'a> {
     }
 }
 
-impl<'a> Input for Fed<'a> {
-    type Reader = &'a [u8];
-
-    fn read_line<A: Allocator + Clone>(&self, buf: &mut String<A>) -> io::Result<usize> {
-        self.reader().read_line(buf)
-    }
-
-    fn lines<A: Allocator>(&self, alloc: A) -> Lines<&'a [u8], A> {
-        self.reader().lines(alloc)
-    }
-
-    fn reader(&self) -> &'a [u8] {
-        self.input
+impl<'a> Fed<'a> {
+    // The path at which the host has what stands at this one.
+    fn at<'b>(&'b self, path: &'b str) -> &'b str {
+        if path == "/dev/stdin" {
+            self.input
+        } else {
+            path
+        }
     }
 }
 
@@ -45,7 +40,7 @@ impl<'a> Files for Fed<'a> {
     type Dir = <HostRuntime as Files>::Dir;
 
     fn open_file(&self, how: &OpenOptions, path: &str) -> io::Result<Self::File> {
-        self.rt.open_file(how, path)
+        self.rt.open_file(how, self.at(path))
     }
 
     fn open_dir(&self, path: &str) -> io::Result<Self::Dir> {
@@ -53,7 +48,7 @@ impl<'a> Files for Fed<'a> {
     }
 
     fn metadata(&self, path: &str) -> io::Result<Metadata> {
-        self.rt.metadata(path)
+        self.rt.metadata(self.at(path))
     }
 
     fn symlink_metadata(&self, path: &str) -> io::Result<Metadata> {
@@ -85,25 +80,52 @@ impl<'a> Files for Fed<'a> {
     }
 }
 
-// How many bytes are read of a path, where that is no more than ten.
-fn count(fed: &Fed<'_>, path: &str) -> io::Result<Option<usize>> {
-    Ok(read_input(fed, path, 10)?.map(|bytes| bytes.len()))
+// What is read of a path: so many bytes, more than ten, or a fault of the path that is told.
+#[derive(Clone, Copy, PartialEq, Eq)]
+enum Came {
+    Bytes(usize),
+    TooMany,
+    Fault(bool),
+}
+
+fn read_of(fed: &Fed<'_>, path: &str, told: &str) -> Came {
+    match read_input(fed, path, 10) {
+        Ok(Some(bytes)) => Came::Bytes(bytes.len()),
+        Ok(None) => Came::TooMany,
+        Err(Fault::File(path, _)) => Came::Fault(path.as_str() == told),
+        Err(_) => Came::Fault(false),
+    }
 }
 
 #[test]
 fn files_and_standard_input(rt: HostRuntime) -> Result<(), Fail> {
+    let process = std::process::id(rt.process());
+    let path = format!(in rt.alloc(); "/tmp/input-tests-{process}")?;
+    let input = path.as_str();
+    let fed = Fed { rt, input };
     let all = b"0123456789x";
-    for (length, read) in [(0, Some(0)), (1, Some(1)), (10, Some(10)), (11, None)] {
-        let input = &all[..length];
-        let fed = Fed { rt, input };
-        assert!(rt; count(&fed, "-")? == read);
-        let process = std::process::id(rt.process());
-        let path = format!(in rt.alloc(); "/tmp/input-tests-{process}")?;
-        fs::write(&rt, path.as_str(), input)?;
-        assert!(rt; count(&fed, path.as_str())? == read);
-        fs::remove_file(&rt, path.as_str())?;
+    for (length, wanted) in [
+        (0, Came::Bytes(0)),
+        (1, Came::Bytes(1)),
+        (10, Came::Bytes(10)),
+        (11, Came::TooMany),
+    ] {
+        fs::write(&rt, input, &all[..length])?;
+        assert!(rt; read_of(&fed, "-", "") == wanted && read_of(&fed, input, "") == wanted);
     }
-    let fed = Fed { rt, input: all };
-    assert!(rt; count(&fed, "/tmp/-").is_err());
+    fs::remove_file(&rt, input)?;
+    assert!(rt; read_of(&fed, input, input) == Came::Fault(true));
+    assert!(rt; read_of(&fed, "-", "standard input") == Came::Fault(true));
+    Ok(())
+}
+
+// Standard input that is no file is refused, and is not read.
+#[test]
+fn standard_input_is_a_file(rt: HostRuntime) -> Result<(), Fail> {
+    let told = "standard input, which is no file and cannot be read twice";
+    for input in ["/dev/null", "/tmp"] {
+        let fed = Fed { rt, input };
+        assert!(rt; read_of(&fed, "-", told) == Came::Fault(true));
+    }
     Ok(())
 }
