@@ -9,6 +9,13 @@ use std::net::Net;
 use std::rt::{Clock, Files};
 use wire::message::NodeId;
 
+// What is told of a server, and the reason where its folder shows none.
+type Remark = (&'static str, &'static str);
+
+const SILENT: Remark = ("silent", "it does not answer");
+
+const REFUSED: Remark = ("refused", "it takes no further shares");
+
 /// Tells of each of these servers that is silent, or that refused shares, with the path of its
 /// folder and the system's reason, where that is found by trying.
 pub(crate) fn note_servers<R, E>(
@@ -28,9 +35,9 @@ where
     }
     for server in servers {
         if is_silent(nodes, *server) {
-            note_server(rt, grid, *server, purpose, "silent", progress)?;
+            note_server(rt, grid, *server, purpose, SILENT, progress)?;
         } else if progress.is_refusal(*server) {
-            note_server(rt, grid, *server, purpose, "refused", progress)?;
+            note_server(rt, grid, *server, purpose, REFUSED, progress)?;
         }
     }
     Ok(())
@@ -42,7 +49,7 @@ fn note_server<R, E>(
     grid: &str,
     server: NodeId,
     purpose: Purpose,
-    what: &str,
+    remark: Remark,
     progress: &mut Progress<'_, R, E>,
 ) -> Result<(), Fault>
 where
@@ -50,25 +57,26 @@ where
     E: Write + IsTerminal,
 {
     let reason = folder_fault(rt, grid, server, purpose)?;
-    let line = server_line(rt.alloc(), grid, server, what, reason)?;
+    let line = server_line(rt.alloc(), grid, server, remark, reason)?;
     progress.note(line.as_str());
     Ok(())
 }
 
-// The line of a server, with the system's reason where one is known.
+// The line of a server, with the system's reason where there is one.
 fn server_line(
     alloc: Global,
     grid: &str,
     server: NodeId,
-    what: &str,
+    remark: Remark,
     reason: Option<io::Error>,
 ) -> Result<String, Fault> {
     let name = server_name(alloc, server)?;
     let folder = server_folder(alloc, grid, server)?;
     let path = told_path(alloc, folder.as_str())?;
+    let (what, cause) = remark;
     let line = match reason {
         Some(error) => format!(in alloc; "{name} {what}: {error} ({path})\n"),
-        None => format!(in alloc; "{name} {what} ({path})\n"),
+        None => format!(in alloc; "{name} {what}: {cause} ({path})\n"),
     };
     Ok(line?)
 }
