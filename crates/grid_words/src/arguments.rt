@@ -1,10 +1,17 @@
 //! The arguments of the commands.
 
+ghost use Rattle.std.specs.Prelude.{codes, IfOk};
+ghost use Rattle.grid_words.specs.Builds.{HasRule};
+ghost use Rattle.grid_words.specs.CommandLine.{flag, grid_folder, happy, number, number_or, operand};
+ghost use Rattle.grid_words.specs.CommandLine.{option, output, secret, secret_file, verbose};
+
 use clap::{Arg, ArgAction, value_parser};
 use std::alloc::{AllocError, Global};
 
 /// The file of a `put`.
-pub(crate) fn file<'a>(alloc: Global) -> Arg<'a> {
+pub(crate) fn file<'a>(alloc: Global) -> Arg<'a>
+    ensures { HasRule (operand (codes "FILE")) result }
+{
     operand(
         alloc,
         "FILE",
@@ -13,12 +20,16 @@ pub(crate) fn file<'a>(alloc: Global) -> Arg<'a> {
 }
 
 /// The cap of a file that is to be read.
-pub(crate) fn read_cap<'a>(alloc: Global) -> Arg<'a> {
+pub(crate) fn read_cap<'a>(alloc: Global) -> Arg<'a>
+    ensures { HasRule (operand (codes "CAP")) result }
+{
     operand(alloc, "CAP", "The cap that `put` printed")
 }
 
 /// The cap of a file whose shares are looked at.
-pub(crate) fn verify_cap<'a>(alloc: Global) -> Arg<'a> {
+pub(crate) fn verify_cap<'a>(alloc: Global) -> Arg<'a>
+    ensures { HasRule (operand (codes "CAP")) result }
+{
     operand(
         alloc,
         "CAP",
@@ -27,12 +38,16 @@ pub(crate) fn verify_cap<'a>(alloc: Global) -> Arg<'a> {
 }
 
 /// A word that has to be there.
-pub(crate) fn operand<'a>(alloc: Global, name: &'a str, help: &'a str) -> Arg<'a> {
+pub(crate) fn operand<'a>(alloc: Global, name: &'a str, help: &'a str) -> Arg<'a>
+    ensures { HasRule (operand name.entry.now) result }
+{
     Arg::new(alloc, name).required(true).help(help)
 }
 
 /// The folder of the grid.
-pub(crate) fn grid_folder<'a>(alloc: Global) -> Arg<'a> {
+pub(crate) fn grid_folder<'a>(alloc: Global) -> Arg<'a>
+    ensures { HasRule grid_folder result }
+{
     option(
         alloc,
         "grid",
@@ -43,7 +58,9 @@ pub(crate) fn grid_folder<'a>(alloc: Global) -> Arg<'a> {
 }
 
 /// How many shares give a file back.
-pub(crate) fn needed<'a>(alloc: Global) -> Arg<'a> {
+pub(crate) fn needed<'a>(alloc: Global) -> Arg<'a>
+    ensures { HasRule (number_or (codes "k") (codes "3")) result }
+{
     number(
         alloc,
         "k",
@@ -53,7 +70,9 @@ pub(crate) fn needed<'a>(alloc: Global) -> Arg<'a> {
 }
 
 /// How many servers have to hold a share of their own.
-pub(crate) fn happy<'a>(alloc: Global) -> Arg<'a> {
+pub(crate) fn happy<'a>(alloc: Global) -> Arg<'a>
+    ensures { HasRule happy result }
+{
     number(
         alloc,
         "happy",
@@ -63,12 +82,16 @@ pub(crate) fn happy<'a>(alloc: Global) -> Arg<'a> {
 }
 
 /// How many shares a file has.
-pub(crate) fn total<'a>(alloc: Global) -> Arg<'a> {
+pub(crate) fn total<'a>(alloc: Global) -> Arg<'a>
+    ensures { HasRule (number_or (codes "n") (codes "10")) result }
+{
     number(alloc, "n", "10", "How many shares are made, 1 to 256")
 }
 
 /// The greatest segment of a file.
-pub(crate) fn max_segment<'a>(alloc: Global) -> Arg<'a> {
+pub(crate) fn max_segment<'a>(alloc: Global) -> Arg<'a>
+    ensures { HasRule (number_or (codes "segment") (codes "131072")) result }
+{
     number(
         alloc,
         "segment",
@@ -78,7 +101,9 @@ pub(crate) fn max_segment<'a>(alloc: Global) -> Arg<'a> {
 }
 
 /// How many servers a file is put to.
-pub(crate) fn servers<'a>(alloc: Global) -> Arg<'a> {
+pub(crate) fn servers<'a>(alloc: Global) -> Arg<'a>
+    ensures { HasRule (number_or (codes "servers") (codes "10")) result }
+{
     number(
         alloc,
         "servers",
@@ -88,19 +113,25 @@ pub(crate) fn servers<'a>(alloc: Global) -> Arg<'a> {
 }
 
 // A number with a default.
-fn number<'a>(alloc: Global, name: &'a str, default: &'a str, help: &'a str) -> Arg<'a> {
+fn number<'a>(alloc: Global, name: &'a str, default: &'a str, help: &'a str) -> Arg<'a>
+    ensures { HasRule (number_or name.entry.now default.entry.now) result }
+{
     option(alloc, name, "NUMBER", help)
         .value_parser(value_parser!(u64))
         .default_value(default)
 }
 
 /// A place in a file.
-pub(crate) fn place<'a>(alloc: Global, name: &'a str, help: &'a str) -> Arg<'a> {
+pub(crate) fn place<'a>(alloc: Global, name: &'a str, help: &'a str) -> Arg<'a>
+    ensures { HasRule (number name.entry.now) result }
+{
     option(alloc, name, "PLACE", help).value_parser(value_parser!(u64))
 }
 
 /// The secret that a key depends on, as a text.
-pub(crate) fn secret<'a>(alloc: Global) -> Arg<'a> {
+pub(crate) fn secret<'a>(alloc: Global) -> Arg<'a>
+    ensures { HasRule secret result }
+{
     option(
         alloc,
         "secret",
@@ -111,7 +142,9 @@ pub(crate) fn secret<'a>(alloc: Global) -> Arg<'a> {
 }
 
 /// The same in a file, and not beside a text.
-pub(crate) fn secret_file<'a>(alloc: Global) -> Result<Arg<'a>, AllocError> {
+pub(crate) fn secret_file<'a>(alloc: Global) -> Result<Arg<'a>, AllocError>
+    ensures { IfOk result (HasRule secret_file) }
+{
     option(
         alloc,
         "secret-file",
@@ -122,7 +155,9 @@ pub(crate) fn secret_file<'a>(alloc: Global) -> Result<Arg<'a>, AllocError> {
 }
 
 /// Where a file is written that is read.
-pub(crate) fn output<'a>(alloc: Global) -> Arg<'a> {
+pub(crate) fn output<'a>(alloc: Global) -> Arg<'a>
+    ensures { HasRule output result }
+{
     option(
         alloc,
         "output",
@@ -133,12 +168,16 @@ pub(crate) fn output<'a>(alloc: Global) -> Arg<'a> {
 }
 
 /// Whether servers are asked over sockets.
-pub(crate) fn net<'a>(alloc: Global) -> Arg<'a> {
+pub(crate) fn net<'a>(alloc: Global) -> Arg<'a>
+    ensures { HasRule (flag (codes "net")) result }
+{
     flag(alloc, "net", "Ask the servers over sockets of this machine")
 }
 
 /// Whether shares count that are not on the disk yet.
-pub(crate) fn no_sync<'a>(alloc: Global) -> Arg<'a> {
+pub(crate) fn no_sync<'a>(alloc: Global) -> Arg<'a>
+    ensures { HasRule (flag (codes "no-sync")) result }
+{
     flag(
         alloc,
         "no-sync",
@@ -147,7 +186,9 @@ pub(crate) fn no_sync<'a>(alloc: Global) -> Arg<'a> {
 }
 
 /// Whether damaged shares are set aside first.
-pub(crate) fn mend<'a>(alloc: Global) -> Arg<'a> {
+pub(crate) fn mend<'a>(alloc: Global) -> Arg<'a>
+    ensures { HasRule (flag (codes "mend")) result }
+{
     flag(
         alloc,
         "mend",
@@ -156,12 +197,16 @@ pub(crate) fn mend<'a>(alloc: Global) -> Arg<'a> {
 }
 
 /// Whether a result is told as JSON.
-pub(crate) fn json<'a>(alloc: Global) -> Arg<'a> {
+pub(crate) fn json<'a>(alloc: Global) -> Arg<'a>
+    ensures { HasRule (flag (codes "json")) result }
+{
     flag(alloc, "json", "Print one JSON object a line")
 }
 
 /// Whether the servers are told that did not serve.
-pub(crate) fn verbose<'a>(alloc: Global) -> Arg<'a> {
+pub(crate) fn verbose<'a>(alloc: Global) -> Arg<'a>
+    ensures { HasRule verbose result }
+{
     flag(
         alloc,
         "verbose",
@@ -171,7 +216,9 @@ pub(crate) fn verbose<'a>(alloc: Global) -> Arg<'a> {
 }
 
 /// A word that is there or not.
-pub(crate) fn flag<'a>(alloc: Global, name: &'a str, help: &'a str) -> Arg<'a> {
+pub(crate) fn flag<'a>(alloc: Global, name: &'a str, help: &'a str) -> Arg<'a>
+    ensures { HasRule (flag name.entry.now) result }
+{
     Arg::new(alloc, name)
         .long(name)
         .action(ArgAction::SetTrue)
@@ -179,7 +226,9 @@ pub(crate) fn flag<'a>(alloc: Global, name: &'a str, help: &'a str) -> Arg<'a> {
 }
 
 // A word with a value behind it.
-fn option<'a>(alloc: Global, name: &'a str, value: &'a str, help: &'a str) -> Arg<'a> {
+fn option<'a>(alloc: Global, name: &'a str, value: &'a str, help: &'a str) -> Arg<'a>
+    ensures { HasRule (option name.entry.now) result }
+{
     Arg::new(alloc, name)
         .long(name)
         .value_name(value)

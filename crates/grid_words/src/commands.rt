@@ -1,5 +1,13 @@
 //! The commands, and what their help says.
 
+ghost use Rattle.std.specs.Prelude.{IfOk, List};
+ghost use Rattle.clap.specs.Walk.{Rule};
+ghost use Rattle.grid_words.specs.Builds.{HasShape, HaveRules, IsApp, shape_named};
+ghost use Rattle.grid_words.specs.CommandLine.{bare_app, cap_shape, check_shape, get_shape};
+ghost use Rattle.grid_words.specs.CommandLine.{grid_app};
+ghost use Rattle.grid_words.specs.CommandLine.{put_rules, put_shape, repair_shape, scrub_shape};
+ghost use Rattle.grid_words.specs.CommandLine.{shape, world_shape};
+
 use crate::arguments::{
     file, flag, grid_folder, happy, json, max_segment, mend, needed, net, no_sync, operand, output,
     place, read_cap, secret, secret_file, servers, total, verbose, verify_cap,
@@ -39,24 +47,37 @@ const NAMES: [Name; 7] = [
 ];
 
 /// `grid` with all its commands. Without a word it shows its help, as a fault.
-pub(crate) fn grid_command<'a>(alloc: Global) -> Result<Command<'a>, AllocError> {
-    let mut command = Command::new(alloc, "grid")
-        .bin_name("grid")?
-        .version(VERSION)
-        .about(
-            "Keeps files on a grid of servers that need not be trusted: \
-encrypted, erasure-coded and checked.",
-        )
-        .after_help(STATUSES)
-        .subcommand_required(true)
-        .arg_required_else_help(true);
-    for name in NAMES {
-        command = command.subcommand(command_of(alloc, name)?)?;
+pub(crate) fn grid_command<'a>(alloc: Global) -> Result<Command<'a>, AllocError>
+    ensures { IfOk result (IsApp grid_app) }
+{
+    let mut command = bare_command(alloc)?;
+    for name in &NAMES {
+        command = command.subcommand(command_of(alloc, *name)?)?;
     }
     Ok(command)
 }
 
-fn command_of<'a>(alloc: Global, name: Name) -> Result<Command<'a>, AllocError> {
+// `grid` without its commands.
+fn bare_command<'a>(alloc: Global) -> Result<Command<'a>, AllocError>
+    ensures { IfOk result (IsApp bare_app) }
+{
+    let command = Command::new(alloc, "grid").bin_name("grid")?;
+    Ok(
+        command
+            .version(VERSION)
+            .about(
+                "Keeps files on a grid of servers that need not be trusted: \
+encrypted, erasure-coded and checked.",
+            )
+            .after_help(STATUSES)
+            .subcommand_required(true)
+            .arg_required_else_help(true),
+    )
+}
+
+fn command_of<'a>(alloc: Global, name: Name) -> Result<Command<'a>, AllocError>
+    ensures { IfOk result (HasShape (shape_named name)) }
+{
     match name {
         Name::Put => put_command(alloc),
         Name::Get => get_command(alloc),
@@ -68,17 +89,21 @@ fn command_of<'a>(alloc: Global, name: Name) -> Result<Command<'a>, AllocError> 
     }
 }
 
-fn put_command<'a>(alloc: Global) -> Result<Command<'a>, AllocError> {
+fn put_command<'a>(alloc: Global) -> Result<Command<'a>, AllocError>
+    ensures { IfOk result (HasShape put_shape) }
+{
     command(
         alloc,
         "put",
         "Stores a file and prints its cap, which gives it back, and how many servers hold shares \
 of their own.",
+        put_arguments(alloc)?,
     )
-    .args(put_arguments(alloc)?)
 }
 
-fn put_arguments<'a>(alloc: Global) -> Result<Vec<Arg<'a>>, AllocError> {
+fn put_arguments<'a>(alloc: Global) -> Result<Vec<Arg<'a>>, AllocError>
+    ensures { IfOk result (λ arguments. HaveRules put_rules arguments.items) }
+{
     Ok(vec![in alloc;
         file(alloc),
         grid_folder(alloc),
@@ -97,7 +122,9 @@ fn put_arguments<'a>(alloc: Global) -> Result<Vec<Arg<'a>>, AllocError> {
     ]?)
 }
 
-fn get_command<'a>(alloc: Global) -> Result<Command<'a>, AllocError> {
+fn get_command<'a>(alloc: Global) -> Result<Command<'a>, AllocError>
+    ensures { IfOk result (HasShape get_shape) }
+{
     let arguments = vec![in alloc;
         read_cap(alloc),
         grid_folder(alloc),
@@ -115,11 +142,13 @@ fn get_command<'a>(alloc: Global) -> Result<Command<'a>, AllocError> {
         alloc,
         "get",
         "Writes the file of a cap, or a range of its bytes, to standard output or to a file.",
+        arguments,
     )
-    .args(arguments)
 }
 
-fn check_command<'a>(alloc: Global) -> Result<Command<'a>, AllocError> {
+fn check_command<'a>(alloc: Global) -> Result<Command<'a>, AllocError>
+    ensures { IfOk result (HasShape check_shape) }
+{
     let arguments = vec![in alloc;
         verify_cap(alloc),
         grid_folder(alloc),
@@ -137,11 +166,13 @@ fn check_command<'a>(alloc: Global) -> Result<Command<'a>, AllocError> {
         "check",
         "Reads each share of a cap's file that a server offers, and prints a verdict on each and \
 on the file.",
+        arguments,
     )
-    .args(arguments)
 }
 
-fn repair_command<'a>(alloc: Global) -> Result<Command<'a>, AllocError> {
+fn repair_command<'a>(alloc: Global) -> Result<Command<'a>, AllocError>
+    ensures { IfOk result (HasShape repair_shape) }
+{
     let arguments = vec![in alloc;
         verify_cap(alloc),
         grid_folder(alloc),
@@ -156,11 +187,13 @@ fn repair_command<'a>(alloc: Global) -> Result<Command<'a>, AllocError> {
         "repair",
         "Makes the missing shares of a cap's file again, stores them, and prints how many servers \
 hold shares of their own.",
+        arguments,
     )
-    .args(arguments)
 }
 
-fn scrub_command<'a>(alloc: Global) -> Result<Command<'a>, AllocError> {
+fn scrub_command<'a>(alloc: Global) -> Result<Command<'a>, AllocError>
+    ensures { IfOk result (HasShape scrub_shape) }
+{
     let arguments = vec![in alloc;
         grid_folder(alloc),
         flag(
@@ -181,31 +214,46 @@ fn scrub_command<'a>(alloc: Global) -> Result<Command<'a>, AllocError> {
         "scrub",
         "Reads every closed share of every server folder and compares it with the digest in its \
 name. Prints those that are damaged, and open files that nobody wrote to for 600 seconds.",
+        arguments,
     )
-    .args(arguments)
 }
 
-fn world_command<'a>(alloc: Global) -> Result<Command<'a>, AllocError> {
+fn world_command<'a>(alloc: Global) -> Result<Command<'a>, AllocError>
+    ensures { IfOk result (HasShape world_shape) }
+{
+    let arguments = vec![in alloc; operand(alloc, "SCRIPT", "The file of the script")]?;
     command(
         alloc,
         "world",
         "Runs the script of a world: honest nodes and liars, with every delivery and fault as the \
 script has it. Prints what became of each operation, and whether all bytes agree.",
+        arguments,
     )
-    .arg(operand(alloc, "SCRIPT", "The file of the script"))
 }
 
-fn cap_command<'a>(alloc: Global) -> Result<Command<'a>, AllocError> {
+fn cap_command<'a>(alloc: Global) -> Result<Command<'a>, AllocError>
+    ensures { IfOk result (HasShape cap_shape) }
+{
+    let arguments = vec![in alloc; operand(alloc, "CAP", "The cap")]?;
     command(
         alloc,
         "cap",
         "Prints what a cap says: its kind, its numbers, and the verify cap that checks without \
 reading.",
+        arguments,
     )
-    .arg(operand(alloc, "CAP", "The cap"))
 }
 
-// A command without its arguments.
-fn command<'a>(alloc: Global, name: &'a str, about: &'a str) -> Command<'a> {
-    Command::new(alloc, name).about(about).after_help(STATUSES)
+// A command with these arguments.
+fn command<'a>(
+    alloc: Global,
+    name: &'a str,
+    about: &'a str,
+    arguments: Vec<Arg<'a>>,
+) -> Result<Command<'a>, AllocError>
+    ensures { (rules : List Rule) → HaveRules rules arguments.entry.items
+        → IfOk result (HasShape (shape name.entry.now rules)) }
+{
+    let bare = Command::new(alloc, name).about(about).after_help(STATUSES);
+    bare.args(arguments)
 }

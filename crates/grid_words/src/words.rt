@@ -1,5 +1,12 @@
 //! What the words of the command line ask for.
 
+ghost use Rattle.std.specs.Prelude.{◌≡◌, IfOk, map, option_map};
+ghost use Rattle.clap.specs.Words.{first_of, one_of, subcommand_of};
+ghost use Rattle.grid_words.specs.Asked.{Asks, AsksCheck, AsksGet, AsksPut, AsksRepair, AsksScrub};
+ghost use Rattle.grid_words.specs.Asked.{IsAsked, IsFlag, IsSecret, number_under, rows_in};
+ghost use Rattle.grid_words.specs.Asked.{text_under};
+ghost use Rattle.grid_words.specs.CommandLine.{grid_app};
+
 use crate::commands::grid_command;
 use clap::{ArgMatches, Error};
 use std::alloc::Global;
@@ -109,18 +116,22 @@ pub struct ScrubWords<'a> {
 
 /// Reads the words of a command line, of which the first is the program's name. An `Err` holds
 /// `clap`'s text, of help and of the version too.
-pub fn read_words<'a, S: AsStr>(alloc: Global, words: &'a [S]) -> Result<Request<'a>, Error> {
+pub fn read_words<'a, S: AsStr>(alloc: Global, words: &'a [S]) -> Result<Request<'a>, Error>
+    ensures { IfOk result (IsAsked (subcommand_of grid_app (map S.text words.entry.now))) }
+{
     let command = grid_command(alloc)?;
     let matches = command.try_get_matches_from(words)?;
-    Ok(match matches.subcommand() {
-        Some((name, found)) => request_of(name, found),
+    match matches.subcommand() {
+        Some((name, found)) => Ok(request_of(name, found)),
         // A command is required.
-        None => Request::Describe(""),
-    })
+        None => unreachable!(),
+    }
 }
 
 // What a command's own words ask for.
-fn request_of<'a>(name: &str, found: &ArgMatches<'a>) -> Request<'a> {
+fn request_of<'a>(name: &str, found: &ArgMatches<'a>) -> Request<'a>
+    ensures { Asks name.now (rows_in found.now) result }
+{
     match name {
         "put" => Request::Put(put_words(found)),
         "get" => Request::Get(get_words(found)),
@@ -133,83 +144,112 @@ fn request_of<'a>(name: &str, found: &ArgMatches<'a>) -> Request<'a> {
     }
 }
 
-fn put_words<'a>(found: &ArgMatches<'a>) -> PutWords<'a> {
+fn put_words<'a>(found: &ArgMatches<'a>) -> PutWords<'a>
+    ensures { AsksPut (rows_in found.now) result }
+{
     PutWords {
         file: text_of(found, "FILE"),
         grid: text_of(found, "grid"),
         secret: secret_words(found),
-        needed: number_of(found, "k"),
-        happy: number_of(found, "happy"),
-        total: number_of(found, "n"),
-        max_segment: number_of(found, "segment"),
-        servers: number_of(found, "servers"),
-        net: found.get_flag("net"),
-        no_sync: found.get_flag("no-sync"),
-        mend: found.get_flag("mend"),
-        quiet: found.get_flag("quiet"),
-        verbose: found.get_flag("verbose"),
+        needed: number_of(found, "k").unwrap_or(0),
+        happy: number_of(found, "happy").unwrap_or(0),
+        total: number_of(found, "n").unwrap_or(0),
+        max_segment: number_of(found, "segment").unwrap_or(0),
+        servers: number_of(found, "servers").unwrap_or(0),
+        net: is_set(found, "net"),
+        no_sync: is_set(found, "no-sync"),
+        mend: is_set(found, "mend"),
+        quiet: is_set(found, "quiet"),
+        verbose: is_set(found, "verbose"),
     }
 }
 
 // The two ways to name a secret exclude each other, and that of a text has a default.
-fn secret_words<'a>(found: &ArgMatches<'a>) -> SecretWords<'a> {
-    match found.get_str("secret-file") {
+fn secret_words<'a>(found: &ArgMatches<'a>) -> SecretWords<'a>
+    ensures { IsSecret (rows_in found.now) result }
+{
+    match found_text(found, "secret-file") {
         Some(path) => SecretWords::File(path),
         None => SecretWords::Text(text_of(found, "secret")),
     }
 }
 
-fn get_words<'a>(found: &ArgMatches<'a>) -> GetWords<'a> {
+fn get_words<'a>(found: &ArgMatches<'a>) -> GetWords<'a>
+    ensures { AsksGet (rows_in found.now) result }
+{
     GetWords {
         cap: text_of(found, "CAP"),
         grid: text_of(found, "grid"),
-        from: number_of(found, "from"),
-        to: found.get_one::<u64>("to"),
-        output: found.get_str("output"),
-        net: found.get_flag("net"),
-        verbose: found.get_flag("verbose"),
+        from: number_of(found, "from").unwrap_or(0),
+        to: number_of(found, "to"),
+        output: found_text(found, "output"),
+        net: is_set(found, "net"),
+        verbose: is_set(found, "verbose"),
     }
 }
 
-fn check_words<'a>(found: &ArgMatches<'a>) -> CheckWords<'a> {
+fn check_words<'a>(found: &ArgMatches<'a>) -> CheckWords<'a>
+    ensures { AsksCheck (rows_in found.now) result }
+{
     CheckWords {
         cap: text_of(found, "CAP"),
         grid: text_of(found, "grid"),
-        net: found.get_flag("net"),
-        json: found.get_flag("json"),
-        strict: found.get_flag("strict"),
-        verbose: found.get_flag("verbose"),
+        net: is_set(found, "net"),
+        json: is_set(found, "json"),
+        strict: is_set(found, "strict"),
+        verbose: is_set(found, "verbose"),
     }
 }
 
-fn repair_words<'a>(found: &ArgMatches<'a>) -> RepairWords<'a> {
+fn repair_words<'a>(found: &ArgMatches<'a>) -> RepairWords<'a>
+    ensures { AsksRepair (rows_in found.now) result }
+{
     RepairWords {
         cap: text_of(found, "CAP"),
         grid: text_of(found, "grid"),
-        happy: number_of(found, "happy"),
-        net: found.get_flag("net"),
-        no_sync: found.get_flag("no-sync"),
-        mend: found.get_flag("mend"),
-        verbose: found.get_flag("verbose"),
+        happy: number_of(found, "happy").unwrap_or(0),
+        net: is_set(found, "net"),
+        no_sync: is_set(found, "no-sync"),
+        mend: is_set(found, "mend"),
+        verbose: is_set(found, "verbose"),
     }
 }
 
-fn scrub_words<'a>(found: &ArgMatches<'a>) -> ScrubWords<'a> {
+fn scrub_words<'a>(found: &ArgMatches<'a>) -> ScrubWords<'a>
+    ensures { AsksScrub (rows_in found.now) result }
+{
     ScrubWords {
         grid: text_of(found, "grid"),
-        set_aside: found.get_flag("set-aside"),
-        remove_open: found.get_flag("remove-open"),
-        json: found.get_flag("json"),
-        verbose: found.get_flag("verbose"),
+        set_aside: is_set(found, "set-aside"),
+        remove_open: is_set(found, "remove-open"),
+        json: is_set(found, "json"),
+        verbose: is_set(found, "verbose"),
     }
 }
 
-// The value of an argument that is required or has a default, so that it is always there.
-fn text_of<'a>(found: &ArgMatches<'a>, id: &str) -> &'a str {
-    found.get_str(id).unwrap_or("")
+// The text of an argument, where it has one.
+fn found_text<'a>(found: &ArgMatches<'a>, id: &str) -> Option<&'a str>
+    ensures { option_map (λ s. s.now) result ≡ first_of id.now (rows_in found.now) }
+{
+    found.get_str(id)
 }
 
-// The same of a number, which `clap` has tested.
-fn number_of(found: &ArgMatches<'_>, id: &str) -> u64 {
-    found.get_one::<u64>(id).unwrap_or(0)
+// The text of an argument that is required or has a default, so that it is always there.
+fn text_of<'a>(found: &ArgMatches<'a>, id: &str) -> &'a str
+    ensures { result.now ≡ text_under id.now (rows_in found.now) }
+{
+    found_text(found, id).unwrap_or("")
+}
+
+// The number of an argument, which `clap` has tested.
+fn number_of(found: &ArgMatches<'_>, id: &str) -> Option<u64>
+    ensures { result ≡ number_under id.now (rows_in found.now) }
+{
+    found.get_one::<u64>(id)
+}
+
+fn is_set(found: &ArgMatches<'_>, id: &str) -> bool
+    ensures { IsFlag (one_of id.now (rows_in found.now)) result }
+{
+    found.get_flag(id)
 }

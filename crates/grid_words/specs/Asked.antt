@@ -1,0 +1,117 @@
+-- What a command and the values of its arguments ask for.
+use Rattle.std.specs.Prelude.{◌≡◌, ◌≢◌, ◌&&◌, ℕ, Bool, true, false, List, [], ◌∷◌, Option, Some, None}
+use Rattle.std.specs.Prelude.{codes, if◌then◌else◌, length, nat_lt, option_and_then, option_map}
+use Rattle.std.specs.Prelude.{unwrap_or}
+use Rattle.std.specs.List.{All, list_all}
+use Rattle.std.specs.Str.Parse.{digits_value, without_leading_plus}
+use Rattle.std.specs.Char.{digit_value}
+use Rattle.clap.specs.Words.{Row, Text, first_of, found_of, one_of, rows_of}
+use Rattle.clap.specs.declared.parser.matches.ArgMatches.{ArgMatches}
+use Rattle.grid_words.specs.declared.words.CheckWords.{CheckWords}
+use Rattle.grid_words.specs.declared.words.GetWords.{GetWords}
+use Rattle.grid_words.specs.declared.words.PutWords.{PutWords}
+use Rattle.grid_words.specs.declared.words.RepairWords.{RepairWords}
+use Rattle.grid_words.specs.declared.words.Request.{Request}
+use Rattle.grid_words.specs.declared.words.Request.TheVariants as requests
+use Rattle.grid_words.specs.declared.words.ScrubWords.{ScrubWords}
+use Rattle.grid_words.specs.declared.words.SecretWords.{SecretWords}
+use Rattle.grid_words.specs.declared.words.SecretWords.TheVariants as secrets
+
+-- the values that a command's own words and its defaults gave
+abbrev pub rows_in : ArgMatches → List Row
+rows_in m = rows_of (found_of m)
+
+-- the text of an argument that is always there
+abbrev pub text_under : Text → List Row → Text
+text_under id rows = unwrap_or (first_of id rows) []
+
+-- the number below 2^64 that a text spells in decimal
+abbrev pub spelled_number : Text → Option ℕ
+spelled_number text =
+    let digits = without_leading_plus text in
+    if nat_lt 0 (length digits) && list_all (λ d. nat_lt (digit_value d) 10) digits
+    && nat_lt (digits_value 10 digits) 18446744073709551616
+    then Some (digits_value 10 digits) else None
+
+abbrev pub number_under : Text → List Row → Option ℕ
+number_under id rows = option_and_then spelled_number (one_of id rows)
+
+-- a flag whose value is `true`, `false` or none
+abbrev pub IsFlag : Option Text → Bool → Type 0
+IsFlag None set = set ≡ false
+IsFlag (Some text) set = (text ≡ codes "true" → set ≡ true) × (text ≡ codes "false" → set ≡ false)
+
+abbrev pub IsSecret : List Row → SecretWords → Type 0
+IsSecret rows (secrets.Text text) = (first_of (codes "secret-file") rows ≡ None)
+    × (text.now ≡ text_under (codes "secret") rows)
+IsSecret rows (secrets.File path) = first_of (codes "secret-file") rows ≡ Some path.now
+
+pub record AsksPut (rows : List Row) (words : PutWords) : Type 0 where
+  pub file : words.file.now ≡ text_under (codes "FILE") rows
+  pub grid : words.grid.now ≡ text_under (codes "grid") rows
+  pub secret : IsSecret rows words.secret
+  pub needed : words.needed ≡ unwrap_or (number_under (codes "k") rows) 0
+  pub happy : words.happy ≡ unwrap_or (number_under (codes "happy") rows) 0
+  pub total : words.total ≡ unwrap_or (number_under (codes "n") rows) 0
+  pub max_segment : words.max_segment ≡ unwrap_or (number_under (codes "segment") rows) 0
+  pub servers : words.servers ≡ unwrap_or (number_under (codes "servers") rows) 0
+  pub net : IsFlag (one_of (codes "net") rows) words.net
+  pub no_sync : IsFlag (one_of (codes "no-sync") rows) words.no_sync
+  pub mend : IsFlag (one_of (codes "mend") rows) words.mend
+  pub quiet : IsFlag (one_of (codes "quiet") rows) words.quiet
+  pub verbose : IsFlag (one_of (codes "verbose") rows) words.verbose
+
+pub record AsksGet (rows : List Row) (words : GetWords) : Type 0 where
+  pub cap : words.cap.now ≡ text_under (codes "CAP") rows
+  pub grid : words.grid.now ≡ text_under (codes "grid") rows
+  pub start : words.from ≡ unwrap_or (number_under (codes "from") rows) 0
+  pub to : words.to ≡ number_under (codes "to") rows
+  pub output : option_map (λ path. path.now) words.output ≡ first_of (codes "output") rows
+  pub net : IsFlag (one_of (codes "net") rows) words.net
+  pub verbose : IsFlag (one_of (codes "verbose") rows) words.verbose
+
+pub record AsksCheck (rows : List Row) (words : CheckWords) : Type 0 where
+  pub cap : words.cap.now ≡ text_under (codes "CAP") rows
+  pub grid : words.grid.now ≡ text_under (codes "grid") rows
+  pub net : IsFlag (one_of (codes "net") rows) words.net
+  pub json : IsFlag (one_of (codes "json") rows) words.json
+  pub strict : IsFlag (one_of (codes "strict") rows) words.strict
+  pub verbose : IsFlag (one_of (codes "verbose") rows) words.verbose
+
+pub record AsksRepair (rows : List Row) (words : RepairWords) : Type 0 where
+  pub cap : words.cap.now ≡ text_under (codes "CAP") rows
+  pub grid : words.grid.now ≡ text_under (codes "grid") rows
+  pub happy : words.happy ≡ unwrap_or (number_under (codes "happy") rows) 0
+  pub net : IsFlag (one_of (codes "net") rows) words.net
+  pub no_sync : IsFlag (one_of (codes "no-sync") rows) words.no_sync
+  pub mend : IsFlag (one_of (codes "mend") rows) words.mend
+  pub verbose : IsFlag (one_of (codes "verbose") rows) words.verbose
+
+pub record AsksScrub (rows : List Row) (words : ScrubWords) : Type 0 where
+  pub grid : words.grid.now ≡ text_under (codes "grid") rows
+  pub set_aside : IsFlag (one_of (codes "set-aside") rows) words.set_aside
+  pub remove_open : IsFlag (one_of (codes "remove-open") rows) words.remove_open
+  pub json : IsFlag (one_of (codes "json") rows) words.json
+  pub verbose : IsFlag (one_of (codes "verbose") rows) words.verbose
+
+-- the names of the commands that are told apart from `cap`
+abbrev pub other_names : List Text
+other_names = codes "put" ∷ codes "get" ∷ codes "check" ∷ codes "repair" ∷ codes "scrub"
+    ∷ codes "world" ∷ []
+
+-- the command of this name, with these values of its arguments, asks for this
+abbrev pub Asks : Text → List Row → Request → Type 0
+Asks name rows (requests.Put words) = (name ≡ codes "put") × AsksPut rows words
+Asks name rows (requests.Get words) = (name ≡ codes "get") × AsksGet rows words
+Asks name rows (requests.Check words) = (name ≡ codes "check") × AsksCheck rows words
+Asks name rows (requests.Repair words) = (name ≡ codes "repair") × AsksRepair rows words
+Asks name rows (requests.Scrub words) = (name ≡ codes "scrub") × AsksScrub rows words
+Asks name rows (requests.World path) = (name ≡ codes "world")
+    × (path.now ≡ text_under (codes "SCRIPT") rows)
+Asks name rows (requests.Describe cap) = All (λ other. name ≢ other) other_names
+    × (cap.now ≡ text_under (codes "CAP") rows)
+
+-- a command was named, and it asks for this
+abbrev pub IsAsked : Option (Text × List Row) → Request → Type 0
+IsAsked None request = ⊥
+IsAsked (Some command) request = Asks command.0 command.1 request

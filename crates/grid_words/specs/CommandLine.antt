@@ -1,0 +1,147 @@
+-- The command line of `grid`, as `clap` reads it: its commands, and the arguments of each.
+use Rattle.std.specs.Prelude.{ℕ, true, false, List, [], ◌∷◌, Some, codes}
+use Rattle.clap.specs.Simple.{App, Shape, new_rule, new_shape}
+use Rattle.clap.specs.Walk.{Rule, Text}
+use Rattle.clap.specs.declared.builder.action.ArgAction.TheVariants.{SetTrue}
+use Rattle.clap.specs.declared.builder.value_parser.ValueParser.TheVariants as parsers
+
+-- a word that has to be there
+abbrev pub operand : Text → Rule
+operand name = record (new_rule name) { required = true }
+
+-- a word that is there or not
+abbrev pub flag : Text → Rule
+flag name = record (new_rule name) { long = Some name; action = Some SetTrue }
+
+-- a word with a value behind it
+abbrev pub option : Text → Rule
+option name = record (new_rule name) { long = Some name; value_names = 1 }
+
+-- the same with a number below 2^64
+abbrev pub number : Text → Rule
+number name =
+    record (option name) { parser = Some (parsers.Unsigned 0 18446744073709551615) }
+
+-- and with a default
+abbrev pub number_or : Text → Text → Rule
+number_or name default = record (number name) { defaults = default ∷ [] }
+
+abbrev pub grid_folder : Rule
+grid_folder = record (option (codes "grid")) { required = true }
+
+abbrev pub happy : Rule
+happy = number_or (codes "happy") (codes "7")
+
+abbrev pub verbose : Rule
+verbose = record (flag (codes "verbose")) { short = Some 118 }
+
+abbrev pub quiet : Rule
+quiet = record (flag (codes "quiet")) { short = Some 113 }
+
+abbrev pub output : Rule
+output = record (option (codes "output")) { short = Some 111 }
+
+abbrev pub secret : Rule
+secret = record (option (codes "secret")) { defaults = [] ∷ [] }
+
+-- it stands beside no text
+abbrev pub secret_file : Rule
+secret_file = record (option (codes "secret-file")) { is_free = false }
+
+abbrev pub put_rules : List Rule
+put_rules = operand (codes "FILE")
+    ∷ grid_folder
+    ∷ number_or (codes "k") (codes "3")
+    ∷ happy
+    ∷ number_or (codes "n") (codes "10")
+    ∷ number_or (codes "segment") (codes "131072")
+    ∷ number_or (codes "servers") (codes "10")
+    ∷ secret
+    ∷ secret_file
+    ∷ flag (codes "net")
+    ∷ flag (codes "no-sync")
+    ∷ flag (codes "mend")
+    ∷ quiet
+    ∷ verbose
+    ∷ []
+
+abbrev pub get_rules : List Rule
+get_rules = operand (codes "CAP")
+    ∷ grid_folder
+    ∷ number_or (codes "from") (codes "0")
+    ∷ number (codes "to")
+    ∷ output
+    ∷ flag (codes "net")
+    ∷ verbose
+    ∷ []
+
+abbrev pub check_rules : List Rule
+check_rules = operand (codes "CAP")
+    ∷ grid_folder
+    ∷ flag (codes "net")
+    ∷ flag (codes "json")
+    ∷ flag (codes "strict")
+    ∷ verbose
+    ∷ []
+
+abbrev pub repair_rules : List Rule
+repair_rules = operand (codes "CAP")
+    ∷ grid_folder
+    ∷ happy
+    ∷ flag (codes "net")
+    ∷ flag (codes "no-sync")
+    ∷ flag (codes "mend")
+    ∷ verbose
+    ∷ []
+
+abbrev pub scrub_rules : List Rule
+scrub_rules = grid_folder
+    ∷ flag (codes "set-aside")
+    ∷ flag (codes "remove-open")
+    ∷ flag (codes "json")
+    ∷ verbose
+    ∷ []
+
+-- a command of this name with these arguments
+abbrev pub shape : Text → List Rule → Shape
+shape name rules = record (new_shape name) { rules = rules }
+
+abbrev pub put_shape : Shape
+put_shape = shape (codes "put") put_rules
+
+abbrev pub get_shape : Shape
+get_shape = shape (codes "get") get_rules
+
+abbrev pub check_shape : Shape
+check_shape = shape (codes "check") check_rules
+
+abbrev pub repair_shape : Shape
+repair_shape = shape (codes "repair") repair_rules
+
+abbrev pub scrub_shape : Shape
+scrub_shape = shape (codes "scrub") scrub_rules
+
+abbrev pub world_shape : Shape
+world_shape = shape (codes "world") (operand (codes "SCRIPT") ∷ [])
+
+abbrev pub cap_shape : Shape
+cap_shape = shape (codes "cap") (operand (codes "CAP") ∷ [])
+
+-- `grid` itself: it has a version, and a command is required
+abbrev pub grid_shape : Shape
+grid_shape = record (new_shape (codes "grid")) {
+  has_version = true;
+  subcommand_required = true;
+  arg_required_else_help = true;
+}
+
+-- without its commands
+abbrev pub bare_app : App
+bare_app = record { top = grid_shape; subs = [] }
+
+abbrev pub grid_app : App
+grid_app = record {
+  top = record grid_shape { is_leaf = false };
+  subs = put_shape ∷ get_shape ∷ check_shape ∷ repair_shape ∷ scrub_shape ∷ world_shape
+      ∷ cap_shape ∷ [];
+}
