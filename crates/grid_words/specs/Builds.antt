@@ -38,6 +38,10 @@ shape_named names.Scrub = scrub_shape
 shape_named names.World = world_shape
 shape_named names.Cap = cap_shape
 
+abbrev pub all_names : List Name
+all_names = names.Put ∷ names.Get ∷ names.Check ∷ names.Repair ∷ names.Scrub ∷ names.World
+    ∷ names.Cap ∷ []
+
 -- a command line with the commands of these names behind its own
 abbrev pub with_named : App → List Name → App
 with_named app [] = app

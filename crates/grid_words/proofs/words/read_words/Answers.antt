@@ -1,0 +1,20 @@
+use Rattle.std.proofs.Common.{◌≡◌, ◌∙◌, ap, sym, map, List, Option, Some}
+use Rattle.std.specs.Option.{option_map}
+use Rattle.clap.specs.Simple.{App, is_simple, subcommand_of, subcommand_rows_of}
+use Rattle.clap.specs.Walk.{Row, Text}
+use Rattle.grid_words.specs.Asked.{rows_in}
+use Rattle.grid_words.specs.CommandLine.{grid_app}
+use Rattle.grid_words.proofs.Asking.{asked, grid_is_simple, name_in_rows}
+use Rattle.grid_words.proofs.words.read_words.Goals as goal
+
+pub returns : goal.returns
+returns g c =
+    let texts = map g.S.AsStr.text c.args.words.now in
+    let found : subcommand_rows_of c.in_ok-matches.matches ≡ subcommand_of grid_app texts =
+    (c.in_ok-matches.ensures.matches (ap is_simple c.in_ok-command.ensures.0 ∙ grid_is_simple)).1
+    ∙ ap (λ (a : App). subcommand_of a texts) c.in_ok-command.ensures.0 in
+    let named : option_map (λ (p : Text × List Row). p.0) (subcommand_of grid_app texts) ≡ Some c.in-Some.name.now =
+    ap (option_map (λ (p : Text × List Row). p.0)) (sym found) ∙ name_in_rows c.in_ok-matches.matches ∙ sym c.in-Some.ensures.name in
+    let held : option_map (λ (p : Text × List Row). p.1) (subcommand_of grid_app texts) ≡ Some (rows_in c.in-Some.found.now) =
+    ap (option_map (λ (p : Text × List Row). p.1)) (sym found) ∙ sym c.in-Some.ensures.rows in
+    asked _ _ _ _ named held c.request_of.ensures
