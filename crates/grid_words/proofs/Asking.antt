@@ -1,6 +1,7 @@
 -- What a request says of the subcommand that a parse entered.
-use Rattle.std.proofs.Common.{◌≡◌, ◌∙◌, ap, sym, subst, refl, true, List, Option, Some, None}
+use Rattle.std.proofs.Common.{◌≡◌, sym, subst, refl, true, List, Option, Some, None, Result, Ok, Err, IfErr}
 use Rattle.std.specs.Option.{option_map}
+use Rattle.std.specs.Prelude.{IsErrAnd}
 use Rattle.clap.specs.Matches.{subcommand_name_of}
 use Rattle.clap.specs.Simple.{is_simple, subcommand_rows_of}
 use Rattle.clap.specs.Walk.{Row, Text}
@@ -30,3 +31,9 @@ asked (Some p) name rows request named held asks =
     let same_rows : p.1 ≡ rows = cc in
     subst (λ (n : Text). Asks n p.1 request) (sym same_name)
     (subst (λ (r : List Row). Asks name r request) (sym same_rows) asks)
+
+-- an error that is handed on
+pub handed_on : {X E : Type 0} (r : Result X E) (error : E) (P : E → Type 0) → IsErrAnd r (λ e. e ≡ error)
+    → P error → IfErr r P
+handed_on (Ok x) error P is holds = absurd is
+handed_on (Err e) error P is holds = subst P (sym is) holds

@@ -1,5 +1,5 @@
 -- The command line of `grid`, as `clap` reads it: its commands, and the arguments of each.
-use Rattle.std.specs.Prelude.{ℕ, true, false, List, [], ◌∷◌, Some, codes}
+use Rattle.std.specs.Prelude.{true, false, List, [], ◌∷◌, Some, codes}
 use Rattle.clap.specs.Simple.{App, Shape, new_rule, new_shape}
 use Rattle.clap.specs.Walk.{Rule, Text}
 use Rattle.clap.specs.declared.builder.action.ArgAction.TheVariants.{SetTrue}

@@ -2,8 +2,9 @@
 
 ghost use Rattle.std.specs.Prelude.{codes, IfOk};
 ghost use Rattle.grid_words.specs.Builds.{HasRule};
-ghost use Rattle.grid_words.specs.CommandLine.{flag, grid_folder, happy, number, number_or, operand};
-ghost use Rattle.grid_words.specs.CommandLine.{option, output, secret, secret_file, verbose};
+ghost use Rattle.grid_words.specs.CommandLine.{flag, grid_folder, happy, number, number_or};
+ghost use Rattle.grid_words.specs.CommandLine.{operand, option, output, secret, secret_file};
+ghost use Rattle.grid_words.specs.CommandLine.{verbose};
 
 use clap::{Arg, ArgAction, value_parser};
 use std::alloc::{AllocError, Global};

@@ -1,13 +1,14 @@
 //! What the words of the command line ask for.
 
-ghost use Rattle.std.specs.Prelude.{◌≡◌, IfOk, map, option_map};
-ghost use Rattle.clap.specs.Words.{first_of, one_of, subcommand_of};
+ghost use Rattle.std.specs.Prelude.{◌≡◌, IfErr, IfOk, map, option_map, true};
+ghost use Rattle.clap.specs.Words.{first_of, kind_of, one_of, subcommand_of, takes};
 ghost use Rattle.grid_words.specs.Asked.{Asks, AsksCheck, AsksGet, AsksPut, AsksRepair, AsksScrub};
 ghost use Rattle.grid_words.specs.Asked.{IsAsked, IsFlag, IsSecret, number_under, rows_in};
 ghost use Rattle.grid_words.specs.Asked.{text_under};
 ghost use Rattle.grid_words.specs.CommandLine.{grid_app};
 
 use crate::commands::grid_command;
+use clap::error::ErrorKind;
 use clap::{ArgMatches, Error};
 use std::alloc::Global;
 use std::convert::AsStr;
@@ -115,9 +116,12 @@ pub struct ScrubWords<'a> {
 }
 
 /// Reads the words of a command line, of which the first is the program's name. An `Err` holds
-/// `clap`'s text, of help and of the version too.
+/// `clap`'s text, of help and of the version too. Words that `clap` takes fail only for want of
+/// memory.
 pub fn read_words<'a, S: AsStr>(alloc: Global, words: &'a [S]) -> Result<Request<'a>, Error>
-    ensures { IfOk result (IsAsked (subcommand_of grid_app (map S.text words.entry.now))) }
+    ensures asked { IfOk result (IsAsked (subcommand_of grid_app (map S.text words.entry.now))) }
+    ensures passes { IfErr result (λ e. takes grid_app (map S.text words.entry.now) ≡ true
+        → kind_of e ≡ ErrorKind.OutOfMemory) }
 {
     let command = grid_command(alloc)?;
     let matches = command.try_get_matches_from(words)?;

@@ -1,6 +1,6 @@
-use Rattle.std.proofs.Common.{◌≡◌, ◌∙◌, ap, false}
+use Rattle.std.proofs.Common.{◌∙◌, ap}
 use Rattle.std.proofs.lemmas.Result.{IfOk-weaker}
-use Rattle.clap.specs.Simple.{app_of, app_of_fields, new_app, new_shape}
+use Rattle.clap.specs.Simple.{app_of_fields, new_shape}
 use Rattle.grid_words.specs.Builds.{HasShape}
 use Rattle.grid_words.proofs.Added.{added_all}
 use Rattle.grid_words.proofs.commands.command.Goals as goal

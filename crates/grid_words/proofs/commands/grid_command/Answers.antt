@@ -1,4 +1,4 @@
-use Rattle.std.proofs.Common.{◌≡◌, ◌∙◌, ap, sym, subst, refl, arith, take, get_or}
+use Rattle.std.proofs.Common.{◌≡◌, ◌∙◌, ap, sym, subst, arith, take}
 use Rattle.std.proofs.lemmas.List.{take_more}
 use Rattle.clap.specs.Simple.{App}
 use Rattle.grid_words.specs.Builds.{IsApp, all_names, with_named}
