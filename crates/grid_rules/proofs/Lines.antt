@@ -1,12 +1,11 @@
 -- The lines that tell how far a command is are short.
 use Rattle.std.proofs.Common.{◌≡◌, ℕ, ◌+◌, ◌^◌, ◌<◌, ◌≤◌, ◌/◌, ◌%◌, List, ◌++◌, length, length-append, arith, lit<}
+use Rattle.std.proofs.Common.{Result, Ok, Err, String, Global, IfOk, string_bytes, subst, sym}
 use Rattle.std.specs.Prelude.{codes, decimal}
 use Rattle.std.proofs.lemmas.Fmt.{length-decimal-le}
-use Rattle.grid_rules.specs.ProgressLine.{encoding_line, progress_line, remark_text, verb_text}
+use Rattle.grid_rules.specs.ProgressLine.{bytes_line, encoding_line, left_text, verb_text}
+use Rattle.grid_rules.specs.ProgressLine.{waits_text}
 use Rattle.grid_rules.specs.ReportLines.{server_name}
-use Rattle.grid_rules.specs.declared.progress.Amount.{Amount}
-use Rattle.grid_rules.specs.declared.progress.Remark.{Remark}
-use Rattle.grid_rules.specs.declared.progress.Remark.TheVariants.{Nothing, Left, WaitsFor}
 use Rattle.grid_rules.specs.declared.progress.Verb.{Verb}
 use Rattle.grid_rules.specs.declared.progress.Verb.TheVariants.{Put, Get, Check, Repair, Scrub}
 
@@ -48,40 +47,47 @@ name_short n fits =
       length-append (decimal (n / 10 % 10)) (decimal (n % 10)),
     )
 
--- a number or a server's, as the code has them
-pub FitsRemark : Remark → Type 0
-FitsRemark Nothing = ⊤
-FitsRemark (Left seconds) = seconds < 2 ^ 64
-FitsRemark (WaitsFor server) = server < 2 ^ 16
-
-remark_short : (remark : Remark) → FitsRemark remark → length (remark_text remark) ≤ 29
-remark_short Nothing fits = omega arith
-remark_short (Left seconds) fits =
+pub left_short : (seconds : ℕ) → seconds < 2 ^ 64 → length (left_text seconds) ≤ 29
+left_short seconds fits =
     omega (arith, large seconds fits, with_number (codes ", ") seconds (codes " s left"))
-remark_short (WaitsFor server) fits =
+
+pub waits_short : (server : ℕ) → server < 2 ^ 16 → length (waits_text server) ≤ 29
+waits_short server fits =
     omega (
       arith,
       name_short server fits,
       length-append (codes ", waiting for ") (server_name server),
     )
 
-pub progress_short : (verb : Verb) (amount : Amount) (remark : Remark) → amount.done < 2 ^ 64
-    → amount.total < 2 ^ 64 → FitsRemark remark
-    → length (progress_line verb amount remark) < 80
-progress_short verb amount remark a b c =
+pub bytes_short : (verb : Verb) (done total : ℕ) (remark : List ℕ) → done < 2 ^ 64
+    → total < 2 ^ 64 → length remark ≤ 29 → length (bytes_line verb done total remark) < 80
+bytes_short verb done total remark a b c =
     omega (
       arith,
       verb_short verb,
-      thousands amount.done a,
-      thousands amount.total b,
-      remark_short remark c,
-      length-append (verb_text verb) (codes ": " ++ (decimal (amount.done / 1000) ++ (codes " of "
-          ++ (decimal (amount.total / 1000) ++ (codes " kB" ++ remark_text remark))))),
-      with_number (codes ": ") (amount.done / 1000) (codes " of "
-          ++ (decimal (amount.total / 1000) ++ (codes " kB" ++ remark_text remark))),
-      with_number (codes " of ") (amount.total / 1000) (codes " kB" ++ remark_text remark),
-      length-append (codes " kB") (remark_text remark),
+      thousands done a,
+      thousands total b,
+      c,
+      length-append (verb_text verb) (codes ": " ++ (decimal (done / 1000) ++ (codes " of "
+          ++ (decimal (total / 1000) ++ (codes " kB" ++ remark))))),
+      with_number (codes ": ") (done / 1000)
+          (codes " of " ++ (decimal (total / 1000) ++ (codes " kB" ++ remark))),
+      with_number (codes " of ") (total / 1000) (codes " kB" ++ remark),
+      length-append (codes " kB") remark,
     )
+
+-- a text that is told is as short as what it is to be
+pub told_within : {E : Type 0} (r : Result (String Global) E) (text : List ℕ) (n : ℕ)
+    → length text ≤ n → IfOk r (λ s. string_bytes s ≡ text)
+    → IfOk r (λ s. length (string_bytes s) ≤ n)
+told_within (Ok s) text n low is = subst (λ (t : List ℕ). length t ≤ n) (sym is) low
+told_within (Err e) text n low is = tt
+
+pub told_below : {E : Type 0} (r : Result (String Global) E) (text : List ℕ) (n : ℕ)
+    → length text < n → IfOk r (λ s. string_bytes s ≡ text)
+    → IfOk r (λ s. length (string_bytes s) < n)
+told_below (Ok s) text n low is = subst (λ (t : List ℕ). length t < n) (sym is) low
+told_below (Err e) text n low is = tt
 
 pub encoding_short : (verb : Verb) (size : ℕ) → size < 2 ^ 64
     → length (encoding_line verb size) < 80

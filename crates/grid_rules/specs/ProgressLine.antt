@@ -14,16 +14,26 @@ verb_text Check = codes "check"
 verb_text Repair = codes "repair"
 verb_text Scrub = codes "scrub"
 
+abbrev pub left_text : ℕ → List ℕ
+left_text seconds = codes ", " ++ (decimal seconds ++ codes " s left")
+
+abbrev pub waits_text : ℕ → List ℕ
+waits_text server = codes ", waiting for " ++ server_name server
+
 abbrev pub remark_text : Remark → List ℕ
 remark_text Nothing = []
-remark_text (Left seconds) = codes ", " ++ (decimal seconds ++ codes " s left")
-remark_text (WaitsFor server) = codes ", waiting for " ++ server_name server
+remark_text (Left seconds) = left_text seconds
+remark_text (WaitsFor server) = waits_text server
 
 -- so many thousand bytes of how many
+abbrev pub bytes_line : Verb → ℕ → ℕ → List ℕ → List ℕ
+bytes_line verb done total remark =
+    verb_text verb ++ (codes ": " ++ (decimal (done / 1000) ++ (codes " of "
+    ++ (decimal (total / 1000) ++ (codes " kB" ++ remark)))))
+
 abbrev pub progress_line : Verb → Amount → Remark → List ℕ
 progress_line verb amount remark =
-    verb_text verb ++ (codes ": " ++ (decimal (amount.done / 1000) ++ (codes " of "
-    ++ (decimal (amount.total / 1000) ++ (codes " kB" ++ remark_text remark)))))
+    bytes_line verb amount.done amount.total (remark_text remark)
 
 -- a file of so many bytes
 abbrev pub encoding_line : Verb → ℕ → List ℕ

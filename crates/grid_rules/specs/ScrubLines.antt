@@ -36,11 +36,14 @@ finding_line server f = server_name server ++ (codes " " ++ (base32 f.file.place
     ++ (codes " " ++ (decimal f.file.place.1 ++ (codes " " ++ (state_text f.state ++ codes "\n"))))))
 
 -- the object of a file
+abbrev pub finding_object : List ℕ → List ℕ → ℕ → List ℕ → List ℕ
+finding_object server index share state = codes "{\"server\":\"" ++ (server
+    ++ (codes "\",\"index\":\"" ++ (index ++ (codes "\",\"share\":" ++ (decimal share
+    ++ (codes ",\"verdict\":\"" ++ (state ++ codes "\"}\n")))))))
+
 abbrev pub finding_json : ℕ → Finding → List ℕ
-finding_json server f = codes "{\"server\":\"" ++ (server_name server
-    ++ (codes "\",\"index\":\"" ++ (base32 f.file.place.0
-    ++ (codes "\",\"share\":" ++ (decimal f.file.place.1
-    ++ (codes ",\"verdict\":\"" ++ (state_text f.state ++ codes "\"}\n")))))))
+finding_json server f = finding_object (server_name server) (base32 f.file.place.0)
+    f.file.place.1 (state_text f.state)
 
 -- the line and the object of all
 abbrev pub last_line : Scrubbed → List ℕ

@@ -3,8 +3,10 @@
 ghost use Rattle.std.specs.Prelude.{◌≡◌, ◌++◌, IfOk, OnOk};
 ghost use Rattle.std.specs.List.{flat_map};
 ghost use Rattle.std.specs.String.{string_bytes};
-ghost use Rattle.grid_rules.specs.ReportJson.{bool_json, is_missing, last_json, missing};
-ghost use Rattle.grid_rules.specs.ReportJson.{missing_json, report_json, verdict_json};
+ghost use Rattle.grid_rules.specs.ReportJson.{bool_json, is_missing, last_json, last_object};
+ghost use Rattle.grid_rules.specs.ReportJson.{missing};
+ghost use Rattle.grid_rules.specs.ReportJson.{missing_json, report_json, share_objects};
+ghost use Rattle.grid_rules.specs.ReportJson.{verdict_json, verdict_object};
 
 use crate::checking::verdict_text;
 use crate::servers::server_name;
@@ -16,14 +18,18 @@ use std::alloc::{AllocError, Global};
 pub fn report_json(alloc: Global, report: &Report, total: u16) -> Result<String, AllocError>
     ensures { IfOk result (λ text. string_bytes text ≡ report_json report.now total) }
 {
-    let mut text = String::new(alloc);
-    push_verdicts(alloc, &mut text, report.verdicts.as_slice())?;
-    push_missing(
-        alloc,
-        &mut text,
-        missing_shares(alloc, report, total)?.as_slice(),
-    )?;
-    push_last(alloc, &mut text, report)?;
+    let mut text = share_objects(alloc, report, total)?;
+    text.push_str(last_json(alloc, report)?.as_str())?;
+    Ok(text)
+}
+
+// The objects of the shares.
+fn share_objects(alloc: Global, report: &Report, total: u16) -> Result<String, AllocError>
+    ensures { IfOk result (λ text. string_bytes text ≡ share_objects report.now total) }
+{
+    let missing = missing_shares(alloc, report, total)?;
+    let mut text = verdict_objects(alloc, report.verdicts.as_slice())?;
+    text.push_str(missing_objects(alloc, missing.as_slice())?.as_str())?;
     Ok(text)
 }
 
@@ -49,53 +55,89 @@ fn is_missing(verdicts: &[ShareVerdict], number: u16) -> bool
         .any(|found| u16::from(found.share) == number)
 }
 
-fn push_verdicts(
-    alloc: Global,
-    text: &mut String,
-    verdicts: &[ShareVerdict],
-) -> Result<(), AllocError>
-    ensures { OnOk result
-        (string_bytes text.new ≡ string_bytes text.old ++ flat_map verdict_json verdicts.now) }
+fn verdict_objects(alloc: Global, verdicts: &[ShareVerdict]) -> Result<String, AllocError>
+    ensures { IfOk result (λ text. string_bytes text ≡ flat_map verdict_json verdicts.now) }
 {
+    let mut text = String::new(alloc);
     for found in verdicts {
-        push_verdict(alloc, text, found)?;
+        push_verdict(alloc, &mut text, found)?;
     }
-    Ok(())
+    Ok(text)
 }
 
 fn push_verdict(alloc: Global, text: &mut String, found: &ShareVerdict) -> Result<(), AllocError>
     ensures { OnOk result
         (string_bytes text.new ≡ string_bytes text.old ++ verdict_json found.now) }
 {
-    let (server, share) = (server_name(alloc, found.server)?, found.share);
-    let verdict = verdict_text(&found.verdict);
-    let line = format!(in alloc;
-        "{{\"server\":\"{server}\",\"share\":{share},\"verdict\":\"{verdict}\"}}\n"
-    )?;
-    text.push_str(line.as_str())
+    text.push_str(verdict_json(alloc, found)?.as_str())
 }
 
-fn push_missing(alloc: Global, text: &mut String, numbers: &[u16]) -> Result<(), AllocError>
-    ensures { OnOk result
-        (string_bytes text.new ≡ string_bytes text.old ++ flat_map missing_json numbers.now) }
+fn verdict_json(alloc: Global, found: &ShareVerdict) -> Result<String, AllocError>
+    ensures { IfOk result (λ text. string_bytes text ≡ verdict_json found.now) }
 {
-    for number in numbers {
-        let line = format!(in alloc; "{{\"share\":{number},\"verdict\":\"missing\"}}\n")?;
-        text.push_str(line.as_str())?;
-    }
-    Ok(())
+    let server = server_name(alloc, found.server)?;
+    verdict_object(
+        alloc,
+        server.as_str(),
+        found.share,
+        verdict_text(&found.verdict),
+    )
 }
 
-fn push_last(alloc: Global, text: &mut String, report: &Report) -> Result<(), AllocError>
+fn verdict_object(
+    alloc: Global,
+    server: &str,
+    share: u8,
+    verdict: &str,
+) -> Result<String, AllocError>
+    ensures { IfOk result
+        (λ text. string_bytes text ≡ verdict_object server.now share verdict.now) }
+{
+    format!(in alloc; "{{\"server\":\"{server}\",\"share\":{share},\"verdict\":\"{verdict}\"}}\n")
+}
+
+fn missing_objects(alloc: Global, numbers: &[u16]) -> Result<String, AllocError>
+    ensures { IfOk result (λ text. string_bytes text ≡ flat_map missing_json numbers.now) }
+{
+    let mut text = String::new(alloc);
+    for number in numbers {
+        push_missing(alloc, &mut text, *number)?;
+    }
+    Ok(text)
+}
+
+fn push_missing(alloc: Global, text: &mut String, number: u16) -> Result<(), AllocError>
     ensures { OnOk result
-        (string_bytes text.new ≡ string_bytes text.old ++ last_json report.now) }
+        (string_bytes text.new ≡ string_bytes text.old ++ missing_json number) }
+{
+    text.push_str(missing_json(alloc, number)?.as_str())
+}
+
+fn missing_json(alloc: Global, number: u16) -> Result<String, AllocError>
+    ensures { IfOk result (λ text. string_bytes text ≡ missing_json number) }
+{
+    format!(in alloc; "{{\"share\":{number},\"verdict\":\"missing\"}}\n")
+}
+
+fn last_json(alloc: Global, report: &Report) -> Result<String, AllocError>
+    ensures { IfOk result (λ text. string_bytes text ≡ last_json report.now) }
 {
     let (healthy, recoverable) = (bool_json(report.healthy), bool_json(report.recoverable));
-    let happiness = report.happiness;
-    let line = format!(in alloc;
+    last_object(alloc, healthy, recoverable, report.happiness)
+}
+
+fn last_object(
+    alloc: Global,
+    healthy: &str,
+    recoverable: &str,
+    happiness: usize,
+) -> Result<String, AllocError>
+    ensures { IfOk result
+        (λ text. string_bytes text ≡ last_object healthy.now recoverable.now happiness) }
+{
+    format!(in alloc;
         "{{\"healthy\":{healthy},\"recoverable\":{recoverable},\"happiness\":{happiness}}}\n"
-    )?;
-    text.push_str(line.as_str())
+    )
 }
 
 fn bool_json(holds: bool) -> &'static str

@@ -1,9 +1,10 @@
 //! How far a command is, in one line.
 
-ghost use Rattle.std.specs.Prelude.{◌≡◌, ◌<◌, length, IfOk, IfSome};
+ghost use Rattle.std.specs.Prelude.{◌≡◌, ◌<◌, ◌≤◌, length, IfOk, IfSome};
 ghost use Rattle.std.specs.String.{string_bytes};
-ghost use Rattle.grid_rules.specs.ProgressLine.{encoding_line, progress_line};
-ghost use Rattle.grid_rules.specs.ProgressLine.{remark_text, seconds_left, verb_text};
+ghost use Rattle.grid_rules.specs.ProgressLine.{bytes_line, encoding_line, left_text};
+ghost use Rattle.grid_rules.specs.ProgressLine.{progress_line, remark_text, seconds_left};
+ghost use Rattle.grid_rules.specs.ProgressLine.{verb_text, waits_text};
 
 use crate::servers::server_name;
 use std::alloc::{AllocError, Global};
@@ -38,7 +39,6 @@ pub enum Remark {
 
 /// The line of a command that moves bytes, of fewer than 80 columns, without an end. It counts
 /// 1,000 bytes as one kB.
-#[tactic(auto, using(crate::proofs::Lines::progress_short))]
 pub fn progress_line(
     alloc: Global,
     verb: Verb,
@@ -49,15 +49,29 @@ pub fn progress_line(
     ensures line { IfOk result (λ line. string_bytes line
         ≡ progress_line verb amount.now remark) }
 {
-    let (done, total) = (amount.done / 1000, amount.total / 1000);
-    let verb = verb_text(verb);
     let remark = remark_text(alloc, remark)?;
+    bytes_line(alloc, verb, amount.done, amount.total, remark.as_str())
+}
+
+// The same with the text of the remark.
+fn bytes_line(
+    alloc: Global,
+    verb: Verb,
+    done: u64,
+    total: u64,
+    remark: &str,
+) -> Result<String, AllocError>
+    requires { length remark.now ≤ 29 }
+    ensures short { IfOk result (λ line. length (string_bytes line) < 80) }
+    ensures line { IfOk result (λ line. string_bytes line
+        ≡ bytes_line verb done total remark.now) }
+{
+    let (verb, done, total) = (verb_text(verb), done / 1000, total / 1000);
     format!(in alloc; "{verb}: {done} of {total} kB{remark}")
 }
 
 /// The line of a command that encodes a file of so many bytes, of fewer than 80 columns, without an
 /// end.
-#[tactic(auto, using(crate::proofs::Lines::encoding_short))]
 pub fn encoding_line(alloc: Global, verb: Verb, size: u64) -> Result<String, AllocError>
     ensures short { IfOk result (λ line. length (string_bytes line) < 80) }
     ensures line { IfOk result (λ line. string_bytes line ≡ encoding_line verb size) }
@@ -92,14 +106,27 @@ fn verb_text(verb: Verb) -> &'static str
 }
 
 fn remark_text(alloc: Global, remark: Remark) -> Result<String, AllocError>
-    ensures { IfOk result (λ text. string_bytes text ≡ remark_text remark) }
+    ensures short { IfOk result (λ text. length (string_bytes text) ≤ 29) }
+    ensures text { IfOk result (λ text. string_bytes text ≡ remark_text remark) }
 {
     match remark {
         Remark::Nothing => Ok(String::new(alloc)),
-        Remark::Left(seconds) => format!(in alloc; ", {seconds} s left"),
-        Remark::WaitsFor(server) => {
-            let name = server_name(alloc, server)?;
-            format!(in alloc; ", waiting for {name}")
-        }
+        Remark::Left(seconds) => left_text(alloc, seconds),
+        Remark::WaitsFor(server) => waits_text(alloc, server),
     }
+}
+
+fn left_text(alloc: Global, seconds: u64) -> Result<String, AllocError>
+    ensures short { IfOk result (λ text. length (string_bytes text) ≤ 29) }
+    ensures text { IfOk result (λ text. string_bytes text ≡ left_text seconds) }
+{
+    format!(in alloc; ", {seconds} s left")
+}
+
+fn waits_text(alloc: Global, server: NodeId) -> Result<String, AllocError>
+    ensures short { IfOk result (λ text. length (string_bytes text) ≤ 29) }
+    ensures text { IfOk result (λ text. string_bytes text ≡ waits_text server) }
+{
+    let name = server_name(alloc, server)?;
+    format!(in alloc; ", waiting for {name}")
 }

@@ -3,6 +3,7 @@
 ghost use Rattle.std.specs.Prelude.{◌≡◌, IfOk};
 ghost use Rattle.std.specs.String.{string_bytes};
 ghost use Rattle.grid_rules.specs.ScrubLines.{aside_text, counted, finding_json, finding_line};
+ghost use Rattle.grid_rules.specs.ScrubLines.{finding_object};
 ghost use Rattle.grid_rules.specs.ScrubLines.{last_json, last_line, removed_text, scrub_status};
 ghost use Rattle.grid_rules.specs.ScrubLines.{state_text};
 
@@ -94,9 +95,23 @@ pub fn finding_json(alloc: Global, server: NodeId, found: &Finding) -> Result<St
     let (name, share) = (server_name(alloc, server)?, found.file.place.1);
     let index = to_base32(alloc, &found.file.place.0)?;
     let state = state_text(alloc, &found.state)?;
-    Ok(format!(in alloc;
-        "{{\"server\":\"{name}\",\"index\":\"{index}\",\"share\":{share},\"verdict\":\"{state}\"}}\n"
-    )?)
+    finding_object(alloc, name.as_str(), index.as_str(), share, state.as_str())
+}
+
+fn finding_object(
+    alloc: Global,
+    server: &str,
+    index: &str,
+    share: u8,
+    state: &str,
+) -> Result<String, Fault>
+    ensures { IfOk result
+        (λ line. string_bytes line ≡ finding_object server.now index.now share state.now) }
+{
+    let line = format!(in alloc;
+        "{{\"server\":\"{server}\",\"index\":\"{index}\",\"share\":{share},\"verdict\":\"{state}\"}}\n"
+    );
+    Ok(line?)
 }
 
 // How a file was found.

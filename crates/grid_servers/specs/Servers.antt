@@ -1,5 +1,6 @@
 -- Servers by their numbers.
-use Rattle.std.specs.Prelude.{ℕ, List, Bool, not, filter, list_any, nat_eq}
+use Rattle.std.specs.Prelude.{ℕ, List, Bool, not, filter, nat_eq}
+use Rattle.std.specs.List.{list_any}
 
 -- the servers that are not among those
 abbrev pub is_left : List ℕ → ℕ → Bool

@@ -1,0 +1,12 @@
+use Rattle.std.proofs.Common.{◌≡◌, ◌∙◌, ◌++◌, ap, ap₂, sym}
+use Rattle.std.specs.Str.{encode_utf8_all}
+use Rattle.std.proofs.Common.{List, ℕ, encode_utf8, map, []}
+use Rattle.grid_rules.specs.ToldPath.{told_char}
+use Rattle.grid_rules.proofs.Told.{told_more}
+use Rattle.grid_rules.proofs.paths.told_path.Goals as goal
+
+pub loop-letter-preserved : goal.loop-letter-preserved
+loop-letter-preserved c =
+    c.in_ok-push.ensures.bytes
+    ∙ ap₂ (λ (xs : List ℕ) (x : ℕ). xs ++ encode_utf8 x) c.loop-letter.invariant c.told_char.ensures
+    ∙ sym (told_more c.loop-letter.yielded c.in-Some.letter)
