@@ -1,8 +1,7 @@
 -- Numbers in a row, and the servers of numbers.
 use Rattle.lemmas.proofs.Ranges.{range_more}
 use Rattle.placement.proofs.Best.{range_distinct}
-use Rattle.std.proofs.Common.{◌≡◌, ◌∙◌, ℕ, ◌+◌, List, [], ◌∷◌, ◌++◌, Bool, true, false, cond, filter, map, eqb, refl, ap, subst, sym, arith}
-use Rattle.std.proofs.Common.{Result, Ok, Err, Vec, IfOk}
+use Rattle.std.proofs.Common.{◌≡◌, ◌∙◌, ℕ, ◌+◌, List, [], ◌∷◌, ◌++◌, Bool, cond, filter, map, eqb, refl, ap, subst, sym, arith}
 use Rattle.std.specs.List.{IsDistinct, range_with_len}
 use Rattle.std.proofs.lemmas.List.Elements.{filter-append}
 use Rattle.upload_core.specs.declared.status.ServerInfo.{ServerInfo}

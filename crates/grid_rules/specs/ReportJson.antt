@@ -1,5 +1,5 @@
 -- What a check tells, for programs: one object a line.
-use Rattle.std.specs.Prelude.{ℕ, List, [], ◌∷◌, ◌++◌, Bool, true, false, codes, decimal, not}
+use Rattle.std.specs.Prelude.{ℕ, List, ◌++◌, Bool, true, false, codes, decimal, not}
 use Rattle.std.specs.Prelude.{filter, nat_eq}
 use Rattle.std.specs.List.{flat_map, list_any, range_with_len}
 use Rattle.checker.specs.declared.status.Report.{Report}

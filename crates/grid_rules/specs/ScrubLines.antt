@@ -1,14 +1,13 @@
 -- What a scrub tells: a line, or an object for programs, of each file that is not as it should be,
 -- and one of all.
-use Rattle.std.specs.Prelude.{ℕ, List, [], ◌++◌, ◌+◌, ◌≡◌, Bool, true, false, codes, decimal, min}
-use Rattle.std.specs.Prelude.{if◌then◌else◌, ◌&&◌, nat_eq, Option, None, Some}
+use Rattle.std.specs.Prelude.{ℕ, List, [], ◌++◌, ◌+◌, codes, decimal, min}
+use Rattle.std.specs.Prelude.{if◌then◌else◌, ◌&&◌, nat_eq}
 use Rattle.cap_text.specs.Base32.{base32}
 use Rattle.share_scrub.specs.declared.folder.Action.{Action}
 use Rattle.share_scrub.specs.declared.folder.Action.TheVariants.{Left, Done, Failed}
 use Rattle.share_scrub.specs.declared.folder.Finding.{Finding}
 use Rattle.share_scrub.specs.declared.folder.State.{State}
 use Rattle.share_scrub.specs.declared.folder.State.TheVariants.{Whole, Damaged, Unreadable, LeftOpen}
-use Rattle.share_scrub.specs.declared.name.ShareFile.{ShareFile}
 use Rattle.grid_rules.specs.ReportLines.{server_name}
 use Rattle.grid_rules.specs.declared.scrubbing.Scrubbed.{Scrubbed}
 

@@ -1,7 +1,6 @@
 -- The servers of a grid, by the names of their folders.
 use Rattle.std.specs.Prelude.{ℕ}
 use Rattle.sha1.specs.Sha1.{sha1}
-use Rattle.placement.specs.declared.ranking.ServerId.{ServerId}
 use Rattle.upload_core.specs.declared.status.ServerInfo.{ServerInfo}
 use Rattle.grid_rules.specs.ReportLines.{server_name}
 

@@ -1,4 +1,4 @@
-use Rattle.std.proofs.Common.{◌∙◌, ◌++◌, ◌∷◌, [], List, ℕ, Bool, true, false, ap, sym}
+use Rattle.std.proofs.Common.{◌∙◌, ◌++◌, ◌∷◌, [], List, ℕ, true, false, ap, sym}
 use Rattle.std.proofs.lemmas.List.{append-nil}
 use Rattle.grid_rules.specs.ReportJson.{is_missing, missing}
 use Rattle.grid_rules.proofs.Numbers.{more}

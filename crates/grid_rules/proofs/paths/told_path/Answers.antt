@@ -1,7 +1,5 @@
-use Rattle.std.proofs.Common.{◌≡◌, ◌∙◌, ◌++◌, ap, ap₂, sym}
-use Rattle.std.specs.Str.{encode_utf8_all}
-use Rattle.std.proofs.Common.{List, ℕ, encode_utf8, map, []}
-use Rattle.grid_rules.specs.ToldPath.{told_char}
+use Rattle.std.proofs.Common.{◌∙◌, ◌++◌, ap₂, sym}
+use Rattle.std.proofs.Common.{List, ℕ, encode_utf8}
 use Rattle.grid_rules.proofs.Told.{told_more}
 use Rattle.grid_rules.proofs.paths.told_path.Goals as goal
 

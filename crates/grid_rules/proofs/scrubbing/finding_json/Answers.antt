@@ -1,7 +1,6 @@
 use Rattle.std.proofs.Common.{◌≡◌, ◌∙◌, IfOk, List, ℕ, string_bytes, subst}
 use Rattle.cap_text.specs.Base32.{base32}
 use Rattle.grid_rules.specs.ScrubLines.{finding_object, state_text}
-use Rattle.grid_rules.specs.ReportLines.{server_name}
 use Rattle.grid_rules.proofs.scrubbing.finding_json.Goals as goal
 
 pub returns : goal.returns

@@ -1,4 +1,4 @@
-use Rattle.std.proofs.Common.{refl, arith, ◌≡◌, ℕ, List, Result, Ok, Err, Vec, IfOk, eqb}
+use Rattle.std.proofs.Common.{refl, arith, ◌≡◌, ℕ, Result, Ok, Err, Vec, IfOk, eqb}
 use Rattle.std.specs.List.{IsDistinct, range_with_len}
 use Rattle.std.proofs.lemmas.Iterator.{items_from_collect, YieldsList-from_range}
 use Rattle.grid_rules.proofs.Numbers.{are_distinct}
