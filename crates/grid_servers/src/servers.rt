@@ -169,7 +169,6 @@ where
 }
 
 /// These servers without those, in their order.
-#[tactic(auto, using(crate::proofs::Left::filtered_distinct))]
 pub fn servers_without(
     alloc: Global,
     servers: &[NodeId],
