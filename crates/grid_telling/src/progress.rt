@@ -177,8 +177,8 @@ where
         });
         if is_due {
             self.pause = PAUSE;
-            let remark = self.remark(&times, now, server);
-            self.show(progress_line(self.alloc, self.verb, &self.amount, remark));
+            let (remark, amount) = (self.remark(&times, now, server), self.amount);
+            self.show(progress_line(self.alloc, self.verb, &amount, remark));
         }
     }
 
@@ -189,7 +189,11 @@ where
             Some(server) if is_waiting => Remark::WaitsFor(server),
             _ => {
                 let elapsed = now.duration_since(times.began).as_millis();
-                seconds_left(elapsed as u64, &self.amount).map_or(Remark::Nothing, Remark::Left)
+                let amount = self.amount;
+                match seconds_left(u64::try_from(elapsed).unwrap_or(u64::MAX), &amount) {
+                    Some(seconds) => Remark::Left(seconds),
+                    None => Remark::Nothing,
+                }
             }
         }
     }
@@ -205,7 +209,31 @@ where
         }
     }
 
-    // Takes note of an answer that refuses a share.
+    // Takes note of an answer of a server that is to store shares.
+    fn hear_of_store(&mut self, server: NodeId, body: &Body) {
+        match body {
+            Body::Have(readonly, _) => {
+                if *readonly {
+                    self.refuse(server);
+                }
+            }
+            Body::Full => self.refuse(server),
+            _ => {}
+        }
+    }
+
+    // Takes note of an answer of a server that is to give shares of so many bytes.
+    fn hear_of_shares(&mut self, server: NodeId, body: &Body, share: u64) {
+        match body {
+            Body::Have(_, held) => {
+                self.expect(share.saturating_mul(held.as_slice().len() as u64));
+            }
+            Body::Data(data) => self.move_on(data.as_slice().len() as u64, Some(server)),
+            _ => {}
+        }
+    }
+
+    // Takes note of a server that takes no share.
     fn refuse(&mut self, server: NodeId) {
         if let Some(refused) = self.refusals.get_mut(usize::from(server)) {
             *refused = true;
@@ -231,23 +259,18 @@ where
     E: Write + IsTerminal,
 {
     fn asked(&mut self, server: NodeId, message: &Message) {
-        let bytes = match (&message.body, self.counting) {
-            (Body::Write(_, _, data), Counting::Stored) => data.as_slice().len() as u64,
+        let bytes = match &message.body {
+            Body::Write(_, _, data) if self.counting == Counting::Stored => data.as_slice().len(),
             _ => 0,
         };
-        self.move_on(bytes, Some(server));
+        self.move_on(bytes as u64, Some(server));
     }
 
     fn heard(&mut self, server: NodeId, message: &Message) {
-        match (&message.body, self.counting) {
-            (Body::Have(true, _) | Body::Full, Counting::Stored) => self.refuse(server),
-            (Body::Have(_, held), Counting::Answered(share)) => {
-                self.expect(share.saturating_mul(held.as_slice().len() as u64));
-            }
-            (Body::Data(data), Counting::Answered(_)) => {
-                self.move_on(data.as_slice().len() as u64, Some(server));
-            }
-            _ => {}
+        match self.counting {
+            Counting::Stored => self.hear_of_store(server, &message.body),
+            Counting::Answered(share) => self.hear_of_shares(server, &message.body, share),
+            Counting::Added => {}
         }
     }
 }
