@@ -1,5 +1,8 @@
 //! `grid check`: a verdict on each share of a cap's file that the servers of a grid offer.
 
+ghost use Rattle.std.specs.Prelude.{nat_eq};
+ghost use Rattle.std.specs.List.{IsDistinct};
+
 use crate::notes::{note_blame, note_servers};
 use crate::{DONE, Failure, LITERAL, print, read_cap};
 use cap_text::{Cap, VerifyCap};
@@ -18,6 +21,9 @@ use std::net::Net;
 use std::rt::{Clock, Files};
 use wire::message::NodeId;
 
+// What is told of a cap that holds its file, to programs.
+const LITERAL_JSON: &[u8] = b"{\"literal\":true}\n";
+
 /// Writes what is found of the shares of a cap's file, and gives the exit status: that of too few
 /// shares where the file cannot be recovered. A cap that holds its file has no shares.
 pub(crate) fn check<R, O, E>(
@@ -32,7 +38,7 @@ where
     E: Write + IsTerminal,
 {
     let Some(cap) = verify_cap(read_cap(words.cap)?) else {
-        print(out, LITERAL)?;
+        print(out, if words.json { LITERAL_JSON } else { LITERAL })?;
         return Ok(DONE);
     };
     let total = cap.total();
@@ -122,7 +128,7 @@ pub(crate) fn share_bytes(cap: &VerifyCap) -> u64 {
     cap.size().div_ceil(needed)
 }
 
-/// Carries a check of a cap's file to its end over these servers.
+/// Carries a check of a cap's file to its end over these servers, which are distinct.
 pub(crate) fn carry_check<R, E>(
     alloc: Global,
     cap: VerifyCap,
@@ -133,6 +139,7 @@ pub(crate) fn carry_check<R, E>(
 where
     R: Files + Net + Clock + AllocGlobal + Clone + Drop,
     E: Write + IsTerminal,
+    requires { IsDistinct nat_eq servers.now }
 {
     let now = nodes.clock();
     let check = Check::start(alloc, cap, servers, FIRST_SESSION, now)?;

@@ -143,7 +143,7 @@ where
         let carried = self.nodes.run(&mut watched);
         let client = watched.into_client();
         self.suspect(servers, client.blamed(), progress)?;
-        tried(
+        reached(
             end_of(carried, &client),
             span.from.saturating_add(count.get()),
         )
@@ -211,10 +211,10 @@ fn end_of<W: Write>(
 }
 
 // The same, where too few shares are no fault yet. All bytes up to this place were written.
-fn tried(ended: Result<(), Failure>, reached: u64) -> Result<Tried, Failure> {
+fn reached(ended: Result<(), Failure>, place: u64) -> Result<Tried, Failure> {
     match ended {
         Ok(()) => Ok(Tried::Done),
-        Err(Failure::Fault(Fault::NotEnoughShares)) => Ok(Tried::TooFew(reached)),
+        Err(Failure::Fault(Fault::NotEnoughShares)) => Ok(Tried::TooFew(place)),
         Err(failure) => Err(failure),
     }
 }
