@@ -21,20 +21,20 @@ use Rattle.share_store.specs.declared.shelf.ClosedShare.{ClosedShare}
 use Rattle.server_core.specs.Machine.{Machine}
 use Rattle.server_core.specs.Sound.{ClosedStay, IsAnswer, IsSound, Tells, is_request}
 use Rattle.world_operations.specs.declared.job.Job.{Job}
-use Rattle.world_operations.specs.declared.job.Job.TheVariants.{Upload, Download, Check}
+use Rattle.world_operations.specs.declared.job.Job.TheVariants.{Upload, Download, Check, Repair, NoRepair}
 use Rattle.world_operations.specs.declared.message.Sent.{Sent}
 use Rattle.world_operations.specs.declared.operation.Life.{Life}
 use Rattle.world_operations.specs.declared.operation.Life.TheVariants.{Forgotten, Live, Refused}
 use Rattle.world_operations.specs.declared.operation.Operation.{Operation}
 use Rattle.world_operations.specs.declared.task.Task.{Task}
-use Rattle.world_operations.specs.declared.task.Task.TheVariants.{Gone}
-use Rattle.world_operations.specs.Follow.{GoesOn, IsFrameOf, IsLostTask, IsSaid, IsSameOperation, Moves, Nothing, Said, SendsSome}
+use Rattle.world_operations.specs.declared.task.Task.TheVariants.{Uploading, Downloading, Checking, Gone}
+use Rattle.world_operations.specs.Follow.{GoesOn, IsFrameOf, IsLostTask, IsNewTask, IsSaid, IsSameOperation, Moves, Nothing, Said, SendsSome}
 use Rattle.world_operations.specs.Given.{AreGivenBy}
 use Rattle.world_operations.specs.Jobs.{IsFor}
 use Rattle.world_operations.specs.Moves.{sent_to}
 use Rattle.world_operations.specs.Tasks.{IsRightTask, requests_of}
 use Rattle.world_operations.proofs.Places.{append_none, get_push, get_push_old, get_set, get_set_back, get_set_same, length_set, member_here, member_none, member_there, push_last, same_some}
-use Rattle.world_operations.proofs.TaskMoves.{IsNewTask, request_on}
+use Rattle.world_operations.proofs.TaskMoves.{request_on}
 use Rattle.world.specs.State.{shelved}
 use Rattle.world.specs.Step.{forgotten_by, is_running, new_operation, with_life}
 use Rattle.world.specs.Consistent.{AreConsistent, CameFrom, IsFine, IsJustified, IsRecorded, IsRequestOf}
@@ -251,10 +251,15 @@ fine_on New honest sent i old new same g came right given f = record {
   right = right;
 }
 
-for_gone : (job : Job) (number : ℕ) → IsFor job (Gone number)
-for_gone (Upload file secret p) number = tt
-for_gone (Download cap from to) number = tt
-for_gone (Check cap) number = tt
+for_gone : (job : Job) (task : Task) (number : ℕ) → IsFor job task → IsFor job (Gone number)
+for_gone (Upload file secret p) (Uploading u) number h = h.2
+for_gone (Upload file secret p) (Gone n) number h = h
+for_gone (Upload file secret p) (Downloading d) number h = absurd h
+for_gone (Upload file secret p) (Checking c) number h = absurd h
+for_gone (Download cap from to) task number h = tt
+for_gone (Check cap) task number h = tt
+for_gone (Repair cap happy) task number h = tt
+for_gone (NoRepair cap why) task number h = tt
 
 -- where it is gone nothing is left to be said
 fine_gone : (honest : ℕ) (sent : List Sent) (i : ℕ) (old new : Operation) → IsSameOperation old new → new.task ≡ Gone i → IsRightTask new.task
@@ -262,7 +267,7 @@ fine_gone : (honest : ℕ) (sent : List Sent) (i : ℕ) (old new : Operation) �
 fine_gone honest sent i old new same is right given f = record {
   given = given f.given;
   node = subst (λ (n : ℕ). n < honest) (sym same.node) f.node;
-  started = subst (IsFor new.job) (sym is) (for_gone new.job i);
+  started = subst (IsFor new.job) (sym is) (for_gone new.job old.task i (subst (λ (j : Job). IsFor j old.task) (sym same.job) f.started));
   session = ap (λ (t : Task). (requests_of t).session) is;
   before = subst (λ (n : ℕ). n ≤ length sent) (sym same.sent_before) f.before;
   answers = λ place r said e o. absurd (nothing place r (ap (λ (t : Task). slice_get (requests_of t).entries place) (sym is) ∙ e));

@@ -14,7 +14,7 @@ use Rattle.world_operations.specs.declared.operation.Operation.{Operation}
 use Rattle.world_operations.specs.declared.task.Task.{Task}
 use Rattle.world_operations.specs.declared.task.Task.TheVariants.{Uploading, Downloading, Checking, Gone}
 use Rattle.world_operations.specs.Follow.{IsLostTask, Moves, Said, SendsSome}
-use Rattle.world_operations.specs.Tasks.{IsHappyTask}
+use Rattle.world_operations.specs.Tasks.{HasShares, IsHappyTask}
 use Rattle.world_operations.proofs.Places.{append_none, get_push_old, get_set_back, same_some}
 use Rattle.world.specs.State.{WorldState}
 use Rattle.world.specs.Step.{with_life}
@@ -28,6 +28,7 @@ use Rattle.world.proofs.Happy.{Up}
 pub record GrowsAs (old new : Operation) : Type 0 where
   pub job : new.job ≡ old.job
   pub happy : (pairs : List Pair) → IsHappyTask old.task pairs → IsHappyTask new.task pairs
+  pub shares : (pairs : List Pair) (these : List (List ℕ)) → IsHappyTask old.task pairs → HasShares old.task these → HasShares new.task these
   pub pieces : List Piece
   pub given : new.given ≡ old.given ++ pieces
 
@@ -35,7 +36,7 @@ abbrev pub AllGrow : List Operation → List Operation → Type 0
 AllGrow old new = (i : ℕ) (op : Operation) → slice_get old i ≡ Some op → (next : Operation) × (slice_get new i ≡ Some next) × GrowsAs op next
 
 same_operation : (op : Operation) → GrowsAs op op
-same_operation op = record { job = refl; happy = λ pairs h. h; pieces = []; given = sym (append_none op.given) }
+same_operation op = record { job = refl; happy = λ pairs h. h; shares = λ pairs these h k. k; pieces = []; given = sym (append_none op.given) }
 
 pub none_grow : (operations : List Operation) → AllGrow operations operations
 none_grow operations i op at = (op, at, same_operation op)
@@ -48,16 +49,20 @@ one_grows operations number old new at g i op e = elim (get_set_back operations 
 ]
 
 pub lives_grow : (old new : List Operation) → HaveOtherLives old new → AllGrow old new
-lives_grow old new h i op e = (let f = h.on i op e in (with_life f.0 op, f.1, record { job = refl; happy = λ pairs k. k; pieces = []; given = sym (append_none op.given) }))
+lives_grow old new h i op e = (let f = h.on i op e in (with_life f.0 op, f.1, record { job = refl; happy = λ pairs k. k; shares = λ pairs these h k. k; pieces = []; given = sym (append_none op.given) }))
 
 pub one_more : (operations : List Operation) (new : Operation) → AllGrow operations (operations ++ new ∷ [])
 one_more operations new i op e = (op, get_push_old operations i op new e, same_operation op)
 
 pub moves_grow : (New : Said) (number : ℕ) (old new : Operation) (before after : List Sent) → Moves New number old new before after → GrowsAs old new
-moves_grow New number old new before after m = record { job = m.same.job; happy = λ pairs h. by m.task pairs h; pieces = m.same.pieces; given = m.same.given } where
+moves_grow New number old new before after m = record { job = m.same.job; happy = λ pairs h. by m.task pairs h; shares = λ pairs these h k. has m.task pairs these h k; pieces = m.same.pieces; given = m.same.given } where
   by : SendsSome New old.node old.task new.task before after ⊎ IsLostTask number old.task new.task before after → (pairs : List Pair) → IsHappyTask old.task pairs → IsHappyTask new.task pairs
   by (inl s) pairs h = s.goes.happy pairs h
   by (inr l) pairs h = absurd (l.unhappy pairs h)
+
+  has : SendsSome New old.node old.task new.task before after ⊎ IsLostTask number old.task new.task before after → (pairs : List Pair) (these : List (List ℕ)) → IsHappyTask old.task pairs → HasShares old.task these → HasShares new.task these
+  has (inl s) pairs these h k = s.goes.shares these k
+  has (inr l) pairs these h k = absurd (l.unhappy pairs h)
 
 pub moves_send : (New : Said) (number : ℕ) (old new : Operation) (before after : List Sent) → Moves New number old new before after → (more : List Sent) × (after ≡ before ++ more)
 moves_send New number old new before after m = by m.task where
@@ -121,6 +126,17 @@ later_from old new servers operations sent nodes = record {
         upload_of = record { at = f.1; job = f.2.job ∙ up.upload_of.job; task = t.task };
         status = t.status;
       };
+  repaired = λ cap happy shares pairs r.
+      let f = operations r.number r.operation r.repair_of.at in
+      let happy_task : IsHappyTask r.operation.task pairs = subst (λ (t : Task). IsHappyTask t pairs) (sym r.repair_of.task) r.status in
+      let t = happy_upload f.0.task pairs (f.2.happy pairs happy_task) in record {
+        number = r.number;
+        operation = f.0;
+        upload = t.upload;
+        repair_of = record { at = f.1; job = f.2.job ∙ r.repair_of.job; task = t.task };
+        shares_are = subst (λ (k : Task). HasShares k shares) t.task (f.2.shares pairs shares happy_task (subst (λ (k : Task). HasShares k shares) (sym r.repair_of.task) r.shares_are));
+        status = t.status;
+      };
   kept = λ server index share bytes k.
       let f = servers server k.machine k.at in record {
         machine = f.0;
@@ -145,6 +161,7 @@ pub later_still : (a b c : WorldState) → IsLater a b → IsLater b c → IsLat
 later_still a b c f g = record {
   given = λ cap place byte x. g.given cap place byte (f.given cap place byte x);
   uploaded = λ file secret p pairs x. g.uploaded file secret p pairs (f.uploaded file secret p pairs x);
+  repaired = λ cap happy shares pairs x. g.repaired cap happy shares pairs (f.repaired cap happy shares pairs x);
   kept = λ server index share bytes x. g.kept server index share bytes (f.kept server index share bytes x);
   more = f.more ++ g.more;
   sent = g.sent ∙ ap (λ (l : List Sent). l ++ g.more) f.sent ∙ append_assoc a.sent f.more g.more;

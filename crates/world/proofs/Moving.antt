@@ -22,14 +22,12 @@ use Rattle.world_operations.specs.declared.operation.Life.{Life}
 use Rattle.world_operations.specs.declared.operation.Life.TheVariants.{Forgotten, Live, Refused}
 use Rattle.world_operations.specs.declared.operation.Operation.{Operation}
 use Rattle.world_operations.specs.declared.task.Task.{Task}
-use Rattle.world_operations.specs.Follow.{IsSaid, Moves, Nothing, Said}
-use Rattle.world_operations.specs.Jobs.{MayStart}
-use Rattle.world_operations.specs.Moves.{Begins, IsFlushed, OperationGets, sent_to}
+use Rattle.world_operations.specs.Follow.{IsNewTask, IsSaid, Moves, Nothing, Said}
+use Rattle.world_operations.specs.Moves.{IsFlushed, OperationGets, sent_to}
 use Rattle.world_operations.specs.Tasks.{IsRightTask, requests_of}
 use Rattle.world_operations.proofs.Places.{append_none, get_below, push_last, same_some}
-use Rattle.world_operations.proofs.TaskMoves.{new_task}
 use Rattle.world.specs.State.{WorldState, nodes_of, server_of, servers_of, shelved}
-use Rattle.world.specs.Step.{Delivers, HaveTicked, IsOperationOf, OperationsTick, RestartsAt, ServerGets, Starts, TaskGets, TicksAt, TicksOrStays, answer_to, failing, forgotten_by, is_live, is_live_at, new_operation, with_heard, with_life}
+use Rattle.world.specs.Step.{Delivers, HaveTicked, IsOperationOf, OperationsTick, Opens, RestartsAt, ServerGets, TaskGets, TicksAt, TicksOrStays, answer_to, failing, forgotten_by, is_live, is_live_at, new_operation, with_heard, with_life}
 use Rattle.world.specs.Step.{gets, nobody, to_liar}
 use Rattle.world.specs.Parts.{NothingNew, OperationBecomes, OperationMoves, SaidBy, ServerBecomes, ServesBy}
 use Rattle.world.specs.Consistent.{Preserves}
@@ -160,30 +158,28 @@ set_last : {A : Type 0} (xs : List A) (x y : A) → slice_set (xs ++ x ∷ []) (
 set_last [] x y = refl
 set_last (z ∷ zs) x y = ap (λ (l : List _). z ∷ l) (set_last zs x y)
 
-pub opened : (w : WorldState) (node : ℕ) (job : Job) (task : Task) (new : List Operation) (after : List Sent) → Begins job (servers_of w) (nodes_of w) (length w.operations) w.clock task
+pub opened : (w : WorldState) (node : ℕ) (job : Job) (task : Task) (new : List Operation) (after : List Sent)
     → OperationBecomes IsFlushed (w.operations ++ new_operation node job (length w.sent) task ∷ []) (length w.operations) w.sent new after
-    → Starts w node job (record w { operations = new; sent = after })
-opened w node job task new after begins b =
+    → Opens w node job task (record w { operations = new; sent = after })
+opened w node job task new after b =
     let first : Operation = new_operation node job (length w.sent) task in
     let same : b.op ≡ first = same_some b.op first (sym b.at ∙ push_last w.operations first) in
     record {
-      first = task;
       last = b.next;
       more = b.more;
-      begins = begins;
       flushed = subst (λ (o : Operation). IsFlushed o b.more b.next) same b.becomes;
       is = ap (λ (o : List Operation). record w { operations = o; sent = after }) (b.is ∙ set_last w.operations first b.next)
           ∙ ap (λ (l : List Sent). record w { operations = w.operations ++ b.next ∷ []; sent = l }) b.appended;
     }
 
-pub opened_keeps : (w : WorldState) (node : ℕ) (job : Job) (task : Task) (new : List Operation) (after : List Sent) → node < length w.servers → MayStart job
-    → Begins job (servers_of w) (nodes_of w) (length w.operations) w.clock task → IsRightTask task
+pub opened_keeps : (w : WorldState) (node : ℕ) (job : Job) (task : Task) (new : List Operation) (after : List Sent) → node < length w.servers
+    → IsNewTask (length w.operations) job task → IsRightTask task
     → OperationMoves NothingNew (w.operations ++ new_operation node job (length w.sent) task ∷ []) (length w.operations) w.sent new after
     → Preserves w (record w { operations = new; sent = after })
-opened_keeps w node job task new after honest may begins right b =
+opened_keeps w node job task new after honest begins right b =
     let mid : WorldState = record w { operations = w.operations ++ new_operation node job (length w.sent) task ∷ [] } in
     preserves_on w mid (record w { operations = new; sent = after })
-    (preserves_begun w node job task honest (new_task (servers_of w) (nodes_of w) (length w.operations) w.clock job task may begins) right) (moved_keeps mid (length w.operations) new after b)
+    (preserves_begun w node job task honest begins right) (moved_keeps mid (length w.operations) new after b)
 
 -- ---- operations tick
 

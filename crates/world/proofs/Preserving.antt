@@ -19,11 +19,10 @@ use Rattle.world_operations.specs.declared.job.Job.{Job}
 use Rattle.world_operations.specs.declared.message.Sent.{Sent}
 use Rattle.world_operations.specs.declared.operation.Operation.{Operation}
 use Rattle.world_operations.specs.declared.task.Task.{Task}
-use Rattle.world_operations.specs.Follow.{IsSaid, Moves, Nothing, Said}
+use Rattle.world_operations.specs.Follow.{IsNewTask, IsSaid, Moves, Nothing, Said}
 use Rattle.world_operations.specs.Moves.{sent_to}
 use Rattle.world_operations.specs.Tasks.{IsRightTask, requests_of}
 use Rattle.world_operations.proofs.Places.{get_set_same, length_set, member_none, same_some}
-use Rattle.world_operations.proofs.TaskMoves.{IsNewTask}
 use Rattle.world.specs.State.{WorldState, new_server, new_world, shelved}
 use Rattle.world.specs.Step.{IsSpoken, answer_to, new_operation, with_heard}
 use Rattle.world.specs.Consistent.{AreConsistent, CameFrom, IsConsistent, Preserves}

@@ -32,7 +32,7 @@ pub record IsToldOf (m : Machine MemoryState) (index : List ℕ) (asks : Asked) 
   pub tells : Tells (shelved m).store request.body said
 
 -- an upload's machine is there
-request_of : (op : Operation) (u : Up) (x : Sent) (m : Message) → op.task ≡ Uploading u → IsRequestOf op x m → IsRequestBy (Uploading u) x m
+pub request_of : (op : Operation) (u : Up) (x : Sent) (m : Message) → op.task ≡ Uploading u → IsRequestOf op x m → IsRequestBy (Uploading u) x m
 request_of op u x m task (gone number is) = absurd (clash number (sym is ∙ task)) where
   clash : (n : ℕ) → Gone n ≡ Uploading u → ⊥
   clash n e = cc

@@ -12,7 +12,9 @@ use Rattle.world.specs.Headline.{IsLater, IsTrusted}
 use Rattle.world.specs.Taking.{AreTaken, IsRun, StepGives}
 use Rattle.world.proofs.Later.{later_still, same_world}
 use Rattle.world.proofs.Preserving.{new_consistent}
+use Rattle.world.specs.Repairs.{AreTrustedRepairs}
 use Rattle.world.proofs.Trusted.{trusted}
+use Rattle.world.proofs.Repaired.{repairs_trusted}
 
 pub kept_later : (old new : WorldState) → Preserves old new → IsKept old → IsKept new × IsLater old new
 kept_later old new p k =
@@ -21,6 +23,9 @@ kept_later old new p k =
 
 pub kept_trusted : (w : WorldState) → IsKept w → IsTrusted w
 kept_trusted w k = trusted w k.consistent
+
+pub kept_repairs : (w : WorldState) → IsKept w → AreTrustedRepairs w
+kept_repairs w k = repairs_trusted w k.consistent
 
 -- ---- a new world
 
@@ -55,19 +60,21 @@ pub record IsRunning (old now : WorldValue) (events : List Event) (taken : ℕ) 
   pub steps : AreTaken old (take taken events) now
   pub later : IsLater old.state now.state
   pub is_trusted : IsTrusted now.state
+  pub repairs : AreTrustedRepairs now.state
 
-pub running_begins : (w : WorldValue) (events : List Event) → IsTrusted w.state → IsRunning w w events 0
-running_begins w events t = record { steps = refl; later = same_world w.state; is_trusted = t }
+pub running_begins : (w : WorldValue) (events : List Event) → IsTrusted w.state → AreTrustedRepairs w.state → IsRunning w w events 0
+running_begins w events t r = record { steps = refl; later = same_world w.state; is_trusted = t; repairs = r }
 
 pub running_on : (old now next : WorldValue) (events : List Event) (taken : ℕ) (event : Event) → IsRunning old now events taken → slice_get events taken ≡ Some event
-    → StepGives now event (Ok tt) next → IsLater now.state next.state → IsTrusted next.state
+    → StepGives now event (Ok tt) next → IsLater now.state next.state → IsTrusted next.state → AreTrustedRepairs next.state
     → IsRunning old next events (taken + 1)
-running_on old now next events taken event r at gives later is_trusted =
+running_on old now next events taken event r at gives later is_trusted repairs =
     let e : taken + 1 ≡ suc taken = omega arith in record {
       steps = subst (λ (l : List Event). AreTaken old l next) (sym (ap (λ (n : ℕ). take n events) e ∙ take_next events taken event at))
           (taken_push (take taken events) old now next event r.steps gives);
       later = later_still old.state now.state next.state r.later later;
       is_trusted = is_trusted;
+      repairs = repairs;
     }
 
 -- the run stops at an event that is not taken

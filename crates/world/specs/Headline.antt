@@ -5,7 +5,7 @@ use Rattle.std.specs.Map.{values_of}
 use Rattle.tagged_hash.specs.Clash.{HasNoClashIn}
 use Rattle.tagged_hash.specs.TaggedHash.{tagged_input}
 use Rattle.tagged_hash.specs.declared.tag.Tag.TheVariants.{WholeShare}
-use Rattle.cap_text.specs.Cap.{ReadCapValue}
+use Rattle.cap_text.specs.Cap.{ReadCapValue, VerifyCapValue}
 use Rattle.wire.specs.declared.message.Message.{Message}
 use Rattle.wire.specs.Frames.{IsBodyOf}
 use Rattle.request_record.specs.declared.requests.Request.{Request}
@@ -28,6 +28,7 @@ use Rattle.world_operations.specs.declared.message.Sent.{Sent}
 use Rattle.world_operations.specs.declared.operation.Operation.{Operation}
 use Rattle.world_operations.specs.declared.task.Task.TheVariants.{Uploading}
 use Rattle.world_operations.specs.Given.{IsHashedBy}
+use Rattle.world.specs.Repaired.{IsRepaired}
 use Rattle.world.specs.State.{WorldState}
 
 -- ---- what was hashed
@@ -184,13 +185,16 @@ pub record IsTrusted (w : WorldState) : Type 0 where
   pub downloads_agree : HasNoClash w → DownloadsAgree w
   pub files_are_given : HasNoClash w → FilesAreGiven w
 
--- What was answered stays: a later world has every byte that was handed out, every upload that
--- answered Happy, every share that was closed, and all that was sent, and its nodes are the same.
+-- What was answered stays: a later world has every byte that was handed out, every upload and every
+-- repair that answered Happy, every share that was closed, and all that was sent, and its nodes are
+-- the same.
 pub record IsLater (old new : WorldState) : Type 0 where
   pub given : (cap : ReadCapValue) (place byte : ℕ) → IsGiven old cap place byte
       → IsGiven new cap place byte
   pub uploaded : (file secret : List ℕ) (p : UploadParameters) (pairs : List Pair)
       → IsUploaded old file secret p pairs → IsUploaded new file secret p pairs
+  pub repaired : (cap : VerifyCapValue) (happy : ℕ) (shares : List (List ℕ)) (pairs : List Pair)
+      → IsRepaired old cap happy shares pairs → IsRepaired new cap happy shares pairs
   pub kept : (server : ℕ) (index : List ℕ) (share : ℕ) (bytes : List ℕ)
       → Keeps old server index share bytes → Keeps new server index share bytes
   pub more : List Sent

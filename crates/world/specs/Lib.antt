@@ -3,7 +3,9 @@ pub mod State
 pub mod Step
 pub mod Admitted
 pub mod Taking
+pub mod Repaired
 pub mod Headline
+pub mod Repairs
 -- what holds of every world, and carries the headline
 pub mod Consistent
 -- words of private clauses

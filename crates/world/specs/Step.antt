@@ -8,17 +8,23 @@ use Rattle.share_store.specs.Memory.{MemoryState, memory_calls}
 use Rattle.server_core.specs.Machine.{Machine, Outcome, RestartsTo, Serves, Ticks}
 use Rattle.server_core.specs.Sound.{is_request}
 use Rattle.server_core.specs.declared.error.ServerFault.TheVariants.{OutOfMemory}
+use Rattle.checker.specs.Good.{AreGoodShares}
+use Rattle.checker.specs.State.{CheckState}
 use Rattle.world_operations.specs.declared.job.Job.{Job}
 use Rattle.world_operations.specs.declared.message.Sent.{Sent}
 use Rattle.world_operations.specs.declared.operation.Life.{Life}
 use Rattle.world_operations.specs.declared.operation.Life.TheVariants.{Forgotten, Live, Refused}
 use Rattle.world_operations.specs.declared.operation.Operation.{Operation}
+use Rattle.world_operations.specs.declared.status.Status.TheVariants.{Done}
 use Rattle.world_operations.specs.declared.task.Task.{Task}
+use Rattle.world_operations.specs.declared.task.Task.TheVariants.{Checking}
 use Rattle.world_operations.specs.Moves.{Begins, IsFlushed, OperationGets, OperationTicks, sent_to}
+use Rattle.world_operations.specs.Repairs.{BeginsRepair}
+use Rattle.world_operations.specs.Status.{status_of}
 use Rattle.world_operations.specs.Tasks.{runs}
 use Rattle.world.specs.declared.event.Event.{Event}
-use Rattle.world.specs.declared.event.Event.TheVariants.{Start, Deliver, Forge, Turn, Pass, Tick}
-use Rattle.world.specs.declared.event.Event.TheVariants.{Restart, FailStore, Refuse}
+use Rattle.world.specs.declared.event.Event.TheVariants.{Start, Repair, Deliver, Forge, Turn}
+use Rattle.world.specs.declared.event.Event.TheVariants.{Pass, Tick, Restart, FailStore, Refuse}
 use Rattle.world.specs.State.{IsHonest, IsLiar, IsNode, WorldState, nodes_of, servers_of}
 
 -- ---- parts of a world that change
@@ -106,15 +112,47 @@ new_operation node job sent_before task = record {
   given = [];
 }
 
--- an operation begins, and what it has to send is sent
-pub record Starts (old : WorldState) (node : ℕ) (job : Job) (new : WorldState) : Type 0 where
-  pub first : Task
+-- an operation begins with this machine, and what it has to send is sent
+pub record Opens (old : WorldState) (node : ℕ) (job : Job) (first : Task) (new : WorldState)
+    : Type 0 where
   pub last : Operation
   pub more : List Sent
-  pub begins : Begins job (servers_of old) (nodes_of old) (length old.operations) old.clock first
   pub flushed : IsFlushed (new_operation node job (length old.sent) first) more last
   pub is : new
       ≡ record old { operations = old.operations ++ last ∷ []; sent = old.sent ++ more }
+
+-- an operation is started
+pub record Starts (old : WorldState) (node : ℕ) (job : Job) (new : WorldState) : Type 0 where
+  pub first : Task
+  pub begins : Begins job (servers_of old) (nodes_of old) (length old.operations) old.clock first
+  pub opens : Opens old node job first new
+
+-- the operation of this number is a check of this node, and is done
+pub record IsDoneCheck (w : WorldState) (node number : ℕ) (check : CheckState) : Type 0 where
+  pub operation : Operation
+  pub at : slice_get w.operations number ≡ Some operation
+  pub own : operation.node ≡ node
+  pub checked : operation.task ≡ Checking check
+  pub done : status_of operation ≡ Done
+
+-- A repair begins with this job and this machine, of what a check found: of the good shares that it
+-- hands out, all shares of its file are made anew.
+pub record RepairBegins (w : WorldState) (node number happy : ℕ) (job : Job) (first : Task)
+    : Type 0 where
+  pub check : CheckState
+  pub done : IsDoneCheck w node number check
+  pub numbers : List ℕ
+  pub strings : List (List ℕ)
+  pub good : AreGoodShares check.cap check.requests.entries numbers strings
+  pub begins : BeginsRepair check.cap happy numbers strings (servers_of w) (length w.operations)
+      w.clock job first
+
+-- a repair is started
+pub record RepairStarts (old : WorldState) (node number happy : ℕ) (new : WorldState) : Type 0 where
+  pub job : Job
+  pub first : Task
+  pub begins : RepairBegins old node number happy job first
+  pub opens : Opens old node job first new
 
 -- is it a live one of this node?
 abbrev pub is_live : Life → Bool
@@ -193,6 +231,7 @@ Says old liar new =
 -- one event that is taken, from the world before it to the one after it
 abbrev pub Step : WorldState → Event → WorldState → Type 0
 Step old (Start node job) new = Starts old node job new
+Step old (Repair node number happy) new = RepairStarts old node number happy new
 Step old (Deliver i) new = (x : Sent) × (slice_get old.sent i ≡ Some x) × Delivers old x new
 Step old (Forge liar to bytes) new = new ≡ with_sent old liar to bytes
 Step old (Turn liar) new = Says old liar new

@@ -1,6 +1,6 @@
 //! The parts of a world: a server, or an operation, at its place.
 
-ghost use Rattle.std.specs.Prelude.{◌≡◌, ◌<◌, ◌++◌, ◌∷◌, [], List, Some, OnErr, OnOk, map};
+ghost use Rattle.std.specs.Prelude.{◌≡◌, ◌≢◌, ◌<◌, ◌++◌, ◌∷◌, [], List, Some, OnErr, OnOk, map};
 ghost use Rattle.std.specs.Prelude.{IfNone, IfOk, IfSome};
 ghost use Rattle.std.specs.Prelude.{slice_get, slice_set, vec_len};
 ghost use Rattle.wire.specs.declared.message.Message.{Message};
@@ -8,15 +8,20 @@ ghost use Rattle.wire.specs.Frames.{IsBodyOf};
 ghost use Rattle.server_core.specs.Machine.{RestartsTo, Ticks};
 ghost use Rattle.server_core.specs.Sound.{is_request};
 ghost use Rattle.share_store.specs.Memory.{memory_calls};
+ghost use Rattle.checker.specs.State.{CheckState};
 ghost use Rattle.world_operations.specs.Follow.{Moves, Nothing};
 ghost use Rattle.world_operations.specs.Moves.{IsFlushed, OperationGets};
+ghost use Rattle.world_operations.specs.Status.{status_of};
 ghost use Rattle.world_operations.specs.declared.message.Sent.{Sent};
 ghost use Rattle.world_operations.specs.declared.operation.Operation.{Operation};
+ghost use Rattle.world_operations.specs.declared.status.Status.TheVariants.{Done};
+ghost use Rattle.world_operations.specs.declared.task.Task.TheVariants.{Checking};
 ghost use Rattle.world.specs.Parts.{NothingNew, OperationBecomes, OperationMoves, SaidBy};
 ghost use Rattle.world.specs.Parts.{ServerBecomes, ServesBy};
 ghost use Rattle.world.specs.Step.{TicksOrStays, failing, forgotten_by, is_live_at, is_running};
 ghost use Rattle.world.specs.Step.{with_life};
 
+use checker::Check;
 use server_core::error::ServerFault;
 use server_core::server::Server;
 use share_store::memory::MemoryStore;
@@ -26,6 +31,8 @@ use wire::error::WireError;
 use wire::message::{Body, Message, NodeId};
 use world_operations::message::Sent;
 use world_operations::operation::{Life, Operation};
+use world_operations::status::Status;
+use world_operations::task::Task;
 
 /// Is it a message that a server answers?
 pub fn is_request(body: &Body) -> bool
@@ -111,6 +118,19 @@ pub(crate) fn is_running(operation: &Operation) -> bool
     ensures { result ≡ is_running operation.now }
 {
     operation.life == Life::Live && operation.task.is_running()
+}
+
+/// The check that an operation is, if it is done.
+pub(crate) fn done_check(operation: &Operation) -> Option<&Check>
+    ensures some { IfSome result (λ check. (operation.now.task ≡ Checking check.now)
+        × (status_of operation.now ≡ Done)) }
+    ensures none { IfNone result ((check : CheckState) → operation.now.task ≡ Checking check
+        → status_of operation.now ≢ Done) }
+{
+    match &operation.task {
+        Task::Checking(check) if operation.status() == Status::Done => Some(check),
+        _ => None,
+    }
 }
 
 /// The operation at a place takes a message over.

@@ -7,15 +7,16 @@ ghost use Rattle.std.specs.Prelude.{IsTrue, vec_len};
 ghost use Rattle.wire.specs.Frames.{IsBodyOf};
 ghost use Rattle.world_operations.specs.declared.message.Sent.{Sent};
 ghost use Rattle.world_operations.specs.declared.operation.Operation.{Operation};
+ghost use Rattle.world_operations.specs.Follow.{IsNewTask};
 ghost use Rattle.world_operations.specs.Jobs.{MayStart};
 ghost use Rattle.world_operations.specs.Moves.{Begins};
 ghost use Rattle.world_operations.specs.Tasks.{IsRightTask};
 ghost use Rattle.world.specs.Consistent.{Preserves};
 ghost use Rattle.world.specs.State.{nodes_of, servers_of, state_of};
 ghost use Rattle.world.specs.declared.event.Event.TheVariants.{FailStore, Refuse};
-ghost use Rattle.world.specs.Step.{Delivers, HaveTicked, IsRunning, RestartsAt, ServerGets};
-ghost use Rattle.world.specs.Step.{Starts, Step, TaskGets, TicksAt, later_by, with_heard};
-ghost use Rattle.world.specs.Step.{with_sent};
+ghost use Rattle.world.specs.Step.{Delivers, HaveTicked, IsRunning, Opens, RestartsAt};
+ghost use Rattle.world.specs.Step.{ServerGets, Starts, Step, TaskGets, TicksAt, later_by};
+ghost use Rattle.world.specs.Step.{with_heard, with_sent};
 
 use crate::liar::Heard;
 use crate::nodes::{nodes_up_to, servers_at};
@@ -143,6 +144,7 @@ impl Scene {
         ensures begins { IfOk result (Begins job.now (servers_of (state_of self.now))
             (nodes_of (state_of self.now)) (length self.now.operations.items) self.now.clock) }
         ensures may { IfOk result (λ _. MayStart job.now) }
+        ensures new { IfOk result (IsNewTask (length self.now.operations.items) job.now) }
         ensures refused { IsErrOf result StartError.Refused → MayStart job.now → ⊥ }
         ensures right { IfOk result IsRightTask }
     {
@@ -154,18 +156,15 @@ impl Scene {
         Ok(task)
     }
 
-    // An operation begins with this machine, and sends what it has to send.
-    fn open(&mut self, node: NodeId, job: &Job, task: Task) -> Result<(), AllocError>
+    /// An operation begins with this machine, and sends what it has to send.
+    pub(crate) fn open(&mut self, node: NodeId, job: Job, task: Task) -> Result<(), AllocError>
         requires honest { node < length self.old.servers.items }
-        requires begins { Begins job.now (servers_of (state_of self.old))
-            (nodes_of (state_of self.old)) (length self.old.operations.items) self.old.clock task }
-        requires may { MayStart job.now }
+        requires new { IsNewTask (length self.old.operations.items) job task }
         requires right { IsRightTask task }
-        ensures ok { OnOk result (Starts (state_of self.old) node job.now (state_of self.new)) }
+        ensures ok { OnOk result (Opens (state_of self.old) node job task (state_of self.new)) }
         ensures keeps { Preserves (state_of self.old) (state_of self.new) }
     {
         let number = self.operations.len();
-        let job = job.copied(self.alloc)?;
         let operation = Operation::new(self.alloc, node, job, self.sent.len(), task);
         push_operation(&mut self.operations, operation)?;
         flush_at(self.alloc, &mut self.operations, number, &mut self.sent)
@@ -182,6 +181,7 @@ impl Scene {
         ensures keeps { Preserves (state_of self.old) (state_of self.new) }
     {
         let task = self.begin(job)?;
+        let job = job.copied(self.alloc)?;
         self.open(node, job, task)?;
         Ok(())
     }

@@ -2,7 +2,8 @@
 
 ghost use Rattle.std.specs.Prelude.{◌≡◌, ◌↔◌, ◌+◌, ◌≤◌, IsTrue, length};
 ghost use Rattle.world.specs.declared.event.Event.TheVariants.{Deliver, FailStore, Forge, Pass};
-ghost use Rattle.world.specs.declared.event.Event.TheVariants.{Refuse, Restart, Start, Tick, Turn};
+ghost use Rattle.world.specs.declared.event.Event.TheVariants.{Refuse, Repair, Restart, Start};
+ghost use Rattle.world.specs.declared.event.Event.TheVariants.{Tick, Turn};
 ghost use Rattle.world.specs.Consistent.{Preserves};
 ghost use Rattle.world.specs.State.{IsLiar, IsNode, state_of};
 ghost use Rattle.world.specs.Taking.{IsTaken};
@@ -43,6 +44,19 @@ impl Scene {
             return Err(StartError::Refused);
         }
         self.start(node, job)
+    }
+
+    // An honest node starts a repair.
+    fn take_repair(&mut self, node: NodeId, number: usize, happy: u16) -> Result<(), StartError>
+        requires { length self.old.servers.items + length self.old.heard.items ≤ 256 }
+        ensures taken { IsTaken (state_of self.old) (Repair node number happy) result
+            (state_of self.new) }
+        ensures keeps { Preserves (state_of self.old) (state_of self.new) }
+    {
+        if usize::from(node) >= self.servers.len() {
+            return Err(StartError::Refused);
+        }
+        self.repair(node, number, happy)
     }
 
     // A message comes to its receiver.
@@ -160,6 +174,7 @@ impl Scene {
     {
         match event {
             Event::Start(node, job) => self.take_start(*node, job),
+            Event::Repair(node, number, happy) => self.take_repair(*node, *number, *happy),
             Event::Deliver(place) => self.take_delivery(*place),
             Event::Forge(liar, to, body) => self.take_forgery(*liar, *to, body),
             Event::Turn(liar) => self.take_turn(liars, *liar),

@@ -5,6 +5,7 @@ ghost use Rattle.std.specs.Prelude.{option_map, slice_get, vec_len};
 ghost use Rattle.world_operations.specs.Status.{status_of};
 ghost use Rattle.world_operations.specs.declared.operation.Operation.{Operation};
 ghost use Rattle.world.specs.Headline.{IsLater, IsTrusted};
+ghost use Rattle.world.specs.Repairs.{AreTrustedRepairs};
 ghost use Rattle.world.specs.State.{new_server, new_world};
 ghost use Rattle.world.specs.Taking.{IsRun, StepGives};
 
@@ -22,7 +23,8 @@ use world_operations::status::Status;
 use world_operations::task::StartError;
 
 /// A world of honest nodes and of liars. Whatever its events are, and whatever its calls answered:
-/// the headline holds of it (`IsTrusted`), and what was answered before stays (`IsLater`).
+/// the headline holds of it (`IsTrusted`), so does what is said of repairs (`AreTrustedRepairs`),
+/// and what was answered before stays (`IsLater`).
 #[derive(Drop)]
 pub struct World {
     scene: Scene,
@@ -79,6 +81,7 @@ impl World {
         ensures value { IfOk result (λ world. world
             ≡ record { state = new_world honest (vec_len liars); stopped = false }) }
         ensures trusted { IfOk result (λ world. IsTrusted world.state) }
+        ensures repairs { IfOk result (λ world. AreTrustedRepairs world.state) }
     {
         let scene = Scene {
             alloc,
@@ -100,6 +103,7 @@ impl World {
         ensures gives { StepGives self.old event.now result self.new }
         ensures later { IsLater self.old.state self.new.state }
         ensures trusted { IsTrusted self.new.state }
+        ensures repairs { AreTrustedRepairs self.new.state }
     {
         if self.stopped {
             return Err(WorldError::Stopped);
@@ -120,6 +124,7 @@ impl World {
         ensures run { IsRun self.old events.now result.0 result.1 self.new }
         ensures later { IsLater self.old.state self.new.state }
         ensures trusted { IsTrusted self.new.state }
+        ensures repairs { AreTrustedRepairs self.new.state }
     {
         self.is_trusted();
         for taken in 0..events.len() {
@@ -131,9 +136,10 @@ impl World {
         (events.len(), Ok(()))
     }
 
-    /// A law: the headline holds of every world.
+    /// A law: the headline holds of every world, and so does what is said of repairs.
     pub fn is_trusted(&self)
-        ensures { IsTrusted self.now.state }
+        ensures trusted { IsTrusted self.now.state }
+        ensures repairs { AreTrustedRepairs self.now.state }
     {
         let _stopped = self.stopped;
     }

@@ -1,4 +1,5 @@
 pub mod Places
 pub mod Records
 pub mod TaskMoves
+pub mod Beginnings
 pub mod Sending

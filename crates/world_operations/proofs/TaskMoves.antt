@@ -4,6 +4,8 @@ use Rattle.std.specs.Prelude.{drop, slice_get}
 use Rattle.std.proofs.lemmas.List.{append_assoc}
 use Rattle.std.proofs.lemmas.List.Elements.{Contains-append_cases}
 use Rattle.cap_text.specs.Cap.{ReadCapValue, VerifyCapValue, verify_cap_of}
+use Rattle.file_encoding.specs.RemadeLaws.{ArePassing}
+use Rattle.file_upload.specs.Shares.{shares_goal}
 use Rattle.placement.specs.Matching.{Pair}
 use Rattle.wire.specs.declared.message.Body.{Body}
 use Rattle.wire.specs.declared.message.Body.TheVariants.{Ask, Allocate, Write, Close, Abort, Read}
@@ -36,8 +38,8 @@ use Rattle.world_operations.specs.declared.message.Sent.{Sent}
 use Rattle.world_operations.specs.declared.task.Task.{Task}
 use Rattle.world_operations.specs.declared.task.Task.TheVariants.{Uploading, Downloading, Checking, Gone}
 use Rattle.world_operations.specs.Tasks.{IsHappyTask, MayFail, index_of, requests_of}
-use Rattle.world_operations.specs.Jobs.{IsFor, MayStart}
-use Rattle.world_operations.specs.Moves.{Advances, Begins, Takes, TakesPiece, TicksOn, UploadAdvances, UploadTicks, gives, never_fails, sent_to}
+use Rattle.world_operations.specs.Jobs.{IsFor}
+use Rattle.world_operations.specs.Moves.{Advances, Takes, TakesPiece, TicksOn, UploadAdvances, UploadTicks, gives, never_fails, sent_to}
 use Rattle.world_operations.specs.Follow.{Follows, GoesOn, IsFrameOf, IsRequestBy, IsSaid, Nothing, Said, SendsSome}
 use Rattle.world_operations.proofs.Places.{append_none, member_cases, member_none}
 use Rattle.world_operations.proofs.Records.{follows_asks, follows_itself, follows_message, follows_on, follows_same, follows_tick}
@@ -48,13 +50,14 @@ goes_on New a b c f g = record {
   index = g.index ∙ f.index;
   is_for = λ e h. g.is_for e (f.is_for e h);
   happy = λ pairs h. g.happy pairs (f.happy pairs h);
+  shares = λ these h. g.shares these (f.shares these h);
   given = λ p h. g.given p (f.given p h);
   hashed = λ input h. g.hashed input (f.hashed input h);
   gone = λ number e. g.gone number (f.gone number e);
 }
 
 pub goes_nowhere : (New : Said) (a : Task) → GoesOn New a a
-goes_nowhere New a = record { follows = follows_itself New (requests_of a); index = refl; is_for = λ e h. h; happy = λ pairs h. h; given = λ p h. h; hashed = λ input h. h; gone = λ number e. e }
+goes_nowhere New a = record { follows = follows_itself New (requests_of a); index = refl; is_for = λ e h. h; happy = λ pairs h. h; shares = λ these h. h; given = λ p h. h; hashed = λ input h. h; gone = λ number e. e }
 
 pub same_goes : (New : Said) (a b : Task) → b ≡ a → GoesOn New a b
 same_goes New a b e = subst (GoesOn New a) (sym e) (goes_nowhere New a)
@@ -73,13 +76,29 @@ record SameUpload (u v : UploadState) : Type 0 where
   pub wanted : v.wanted ≡ u.wanted
   pub happy : (pairs : List Pair) → u.status ≡ uploads.Happy pairs → v.status ≡ uploads.Happy pairs
 
-upload_goes : (New : Said) (u v : State) → SameUpload u.course v.course → Follows New u.course.requests v.course.requests → GoesOn New (Uploading u) (Uploading v)
-upload_goes New u v same f = record { follows = f; index = ap (λ (g : Goal). g.cap.storage_index) same.goal; is_for = kept; happy = same.happy; given = λ p h. h; hashed = λ input h. h; gone = λ number e. absurd cc }
+upload_goes : (New : Said) (u v : State) → v.pieces ≡ u.pieces → SameUpload u.course v.course → Follows New u.course.requests v.course.requests → GoesOn New (Uploading u) (Uploading v)
+upload_goes New u v pieces same f = record {
+  follows = f;
+  index = ap (λ (g : Goal). g.cap.storage_index) same.goal;
+  is_for = kept;
+  happy = same.happy;
+  shares = λ these h. pieces ∙ h;
+  given = λ p h. h;
+  hashed = λ input h. h;
+  gone = λ number e. absurd cc;
+}
   where
     kept : (e : Job) → IsFor e (Uploading u) → IsFor e (Uploading v)
     kept (jobs.Upload file secret p) h = (same.goal ∙ h.0, same.wanted ∙ h.1, h.2)
     kept (jobs.Download cap from to) h = absurd h
     kept (jobs.Check cap) h = absurd h
+    kept (jobs.Repair cap happy) h = record {
+      goal = same.goal ∙ h.goal ∙ ap (shares_goal cap) (sym pieces);
+      wanted = same.wanted ∙ h.wanted;
+      may = h.may;
+      passing = subst (ArePassing cap) (sym pieces) h.passing;
+    }
+    kept (jobs.NoRepair cap why) h = absurd h
 
 -- the moves of an upload that runs
 record Runs (New : Said) (u v : UploadState) : Type 0 where
@@ -90,7 +109,7 @@ record Runs (New : Said) (u v : UploadState) : Type 0 where
 recorded : (New : Said) (u v : UploadState) (r : RequestsState) → v ≡ with_record u r → Follows New u.requests r → Runs New u v
 recorded New u v r is f = subst (Runs New u) (sym is) record { goal = refl; wanted = refl; follows = f }
 
-placed : (New : Said) (u v : UploadState) (r : RequestsState) → Follows New u.requests r → upload.GoesOn u r v → Runs New u v
+pub placed : (New : Said) (u v : UploadState) (r : RequestsState) → Follows New u.requests r → upload.GoesOn u r v → Runs New u v
 placed New u v r f (upload.waits not_settled is) = recorded New u v r is f
 placed New u v r f (upload.places p settled place placing some is) =
     subst (Runs New u) (sym is) record { goal = refl; wanted = refl; follows = asks_more New u.requests r (transfers_of u.goal p) f }
@@ -120,22 +139,22 @@ runs_not_happy s pairs e f = clash (sym e ∙ f) where
   clash : uploads.Running ≡ uploads.Happy pairs → ⊥
   clash g = cc
 
-running_goes : (New : Said) (u v : State) → u.course.status ≡ uploads.Running → Runs New u.course v.course → GoesOn New (Uploading u) (Uploading v)
-running_goes New u v e r =
-    upload_goes New u v record { goal = r.goal; wanted = r.wanted; happy = λ pairs h. absurd (runs_not_happy u.course.status pairs e h) } r.follows
+running_goes : (New : Said) (u v : State) → v.pieces ≡ u.pieces → u.course.status ≡ uploads.Running → Runs New u.course v.course → GoesOn New (Uploading u) (Uploading v)
+running_goes New u v pieces e r =
+    upload_goes New u v pieces record { goal = r.goal; wanted = r.wanted; happy = λ pairs h. absurd (runs_not_happy u.course.status pairs e h) } r.follows
 
 upload_advances : (from now : ℕ) (m : Message) (u v : State) → UploadAdvances from m now u v → GoesOn (IsSaid from m u.course.requests.session) (Uploading u) (Uploading v)
 upload_advances from now m u v a =
     let New : Said = IsSaid from m u.course.requests.session in
     elim (runs u.course.status) [
-      | inl e ↦ running_goes New u v e
+      | inl e ↦ running_goes New u v a.pieces e
           (answered New u.course v.course (counts_at from m u.course.requests) (after_message from m now u.course.requests) (follows_message from now m u.course.requests) ((a.running e).running e))
       | inr e ↦ same_goes New (Uploading u) (Uploading v) (ap Uploading (a.ended e))
     ]
 
 upload_ticks : (now : ℕ) (u v : State) → UploadTicks now u v → GoesOn Nothing (Uploading u) (Uploading v)
 upload_ticks now u v a = elim (runs u.course.status) [
-  | inl e ↦ running_goes Nothing u v e
+  | inl e ↦ running_goes Nothing u v a.pieces e
       (lost Nothing u.course v.course (lost_by_tick now u.course.requests) (after_tick now u.course.requests) (follows_tick now u.course.requests) ((a.running e).running e))
   | inr e ↦ same_goes Nothing (Uploading u) (Uploading v) (ap Uploading (a.ended e))
 ]
@@ -148,11 +167,19 @@ never u v (Closing share) fault f = f
 never u v (Reading share offset len) fault f = f
 never u v (Aborting share) fault f = f
 
+same_pieces : (index old new : _) (asked : Asked) (body : _) → upload_sends.Tells gives index old asked body new → new ≡ old
+same_pieces index old new Holdings body t = t.1
+same_pieces index old new (Allocation share len) body t = t.1
+same_pieces index old new (Writing share offset len) body t = t.1.1
+same_pieces index old new (Closing share) body t = t.1
+same_pieces index old new (Reading share offset len) body t = t.1
+same_pieces index old new (Aborting share) body t = t.1
+
 upload_takes : (u v : State) (f : Option (ℕ × Message)) → upload_sends.Takes gives never_fails u f v → GoesOn Nothing (Uploading u) (Uploading v)
 upload_takes u v f (upload_sends.nothing first none is) = same_goes Nothing (Uploading u) (Uploading v) (ap Uploading is)
 upload_takes u v f (upload_sends.ceases place server asked fault first there faults none is) = absurd (never u.pieces v.pieces asked fault faults)
 upload_takes u v f (upload_sends.sends place server asked body first there tells some is) =
-    upload_goes Nothing u v
+    upload_goes Nothing u v (same_pieces u.course.goal.cap.storage_index u.pieces v.pieces asked body tells)
     record {
       goal = ap (λ (x : UploadState). x.goal) is;
       wanted = ap (λ (x : UploadState). x.wanted) is;
@@ -172,6 +199,7 @@ download_goes New d e same range f stays hashed = record {
   index = ap (λ (c : ReadCapValue). (verify_cap_of c).storage_index) same;
   is_for = kept;
   happy = λ pairs h. h;
+  shares = λ these h. h;
   given = stays;
   hashed = hashed;
   gone = λ number e. absurd cc;
@@ -179,6 +207,8 @@ download_goes New d e same range f stays hashed = record {
   where
     kept : (x : Job) → IsFor x (Downloading d) → IsFor x (Downloading e)
     kept (jobs.Upload file secret p) h = absurd h
+    kept (jobs.Repair cap happy) h = absurd h
+    kept (jobs.NoRepair cap why) h = absurd h
     kept (jobs.Download cap from to) h = (same ∙ h.0, range.0 ∙ h.1, range.1 ∙ h.2)
     kept (jobs.Check cap) h = absurd h
 
@@ -212,10 +242,21 @@ download_hands d e (Some p) t = (let is = t.1 in
     (ap (λ (x : DownloadState). x.requests.session) is) (ap (λ (x : DownloadState). x.requests.entries) is) (taken_stays d e (Some p) t) (taken_hashed d e (Some p) t))
 
 check_goes : (New : Said) (c e : CheckState) → e.cap ≡ c.cap → Follows New c.requests e.requests → GoesOn New (Checking c) (Checking e)
-check_goes New c e same f = record { follows = f; index = ap (λ (cap : VerifyCapValue). cap.storage_index) same; is_for = kept; happy = λ pairs h. h; given = λ p h. h; hashed = λ input h. h; gone = λ number e. absurd cc }
+check_goes New c e same f = record {
+  follows = f;
+  index = ap (λ (cap : VerifyCapValue). cap.storage_index) same;
+  is_for = kept;
+  happy = λ pairs h. h;
+  shares = λ these h. h;
+  given = λ p h. h;
+  hashed = λ input h. h;
+  gone = λ number e. absurd cc;
+}
   where
     kept : (x : Job) → IsFor x (Checking c) → IsFor x (Checking e)
     kept (jobs.Upload file secret p) h = absurd h
+    kept (jobs.Repair cap happy) h = absurd h
+    kept (jobs.NoRepair cap why) h = absurd h
     kept (jobs.Download cap from to) h = absurd h
     kept (jobs.Check cap) h = same ∙ h
 
@@ -414,30 +455,3 @@ sends_one node to m old new sent t spoken = record {
     | inr h ↦ absurd (member_none x h)
   ];
 }
-
--- ---- beginnings
-
-begun_follows : (servers : List ℕ) (session now : ℕ) (r : RequestsState) → r ≡ begun servers session now → Follows Nothing (fresh session now) r
-begun_follows servers session now r is = subst (Follows Nothing (fresh session now)) (sym is) (follows_asks (asks_of servers) (fresh session now))
-
--- a machine that has just begun: its record is new
-pub record IsNewTask (session : ℕ) (job : Job) (task : Task) : Type 0 where
-  pub is_for : IsFor job task
-  pub clock : ℕ
-  pub follows : Follows Nothing (fresh session clock) (requests_of task)
-
-pub new_task : (servers : List _) (nodes : List ℕ) (session now : ℕ) (job : Job) (task : Task) → MayStart job → Begins job servers nodes session now task → IsNewTask session job task
-new_task servers nodes session now (jobs.Upload file secret p) (Uploading u) may b =
-    let c = b.0 in
-    let first : UploadState = upload.initial _ p.happy u.course.servers session now in
-    let goes = placed Nothing first u.course (begun u.course.servers session now) (follows_itself Nothing (begun u.course.servers session now)) c.goes in
-    record {
-      is_for = (c.goal_is, c.wanted, may);
-      clock = now;
-      follows = follows_on Nothing (fresh session now) (begun u.course.servers session now) u.course.requests (begun_follows u.course.servers session now (begun u.course.servers session now) refl) goes.follows;
-    }
-new_task servers nodes session now (jobs.Download cap from to) (Downloading d) may b =
-    record { is_for = (b.of_cap, b.range.0, b.range.1); clock = now; follows = begun_follows (download.asked_servers from to nodes) session now d.requests b.asks }
-new_task servers nodes session now (jobs.Check cap) (Checking c) may b =
-    record { is_for = b.of_cap; clock = now; follows = begun_follows nodes session now c.requests b.asks }
-new_task servers nodes session now _ _ may b = absurd b

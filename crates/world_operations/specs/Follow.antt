@@ -8,7 +8,7 @@ use Rattle.wire.specs.Frames.{IsBodyOf}
 use Rattle.request_record.specs.declared.requests.Asked.{Asked}
 use Rattle.request_record.specs.declared.requests.Outcome.TheVariants.{Answered}
 use Rattle.request_record.specs.declared.requests.Request.{Request}
-use Rattle.request_record.specs.Asking.{Spells}
+use Rattle.request_record.specs.Asking.{Spells, fresh}
 use Rattle.request_record.specs.Record.{RequestsState, fits}
 use Rattle.server_core.specs.Sound.{is_request}
 use Rattle.download_segments.specs.declared.piece.Piece.{Piece}
@@ -19,7 +19,8 @@ use Rattle.world_operations.specs.declared.task.Task.{Task}
 use Rattle.world_operations.specs.declared.task.Task.TheVariants.{Gone}
 use Rattle.world_operations.specs.Given.{AreGivenBy, IsGivenBy, IsHashedBy}
 use Rattle.world_operations.specs.Jobs.{IsFor}
-use Rattle.world_operations.specs.Tasks.{IsHappyTask, index_of, is_download, requests_of}
+use Rattle.world_operations.specs.Tasks.{HasShares, IsHappyTask, index_of, is_download}
+use Rattle.world_operations.specs.Tasks.{requests_of}
 
 -- what was asked of a server, and what came for an answer: the place of a request, its server, what
 -- it asks and what was answered
@@ -63,13 +64,14 @@ pub record Follows (New : Said) (old new : RequestsState) : Type 0 where
       → s.outcome ≡ Answered said
       → WasAnswered old.entries place s said ⊎ New place s.server s.asked said
 
--- A machine goes on: it is for the same, its record follows, an upload that is Happy stays so, and
--- what a download gave and hashed stays so. One that is gone stays gone.
+-- A machine goes on: it is for the same, its record follows, an upload keeps its shares and stays
+-- Happy, and what a download gave and hashed stays so. One that is gone stays gone.
 pub record GoesOn (New : Said) (old new : Task) : Type 0 where
   pub follows : Follows New (requests_of old) (requests_of new)
   pub index : index_of new ≡ index_of old
   pub is_for : (job : Job) → IsFor job old → IsFor job new
   pub happy : (pairs : List Pair) → IsHappyTask old pairs → IsHappyTask new pairs
+  pub shares : (these : List (List ℕ)) → HasShares old these → HasShares new these
   pub given : (p : Piece) → IsGivenBy old p → IsGivenBy new p
   pub hashed : (input : List ℕ) → IsHashedBy old input → IsHashedBy new input
   pub gone : (number : ℕ) → old ≡ Gone number → new ≡ Gone number
@@ -123,3 +125,9 @@ pub record Moves (New : Said) (number : ℕ) (old new : Operation) (before after
   pub task : SendsSome New old.node old.task new.task before after
       ⊎ IsLostTask number old.task new.task before after
   pub given : AreGivenBy old.task old.given → AreGivenBy new.task new.given
+
+-- a machine that has just begun: it is for its job, and its record is new
+pub record IsNewTask (session : ℕ) (job : Job) (task : Task) : Type 0 where
+  pub is_for : IsFor job task
+  pub clock : ℕ
+  pub follows : Follows Nothing (fresh session clock) (requests_of task)

@@ -5,3 +5,4 @@ pub mod Given
 pub mod Moves
 pub mod Follow
 pub mod Status
+pub mod Repairs

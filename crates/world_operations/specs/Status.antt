@@ -8,6 +8,9 @@ use Rattle.checker.specs.declared.status.CheckStatus.{CheckStatus}
 use Rattle.checker.specs.declared.status.CheckStatus.TheVariants as checks
 use Rattle.world_operations.specs.declared.job.Job.{Job}
 use Rattle.world_operations.specs.declared.job.Job.TheVariants.{Upload, Download, Check}
+use Rattle.world_operations.specs.declared.job.Job.TheVariants.{Repair, NoRepair}
+use Rattle.world_operations.specs.declared.job.Unmade.{Unmade}
+use Rattle.world_operations.specs.declared.job.Unmade.TheVariants as unmade
 use Rattle.world_operations.specs.declared.operation.Life.{Life}
 use Rattle.world_operations.specs.declared.operation.Life.TheVariants as lives
 use Rattle.world_operations.specs.declared.operation.Operation.{Operation}
@@ -20,11 +23,13 @@ use Rattle.world_operations.specs.declared.task.Task.{Task}
 use Rattle.world_operations.specs.declared.task.Task.TheVariants.{Uploading, Downloading}
 use Rattle.world_operations.specs.declared.task.Task.TheVariants.{Checking, Gone}
 
--- on how many servers an upload's file has to be
+-- on how many servers the shares of an upload or of a repair have to be
 abbrev pub happy_of : Job → ℕ
 happy_of (Upload file secret p) = p.happy
 happy_of (Download cap from to) = 0
 happy_of (Check cap) = 0
+happy_of (Repair cap happy) = happy
+happy_of (NoRepair cap why) = 0
 
 -- An upload tells how many pairs it names, or the happiness that it reached and the one wanted.
 abbrev pub upload_status : ℕ → UploadStatus → Status
@@ -45,12 +50,22 @@ check_status checks.Running = Running
 check_status checks.Done = Done
 check_status checks.Failed = Failed
 
+-- why a repair ended at once
+abbrev pub unmade_status : Unmade → Status
+unmade_status unmade.NotEnoughShares = NotEnoughShares
+unmade_status unmade.Inconsistent = Inconsistent
+
+-- without a machine an operation failed, but for a repair that made no shares
+abbrev pub gone_status : Job → Status
+gone_status (NoRepair cap why) = unmade_status why
+gone_status job = Failed
+
 -- what the machine of a job came to
 abbrev pub machine_status : Job → Task → Status
 machine_status job (Uploading u) = upload_status (happy_of job) u.course.status
 machine_status job (Downloading d) = download_status d.status
 machine_status job (Checking c) = check_status c.status
-machine_status job (Gone number) = Failed
+machine_status job (Gone number) = gone_status job
 
 -- A restart forgets what runs, and leaves what ended as it is. What was refused failed.
 abbrev pub lived : Life → Status → Status

@@ -71,6 +71,13 @@ IsHappyTask (Downloading d) pairs = ⊥
 IsHappyTask (Checking c) pairs = ⊥
 IsHappyTask (Gone number) pairs = ⊥
 
+-- it is an upload of these shares
+abbrev pub HasShares : Task → List (List ℕ) → Type 0
+HasShares (Uploading u) shares = u.pieces ≡ shares
+HasShares (Downloading d) shares = ⊥
+HasShares (Checking c) shares = ⊥
+HasShares (Gone number) shares = ⊥
+
 abbrev pub is_download : Task → Bool
 is_download (Downloading d) = true
 is_download (Uploading u) = false

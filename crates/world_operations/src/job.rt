@@ -8,6 +8,15 @@ use file_encoding::Params;
 use proved_parts::Bytes;
 use std::alloc::{AllocError, Global};
 
+/// Why a repair made no shares.
+#[derive(Clone, Copy, Debug, PartialEq, Eq)]
+pub enum Unmade {
+    /// Fewer shares are good than are needed.
+    NotEnoughShares,
+    /// The good shares contradict one another, or are no code word of the file.
+    Inconsistent,
+}
+
 /// What an operation is started for.
 #[derive(Drop)]
 pub enum Job {
@@ -17,6 +26,11 @@ pub enum Job {
     Download(ReadCap, u64, u64),
     /// The check of a cap's shares.
     Check(VerifyCap),
+    /// The repair of a cap's file, for so many servers at least: the upload of all its shares, which
+    /// were made anew of those that a check found good.
+    Repair(VerifyCap, u16),
+    /// A repair that was over at once, and why.
+    NoRepair(VerifyCap, Unmade),
 }
 
 impl Job {
@@ -32,6 +46,8 @@ impl Job {
             )),
             Job::Download(cap, from, to) => Ok(Job::Download(*cap, *from, *to)),
             Job::Check(cap) => Ok(Job::Check(*cap)),
+            Job::Repair(cap, happy) => Ok(Job::Repair(*cap, *happy)),
+            Job::NoRepair(cap, why) => Ok(Job::NoRepair(*cap, *why)),
         }
     }
 }

@@ -1,10 +1,11 @@
 //! What became of operations.
 
 ghost use Rattle.std.specs.Prelude.{◌≡◌};
-ghost use Rattle.world_operations.specs.Status.{check_status, download_status, happy_of};
-ghost use Rattle.world_operations.specs.Status.{machine_status, status_of, upload_status};
+ghost use Rattle.world_operations.specs.Status.{check_status, download_status, gone_status};
+ghost use Rattle.world_operations.specs.Status.{happy_of, machine_status, status_of, unmade_status};
+ghost use Rattle.world_operations.specs.Status.{upload_status};
 
-use crate::job::Job;
+use crate::job::{Job, Unmade};
 use crate::operation::{Life, Operation};
 use crate::task::Task;
 use checker::status::CheckStatus;
@@ -51,17 +52,37 @@ fn machine_status(job: &Job, task: &Task) -> Status
         Task::Uploading(upload) => upload_status(happy_of(job), upload.status()),
         Task::Downloading(download) => download_status(download.status()),
         Task::Checking(check) => check_status(check.status()),
-        Task::Gone(_) => Status::Failed,
+        Task::Gone(_) => gone_status(job),
     }
 }
 
-// On how many servers an upload's file has to be.
+// What an operation without a machine came to.
+fn gone_status(job: &Job) -> Status
+    ensures { result ≡ gone_status job.now }
+{
+    match job {
+        Job::NoRepair(_, why) => unmade_status(*why),
+        _ => Status::Failed,
+    }
+}
+
+fn unmade_status(why: Unmade) -> Status
+    ensures { result ≡ unmade_status why }
+{
+    match why {
+        Unmade::NotEnoughShares => Status::NotEnoughShares,
+        Unmade::Inconsistent => Status::Inconsistent,
+    }
+}
+
+// On how many servers the shares of an upload or of a repair have to be.
 fn happy_of(job: &Job) -> u16
     ensures { result ≡ happy_of job.now }
 {
     match job {
         Job::Upload(_, _, params) => params.happy(),
-        Job::Download(_, _, _) | Job::Check(_) => 0,
+        Job::Repair(_, happy) => *happy,
+        Job::Download(_, _, _) | Job::Check(_) | Job::NoRepair(_, _) => 0,
     }
 }
 

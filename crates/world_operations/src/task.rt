@@ -53,14 +53,14 @@ pub enum Task {
     Uploading(Upload<WholeShares>),
     Downloading(Download),
     Checking(Check),
-    /// A call of an upload or of a check found no memory, which leaves nothing to be said of the
-    /// machine: only the operation's number is left.
+    /// There is no machine, only the operation's number: a repair made no shares, or a call of an
+    /// upload or of a check found no memory, which leaves nothing to be said of the machine.
     Gone(u64),
 }
 
 impl Task {
-    /// Begins a job, with all of these servers, which are of distinct nodes. `nodes` are the same
-    /// servers by their nodes.
+    /// Begins a job that is no repair, with all of these servers, which are of distinct nodes.
+    /// `nodes` are the same servers by their nodes.
     pub fn begin(
         alloc: Global,
         job: &Job,
@@ -89,6 +89,7 @@ impl Task {
                 begin_download(alloc, *cap, *from, *to, nodes, session, now)
             }
             Job::Check(cap) => begin_check(alloc, *cap, nodes, session, now),
+            Job::Repair(_, _) | Job::NoRepair(_, _) => Err(StartError::Refused),
         }
     }
 

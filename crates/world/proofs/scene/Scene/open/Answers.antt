@@ -1,6 +1,4 @@
 use Rattle.std.proofs.Common.{◌≡◌, ◌∙◌, ◌++◌, ◌∷◌, [], List, length, rules, ap, subst, sym}
-use Rattle.std.specs.Prelude.{slice_get}
-use Rattle.world_operations.specs.declared.job.Job.{Job}
 use Rattle.world_operations.specs.declared.operation.Operation.{Operation}
 use Rattle.world_operations.specs.Moves.{IsFlushed}
 use Rattle.lemmas.proofs.Results.{on_ok}
@@ -22,13 +20,13 @@ returns-clause-ok c =
     let w = state_of c.args.self.now in
     let before : c.len.result ≡ length w.sent = search rules in
     let counted : c.len-number.result ≡ length w.operations = search rules in
-    let first : c.new-operation.result ≡ new_operation c.args.node c.args.job.now (length w.sent) c.args.task =
-    c.new-operation.ensures ∙ ap (λ (j : Job). new_operation c.args.node j c.len.result c.args.task) c.in_ok-job.ensures ∙ ap (λ n. new_operation c.args.node c.args.job.now n c.args.task) before in
-    let pushed : c.push_operation.new.operations.items ≡ w.operations ++ new_operation c.args.node c.args.job.now (length w.sent) c.args.task ∷ [] =
+    let first : c.new-operation.result ≡ new_operation c.args.node c.args.job (length w.sent) c.args.task =
+    c.new-operation.ensures ∙ ap (λ n. new_operation c.args.node c.args.job n c.args.task) before in
+    let pushed : c.push_operation.new.operations.items ≡ w.operations ++ new_operation c.args.node c.args.job (length w.sent) c.args.task ∷ [] =
     c.in_ok-push_operation.ensures.ok ∙ ap (λ (o : Operation). w.operations ++ o ∷ []) first in
     on_ok c.flush_at.result _ _
-    (λ b. opened w c.args.node c.args.job.now c.args.task c.flush_at.new.operations.items c.flush_at.new.sent.items c.requires.begins
-    (subst (λ n. OperationBecomes IsFlushed (w.operations ++ new_operation c.args.node c.args.job.now (length w.sent) c.args.task ∷ []) n w.sent c.flush_at.new.operations.items c.flush_at.new.sent.items) counted
+    (λ b. opened w c.args.node c.args.job c.args.task c.flush_at.new.operations.items c.flush_at.new.sent.items
+    (subst (λ n. OperationBecomes IsFlushed (w.operations ++ new_operation c.args.node c.args.job (length w.sent) c.args.task ∷ []) n w.sent c.flush_at.new.operations.items c.flush_at.new.sent.items) counted
     (subst (λ (o : List Operation). OperationBecomes IsFlushed o c.len-number.result w.sent c.flush_at.new.operations.items c.flush_at.new.sent.items) pushed b))) c.flush_at.ensures.ok
 
 pub returns-clause-keeps : goal.returns-clause-keeps
@@ -36,10 +34,10 @@ returns-clause-keeps c =
     let w = state_of c.args.self.now in
     let before : c.len.result ≡ length w.sent = search rules in
     let counted : c.len-number.result ≡ length w.operations = search rules in
-    let first : c.new-operation.result ≡ new_operation c.args.node c.args.job.now (length w.sent) c.args.task =
-    c.new-operation.ensures ∙ ap (λ (j : Job). new_operation c.args.node j c.len.result c.args.task) c.in_ok-job.ensures ∙ ap (λ n. new_operation c.args.node c.args.job.now n c.args.task) before in
-    let pushed : c.push_operation.new.operations.items ≡ w.operations ++ new_operation c.args.node c.args.job.now (length w.sent) c.args.task ∷ [] =
+    let first : c.new-operation.result ≡ new_operation c.args.node c.args.job (length w.sent) c.args.task =
+    c.new-operation.ensures ∙ ap (λ n. new_operation c.args.node c.args.job n c.args.task) before in
+    let pushed : c.push_operation.new.operations.items ≡ w.operations ++ new_operation c.args.node c.args.job (length w.sent) c.args.task ∷ [] =
     c.in_ok-push_operation.ensures.ok ∙ ap (λ (o : Operation). w.operations ++ o ∷ []) first in
-    opened_keeps w c.args.node c.args.job.now c.args.task c.flush_at.new.operations.items c.flush_at.new.sent.items c.requires.honest c.requires.may c.requires.begins c.requires.right
-    (subst (λ n. OperationMoves NothingNew (w.operations ++ new_operation c.args.node c.args.job.now (length w.sent) c.args.task ∷ []) n w.sent c.flush_at.new.operations.items c.flush_at.new.sent.items) counted
+    opened_keeps w c.args.node c.args.job c.args.task c.flush_at.new.operations.items c.flush_at.new.sent.items c.requires.honest c.requires.new c.requires.right
+    (subst (λ n. OperationMoves NothingNew (w.operations ++ new_operation c.args.node c.args.job (length w.sent) c.args.task ∷ []) n w.sent c.flush_at.new.operations.items c.flush_at.new.sent.items) counted
     (subst (λ (o : List Operation). OperationMoves NothingNew o c.len-number.result w.sent c.flush_at.new.operations.items c.flush_at.new.sent.items) pushed c.flush_at.ensures.some))

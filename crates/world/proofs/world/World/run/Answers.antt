@@ -10,4 +10,4 @@ loop-taken-preserved g c =
     let at : slice_get c.args.events.now c.loop-taken.taken ≡ Some c.index-events-taken.result =
     at_place c.args.events.now c.loop-taken.taken c.index-events-taken.result low c.index-events-taken.is in
     running_on c.args.self.now c.loop-taken.self c.step.new.self c.args.events.now c.loop-taken.taken c.index-events-taken.result c.loop-taken.invariant at c.in-Ok.ensures.gives
-    c.in-Ok.ensures.later c.in-Ok.ensures.trusted
+    c.in-Ok.ensures.later c.in-Ok.ensures.trusted c.in-Ok.ensures.repairs

@@ -1,7 +1,8 @@
 use Rattle.std.proofs.Common.{subst}
 use Rattle.world.specs.Headline.{IsTrusted}
 use Rattle.world.specs.State.{WorldValue, state_of}
-use Rattle.world.proofs.Worlds.{kept_later, kept_trusted}
+use Rattle.world.specs.Repairs.{AreTrustedRepairs}
+use Rattle.world.proofs.Worlds.{kept_later, kept_repairs, kept_trusted}
 use Rattle.world.proofs.world.World.step.Goals as goal
 
 pub returns-then-self-clause-trusted : goal.returns-then-self-clause-trusted
@@ -18,3 +19,18 @@ returns-in-Err-Refused-clause-trusted g c =
 pub returns-in-Err-OutOfMemory-clause-trusted : goal.returns-in-Err-OutOfMemory-clause-trusted
 returns-in-Err-OutOfMemory-clause-trusted g c =
     kept_trusted (state_of c.take_event.new.self) (kept_later (state_of c.self.inside.scene) (state_of c.take_event.new.self) c.take_event.ensures.keeps c.self.invariant).0
+
+pub returns-then-self-clause-repairs : goal.returns-then-self-clause-repairs
+returns-then-self-clause-repairs g c = subst (λ (w : WorldValue). AreTrustedRepairs w.state) c.self.view_is (kept_repairs (state_of c.self.inside.scene) c.self.invariant)
+
+pub returns-in-Ok-clause-repairs : goal.returns-in-Ok-clause-repairs
+returns-in-Ok-clause-repairs g c =
+    kept_repairs (state_of c.take_event.new.self) (kept_later (state_of c.self.inside.scene) (state_of c.take_event.new.self) c.take_event.ensures.keeps c.self.invariant).0
+
+pub returns-in-Err-Refused-clause-repairs : goal.returns-in-Err-Refused-clause-repairs
+returns-in-Err-Refused-clause-repairs g c =
+    kept_repairs (state_of c.take_event.new.self) (kept_later (state_of c.self.inside.scene) (state_of c.take_event.new.self) c.take_event.ensures.keeps c.self.invariant).0
+
+pub returns-in-Err-OutOfMemory-clause-repairs : goal.returns-in-Err-OutOfMemory-clause-repairs
+returns-in-Err-OutOfMemory-clause-repairs g c =
+    kept_repairs (state_of c.take_event.new.self) (kept_later (state_of c.self.inside.scene) (state_of c.take_event.new.self) c.take_event.ensures.keeps c.self.invariant).0
