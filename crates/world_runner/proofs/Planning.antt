@@ -32,6 +32,7 @@ makes_fixed (commands.Upload a b p) honest ops before made events sent next are 
 makes_fixed (commands.Download a b) honest ops before made events sent next are at = (events, are, at)
 makes_fixed (commands.DownloadRange a b d e) honest ops before made events sent next are at = (events, are, at)
 makes_fixed (commands.Check a b) honest ops before made events sent next are at = (events, are, at)
+makes_fixed (commands.Repair a b d) honest ops before made events sent next are at = (events, are, at)
 makes_fixed (commands.Deliver a) honest ops before made events sent next are at = (events, are, at)
 makes_fixed (commands.Pass a) honest ops before made events sent next are at = (events, are, at)
 makes_fixed (commands.Restart a) honest ops before made events sent next are at = (events, are, at)
@@ -48,6 +49,7 @@ makes_none (commands.Upload a b p) honest ops drain random none before sent next
 makes_none (commands.Download a b) honest ops drain random none before sent next makes = none makes.0 makes.1
 makes_none (commands.DownloadRange a b d e) honest ops drain random none before sent next makes = none makes.0 makes.1
 makes_none (commands.Check a b) honest ops drain random none before sent next makes = none makes.0 makes.1
+makes_none (commands.Repair a b d) honest ops drain random none before sent next makes = none makes.0 makes.1
 makes_none (commands.Deliver a) honest ops drain random none before sent next makes = none makes.0 makes.1
 makes_none (commands.Pass a) honest ops drain random none before sent next makes = none makes.0 makes.1
 makes_none (commands.Restart a) honest ops drain random none before sent next makes = none makes.0 makes.1
@@ -165,6 +167,7 @@ no_start (commands.Upload a b p) ops node job upload download range check is = u
 no_start (commands.Download a b) ops node job upload download range check is = download a b refl
 no_start (commands.DownloadRange a b d e) ops node job upload download range check is = range a b d e refl
 no_start (commands.Check a b) ops node job upload download range check is = check a b refl
+no_start (commands.Repair a b d) ops node job upload download range check is = absurd (let e = is.2 in cc)
 no_start (commands.Deliver a) ops node job upload download range check is = absurd cc
 no_start commands.Drain ops node job upload download range check is = absurd is
 no_start (commands.Random a b) ops node job upload download range check is = absurd is
@@ -176,20 +179,21 @@ no_start (commands.Turn a) ops node job upload download range check is = absurd 
 no_start (commands.Forge a b d) ops node job upload download range check is = absurd (let e = is.2 in cc)
 
 -- a command of none of these kinds has an event only if it has one that starts an operation
-pub no_event : (command : Command) (ops : List Operation) (event : Event) → ((a : ℕ) → command ≡ commands.Deliver a → ⊥) → ((a : ℕ) → command ≡ commands.Refuse a → ⊥) → ((a : ℕ) → command ≡ commands.Restart a → ⊥) → ((a : ℕ) → command ≡ commands.Fail a → ⊥) → ((a : ℕ) → command ≡ commands.Turn a → ⊥) → ((a b : ℕ) (d : List ℕ) → command ≡ commands.Forge a b d → ⊥) → ((node : ℕ) (job : Job) → IsEventOf command ops (Start node job) → ⊥) → IsEventOf command ops event → ⊥
-no_event (commands.Upload a b p) ops event deliver refuse restart fail turn forge none is = none a (Upload b [] p) (is.0, refl)
-no_event (commands.Download a b) ops event deliver refuse restart fail turn forge none is = none a (Download is.0 0 is.0.size) (is.0, is.1, is.2, refl)
-no_event (commands.DownloadRange a b d e) ops event deliver refuse restart fail turn forge none is = none a (Download is.0 d e) (is.0, is.1, is.2, refl)
-no_event (commands.Check a b) ops event deliver refuse restart fail turn forge none is = none a (Check (verify_cap_of is.0)) (is.0, is.1, is.2, refl)
-no_event (commands.Deliver a) ops event deliver refuse restart fail turn forge none is = deliver a refl
-no_event commands.Drain ops event deliver refuse restart fail turn forge none is = absurd is
-no_event (commands.Random a b) ops event deliver refuse restart fail turn forge none is = absurd is
-no_event (commands.Pass a) ops event deliver refuse restart fail turn forge none is = absurd is
-no_event (commands.Restart a) ops event deliver refuse restart fail turn forge none is = restart a refl
-no_event (commands.Fail a) ops event deliver refuse restart fail turn forge none is = fail a refl
-no_event (commands.Refuse a) ops event deliver refuse restart fail turn forge none is = refuse a refl
-no_event (commands.Turn a) ops event deliver refuse restart fail turn forge none is = turn a refl
-no_event (commands.Forge a b d) ops event deliver refuse restart fail turn forge none is = forge a b d refl
+pub no_event : (command : Command) (ops : List Operation) (event : Event) → ((a : ℕ) → command ≡ commands.Deliver a → ⊥) → ((a : ℕ) → command ≡ commands.Refuse a → ⊥) → ((a : ℕ) → command ≡ commands.Restart a → ⊥) → ((a : ℕ) → command ≡ commands.Fail a → ⊥) → ((a : ℕ) → command ≡ commands.Turn a → ⊥) → ((a b d : ℕ) → command ≡ commands.Repair a b d → ⊥) → ((a b : ℕ) (d : List ℕ) → command ≡ commands.Forge a b d → ⊥) → ((node : ℕ) (job : Job) → IsEventOf command ops (Start node job) → ⊥) → IsEventOf command ops event → ⊥
+no_event (commands.Upload a b p) ops event deliver refuse restart fail turn repair forge none is = none a (Upload b [] p) (is.0, refl)
+no_event (commands.Download a b) ops event deliver refuse restart fail turn repair forge none is = none a (Download is.0 0 is.0.size) (is.0, is.1, is.2, refl)
+no_event (commands.DownloadRange a b d e) ops event deliver refuse restart fail turn repair forge none is = none a (Download is.0 d e) (is.0, is.1, is.2, refl)
+no_event (commands.Check a b) ops event deliver refuse restart fail turn repair forge none is = none a (Check (verify_cap_of is.0)) (is.0, is.1, is.2, refl)
+no_event (commands.Repair a b d) ops event deliver refuse restart fail turn repair forge none is = repair a b d refl
+no_event (commands.Deliver a) ops event deliver refuse restart fail turn repair forge none is = deliver a refl
+no_event commands.Drain ops event deliver refuse restart fail turn repair forge none is = absurd is
+no_event (commands.Random a b) ops event deliver refuse restart fail turn repair forge none is = absurd is
+no_event (commands.Pass a) ops event deliver refuse restart fail turn repair forge none is = absurd is
+no_event (commands.Restart a) ops event deliver refuse restart fail turn repair forge none is = restart a refl
+no_event (commands.Fail a) ops event deliver refuse restart fail turn repair forge none is = fail a refl
+no_event (commands.Refuse a) ops event deliver refuse restart fail turn repair forge none is = refuse a refl
+no_event (commands.Turn a) ops event deliver refuse restart fail turn repair forge none is = turn a refl
+no_event (commands.Forge a b d) ops event deliver refuse restart fail turn repair forge none is = forge a b d refl
 
 -- a command that lets no time pass and has no event has no events
 pub no_events : (command : Command) (honest : ℕ) (ops : List Operation) (events : List Event) → ((a : ℕ) → command ≡ commands.Pass a → ⊥) → ((event : Event) → IsEventOf command ops event → ⊥) → AreEventsOf command honest ops events → ⊥
@@ -198,6 +202,7 @@ no_events (commands.Upload a b p) honest ops events pass none are = none are.0 a
 no_events (commands.Download a b) honest ops events pass none are = none are.0 are.1
 no_events (commands.DownloadRange a b d e) honest ops events pass none are = none are.0 are.1
 no_events (commands.Check a b) honest ops events pass none are = none are.0 are.1
+no_events (commands.Repair a b d) honest ops events pass none are = none are.0 are.1
 no_events (commands.Deliver a) honest ops events pass none are = none are.0 are.1
 no_events (commands.Random a b) honest ops events pass none are = none are.0 are.1
 no_events (commands.Restart a) honest ops events pass none are = none are.0 are.1

@@ -4,7 +4,8 @@ use Rattle.cap_text.specs.Cap.{ReadCapValue}
 use Rattle.file_upload.specs.Prepared.{prepared_of}
 use Rattle.download_segments.specs.declared.piece.Piece.{Piece}
 use Rattle.world_operations.specs.declared.job.Job.{Job}
-use Rattle.world_operations.specs.declared.job.Job.TheVariants.{Upload, Download, Check}
+use Rattle.world_operations.specs.declared.job.Job.TheVariants.{Upload, Download, Check, Repair}
+use Rattle.world_operations.specs.declared.job.Job.TheVariants.{NoRepair}
 use Rattle.world_operations.specs.declared.operation.Operation.{Operation}
 use Rattle.world_operations.specs.declared.status.Status.TheVariants.{Happy}
 use Rattle.world_operations.specs.Jobs.{IsUpload}
@@ -39,6 +40,8 @@ AgreesAs (Download cap from to) op operations =
 AgreesAs (Upload file secret p) op operations = IsHappy op → IsUpload file secret p
     → AllHave (prepared_of file secret p).cap 0 file operations
 AgreesAs (Check cap) op operations = ⊤
+AgreesAs (Repair cap happy) op operations = ⊤
+AgreesAs (NoRepair cap why) op operations = ⊤
 
 abbrev pub AgreesWith : Operation → List Operation → Type 0
 AgreesWith op operations = AgreesAs op.job op operations

@@ -12,8 +12,8 @@ use Rattle.world_operations.specs.declared.job.Job.TheVariants as jobs
 use Rattle.world_operations.specs.declared.operation.Operation.{Operation}
 use Rattle.world_operations.specs.Jobs.{IsUpload}
 use Rattle.world.specs.declared.event.Event.{Event}
-use Rattle.world.specs.declared.event.Event.TheVariants.{Start, Deliver, Forge, Turn, Pass, Tick}
-use Rattle.world.specs.declared.event.Event.TheVariants.{Restart, FailStore, Refuse}
+use Rattle.world.specs.declared.event.Event.TheVariants.{Start, Repair, Deliver, Forge, Turn}
+use Rattle.world.specs.declared.event.Event.TheVariants.{Pass, Tick, Restart, FailStore, Refuse}
 use Rattle.world_script.specs.declared.command.Command.{Command}
 use Rattle.world_script.specs.declared.command.Command.TheVariants as commands
 
@@ -32,6 +32,11 @@ pub record IsCapOf (operations : List Operation) (number : ℕ) (cap : ReadCapVa
 abbrev pub IsNodeNumber : ℕ → Type 0
 IsNodeNumber node = node < 2 ^ 16
 
+-- the repair of what a check found, by a node and for a number of servers of 16 bits
+abbrev pub IsRepairOf : ℕ → ℕ → ℕ → Event → Type 0
+IsRepairOf node operation happy event =
+    IsNodeNumber node × (happy < 2 ^ 16) × (event ≡ Repair node operation happy)
+
 -- An upload has an empty secret; a download that names no range has the whole file.
 abbrev pub IsEventOf : Command → List Operation → Event → Type 0
 IsEventOf (commands.Upload node file p) operations event = IsNodeNumber node
@@ -45,6 +50,8 @@ IsEventOf (commands.DownloadRange node upload from to) operations event = (cap :
 IsEventOf (commands.Check node upload) operations event = (cap : ReadCapValue)
     × IsNodeNumber node × IsCapOf operations upload cap
     × (event ≡ Start node (jobs.Check (verify_cap_of cap)))
+IsEventOf (commands.Repair node operation happy) operations event =
+    IsRepairOf node operation happy event
 IsEventOf (commands.Deliver place) operations event = event ≡ Deliver place
 IsEventOf (commands.Restart node) operations event = IsNodeNumber node × (event ≡ Restart node)
 IsEventOf (commands.Fail node) operations event = IsNodeNumber node × (event ≡ FailStore node)

@@ -5,6 +5,7 @@ use Rattle.world_operations.specs.declared.operation.Operation.{Operation}
 use Rattle.world.specs.declared.event.Event.{Event}
 use Rattle.world.specs.Admitted.{IsAdmitted}
 use Rattle.world.specs.Headline.{IsTrusted}
+use Rattle.world.specs.Repairs.{AreTrustedRepairs}
 use Rattle.world.specs.State.{WorldState, new_world}
 use Rattle.world.specs.Step.{Step}
 use Rattle.world_script.specs.declared.command.Command.{Command}
@@ -46,6 +47,7 @@ pub record IsEndingFrom (begin : WorldState) (script : Script) (ending : Ending)
   pub world : WorldState
   pub played : HasPlayed script.honest begin script.commands.items events world
   pub trusted : IsTrusted world
+  pub repairs : AreTrustedRepairs world
   pub agrees : (ending.agrees ≡ true) ↔ Agree world.operations
   pub lines : string_bytes ending.lines
       ≡ ending_text world.operations ending.agrees (length events)

@@ -3,7 +3,8 @@ use Rattle.std.specs.Prelude.{ℕ, List, [], ◌∷◌, ◌++◌, ◌+◌, Bool,
 use Rattle.std.specs.Prelude.{length, map, sum}
 use Rattle.download_segments.specs.declared.piece.Piece.{Piece}
 use Rattle.world_operations.specs.declared.job.Job.{Job}
-use Rattle.world_operations.specs.declared.job.Job.TheVariants.{Upload, Download, Check}
+use Rattle.world_operations.specs.declared.job.Job.TheVariants.{Upload, Download, Check, Repair}
+use Rattle.world_operations.specs.declared.job.Job.TheVariants.{NoRepair}
 use Rattle.world_operations.specs.declared.operation.Operation.{Operation}
 use Rattle.world_operations.specs.declared.status.Status.{Status}
 use Rattle.world_operations.specs.declared.status.Status.TheVariants.{Running, Forgotten, Happy}
@@ -16,6 +17,8 @@ abbrev pub kind_text : Job → List ℕ
 kind_text (Upload file secret p) = codes "upload"
 kind_text (Download cap from to) = codes "download"
 kind_text (Check cap) = codes "check"
+kind_text (Repair cap happy) = codes "repair"
+kind_text (NoRepair cap why) = codes "repair"
 
 -- how many bytes these pieces have together
 abbrev pub byte_count : List Piece → ℕ

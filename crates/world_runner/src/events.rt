@@ -12,6 +12,7 @@ ghost use Rattle.world.specs.declared.event.Event.{Event};
 ghost use Rattle.world.specs.declared.event.Event.TheVariants.{Pass, Start, Tick};
 ghost use Rattle.world.specs.declared.event.WorldError.TheVariants.{BadEvent, Stopped};
 ghost use Rattle.world_runner.specs.Events.{AreEventsOf, IsCapOf, IsEventOf, IsNodeNumber};
+ghost use Rattle.world_runner.specs.Events.{IsRepairOf};
 ghost use Rattle.world_runner.specs.Plans.{IsUploadCap};
 
 use cap_text::ReadCap;
@@ -83,12 +84,27 @@ fn event_of(alloc: Global, command: &Command, operations: &[Operation]) -> Resul
         Command::Restart(node) => node_of(*node).map(Event::Restart),
         Command::Fail(node) => node_of(*node).map(Event::FailStore),
         Command::Turn(node) => node_of(*node).map(Event::Turn),
+        Command::Repair(node, operation, happy) => repair_of(*node, *operation, *happy),
         Command::Forge(from, to, body) => {
             let (from, to) = (node_of(*from)?, node_of(*to)?);
             Ok(Event::Forge(from, to, copied(alloc, body)?))
         }
         _ => start_of(alloc, command, operations),
     }
+}
+
+// The repair of what the check of this number found.
+fn repair_of(node: u64, operation: u64, happy: u64) -> Result<Event, WorldError>
+    ensures value { IfOk result (IsRepairOf node operation happy) }
+    ensures refused { result ≡ Err BadEvent
+        → (event : Event) → ¬ IsRepairOf node operation happy event }
+    ensures going { result ≢ Err Stopped }
+{
+    let node = node_of(node)?;
+    if happy > u64::from(u16::MAX) {
+        return Err(WorldError::BadEvent);
+    }
+    Ok(Event::Repair(node, operation as usize, happy as u16))
 }
 
 // The start of the operation of a command that starts one.

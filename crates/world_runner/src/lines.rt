@@ -31,6 +31,7 @@ fn kind_text(job: &Job) -> &'static str
         Job::Upload(_, _, _) => "upload",
         Job::Download(_, _, _) => "download",
         Job::Check(_) => "check",
+        Job::Repair(_, _) | Job::NoRepair(_, _) => "repair",
     }
 }
 
@@ -60,7 +61,7 @@ fn done_text(alloc: Global, operation: &Operation) -> Result<String, AllocError>
             let bytes = byte_count(operation.given.as_slice());
             format!(in alloc; "done {bytes}")
         }
-        Job::Upload(_, _, _) | Job::Check(_) => String::from_str(alloc, "done"),
+        _ => String::from_str(alloc, "done"),
     }
 }
 

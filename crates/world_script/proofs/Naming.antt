@@ -24,6 +24,7 @@ marked n =
     if n == 1086 then Some verbs.Upload
     else if n == 1198 then Some verbs.Download
     else if n == 1015 then Some verbs.Check
+    else if n == 1126 then Some verbs.Repair
     else if n == 1087 then Some verbs.Deliver
     else if n == 975 then Some verbs.Drain
     else if n == 1106 then Some verbs.Random
@@ -39,6 +40,7 @@ verb_marked : (verb : Verb) → marked (mark (name_of verb)) ≡ Some verb
 verb_marked verbs.Upload = refl
 verb_marked verbs.Download = refl
 verb_marked verbs.Check = refl
+verb_marked verbs.Repair = refl
 verb_marked verbs.Deliver = refl
 verb_marked verbs.Drain = refl
 verb_marked verbs.Random = refl
@@ -68,6 +70,7 @@ parts_of (commands.Upload node file p) words s = parts words verbs.Upload (decim
 parts_of (commands.Download node upload) words s = parts words verbs.Download (decimal node ∷ decimal upload ∷ []) s.1 (inl (node, upload, (s.0, refl)))
 parts_of (commands.DownloadRange node upload from to) words s = parts words verbs.Download (decimal node ∷ decimal upload ∷ decimal from ∷ decimal to ∷ []) s.1 (inr (node, upload, from, to, (s.0, refl)))
 parts_of (commands.Check node upload) words s = parts words verbs.Check (decimal node ∷ decimal upload ∷ []) s.1 (node, upload, (s.0, refl))
+parts_of (commands.Repair node operation happy) words s = parts words verbs.Repair (decimal node ∷ decimal operation ∷ decimal happy ∷ []) s.1 (node, operation, happy, (s.0, refl))
 parts_of (commands.Deliver place) words s = parts words verbs.Deliver (decimal place ∷ []) s.1 (place, (s.0, refl))
 parts_of commands.Drain words s = parts words verbs.Drain [] s.1 refl
 parts_of (commands.Random start count) words s = parts words verbs.Random (decimal start ∷ decimal count ∷ []) s.1 (start, count, (s.0, refl))

@@ -9,9 +9,9 @@ use Rattle.world_script.specs.declared.command.Kind.{Kind}
 use Rattle.world_script.specs.declared.command.Kind.TheVariants.{Silent, Junk, Replay}
 use Rattle.world_script.specs.declared.command.Command.{Command}
 use Rattle.world_script.specs.declared.command.Command.TheVariants.{Upload, Download, DownloadRange}
-use Rattle.world_script.specs.declared.command.Command.TheVariants.{Check, Deliver, Drain, Random}
-use Rattle.world_script.specs.declared.command.Command.TheVariants.{Pass, Restart, Fail, Refuse}
-use Rattle.world_script.specs.declared.command.Command.TheVariants.{Turn, Forge}
+use Rattle.world_script.specs.declared.command.Command.TheVariants.{Check, Repair, Deliver, Drain}
+use Rattle.world_script.specs.declared.command.Command.TheVariants.{Random, Pass, Restart, Fail}
+use Rattle.world_script.specs.declared.command.Command.TheVariants.{Refuse, Turn, Forge}
 use Rattle.world_script.specs.declared.command.Script.{Script}
 use Rattle.world_script.specs.declared.verb.Verb.{Verb}
 use Rattle.world_script.specs.declared.verb.Verb.TheVariants as verbs
@@ -72,6 +72,8 @@ Spells (Download node upload) words = SpellsNumbers (codes "download") (node ∷
 Spells (DownloadRange node upload from to) words =
     SpellsNumbers (codes "download") (node ∷ upload ∷ from ∷ to ∷ []) words
 Spells (Check node upload) words = SpellsNumbers (codes "check") (node ∷ upload ∷ []) words
+Spells (Repair node operation happy) words =
+    SpellsNumbers (codes "repair") (node ∷ operation ∷ happy ∷ []) words
 Spells (Deliver place) words = SpellsNumbers (codes "deliver") (place ∷ []) words
 Spells Drain words = SpellsNumbers (codes "drain") [] words
 Spells (Random start count) words = SpellsNumbers (codes "random") (start ∷ count ∷ []) words
@@ -115,6 +117,7 @@ abbrev pub name_of : Verb → List ℕ
 name_of verbs.Upload = codes "upload"
 name_of verbs.Download = codes "download"
 name_of verbs.Check = codes "check"
+name_of verbs.Repair = codes "repair"
 name_of verbs.Deliver = codes "deliver"
 name_of verbs.Drain = codes "drain"
 name_of verbs.Random = codes "random"
@@ -134,12 +137,15 @@ error_at faults.NoCommand line = BadScript (line + 1)
 abbrev pub AreNumbers : List ℕ → List (List ℕ) → Type 0
 AreNumbers numbers words = AreWide numbers × (words ≡ map decimal numbers)
 
--- one number of 64 bits, and two
+-- one number of 64 bits, two, and three
 abbrev pub IsOne : List (List ℕ) → Type 0
 IsOne words = (n : ℕ) × AreNumbers (n ∷ []) words
 
 abbrev pub AreTwo : List (List ℕ) → Type 0
 AreTwo words = (n : ℕ) × (m : ℕ) × AreNumbers (n ∷ m ∷ []) words
+
+abbrev pub AreThree : List (List ℕ) → Type 0
+AreThree words = (n : ℕ) × (m : ℕ) × (k : ℕ) × AreNumbers (n ∷ m ∷ k ∷ []) words
 
 -- A word is a number of 64 bits, and bytes in hex.
 abbrev pub IsNumber : List ℕ → Type 0
@@ -174,6 +180,7 @@ HasFields verbs.Upload fields = IsUpload fields
 HasFields verbs.Download fields = IsDownload fields
 HasFields verbs.Drain fields = fields ≡ []
 HasFields verbs.Check fields = AreTwo fields
+HasFields verbs.Repair fields = AreThree fields
 HasFields verbs.Random fields = AreTwo fields
 HasFields verbs.Forge fields = IsForgery fields
 HasFields verb fields = IsOne fields

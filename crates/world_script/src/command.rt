@@ -26,6 +26,8 @@ pub enum Command {
     DownloadRange(u64, u64, u64, u64),
     /// A node checks the shares of an upload.
     Check(u64, u64),
+    /// A node repairs the file of a check of its own that is done, for so many servers at least.
+    Repair(u64, u64, u64),
     /// A message that was sent comes to its receiver.
     Deliver(u64),
     /// All messages come that did not yet, the oldest first, until none is left.

@@ -2,8 +2,8 @@
 
 ghost use Rattle.std.specs.Prelude.{◌≡◌, ◌∷◌, [], Err, IfOk, IsOk, decimal, map};
 ghost use Rattle.file_encoding.specs.Params.{AreChosen, UploadParameters};
-ghost use Rattle.world_script.specs.Script.{AreNumbers, AreParams, AreTwo, IsHex, IsHexOf};
-ghost use Rattle.world_script.specs.Script.{IsNumber, IsOne};
+ghost use Rattle.world_script.specs.Script.{AreNumbers, AreParams, AreThree, AreTwo, IsHex};
+ghost use Rattle.world_script.specs.Script.{IsHexOf, IsNumber, IsOne};
 ghost use Rattle.world_script.specs.declared.error.LineError.TheVariants.{NoCommand};
 
 use crate::error::LineError;
@@ -43,6 +43,18 @@ pub(crate) fn two_numbers(words: &[&[u8]]) -> Result<(u64, u64), LineError>
 {
     match words {
         [first, second] => Ok((number(first)?, number(second)?)),
+        _ => Err(LineError::NoCommand),
+    }
+}
+
+// The three numbers that are the only words.
+pub(crate) fn three_numbers(words: &[&[u8]]) -> Result<(u64, u64, u64), LineError>
+    ensures value { IfOk result
+        (λ n. AreNumbers (n.0 ∷ n.1 ∷ n.2 ∷ []) (map (λ w. w.now) words.now)) }
+    ensures none { result ≡ Err NoCommand → ¬ (AreThree (map (λ w. w.now) words.now)) }
+{
+    match words {
+        [first, second, third] => Ok((number(first)?, number(second)?, number(third)?)),
         _ => Err(LineError::NoCommand),
     }
 }

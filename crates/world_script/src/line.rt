@@ -8,7 +8,7 @@ ghost use Rattle.world_script.specs.declared.error.LineError.TheVariants.{NoComm
 
 use crate::command::Command;
 use crate::error::LineError;
-use crate::fields::{bytes, number, one_number, params, two_numbers};
+use crate::fields::{bytes, number, one_number, params, three_numbers, two_numbers};
 use crate::verb::{Verb, verb_named};
 use std::alloc::{AllocError, Global};
 use ueb::MIN_FILE_SIZE;
@@ -53,6 +53,7 @@ fn read_fields(alloc: Global, verb: Verb, fields: &[&[u8]]) -> Result<Command, L
         Verb::Upload => read_upload(alloc, fields),
         Verb::Download => read_download(fields),
         Verb::Check => two_numbers(fields).map(|n| Command::Check(n.0, n.1)),
+        Verb::Repair => three_numbers(fields).map(|n| Command::Repair(n.0, n.1, n.2)),
         Verb::Deliver => one_number(fields).map(Command::Deliver),
         Verb::Drain if fields.is_empty() => Ok(Command::Drain),
         Verb::Drain => Err(LineError::NoCommand),
