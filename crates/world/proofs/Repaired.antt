@@ -289,6 +289,7 @@ repairs_make_own w c no_clash file secret p happy number place started repair up
 
 pub repairs_trusted : (w : WorldState) → IsConsistent w → AreTrustedRepairs w
 repairs_trusted w c = record {
+  repairs_pass = λ cap happy number op u of. (for_repair w number cap happy op u c of).passing;
   repairs_are_matched = repairs_are_matched w c;
   repairs_are_acknowledged = repairs_are_acknowledged w c;
   repairs_keep = repairs_keep w c;

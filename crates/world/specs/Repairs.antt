@@ -8,6 +8,7 @@ use Rattle.wire.specs.Frames.{IsBodyOf}
 use Rattle.request_record.specs.declared.requests.Request.{Request}
 use Rattle.placement.specs.Matching.{IsMatching, Pair}
 use Rattle.file_encoding.specs.Params.{UploadParameters}
+use Rattle.file_encoding.specs.RemadeLaws.{ArePassing}
 use Rattle.file_upload.specs.Prepared.{prepared_of}
 use Rattle.file_upload.specs.Shares.{shares_goal}
 use Rattle.upload_core.specs.Acknowledged.{acked_answer, acked_pairs}
@@ -57,6 +58,14 @@ KeepsMade w cap shares pair = pair.0 < length w.servers
 
 -- ---- the claims
 
+-- What a repair made are shares for its cap, whoever made that: as many as it says, of which each
+-- passes every check as the share of its number.
+abbrev pub RepairsPass : WorldState → Type 0
+RepairsPass w =
+    (cap : VerifyCapValue) (happy number : ℕ) (operation : Operation)
+    (upload : upload_sends.Uploading (List (List ℕ)))
+    → IsRepairOf w number cap happy operation upload → ArePassing cap upload.pieces
+
 -- A repair that answers Happy names acknowledged pairs, no server and no share twice, as many as
 -- were wanted.
 pub record IsRepairMatched (cap : VerifyCapValue) (happy : ℕ) (shares : List (List ℕ))
@@ -96,6 +105,7 @@ RepairsMakeOwn w =
 
 -- What holds of the repairs of one world. It holds of every world.
 pub record AreTrustedRepairs (w : WorldState) : Type 0 where
+  pub repairs_pass : RepairsPass w
   pub repairs_are_matched : RepairsAreMatched w
   pub repairs_are_acknowledged : RepairsAreAcknowledged w
   pub repairs_keep : HasNoClashInAll w → RepairsKeep w
