@@ -20,7 +20,8 @@ use Rattle.world.specs.Headline.{IsHashed, Keeps}
 use Rattle.world.specs.Repaired.{IsHashedByRepair, IsRepairOf, IsRepaired}
 use Rattle.world.specs.State.{WorldState}
 
--- What was hashed, also for repairs: all that the headline speaks of, and the shares that they made.
+-- What was hashed, also for repairs: all that the headline speaks of, and the shares that they
+-- made.
 pub data IsHashedInAll (w : WorldState) (input : List ℕ) : Type 0 where
   told : IsHashed w input → IsHashedInAll w input
   repaired : (op : Operation) → Contains w.operations op → IsHashedByRepair op input

@@ -11,8 +11,8 @@ use world_operations::job::Job;
 pub enum Event {
     /// An honest node starts an operation.
     Start(NodeId, Job),
-    /// An honest node repairs a file, by what its own check of this number found, which is done: for
-    /// so many servers at least.
+    /// An honest node repairs a file, by what its own check of this number found, which is done:
+    /// for so many servers at least.
     Repair(NodeId, usize, u16),
     /// A message that was sent comes to its receiver, again too.
     Deliver(usize),

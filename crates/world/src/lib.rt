@@ -7,9 +7,9 @@
 //! world clash, every honest one of these servers keeps exactly its share ever after, downloads of
 //! one cap agree, and they agree with the file of each upload that answered Happy with that cap.
 //!
-//! A repair begins by what a check of the same node found. Of each that answers Happy the same holds
-//! (`specs/Repairs`), for the shares that it made; and those are the file's own where the upload of
-//! a file was started with its cap, and no two hash inputs clash.
+//! A repair begins by what a check of the same node found. Of each that answers Happy the same
+//! holds (`specs/Repairs`), for the shares that it made; and those are the file's own where the
+//! upload of a file was started with its cap, and no two hash inputs clash.
 #![tactic(auto)]
 
 pub mod event;

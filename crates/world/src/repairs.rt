@@ -90,7 +90,8 @@ impl Scene {
         ensures may { OnOk result (MayRepair (state_of self.old) node number happy) }
         ensures ok { OnOk result
             (RepairStarts (state_of self.old) node number happy (state_of self.new)) }
-        ensures refused { IsErrOf result StartError.Refused → (state_of self.new ≡ state_of self.old)
+        ensures refused { IsErrOf result StartError.Refused
+            → (state_of self.new ≡ state_of self.old)
             × (MayRepair (state_of self.old) node number happy → ⊥) }
         ensures keeps { Preserves (state_of self.old) (state_of self.new) }
     {

@@ -26,8 +26,8 @@ pub enum Job {
     Download(ReadCap, u64, u64),
     /// The check of a cap's shares.
     Check(VerifyCap),
-    /// The repair of a cap's file, for so many servers at least: the upload of all its shares, which
-    /// were made anew of those that a check found good.
+    /// The repair of a cap's file, for so many servers at least: the upload of all its shares,
+    /// which were made anew of those that a check found good.
     Repair(VerifyCap, u16),
     /// A repair that was over at once, and why.
     NoRepair(VerifyCap, Unmade),
