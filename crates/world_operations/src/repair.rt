@@ -83,9 +83,11 @@ fn slices_of(alloc: Global, good: &[(u16, Vec<u8>)]) -> Result<Vec<(u16, &[u8])>
     ensures bytes { IfOk result
         (λ strings. map (λ s. s.1.now) strings.items ≡ map (λ s. s.1.items) good.now) }
 {
-    good.iter()
-        .map(|share| (share.0, share.1.as_slice()))
-        .collect(alloc)
+    let mut strings = Vec::with_capacity(alloc, good.len())?;
+    for share in good {
+        strings.push((share.0, share.1.as_slice()))?;
+    }
+    Ok(strings)
 }
 
 // The upload of shares that pass begins.
