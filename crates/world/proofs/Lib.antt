@@ -10,4 +10,5 @@ pub mod Changes
 pub mod Later
 pub mod Preserving
 pub mod Moving
+pub mod Repairing
 pub mod Worlds

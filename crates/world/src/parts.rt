@@ -128,7 +128,12 @@ pub(crate) fn done_check(operation: &Operation) -> Option<&Check>
         → status_of operation.now ≢ Done) }
 {
     match &operation.task {
-        Task::Checking(check) if operation.status() == Status::Done => Some(check),
+        Task::Checking(check) => {
+            if operation.status() != Status::Done {
+                return None;
+            }
+            Some(check)
+        }
         _ => None,
     }
 }

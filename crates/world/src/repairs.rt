@@ -1,41 +1,45 @@
 //! How repairs begin, by what a check of a world found.
 
 ghost use Rattle.std.specs.Prelude.{◌≡◌, ◌+◌, ◌<◌, ◌≤◌, IfNone, IfOk, IfSome, IsErrOf, OnOk};
-ghost use Rattle.std.specs.Prelude.{length};
+ghost use Rattle.std.specs.Prelude.{length, map, nat_eq};
+ghost use Rattle.std.specs.List.{IsDistinct};
 ghost use Rattle.file_upload.specs.Shares.{MayWant};
+ghost use Rattle.checker.specs.State.{CheckState};
+ghost use Rattle.upload_core.specs.declared.status.ServerInfo.{ServerInfo};
 ghost use Rattle.world_operations.specs.Follow.{IsNewTask};
 ghost use Rattle.world_operations.specs.Tasks.{IsRightTask};
 ghost use Rattle.world.specs.Admitted.{MayRepair};
 ghost use Rattle.world.specs.Consistent.{Preserves};
-ghost use Rattle.world.specs.State.{state_of};
+ghost use Rattle.world.specs.State.{servers_of, state_of};
 ghost use Rattle.world.specs.Step.{IsDoneCheck, RepairBegins, RepairStarts};
 
 use crate::nodes::{nodes_up_to, servers_at};
 use crate::parts::done_check;
 use crate::scene::Scene;
 use checker::Check;
+use std::alloc::AllocError;
+use upload_core::status::ServerInfo;
 use wire::message::NodeId;
 use world_operations::job::Job;
 use world_operations::task::{StartError, Task};
 
 impl Scene {
-    // The check of this number, if it is one of this node that is done, and so many servers may be
-    // wanted for its file.
-    fn repairable(&self, node: NodeId, number: usize, happy: u16) -> Option<&Check>
-        ensures check { IfSome result
+    // The check of this number, if it is one of this node that is done.
+    fn done_check_at(&self, node: NodeId, number: usize) -> Option<&Check>
+        ensures some { IfSome result
             (λ check. IsDoneCheck (state_of self.now) node number check.now) }
-        ensures may { IfSome result (λ check. MayWant check.now.cap happy) }
-        ensures none { IfNone result (MayRepair (state_of self.now) node number happy → ⊥) }
+        ensures none { IfNone result ((check : CheckState)
+            → IsDoneCheck (state_of self.now) node number check → ⊥) }
     {
-        let operation = self.operations.get(number)?;
-        if operation.node != node {
-            return None;
+        match self.operations.get(number) {
+            Some(operation) => {
+                if operation.node != node {
+                    return None;
+                }
+                done_check(operation)
+            }
+            None => None,
         }
-        let check = done_check(operation)?;
-        if happy == 0 || happy > check.cap().total() {
-            return None;
-        }
-        Some(check)
     }
 
     // The job and the machine of a repair that begins.
@@ -55,15 +59,37 @@ impl Scene {
             → MayRepair (state_of self.now) node number happy → ⊥ }
         ensures right { IfOk result (λ begun. IsRightTask begun.1) }
     {
-        let Some(check) = self.repairable(node, number, happy) else {
+        let Some(check) = self.done_check_at(node, number) else {
             return Err(StartError::Refused);
         };
+        if happy == 0 || happy > check.cap().total() {
+            return Err(StartError::Refused);
+        }
+        Ok(self.mend(node, number, happy, check)?)
+    }
+
+    // The job and the machine of a repair of what a check found that is done.
+    fn mend(
+        &self,
+        node: NodeId,
+        number: usize,
+        happy: u16,
+        check: &Check,
+    ) -> Result<(Job, Task), AllocError>
+        requires few { length self.now.servers.items + length self.now.heard.items ≤ 256 }
+        requires done { IsDoneCheck (state_of self.now) node number check.now }
+        requires may { MayWant check.now.cap happy }
+        ensures begins { IfOk result (λ begun.
+            RepairBegins (state_of self.now) node number happy begun.0 begun.1) }
+        ensures new { IfOk result
+            (λ begun. IsNewTask (length self.now.operations.items) begun.0 begun.1) }
+        ensures right { IfOk result (λ begun. IsRightTask begun.1) }
+    {
         let Some(good) = check.good_shares(self.alloc)? else {
             unreachable!();
         };
         let session = self.operations.len() as u64;
-        let nodes = nodes_up_to(self.alloc, self.servers.len() + self.heard.len())?;
-        let servers = servers_at(self.alloc, &nodes)?;
+        let servers = self.all_servers()?;
         let (job, task) = Task::begin_repair(
             self.alloc,
             check.cap(),
@@ -75,6 +101,18 @@ impl Scene {
         )?;
         task.is_right();
         Ok((job, task))
+    }
+
+    // All nodes, as the servers of an operation.
+    fn all_servers(&self) -> Result<Vec<ServerInfo>, AllocError>
+        requires { length self.now.servers.items + length self.now.heard.items ≤ 256 }
+        ensures all { IfOk result (λ servers. servers.items ≡ servers_of (state_of self.now)) }
+        ensures distinct { IfOk result (λ servers.
+            IsDistinct nat_eq (map (λ (s : ServerInfo). s.node) servers.items)) }
+    {
+        let nodes = nodes_up_to(self.alloc, self.servers.len() + self.heard.len())?;
+        let servers = servers_at(self.alloc, &nodes)?;
+        Ok(servers)
     }
 
     /// An honest node starts a repair of what its check of this number found, unless that is no

@@ -1,0 +1,100 @@
+-- How a repair begins in a world.
+use Rattle.std.proofs.Common.{◌≡◌, ◌∙◌, ℕ, List, Vec, Global, length, map, refl, sym, ap, subst}
+use Rattle.cap_text.specs.Cap.{VerifyCapValue}
+use Rattle.file_upload.specs.Shares.{MayWant}
+use Rattle.upload_core.specs.declared.status.ServerInfo.{ServerInfo}
+use Rattle.checker.specs.Good.{AreGoodShares}
+use Rattle.checker.specs.State.{CheckState}
+use Rattle.checker.specs.declared.status.CheckStatus.{CheckStatus}
+use Rattle.checker.specs.declared.status.CheckStatus.TheVariants as checks
+use Rattle.world_operations.specs.declared.job.Job.{Job}
+use Rattle.world_operations.specs.declared.operation.Life.{Life}
+use Rattle.world_operations.specs.declared.operation.Life.TheVariants as lives
+use Rattle.world_operations.specs.declared.operation.Operation.{Operation}
+use Rattle.world_operations.specs.declared.status.Status.{Status}
+use Rattle.world_operations.specs.declared.status.Status.TheVariants as statuses
+use Rattle.world_operations.specs.declared.task.Task.{Task}
+use Rattle.world_operations.specs.declared.task.Task.TheVariants.{Checking}
+use Rattle.world_operations.specs.Follow.{IsNewTask}
+use Rattle.world_operations.specs.Repairs.{BeginsRepair}
+use Rattle.world_operations.specs.Status.{check_status, lived, machine_status, status_of}
+use Rattle.world_operations.proofs.Beginnings.{new_repair}
+use Rattle.world_operations.proofs.Places.{same_some}
+use Rattle.world.specs.Admitted.{MayRepair}
+use Rattle.world.specs.State.{WorldState, servers_of}
+use Rattle.world.specs.Step.{IsDoneCheck, RepairBegins}
+
+by_life : (life : Life) (s : Status) → lived life s ≡ statuses.Done → s ≡ statuses.Done
+by_life lives.Live s e = e
+by_life lives.Refused s e = absurd cc
+by_life lives.Forgotten statuses.Running e = absurd cc
+by_life lives.Forgotten statuses.Forgotten e = e
+by_life lives.Forgotten (statuses.Happy pairs) e = e
+by_life lives.Forgotten (statuses.Unhappy reached wanted) e = e
+by_life lives.Forgotten statuses.Done e = e
+by_life lives.Forgotten statuses.NotEnoughShares e = e
+by_life lives.Forgotten statuses.Inconsistent e = e
+by_life lives.Forgotten statuses.Failed e = e
+
+by_status : (s : CheckStatus) → check_status s ≡ statuses.Done → s ≡ checks.Done
+by_status checks.Done e = refl
+by_status checks.Running e = absurd cc
+by_status checks.Failed e = absurd cc
+
+-- the machine of a check that is done is done
+pub done_machine : (w : WorldState) (node number : ℕ) (check : CheckState) → IsDoneCheck w node number check → check.status ≡ checks.Done
+done_machine w node number check d =
+    let op : Operation = d.operation in
+    by_status check.status (by_life op.life (check_status check.status) (ap (λ (t : Task). lived op.life (machine_status op.job t)) (sym d.checked) ∙ d.done))
+
+same_checking : (a b : CheckState) → Checking a ≡ Checking b → a ≡ b
+same_checking a b e = cc
+
+-- there is one such check
+same_check : (w : WorldState) (node number : ℕ) (a b : CheckState) → IsDoneCheck w node number a → IsDoneCheck w node number b → a ≡ b
+same_check w node number a b x y =
+    let op : x.operation ≡ y.operation = same_some x.operation y.operation (sym x.at ∙ y.at) in
+    same_checking a b (sym x.checked ∙ ap (λ (o : Operation). o.task) op ∙ y.checked)
+
+-- where so many servers cannot be wanted for it, nothing may be repaired
+pub not_wanted : (w : WorldState) (node number happy : ℕ) (check : CheckState) → IsDoneCheck w node number check → (MayWant check.cap happy → ⊥) → MayRepair w node number happy → ⊥
+not_wanted w node number happy check done none may =
+    none (subst (λ (c : CheckState). MayWant c.cap happy) (same_check w node number may.0 check may.1 done) may.2)
+
+abbrev pub Share : Type 0
+Share = ℕ × Vec ℕ Global
+
+abbrev pub numbers_of : List Share → List ℕ
+numbers_of good = map (λ (s : Share). s.0) good
+
+abbrev pub strings_of : List Share → List (List ℕ)
+strings_of good = map (λ (s : Share). s.1.items) good
+
+-- what begins a repair, at its place
+at_place : (w : WorldState) (happy : ℕ) (check : CheckState) (cap : VerifyCapValue) (good : List Share) (servers : List ServerInfo) (session : ℕ) (job : Job) (task : Task)
+    → cap ≡ check.cap → servers ≡ servers_of w → session ≡ length w.operations → BeginsRepair cap happy (numbers_of good) (strings_of good) servers session w.clock job task
+    → BeginsRepair check.cap happy (numbers_of good) (strings_of good) (servers_of w) (length w.operations) w.clock job task
+at_place w happy check cap good servers session job task cap_is servers_are session_is begins =
+    subst (λ (n : ℕ). BeginsRepair check.cap happy (numbers_of good) (strings_of good) (servers_of w) n w.clock job task) session_is
+    (subst (λ (l : List ServerInfo). BeginsRepair check.cap happy (numbers_of good) (strings_of good) l session w.clock job task) servers_are
+    (subst (λ (c : VerifyCapValue). BeginsRepair c happy (numbers_of good) (strings_of good) servers session w.clock job task) cap_is begins))
+
+pub mending : (w : WorldState) (node number happy : ℕ) (check : CheckState) (cap : VerifyCapValue) (good taken : List Share) (servers : List ServerInfo) (session : ℕ) (job : Job) (task : Task)
+    → IsDoneCheck w node number check → cap ≡ check.cap → taken ≡ good → AreGoodShares check.cap check.requests.entries (numbers_of good) (strings_of good)
+    → servers ≡ servers_of w → session ≡ length w.operations → BeginsRepair cap happy (numbers_of taken) (strings_of taken) servers session w.clock job task
+    → RepairBegins w node number happy job task
+mending w node number happy check cap good taken servers session job task done cap_is same are servers_are session_is begins = record {
+  check = check;
+  done = done;
+  numbers = numbers_of taken;
+  strings = strings_of taken;
+  good = subst (λ (l : List Share). AreGoodShares check.cap check.requests.entries (numbers_of l) (strings_of l)) (sym same) are;
+  begins = at_place w happy check cap taken servers session job task cap_is servers_are session_is begins;
+}
+
+pub mending_new : (w : WorldState) (happy : ℕ) (check : CheckState) (cap : VerifyCapValue) (taken : List Share) (servers : List ServerInfo) (session : ℕ) (job : Job) (task : Task)
+    → MayWant check.cap happy → cap ≡ check.cap → servers ≡ servers_of w → session ≡ length w.operations
+    → BeginsRepair cap happy (numbers_of taken) (strings_of taken) servers session w.clock job task → IsNewTask (length w.operations) job task
+mending_new w happy check cap taken servers session job task may cap_is servers_are session_is begins =
+    new_repair check.cap happy (numbers_of taken) (strings_of taken) (servers_of w) (length w.operations) w.clock job task may
+    (at_place w happy check cap taken servers session job task cap_is servers_are session_is begins)
