@@ -1,9 +1,8 @@
 -- What a consistent world says of repairs: each pair that one names was acknowledged by a message that was sent, its server keeps the share that was made, and that is the file's own.
-use Rattle.std.proofs.Common.{◌≡◌, ℕ, ◌+◌, ◌<◌, ◌≤◌, List, [], ◌∷◌, ◌++◌, length, map, Some, false, true, get_or, slice_index_or, Contains, refl, sym, subst, ap, ◌∙◌, inl, inr, arith}
+use Rattle.std.proofs.Common.{◌≡◌, ℕ, ◌+◌, ◌<◌, ◌≤◌, List, [], ◌∷◌, ◌++◌, length, Some, false, slice_index_or, Contains, refl, sym, subst, ap, ◌∙◌, inl, inr, arith}
 use Rattle.std.specs.Prelude.{slice_get}
 use Rattle.std.proofs.lemmas.List.{ext_get_or, get_or-map, length-map}
 use Rattle.std.proofs.lemmas.List.Elements.{All-contains, Contains-append_cases, Contains-append_left, Contains-append_right}
-use Rattle.tagged_hash.specs.Clash.{HasNoClashIn}
 use Rattle.tagged_hash.specs.TaggedHash.{share_digest, tagged_hash, tagged_input}
 use Rattle.tagged_hash.specs.declared.tag.Tag.TheVariants.{WholeShare}
 use Rattle.tagged_hash.proofs.ClashLemmas.{no_clash_of}
@@ -17,7 +16,6 @@ use Rattle.wire.specs.declared.message.Body.{Body}
 use Rattle.wire.specs.declared.message.Message.{Message}
 use Rattle.wire.specs.declared.message.ShareId.{ShareId}
 use Rattle.wire.specs.Frames.{IsBodyOf}
-use Rattle.request_record.specs.declared.requests.Asked.{Asked}
 use Rattle.request_record.specs.declared.requests.Outcome.{Outcome}
 use Rattle.request_record.specs.declared.requests.Outcome.TheVariants.{Outstanding, Answered, Lost, Unawaited}
 use Rattle.request_record.specs.declared.requests.Request.{Request}
@@ -36,7 +34,6 @@ use Rattle.upload_core.specs.Acknowledged.{acked_answer, acked_by, acked_outcome
 use Rattle.upload_core.specs.Right.{IsRight, has_ended}
 use Rattle.upload_core.specs.Rounds.{EndsAs, IsHappy}
 use Rattle.upload_core.specs.State.{Goal, UploadState}
-use Rattle.upload_core.specs.declared.status.UploadStatus.TheVariants.{Happy}
 use Rattle.file_encoding.proofs.Binding.{file_shares_are_bound}
 use Rattle.file_upload.specs.Shares.{shares_goal}
 use Rattle.world_operations.specs.declared.job.Job.{Job}
@@ -52,7 +49,7 @@ use Rattle.world.specs.State.{WorldState, shelved}
 use Rattle.world.specs.Consistent.{IsConsistent}
 use Rattle.world.specs.Headline.{Keeps}
 use Rattle.world.specs.Repaired.{IsRepairOf}
-use Rattle.world.specs.Repairs.{AreTrustedRepairs, HasNoClashInAll, IsHashedInAll, IsRepairAcknowledgement, KeepsMade, RepairsAreAcknowledged, RepairsAreMatched, RepairsKeep, RepairsMakeOwn, repaired}
+use Rattle.world.specs.Repairs.{AreTrustedRepairs, HasNoClashInAll, IsHashedInAll, KeepsMade, RepairsAreAcknowledged, RepairsAreMatched, RepairsKeep, RepairsMakeOwn, repaired}
 use Rattle.world.specs.Repairs.{told as hashed_too}
 use Rattle.world.proofs.Acked as acked
 use Rattle.world.proofs.Happy.{Up}

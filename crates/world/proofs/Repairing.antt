@@ -17,7 +17,7 @@ use Rattle.world_operations.specs.declared.task.Task.{Task}
 use Rattle.world_operations.specs.declared.task.Task.TheVariants.{Checking}
 use Rattle.world_operations.specs.Follow.{IsNewTask}
 use Rattle.world_operations.specs.Repairs.{BeginsRepair}
-use Rattle.world_operations.specs.Status.{check_status, lived, machine_status, status_of}
+use Rattle.world_operations.specs.Status.{check_status, lived, machine_status}
 use Rattle.world_operations.proofs.Beginnings.{new_repair}
 use Rattle.world_operations.proofs.Places.{same_some}
 use Rattle.world.specs.Admitted.{MayRepair}

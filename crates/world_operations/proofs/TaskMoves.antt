@@ -14,7 +14,7 @@ use Rattle.wire.specs.Frames.{IsBodyOf, IsMessage, spelling}
 use Rattle.request_record.specs.declared.requests.Asked.{Asked}
 use Rattle.request_record.specs.declared.requests.Asked.TheVariants.{Holdings, Allocation, Writing, Closing, Reading, Aborting}
 use Rattle.request_record.specs.declared.requests.Request.{Request}
-use Rattle.request_record.specs.Asking.{Spells, after_message, after_tick, begun, fresh, asks_of, lost_by_tick, message_at}
+use Rattle.request_record.specs.Asking.{Spells, after_message, after_tick, lost_by_tick, message_at}
 use Rattle.request_record.specs.Record.{RequestsState, asked_all, counts_at}
 use Rattle.server_core.specs.Sound.{is_request}
 use Rattle.upload_core.specs.declared.status.UploadStatus.{UploadStatus}
@@ -101,7 +101,7 @@ upload_goes New u v pieces same f = record {
     kept (jobs.NoRepair cap why) h = absurd h
 
 -- the moves of an upload that runs
-record Runs (New : Said) (u v : UploadState) : Type 0 where
+pub record Runs (New : Said) (u v : UploadState) : Type 0 where
   pub goal : v.goal ≡ u.goal
   pub wanted : v.wanted ≡ u.wanted
   pub follows : Follows New u.requests v.requests

@@ -1,9 +1,8 @@
-use Rattle.std.proofs.Common.{◌≡◌, ◌∙◌, Option, Vec, Global, List, length, rules, subst, sym}
+use Rattle.std.proofs.Common.{◌≡◌, ◌∙◌, Option, Vec, Global, length, rules, subst}
 use Rattle.std.specs.Prelude.{IfSome}
-use Rattle.upload_core.specs.declared.status.ServerInfo.{ServerInfo}
 use Rattle.checker.specs.Good.{AreGoodShares}
 use Rattle.checker.specs.State.{CheckState}
-use Rattle.world.specs.State.{WorldState, servers_of, state_of}
+use Rattle.world.specs.State.{WorldState, state_of}
 use Rattle.world.proofs.Repairing.{Share, done_machine, mending, mending_new, numbers_of, strings_of}
 use Rattle.world.proofs.scene.Scene.mend.Goals as goal
 

@@ -1,4 +1,5 @@
-use Rattle.std.proofs.Common.{refl}
+use Rattle.std.proofs.Common.{◌≡◌, Err, refl, rules}
+use Rattle.file_encoding.specs.declared.reading.ReadError.TheVariants.{Inconsistent}
 use Rattle.file_encoding.proofs.RemadePassing.{regenerated_pass}
 use Rattle.world_operations.specs.Repairs.{contradicts, makes}
 use Rattle.world_operations.proofs.task.Task.begin_repair.Goals as goal
@@ -12,4 +13,5 @@ returns-in_ok-upload-in-Ok c =
 
 pub returns-in-Err-Inconsistent : goal.returns-in-Err-Inconsistent
 returns-in-Err-Inconsistent c =
-    contradicts (c.in-Err-Inconsistent.ensures.inconsistent c.in-Err-Inconsistent.field-0-is) c.over-in-Err-Inconsistent.ensures.job c.over-in-Err-Inconsistent.ensures.task
+    let wrong : c.make_shares.result ≡ Err Inconsistent = search rules in
+    contradicts (c.make_shares.ensures.inconsistent wrong) c.over-in-Err-Inconsistent.ensures.job c.over-in-Err-Inconsistent.ensures.task
