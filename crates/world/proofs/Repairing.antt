@@ -14,13 +14,10 @@ use Rattle.world_operations.specs.declared.operation.Operation.{Operation}
 use Rattle.world_operations.specs.declared.status.Status.{Status}
 use Rattle.world_operations.specs.declared.status.Status.TheVariants as statuses
 use Rattle.world_operations.specs.declared.task.Task.{Task}
-use Rattle.world_operations.specs.declared.task.Task.TheVariants.{Checking}
 use Rattle.world_operations.specs.Follow.{IsNewTask}
 use Rattle.world_operations.specs.Repairs.{BeginsRepair}
 use Rattle.world_operations.specs.Status.{check_status, lived, machine_status}
 use Rattle.world_operations.proofs.Beginnings.{new_repair}
-use Rattle.world_operations.proofs.Places.{same_some}
-use Rattle.world.specs.Admitted.{MayRepair}
 use Rattle.world.specs.State.{WorldState, servers_of}
 use Rattle.world.specs.Step.{IsDoneCheck, RepairBegins}
 
@@ -46,20 +43,6 @@ pub done_machine : (w : WorldState) (node number : ℕ) (check : CheckState) →
 done_machine w node number check d =
     let op : Operation = d.operation in
     by_status check.status (by_life op.life (check_status check.status) (ap (λ (t : Task). lived op.life (machine_status op.job t)) (sym d.checked) ∙ d.done))
-
-same_checking : (a b : CheckState) → Checking a ≡ Checking b → a ≡ b
-same_checking a b e = cc
-
--- there is one such check
-same_check : (w : WorldState) (node number : ℕ) (a b : CheckState) → IsDoneCheck w node number a → IsDoneCheck w node number b → a ≡ b
-same_check w node number a b x y =
-    let op : x.operation ≡ y.operation = same_some x.operation y.operation (sym x.at ∙ y.at) in
-    same_checking a b (sym x.checked ∙ ap (λ (o : Operation). o.task) op ∙ y.checked)
-
--- where so many servers cannot be wanted for it, nothing may be repaired
-pub not_wanted : (w : WorldState) (node number happy : ℕ) (check : CheckState) → IsDoneCheck w node number check → (MayWant check.cap happy → ⊥) → MayRepair w node number happy → ⊥
-not_wanted w node number happy check done none may =
-    none (subst (λ (c : CheckState). MayWant c.cap happy) (same_check w node number may.0 check may.1 done) may.2)
 
 abbrev pub Share : Type 0
 Share = ℕ × Vec ℕ Global

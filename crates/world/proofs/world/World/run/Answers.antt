@@ -1,5 +1,6 @@
 use Rattle.std.proofs.Common.{◌≡◌, ◌<◌, Ok, Some, length, rules}
 use Rattle.std.specs.Prelude.{slice_get}
+use Rattle.world.proofs.Later.{later_still}
 use Rattle.world.proofs.Moving.{at_place}
 use Rattle.world.proofs.Worlds.{running_on}
 use Rattle.world.proofs.world.World.run.Goals as goal
@@ -11,3 +12,7 @@ loop-taken-preserved g c =
     at_place c.args.events.now c.loop-taken.taken c.index-events-taken.result low c.index-events-taken.is in
     running_on c.args.self.now c.loop-taken.self c.step.new.self c.args.events.now c.loop-taken.taken c.index-events-taken.result c.loop-taken.invariant at c.in-Ok.ensures.gives
     c.in-Ok.ensures.later c.in-Ok.ensures.trusted c.in-Ok.ensures.repairs
+
+pub returns-in-Err-clause-later : goal.returns-in-Err-clause-later
+returns-in-Err-clause-later g c =
+    later_still c.args.self.now.state c.loop-taken.self.state c.step.new.self.state c.loop-taken.invariant.later c.in-Err.ensures.later
