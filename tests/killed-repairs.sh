@@ -6,8 +6,9 @@
 # Run by hand. PROGRAM is a built program, `./grid` if there is none. A file is put, and seven of
 # its ten shares are removed. A repair is killed after each of the calls that it makes on files, in
 # a copy of that grid, and made again: it has to say `happiness 10`, the check that the file is
-# healthy, and all folders have to be as they were before the loss. The same of two repairs at once,
-# of which one may end with `70 Unhappy`, and a third after them.
+# healthy, and all folders have to be as they were before the loss. Two repairs at once leave a healthy
+# file for a third, and no damaged share; one of them may end with `70 Unhappy`, and a share may stand
+# at two servers.
 #
 # It needs gcc. The last line is `ends N faults N`; the status is 0 where there are no faults, 1
 # where there are, and 2 where nothing could be run.
@@ -71,7 +72,9 @@ for turn in 1 2 3 4 5 6 7 8 9 10; do
     repairs > /dev/null 2>&1 &
     repairs > /dev/null 2>&1
     wait
-    mends "two at once, $turn"
+    [ "$(repairs)" = "happiness 10" ] || fault "two at once, $turn: no happiness 10"
+    "$program" check "$cap" --grid "$room/grid" --strict > /dev/null || fault "$turn: not healthy"
+    "$program" scrub --grid "$room/grid" > /dev/null || fault "two at once, $turn: a damaged share"
 done
 
 echo "ends $end faults $faults"
