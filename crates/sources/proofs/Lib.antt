@@ -1,0 +1,3 @@
+pub mod PartReading
+pub mod Differ
+pub mod Steady

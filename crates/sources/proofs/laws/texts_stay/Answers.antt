@@ -1,0 +1,5 @@
+use Rattle.sources.proofs.Steady.{texts_stay}
+use Rattle.sources.proofs.laws.texts_stay.Goals as goal
+
+pub returns : goal.returns
+returns c = texts_stay

@@ -1,0 +1,6 @@
+-- what public contracts rest on
+pub mod Source
+pub mod Change
+pub mod Texts
+pub mod Opened
+pub mod Laws

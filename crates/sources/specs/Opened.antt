@@ -1,0 +1,28 @@
+-- A source over an open file.
+use Rattle.std.specs.Prelude.{◌≡◌, ◌⊎◌, ℕ, ◌+◌, ◌<◌, ◌≤◌, List, [], length, Some, IfSome, Option}
+use Rattle.std.specs.Io.KnownBytes.{Consumes, IsAtEnd, Keeps}
+
+-- the file, the size that it had, and how many reads of it failed
+pub record Opened (F : Type 0) : Type 0 where
+  pub file : F
+  pub size : ℕ
+  pub failures : ℕ
+
+-- The file was moved to a place, and then read: these are the next bytes that it has there, and
+-- none only where it has no more. That says something of files whose bytes are known alone.
+pub record WasRead {F : Type 0} (position : F → Option ℕ) (contents remaining : F → Option (List ℕ))
+    (old : F) (place : ℕ) (bytes : List ℕ) (new : F) : Type 0 where
+  pub moved : F
+  pub position_is : IfSome (position old) (λ _. position moved ≡ Some place)
+  pub contents_stay : Keeps (contents old) (contents moved)
+  pub next : Consumes (remaining moved) (remaining new) bytes
+  pub end : bytes ≡ [] → IsAtEnd (remaining new)
+
+-- the file was read within its size, or not at all behind it
+abbrev pub GivesOpened : {F : Type 0} → (F → Option ℕ) → (F → Option (List ℕ))
+    → (F → Option (List ℕ)) → Opened F → ℕ → List ℕ → Opened F → Type 0
+GivesOpened position contents remaining s place bytes after =
+    ((s.size ≤ place) × (bytes ≡ []) × (after ≡ s))
+    ⊎ ((place < s.size) × (place + length bytes ≤ s.size)
+    × WasRead position contents remaining s.file place bytes after.file
+    × (after ≡ record s { file = after.file }))

@@ -1,0 +1,58 @@
+-- A source, and what was read of it.
+use Rattle.std.specs.Prelude.{◌≡◌, ◌⊎◌, ℕ, ◌+◌, ◌-◌, ◌<◌, ◌≤◌, ◌^◌, List, [], ◌∷◌, length, take, drop}
+use Rattle.std.specs.List.{flat_map}
+
+-- ---- what a read brings
+
+-- one more read failed, or so many did that they are not counted any more
+abbrev pub HasFailedMore : ℕ → ℕ → Type 0
+HasFailedMore old new = (old < new) ⊎ ((old ≡ 2 ^ 64 - 1) × (new ≡ old))
+
+-- these are bytes of a text from a place on, and none only where it has no more
+pub record IsFrom (text : List ℕ) (place : ℕ) (bytes : List ℕ) : Type 0 where
+  pub bytes_are : bytes ≡ take (length bytes) (drop place text)
+  pub end : bytes ≡ [] → length text ≤ place
+
+-- ---- runs of reads
+
+-- a read: its place, and the bytes that it brought
+abbrev pub Read : Type 0
+Read = ℕ × List ℕ
+
+-- the source gave these reads, one after another
+abbrev pub Reads : {S : Type 0} → (S → ℕ → List ℕ → S → Type 0) → S → List Read → S → Type 0
+Reads gives old [] new = new ≡ old
+Reads gives old (read ∷ reads) new =
+    (mid : _) × gives old read.0 read.1 mid × Reads gives mid reads new
+
+-- they follow one another from a place up to another
+abbrev pub AreConsecutive : ℕ → List Read → ℕ → Type 0
+AreConsecutive place [] end = place ≡ end
+AreConsecutive place (read ∷ reads) end =
+    (read.0 ≡ place) × AreConsecutive (place + length read.1) reads end
+
+-- their bytes, one after another
+abbrev pub bytes_of : List Read → List ℕ
+bytes_of reads = flat_map (λ (read : Read). read.1) reads
+
+-- the part from a place on was read, each byte once, and these are its bytes
+pub record IsRead {S : Type 0} (gives : S → ℕ → List ℕ → S → Type 0) (old : S) (place : ℕ)
+    (bytes : List ℕ) (new : S) : Type 0 where
+  pub reads : List Read
+  pub run : Reads gives old reads new
+  pub consecutive : AreConsecutive place reads (place + length bytes)
+  pub bytes_are : bytes ≡ bytes_of reads
+
+-- the source was read once, from its first byte to the last of so many: each byte once, from place
+-- 0 up
+pub record IsPass {S : Type 0} (gives : S → ℕ → List ℕ → S → Type 0) (size : ℕ) (old : S)
+    (file : List ℕ) (new : S) : Type 0 where
+  pub long : length file ≡ size
+  pub read : IsRead gives old 0 file new
+
+-- it was read twice
+pub record IsReadTwice {S : Type 0} (gives : S → ℕ → List ℕ → S → Type 0) (size : ℕ) (old : S)
+    (first second : List ℕ) (new : S) : Type 0 where
+  pub mid : S
+  pub before : IsPass gives size old first mid
+  pub after : IsPass gives size mid second new

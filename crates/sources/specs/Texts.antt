@@ -1,0 +1,20 @@
+-- Sources over texts in memory.
+use Rattle.std.specs.Prelude.{◌≡◌, ◌≢◌, ◌⊎◌, ℕ, ◌-◌, ◌≤◌, List, length}
+use Rattle.sources.specs.Source.{IsFrom}
+
+-- each read comes from one text, which stays
+abbrev pub GivesText : List ℕ → ℕ → List ℕ → List ℕ → Type 0
+GivesText text place bytes after = IsFrom text place bytes × (after ≡ text)
+
+-- of the bytes that it hands out the first `left` come from `file`, later ones from `other`
+pub record Changing : Type 0 where
+  pub file : List ℕ
+  pub other : List ℕ
+  pub left : ℕ
+
+-- each read comes from one of the two texts
+abbrev pub GivesChanging : Changing → ℕ → List ℕ → Changing → Type 0
+GivesChanging s place bytes after =
+    ((s.left ≢ 0) × IsFrom s.file place bytes × (length bytes ≤ s.left)
+    × (after ≡ record s { left = s.left - length bytes }))
+    ⊎ ((s.left ≡ 0) × IsFrom s.other place bytes × (after ≡ s))
