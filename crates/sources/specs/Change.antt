@@ -50,8 +50,8 @@ pub record HasChanged {S : Type 0} (gives : S → ℕ → List ℕ → S → Typ
   pub changed : HaveDiffered reads ⊎ HasEnded reads size
 
 -- a read brought other bytes than this file has there, or the source ended before the file's end
-pub record DiffersFromFile {S : Type 0} (gives : S → ℕ → List ℕ → S → Type 0) (old : S) (file : List ℕ)
-    (new : S) : Type 0 where
+pub record DiffersFromFile {S : Type 0} (gives : S → ℕ → List ℕ → S → Type 0) (old : S)
+    (file : List ℕ) (new : S) : Type 0 where
   pub reads : List Read
   pub run : Reads gives old reads new
   pub changed : HasOther reads file ⊎ HasEnded reads (length file)

@@ -1,5 +1,6 @@
 -- A source, and what was read of it.
-use Rattle.std.specs.Prelude.{◌≡◌, ◌⊎◌, ℕ, ◌+◌, ◌-◌, ◌<◌, ◌≤◌, ◌^◌, List, [], ◌∷◌, length, take, drop}
+use Rattle.std.specs.Prelude.{◌≡◌, ◌⊎◌, ℕ, ◌+◌, ◌-◌, ◌<◌, ◌≤◌, ◌^◌, List, [], ◌∷◌, length, take}
+use Rattle.std.specs.Prelude.{drop}
 use Rattle.std.specs.List.{flat_map}
 
 -- ---- what a read brings

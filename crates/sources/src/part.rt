@@ -32,7 +32,8 @@ pub fn read_part<S: Source>(source: &mut S, place: u64, out: &mut [u8]) -> Resul
 fn read_some<S: Source>(source: &mut S, place: u64, out: &mut [u8]) -> Result<usize, PartFault>
     requires { 0 < length out.old }
     ensures some { IfOk result (λ count. (0 < count) × (count ≤ length out.old)) }
-    ensures gives { IfOk result (λ count. S.gives source.old place (take count out.new) source.new) }
+    ensures gives { IfOk result
+        (λ count. S.gives source.old place (take count out.new) source.new) }
     ensures ended { IsErrOf result PartFault.Ended → S.gives source.old place [] source.new }
     ensures failed { IsErrOf result PartFault.Unreadable
         → HasFailedMore (S.failures source.old) (S.failures source.new) }
