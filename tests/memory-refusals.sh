@@ -18,8 +18,10 @@ download_file/src/reader.rt:return Err(AllocError);
 grid_rules/src/ending.rt:UploadStatus::Failed(_) => Err(Fault::OutOfMemory),
 grid_rules/src/ending.rt:DownloadStatus::Failed => Err(Fault::OutOfMemory),
 grid_rules/src/fault.rt:return Fault::OutOfMemory;
-grid_commands/src/check.rt:report.ok_or(Fault::OutOfMemory)
-grid_commands/src/lib.rt:_ => report(alloc, err, &Fault::OutOfMemory),
+grid_commands/src/check.rt:client.report(rt.alloc())?.ok_or(Fault::OutOfMemory)
+grid_commands/src/lib.rt:_ => report(alloc, err, &Fault::OutOfMemory, false),
+grid_commands/src/repair.rt:client.good_shares(alloc)?.ok_or(Fault::OutOfMemory)
+grid_commands/src/scrub.rt:return Err(Failure::Fault(Fault::OutOfMemory));
 upload_core/src/course.rt:*status = UploadStatus::Failed(PieceFault::OutOfMemory);
 world/src/world.rt:Err(WorldError::OutOfMemory)
 END
