@@ -6,9 +6,9 @@
 # Run by hand. PROGRAM is a built program, `./grid` if there is none. A file is put, and seven of
 # its ten shares are removed. A repair is killed after each of the calls that it makes on files, in
 # a copy of that grid, and made again: it has to say `happiness 10`, the check that the file is
-# healthy, and all folders have to be as they were before the loss. Two repairs at once leave a healthy
-# file for a third, and no damaged share; one of them may end with `70 Unhappy`, and a share may stand
-# at two servers.
+# healthy, and all folders have to be as they were before the loss. Two repairs at once leave a
+# healthy file for a third, and no damaged share; one of them may end with `70 Unhappy`, and a share
+# may stand at two servers.
 #
 # It needs gcc. The last line is `ends N faults N`; the status is 0 where there are no faults, 1
 # where there are, and 2 where nothing could be run.
