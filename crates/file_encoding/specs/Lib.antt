@@ -10,6 +10,7 @@ pub mod OwnFile
 pub mod Parts
 pub mod Padded
 pub mod Regenerated
+pub mod Decoded
 pub mod RegenerateError
 pub mod Binding
 pub mod RemadeLaws

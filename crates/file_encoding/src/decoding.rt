@@ -10,7 +10,7 @@ ghost use Rattle.proved_parts.specs.FileOf.{segment_hashes};
 ghost use Rattle.share_layout.specs.Pieces.{block_at, block_length};
 ghost use Rattle.file_encoding.specs.Padded.{plain_segments};
 ghost use Rattle.file_encoding.specs.Regenerated.{DecodeTo};
-ghost use Rattle.file_encoding.specs.Reading.{Decodes, HasWrongSegment, IsDecoded};
+ghost use Rattle.file_encoding.specs.Reading.{HasWrongSegment};
 ghost use Rattle.file_encoding.specs.Decoding.{AreBlocks};
 
 use crate::blocks::Segments;
@@ -19,30 +19,6 @@ use share_layout::Geometry;
 use std::alloc::{AllocError, Global};
 use tagged_hash::{Tag, tagged};
 use zfec_code::{Code, CodeError, Decoder};
-
-/// The ciphertext that all blocks of some shares decode to, each with its share's number, or
-/// `Inconsistent` where a segment has not the hash of its leaf.
-pub(crate) fn decode_all(
-    alloc: Global,
-    geometry: &Geometry,
-    blocks: &[(u16, &[u8])],
-    leaves: &[[u8; 32]],
-) -> Result<Vec<u8>, ReadError>
-    requires blocks { AreBlocks geometry.now (map (λ s. s.0) blocks.now)
-        (map (λ s. s.1.now) blocks.now) }
-    requires leaves { length leaves.now ≡ segment_count geometry.now }
-    ensures decoded { IfOk result (λ ciphertext. IsDecoded geometry.now (map (λ s. s.0) blocks.now)
-        (map (λ s. s.1.now) blocks.now) leaves.now ciphertext.items) }
-    ensures inconsistent { IsErrOf result ReadError.Inconsistent
-        → HasWrongSegment geometry.now (map (λ s. s.0) blocks.now)
-        (map (λ s. s.1.now) blocks.now) leaves.now }
-    ensures no_other { IfErr result (λ e. (e ≡ ReadError.OutOfMemory)
-        ⊎ (e ≡ ReadError.Inconsistent)) }
-{
-    let mut text = decode_padded(alloc, geometry, blocks, leaves)?;
-    text.truncate(geometry.size() as usize);
-    Ok(text)
-}
 
 /// The padded text that all blocks of some shares decode to, each with its share's number, or
 /// `Inconsistent` where a segment, without its padding, has not the hash of its leaf.

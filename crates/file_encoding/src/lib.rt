@@ -3,6 +3,7 @@
 #![tactic(auto)]
 
 mod blocks;
+mod decoded;
 mod decoding;
 mod draft;
 mod encoding;
@@ -15,6 +16,7 @@ mod selection;
 mod share;
 mod shares;
 
+pub use decoded::{DecodedFile, decode_shares};
 pub use encoding::{Encoded, encode_all};
 pub use error::EncodeError;
 pub use laws::{

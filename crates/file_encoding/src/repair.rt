@@ -1,28 +1,22 @@
 // All shares of a file, made anew of others without the key.
 
-ghost use Rattle.std.specs.Prelude.{◌≡◌, ◌≤◌, ◌<◌, ◌⊎◌, ◌↔◌, All, length, map, IfOk, IfErr, IsErrAnd};
+ghost use Rattle.std.specs.Prelude.{◌≡◌, ◌≤◌, ◌<◌, ◌⊎◌, ◌↔◌, ℕ, List, map, IfOk, IfErr, IsErrAnd};
 ghost use Rattle.std.specs.Prelude.{IsErrOf, IsTrue};
+ghost use Rattle.cap_text.specs.Cap.{VerifyCapValue};
 ghost use Rattle.merkle.specs.Tree.{tree_root};
-ghost use Rattle.ueb.specs.Limits.{max_length};
-ghost use Rattle.share_layout.specs.Geometry.{segment_count};
-ghost use Rattle.file_encoding.specs.Decoding.{AreBlocks};
-ghost use Rattle.file_encoding.specs.LowestShares.{TakesAt};
-ghost use Rattle.file_encoding.specs.Making.{AreMade, CannotMake};
+ghost use Rattle.file_encoding.specs.Decoded.{AreMade, IsDecodedFrom};
 ghost use Rattle.file_encoding.specs.Reading.{LacksShares};
 ghost use Rattle.file_encoding.specs.Regenerated.{AreRegenerated, CannotRegenerate};
 ghost use Rattle.file_encoding.specs.Regenerated.{IsRegenerated};
 ghost use Rattle.file_encoding.specs.RegenerateError.{regenerate_refusal_number};
 
-use crate::decoding::decode_padded;
+use crate::decoded::{DecodedFile, decode_shares};
 use crate::encoding::begin_file;
-use crate::reading::{ReadError, agree, all_blocks};
-use crate::selection::take_lowest;
+use crate::reading::ReadError;
 use crate::share::Share;
 use crate::shares::{build_share_tree, build_tree, finish_shares};
 use cap_text::VerifyCap;
 use merkle::Tree;
-use share_layout::Geometry;
-use share_verify::{leaves_in, read_share};
 use std::alloc::Global;
 
 /// Why a share is not made anew.
@@ -95,10 +89,11 @@ pub fn regenerate(
     Ok(made.swap_remove(usize::from(num)).into_vec())
 }
 
-/// All shares of a verify cap's file, by number, made anew without its key in one pass over its
-/// segments, from the shares that `read_from` takes.
+/// All shares of a verify cap's file, by number, made anew without its key, from the shares that
+/// `read_from` takes. Whoever owns these can let them go between `decode_shares` and
+/// `DecodedFile::make_shares`, of which it is made.
 ///
-/// The extension block is copied. Refuses `NotEnoughShares` exactly where `read_from` does, and
+/// Refuses `NotEnoughShares` exactly where `read_from` does, and
 /// `Inconsistent` where the shares that are taken contradict one another, or the root over the shares
 /// that are made is not the one that the extension block tells.
 pub fn regenerate_all(
@@ -117,82 +112,35 @@ pub fn regenerate_all(
     ensures inconsistent { IsErrOf result ReadError.Inconsistent
         → CannotRegenerate cap.now (map (λ s. s.0) shares.now) (map (λ s. s.1.now) shares.now) }
 {
-    let places = take_lowest(alloc, cap, shares)?;
-    if places.len() < usize::from(cap.needed()) {
-        return Err(ReadError::NotEnoughShares);
-    }
-    make_taken(alloc, cap, shares, &places)
+    let file = decode_shares(alloc, cap, shares)?;
+    file.make_shares(alloc)
 }
 
-// All shares, of those at these places, which are as many as are needed.
-fn make_taken(
-    alloc: Global,
-    cap: &VerifyCap,
-    shares: &[(u16, &[u8])],
-    places: &[usize],
-) -> Result<Vec<Share>, ReadError>
-    requires takes { TakesAt cap.now (map (λ s. s.0) shares.now) (map (λ s. s.1.now) shares.now)
-        places.now }
-    requires some { 0 < length places.now }
-    requires inside { All (λ p. p < length shares.now) places.now }
-    ensures made { IfOk result (λ made. AreRegenerated cap.now (map (λ s. s.0) shares.now)
-        (map (λ s. s.1.now) shares.now) made.items) }
-    ensures inconsistent { IsErrOf result ReadError.Inconsistent
-        → CannotRegenerate cap.now (map (λ s. s.0) shares.now) (map (λ s. s.1.now) shares.now) }
-    ensures no_other { IfErr result (λ e. (e ≡ ReadError.OutOfMemory)
-        ⊎ (e ≡ ReadError.Inconsistent)) }
-{
-    let (number, string) = shares[places[0]];
-    let Ok(first) = read_share(cap, number, string) else {
-        unreachable!();
-    };
-    let view = first.view;
-    if !agree(shares, places, view.extension_block) {
-        return Err(ReadError::Inconsistent);
+impl DecodedFile {
+    /// All shares of the file, by number, made anew without its key in one pass over its segments.
+    /// The extension block is copied.
+    ///
+    /// Refuses `Inconsistent` where the root over the shares is not the one that the extension block
+    /// tells, and `OutOfMemory`.
+    pub fn make_shares(&self, alloc: Global) -> Result<Vec<Share>, ReadError>
+        ensures made { IfOk result (λ shares. AreMade self.now shares.items) }
+        ensures regenerated { (cap : VerifyCapValue) (numbers : List ℕ)
+            (strings : List (List ℕ)) → IsDecodedFrom cap numbers strings self.now
+            → IfOk result (λ shares. AreRegenerated cap numbers strings shares.items) }
+        ensures inconsistent { (cap : VerifyCapValue) (numbers : List ℕ)
+            (strings : List (List ℕ)) → IsDecodedFrom cap numbers strings self.now
+            → IsErrOf result ReadError.Inconsistent → CannotRegenerate cap numbers strings }
+        ensures no_other { IfErr result (λ e. (e ≡ ReadError.OutOfMemory)
+            ⊎ (e ≡ ReadError.Inconsistent)) }
+    {
+        let ciphertext_tree = build_tree(alloc, &self.leaves)?;
+        let begun = begin_file(alloc, &self.geometry, &self.text, &ciphertext_tree)?;
+        let share_tree = build_share_tree(alloc, &begun)?;
+        if !is_root(&share_tree, &self.share_root) {
+            return Err(ReadError::Inconsistent);
+        }
+        Ok(finish_shares(alloc, begun, &share_tree, &self.extension_block)?)
     }
-    let root = first.ueb.share_root_hash();
-    let blocks = all_blocks(alloc, shares, places, &first.geometry)?;
-    let leaves = leaves_in(view.ciphertext_tree, first.geometry.segment_count());
-    make_shares(
-        alloc,
-        &first.geometry,
-        &blocks,
-        leaves,
-        root,
-        view.extension_block,
-    )
-}
-
-// The shares that blocks of others give, or `Inconsistent` where a segment has not the hash of its
-// leaf, or the root over the shares is another.
-fn make_shares(
-    alloc: Global,
-    geometry: &Geometry,
-    blocks: &[(u16, &[u8])],
-    leaves: &[[u8; 32]],
-    share_root: &[u8; 32],
-    extension_block: &[u8],
-) -> Result<Vec<Share>, ReadError>
-    requires blocks { AreBlocks geometry.now (map (λ s. s.0) blocks.now)
-        (map (λ s. s.1.now) blocks.now) }
-    requires leaves { length leaves.now ≡ segment_count geometry.now }
-    requires short { length extension_block.now ≤ max_length }
-    ensures made { IfOk result (λ made. AreMade geometry.now (map (λ s. s.0) blocks.now)
-        (map (λ s. s.1.now) blocks.now) leaves.now share_root.now extension_block.now
-        made.items) }
-    ensures inconsistent { IsErrOf result ReadError.Inconsistent → CannotMake geometry.now
-        (map (λ s. s.0) blocks.now) (map (λ s. s.1.now) blocks.now) leaves.now share_root.now }
-    ensures no_other { IfErr result (λ e. (e ≡ ReadError.OutOfMemory)
-        ⊎ (e ≡ ReadError.Inconsistent)) }
-{
-    let padded = decode_padded(alloc, geometry, blocks, leaves)?;
-    let ciphertext_tree = build_tree(alloc, leaves)?;
-    let begun = begin_file(alloc, geometry, &padded, &ciphertext_tree)?;
-    let share_tree = build_share_tree(alloc, &begun)?;
-    if !is_root(&share_tree, share_root) {
-        return Err(ReadError::Inconsistent);
-    }
-    Ok(finish_shares(alloc, begun, &share_tree, extension_block)?)
 }
 
 // Whether this is the root of a tree.

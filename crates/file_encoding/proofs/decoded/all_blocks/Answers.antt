@@ -1,6 +1,6 @@
 use Rattle.std.proofs.Common.{get_or, refl, subst}
 use Rattle.file_encoding.proofs.Reread.{blocks_more, readable_at}
-use Rattle.file_encoding.proofs.reading.all_blocks.Goals as goal
+use Rattle.file_encoding.proofs.decoded.all_blocks.Goals as goal
 
 pub share_blocks-requires : goal.share_blocks-requires
 share_blocks-requires c =

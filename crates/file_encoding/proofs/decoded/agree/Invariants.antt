@@ -1,6 +1,6 @@
 use Rattle.std.proofs.Common.{◌≡◌, ◌<◌, ℕ, List, [], map, slice_index, slice_index_or}
 use Rattle.share_layout.specs.Places.{LocatesUeb}
-use Rattle.file_encoding.proofs.reading.agree.Given as goal
+use Rattle.file_encoding.proofs.decoded.agree.Given as goal
 
 abbrev pub invariant-loop-place : goal.invariant-loop-place
 invariant-loop-place l =

@@ -2,7 +2,7 @@ use Rattle.std.proofs.Common.{◌≡◌, ℕ, List, [], map, get_or, inl, inr, s
 use Rattle.std.proofs.lemmas.Bool.{cases_lt}
 use Rattle.share_layout.specs.Places.{LocatesUeb}
 use Rattle.file_encoding.proofs.Reread.{string_at}
-use Rattle.file_encoding.proofs.reading.agree.Goals as goal
+use Rattle.file_encoding.proofs.decoded.agree.Goals as goal
 
 pub returns-then-not-has_block-clause-no : goal.returns-then-not-has_block-clause-no
 returns-then-not-has_block-clause-no c = λ _.

@@ -7,9 +7,12 @@ use Rattle.ueb.specs.Shape.{Contents}
 use Rattle.share_verify.specs.CapBlock.{geometry_by}
 use Rattle.file_encoding.specs.Decoding.{AreBlocks}
 use Rattle.file_encoding.specs.LowestShares.{HaveBlocks}
-use Rattle.file_encoding.specs.Reading.{AreLeaves, HasWrongSegment, IsDecoded, blocks_in, disagree as shares_disagree, numbers_of, wrong_segment}
+use Rattle.share_verify.specs.CapBlock.{IsUebFor}
+use Rattle.file_encoding.specs.Decoded.{IsDecodedFrom}
+use Rattle.file_encoding.specs.Regenerated.{DecodeTo}
+use Rattle.file_encoding.specs.Reading.{Agree, AreLeaves, HasWrongSegment, blocks_in, disagree as shares_disagree, numbers_of, wrong_segment}
 use Rattle.file_encoding.proofs.Reread.{are_blocks, are_leaves, blocks_are_own, disagree, inside_shares, lowest, lowest_sound, numbers_are, own_ueb, readable, taken_some, they_agree, tree_leaves, tree_long}
-use Rattle.file_encoding.proofs.reading.read_taken.Goals as goal
+use Rattle.file_encoding.proofs.decoded.decode_taken.Goals as goal
 
 pub bounds-shares-places : goal.bounds-shares-places
 bounds-shares-places c = inside_shares c.args.cap.now c.args.shares.now c.requires.takes.taken c.requires.takes.takes c.args.places.now c.requires.takes.at 0 0 c.requires.some
@@ -59,8 +62,8 @@ leaves_in-leaves-requires c =
     ∙ ap tree_size (sym c.in-Ok.ensures.geometry)
     ∙ ap (λ (n : ℕ). (2 * 2 ^ height n - 1) * 32) (sym c.segment_count.ensures.value)
 
-pub decode_all-requires-clause-blocks : goal.decode_all-requires-clause-blocks
-decode_all-requires-clause-blocks c =
+pub decode_blocks-requires-clause-blocks : goal.decode_blocks-requires-clause-blocks
+decode_blocks-requires-clause-blocks c =
     let have : HaveBlocks (geometry_by c.in-Ok.first.ueb) (map (λ s. s.0) c.args.shares.now) (map (λ s. s.1.now) c.args.shares.now) c.args.places.now
     (map (λ s. s.0) c.deref.result.now) (map (λ s. s.1.now) c.deref.result.now) =
     subst (λ (T : Type 0). T)
@@ -126,33 +129,36 @@ own_root c =
     let sound = lowest_sound c.args.cap.now c.args.shares.now c.requires.takes.taken c.requires.takes.takes c.args.places.now c.requires.takes.at c.requires.some (0, record { ref_ptr = (0, 0); now = [] }) in
     sound.sections.ciphertext_tree.root ∙ ap (λ (u : Contents). u.crypttext_root_hash) (sym (c.in-Ok.ensures.complete t.contents t.sections sound.reads).0)
 
-pub returns-clause-read : goal.returns-clause-read
-returns-clause-read c =
-    IfOk-weaker c.decode_all.result _ _ (λ file decoded. record {
+-- the extension block is the cap's, and all have it
+ueb_is : (c : goal.After-drop-blocks) → IsUebFor c.args.cap.now c.in-Ok.first.view.extension_block.now c.in-Ok.first.ueb
+ueb_is c =
+    own_ueb c.args.cap.now (map (λ s. s.0) c.args.shares.now) (map (λ s. s.1.now) c.args.shares.now) c.requires.takes.taken c.requires.takes.takes
+    c.args.places.now c.requires.takes.at c.in-Ok.first.view.extension_block.now c.in-Ok.first.ueb (c.agree.ensures.yes c.if-not-agree.false) c.in-Ok.ensures.one_ueb
+    (taken_some c.args.cap.now c.args.shares.now c.requires.takes.taken c.requires.takes.takes c.args.places.now c.requires.takes.at c.requires.some)
+
+agreed : (c : goal.After-drop-blocks) → Agree c.requires.takes.taken c.in-Ok.first.view.extension_block.now c.in-Ok.first.ueb
+agreed c =
+    they_agree c.args.cap.now (map (λ s. s.0) c.args.shares.now) (map (λ s. s.1.now) c.args.shares.now) c.requires.takes.taken c.requires.takes.takes
+    c.args.places.now c.requires.takes.at c.in-Ok.first.view.extension_block.now c.in-Ok.first.ueb (c.agree.ensures.yes c.if-not-agree.false) c.in-Ok.ensures.one_ueb
+
+pub returns-clause-decoded : goal.returns-clause-decoded
+returns-clause-decoded c =
+    IfOk-weaker c.decode_blocks.result _ _ (λ file given.
+    subst (IsDecodedFrom c.args.cap.now (map (λ s. s.0) c.args.shares.now) (map (λ s. s.1.now) c.args.shares.now)) (sym given.1) record {
       taken = c.requires.takes.taken;
       takes = c.requires.takes.takes;
-      extension_block = c.in-Ok.first.view.extension_block.now;
       u = c.in-Ok.first.ueb;
-      ueb =
-          own_ueb c.args.cap.now (map (λ s. s.0) c.args.shares.now) (map (λ s. s.1.now) c.args.shares.now) c.requires.takes.taken c.requires.takes.takes
-          c.args.places.now c.requires.takes.at c.in-Ok.first.view.extension_block.now c.in-Ok.first.ueb (c.agree.ensures.yes c.if-not-agree.false) c.in-Ok.ensures.one_ueb
-          (taken_some c.args.cap.now c.args.shares.now c.requires.takes.taken c.requires.takes.takes c.args.places.now c.requires.takes.at c.requires.some);
-      agree =
-          they_agree c.args.cap.now (map (λ s. s.0) c.args.shares.now) (map (λ s. s.1.now) c.args.shares.now) c.requires.takes.taken c.requires.takes.takes
-          c.args.places.now c.requires.takes.at c.in-Ok.first.view.extension_block.now c.in-Ok.first.ueb (c.agree.ensures.yes c.if-not-agree.false) c.in-Ok.ensures.one_ueb;
-      leaves = own_leaves c;
-      are_leaves = own_are_leaves c;
-      count = own_count c;
-      root = own_root c;
-      decoded =
-          subst (λ (T : Type 0). T)
-          (λ i. IsDecoded (c.in-Ok.ensures.geometry i) (numbers_same c i) (blocks_same c i) (leaves_same c i) file.items) decoded;
-    }) c.decode_all.ensures.decoded
+      ueb = ueb_is c;
+      agree = agreed c;
+      geometry = c.in-Ok.ensures.geometry;
+      are_leaves = subst (AreLeaves c.requires.takes.taken) (sym (leaves_same c)) (own_are_leaves c);
+      count = ap length (leaves_same c) ∙ own_count c;
+      ciphertext_root = ap tree_root (leaves_same c) ∙ own_root c;
+      share_root = c.share_root_hash-root.ensures;
+      decoded = subst (λ (T : Type 0). T) (λ i. DecodeTo (c.in-Ok.ensures.geometry i) (numbers_same c i) (blocks_same c i) file.text) given.0;
+    }) c.decode_blocks.ensures.decoded
 
 pub returns-clause-inconsistent : goal.returns-clause-inconsistent
 returns-clause-inconsistent c = λ is.
-    wrong_segment c.requires.takes.taken c.in-Ok.first.view.extension_block.now c.in-Ok.first.ueb (own_leaves c) c.requires.takes.takes
-    (they_agree c.args.cap.now (map (λ s. s.0) c.args.shares.now) (map (λ s. s.1.now) c.args.shares.now) c.requires.takes.taken c.requires.takes.takes
-    c.args.places.now c.requires.takes.at c.in-Ok.first.view.extension_block.now c.in-Ok.first.ueb (c.agree.ensures.yes c.if-not-agree.false) c.in-Ok.ensures.one_ueb)
-    (own_are_leaves c)
-    (subst (λ (T : Type 0). T) (λ i. HasWrongSegment (c.in-Ok.ensures.geometry i) (numbers_same c i) (blocks_same c i) (leaves_same c i)) (c.decode_all.ensures.inconsistent is))
+    wrong_segment c.requires.takes.taken c.in-Ok.first.view.extension_block.now c.in-Ok.first.ueb (own_leaves c) c.requires.takes.takes (agreed c) (own_are_leaves c)
+    (subst (λ (T : Type 0). T) (λ i. HasWrongSegment (c.in-Ok.ensures.geometry i) (numbers_same c i) (blocks_same c i) (leaves_same c i)) (c.decode_blocks.ensures.inconsistent is))

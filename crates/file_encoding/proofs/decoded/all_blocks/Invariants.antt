@@ -1,6 +1,6 @@
 use Rattle.std.proofs.Common.{map, take}
 use Rattle.file_encoding.specs.LowestShares.{HaveBlocks}
-use Rattle.file_encoding.proofs.reading.all_blocks.Given as goal
+use Rattle.file_encoding.proofs.decoded.all_blocks.Given as goal
 
 abbrev pub invariant-loop-place : goal.invariant-loop-place
 invariant-loop-place l =
