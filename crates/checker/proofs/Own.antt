@@ -10,7 +10,7 @@ use Rattle.request_record.specs.declared.requests.Request.{Request}
 use Rattle.request_record.specs.Asking.{after_message, after_tick, begun, lost_by_tick}
 use Rattle.request_record.specs.Record.{RequestsState, asked_all, asked_more, counts_at, first_request}
 use Rattle.checker.specs.Book.{AsksItsOwn}
-use Rattle.checker.specs.Moves.{Advances, Stops, StopsAt, TicksOn, at_once, goes, idles, is_read, later}
+use Rattle.checker.specs.Moves.{Advances, FailsAt, Stops, TicksOn, at_once, is_read, later}
 use Rattle.checker.specs.Sending.{Takes}
 use Rattle.checker.specs.State.{CheckState}
 use Rattle.checker.proofs.Entries.{GoesTo, was_at}
@@ -68,15 +68,13 @@ own_stopped from m now old new on own =
     own_asked old.servers (after_message from m now old.requests) on.asks new on.servers on.reads on.requests (own_counted old.servers from m now old.requests own)
 
 pub own_tick : (now : ℕ) (old new : CheckState) → TicksOn now old new → AsksItsOwn old.servers old.requests.entries → AsksItsOwn new.servers new.requests.entries
-own_tick now old new ticks own = elim ticks [
-  | goes on ↦ own_asked old.servers (after_tick now old.requests) on.asks new on.servers on.reads on.requests (own_ticked old.servers now old.requests own)
-  | idles ended same ↦ subst (λ (c : CheckState). AsksItsOwn c.servers c.requests.entries) (sym same) own
-]
+own_tick now old new on own =
+    own_asked old.servers (after_tick now old.requests) on.asks new on.servers on.reads on.requests (own_ticked old.servers now old.requests own)
 
-pub own_stop : (now : ℕ) (old new : CheckState) → StopsAt now old new → AsksItsOwn old.servers old.requests.entries → AsksItsOwn new.servers new.requests.entries
-own_stop now old new stops own = elim stops [
+pub own_fail : (now : ℕ) (old new : CheckState) → FailsAt now old new → AsksItsOwn old.servers old.requests.entries → AsksItsOwn new.servers new.requests.entries
+own_fail now old new fails own = elim fails [
   | at_once same ↦ subst (λ (c : CheckState). AsksItsOwn c.servers c.requests.entries) (sym same) own
-  | later on ↦ own_asked old.servers (after_tick now old.requests) on.asks new on.servers on.reads on.requests (own_ticked old.servers now old.requests own)
+  | later failed on ↦ own_asked old.servers (after_tick now old.requests) on.asks new on.servers on.reads on.requests (own_ticked old.servers now old.requests own)
 ]
 
 pub own_sent : (old new : CheckState) (o : Option (ℕ × Message)) → Takes old o new → AsksItsOwn old.servers old.requests.entries → AsksItsOwn new.servers new.requests.entries

@@ -22,7 +22,7 @@ use Rattle.request_record.specs.declared.requests.Request.{Request}
 use Rattle.request_record.specs.Record.{RequestsState, age_of, answered_in, at, counted_at, counts_at, is_lost_at, is_outstanding, is_resent_at, lost_places, places_from, resent_one, ticked_one, with_outcome}
 use Rattle.request_record.specs.Asking.{AreApart, AsksOnce, after_message, after_tick, lost_by_tick}
 use Rattle.request_record.proofs.RecordLaws.{counts_is}
-use Rattle.request_record.proofs.AskingLaws.{once_asked}
+use Rattle.request_record.proofs.AskingLaws.{once_asked, once_ticked}
 use Rattle.share_opening.specs.Reads.{Brought}
 use Rattle.share_reading.specs.Reading as reading
 use Rattle.share_reading.specs.Reads.{IsAsked}
@@ -208,6 +208,12 @@ ticked_at now es = record {
 
 pub ticked_by : (now : ℕ) (s : RequestsState) → IsTicked s.entries (after_tick now s).entries (lost_by_tick now s)
 ticked_by now s = ticked_at (max s.clock now) s.entries
+
+pub ticked_as : (now : ℕ) (s r : RequestsState) (lost : List ℕ) → lost ≡ lost_by_tick now s → r ≡ after_tick now s → IsTicked s.entries r.entries lost
+ticked_as now s r lost told is = subst (λ (x : RequestsState). IsTicked s.entries x.entries lost) (sym is) (subst (λ (l : List ℕ). IsTicked s.entries (after_tick now s).entries l) (sym told) (ticked_by now s))
+
+pub once_as : (now : ℕ) (s r : RequestsState) → r ≡ after_tick now s → AsksOnce s.entries → AsksOnce r.entries
+once_as now s r is once = subst (λ (x : RequestsState). AsksOnce x.entries) (sym is) (once_ticked now s once)
 
 -- ---- what is asked stays of shares
 

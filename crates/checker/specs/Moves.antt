@@ -43,10 +43,8 @@ pub record GoesOn (r : RequestsState) (old new : CheckState) : Type 0 where
 abbrev pub Advances : ℕ → Message → ℕ → CheckState → CheckState → Type 0
 Advances from m now old new = GoesOn (after_message from m now old.requests) old new
 
--- a tick; where a check that ended finds no memory for it, nothing changes
-pub data TicksOn (now : ℕ) (old new : CheckState) : Type 0 where
-  goes : GoesOn (after_tick now old.requests) old new → TicksOn now old new
-  idles : old.status ≢ Running → new ≡ old → TicksOn now old new
+abbrev pub TicksOn : ℕ → CheckState → CheckState → Type 0
+TicksOn now old new = GoesOn (after_tick now old.requests) old new
 
 -- A step found no memory: the record went on, and more of the shares may be asked for.
 pub record Stops (r : RequestsState) (old new : CheckState) : Type 0 where
@@ -56,7 +54,12 @@ pub record Stops (r : RequestsState) (old new : CheckState) : Type 0 where
   pub reads : All (λ (ask : ℕ × Asked). is_read ask.1 ≡ true) asks
   pub requests : new.requests ≡ asked_all asks r
 
--- a tick finds no memory: the check fails, and its record is as it was, or went on
-pub data StopsAt (now : ℕ) (old new : CheckState) : Type 0 where
-  at_once : new ≡ record old { status = Failed } → StopsAt now old new
-  later : Stops (after_tick now old.requests) old new → StopsAt now old new
+-- A tick that finds no memory makes a check fail, and its record is as it was, or went on.
+pub data FailsAt (now : ℕ) (old new : CheckState) : Type 0 where
+  at_once : new ≡ record old { status = Failed } → FailsAt now old new
+  later : new.status ≡ Failed → Stops (after_tick now old.requests) old new → FailsAt now old new
+
+-- A tick finds no memory: a check that runs fails, and one that ended is as it was.
+pub record StopsAt (now : ℕ) (old new : CheckState) : Type 0 where
+  pub running : old.status ≡ Running → FailsAt now old new
+  pub ended : old.status ≢ Running → new ≡ old

@@ -12,7 +12,7 @@ ghost use Rattle.checker.specs.Sending.{Takes, first_to_send};
 ghost use Rattle.checker.specs.declared.status.CheckStatus.TheVariants.{Done, Failed, Running};
 
 use crate::good::good_shares_of;
-use crate::machine::Machine;
+use crate::machine::{Machine, is_running};
 use crate::report::report_of;
 use crate::status::{CheckStatus, Report};
 use cap_text::VerifyCap;
@@ -82,14 +82,15 @@ impl Check {
         }
     }
 
-    /// Takes note of a second. On an `Err`, which only one that runs gives, it has failed.
+    /// Takes note of a second. On an `Err` one that ran has failed; one that ended is as it was.
     pub fn tick(&mut self, now: u64) -> Result<(), AllocError>
         ensures ok { OnOk result (TicksOn now self.old self.new) }
-        ensures err { OnErr result (self.new.status ≡ Failed) }
         ensures stops { OnErr result (StopsAt now self.old self.new) }
-        ensures ended { self.old.status ≢ Running → IsOk result }
     {
-        match self.machine.pass(self.status, now) {
+        if !is_running(self.status) {
+            return self.machine.note(now);
+        }
+        match self.machine.pass(now) {
             Ok(status) => {
                 self.status = status;
                 Ok(())

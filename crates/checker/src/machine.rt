@@ -16,7 +16,7 @@ ghost use Rattle.checker.specs.Book.{AreReadAt, AsksMore, AsksNothing, AwaitsAt,
 ghost use Rattle.checker.specs.Book.{HasBytes, IsFresh, IsKept, IsReadOn, IsSafe, IsSettledAt};
 ghost use Rattle.checker.specs.Book.{AreLost, ArePushed, IsStanding, IsTakenOnce};
 ghost use Rattle.checker.specs.Book.{state_of};
-ghost use Rattle.checker.specs.Moves.{Advances, Stops, StopsAt, TicksOn};
+ghost use Rattle.checker.specs.Moves.{Advances, FailsAt, Stops, TicksOn};
 ghost use Rattle.checker.specs.Offers.{key_of};
 ghost use Rattle.checker.specs.Sending.{Takes};
 ghost use Rattle.checker.specs.Shares.{offered_in};
@@ -112,22 +112,28 @@ impl Machine {
         self.settle()
     }
 
-    /// Takes note of a second, and tells where it stands then. One that ended needs no memory:
-    /// where there is none it takes no note.
-    pub(crate) fn pass(&mut self, status: CheckStatus, now: u64) -> Result<CheckStatus, AllocError>
-        requires kept { IsKept self.old status }
+    /// Takes note of a second in the record alone, once it ended. Without memory it is as it was.
+    pub(crate) fn note(&mut self, now: u64) -> Result<(), AllocError>
+        ensures ok { OnOk result ((status : CheckStatus) (servers : List ℕ) → TicksOn now
+            (state_of self.old servers status) (state_of self.new servers status)) }
+        ensures err { OnErr result (self.new ≡ self.old) }
+        ensures kept { (status : CheckStatus) → status ≢ Running → IsKept self.old status
+            → IsKept self.new status }
+    {
+        self.requests.tick(now)?;
+        Ok(())
+    }
+
+    /// Takes note of a second while it runs, and tells where it stands then.
+    pub(crate) fn pass(&mut self, now: u64) -> Result<CheckStatus, AllocError>
+        requires { IsKept self.old Running }
         ensures ok { IfOk result (λ ended. (servers : List ℕ) → TicksOn now
-            (state_of self.old servers status) (state_of self.new servers ended)) }
-        ensures err { OnErr result ((servers : List ℕ) → StopsAt now
-            (state_of self.old servers status) (state_of self.new servers Failed)) }
+            (state_of self.old servers Running) (state_of self.new servers ended)) }
+        ensures err { OnErr result ((servers : List ℕ) → FailsAt now
+            (state_of self.old servers Running) (state_of self.new servers Failed)) }
         ensures kept { IfOk result (IsKept self.new) }
         ensures failed { IsKept self.new Failed }
-        ensures ended { status ≢ Running → IsOk result }
     {
-        if !is_running(status) {
-            let _ = self.requests.tick(now);
-            return Ok(status);
-        }
         let lost = self.requests.tick(now)?;
         self.lose(&lost)?;
         self.settle()
@@ -348,8 +354,8 @@ impl Machine {
     }
 }
 
-// Whether a check that stands so runs.
-fn is_running(status: CheckStatus) -> bool
+/// Whether a check that stands so runs.
+pub(crate) fn is_running(status: CheckStatus) -> bool
     ensures { IsTrue result ↔ (status ≡ Running) }
 {
     matches!(status, CheckStatus::Running)
