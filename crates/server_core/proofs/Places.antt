@@ -1,25 +1,15 @@
 -- The place of a bucket, and what a change there does.
-use Rattle.std.proofs.Common.{◌≡◌, ℕ, ◌+◌, List, [], ◌∷◌, Bool, true, false, cond, Option, Some, None, get_or, set, refl, ap, add-one}
+use Rattle.std.proofs.Common.{◌≡◌, ℕ, ◌+◌, List, [], ◌∷◌, Bool, true, false, cond, not, Option, Some, None, get_or, set, refl, ap, subst, sym, add-one}
+use Rattle.std.specs.List.{remove}
 use Rattle.wire.specs.declared.message.ShareId.{ShareId}
 use Rattle.server_core.specs.declared.bucket.Bucket.{Bucket}
-use Rattle.server_core.specs.Buckets.{same_id, place_of, place_after, changed, bucket_at}
-
-none_after : (o : Option ℕ) → place_after o ≡ None → o ≡ None
-none_after None e = refl
-none_after (Some k) e = cc
+use Rattle.server_core.specs.Buckets.{same_id, place_of, place_after, changed, ended, bucket_at}
+use Rattle.server_core.specs.Sound.{AreApart}
+use Rattle.server_core.proofs.Listed.{eq_of_same}
 
 some_after : (o : Option ℕ) (k : ℕ) → place_after o ≡ Some k → (j : ℕ) × (o ≡ Some j) × (k ≡ j + 1)
 some_after None k e = absurd cc
 some_after (Some j) k e = (j, refl, cc)
-
--- where there is no bucket nothing changes
-changed_none-step : (same : Bool) (b c : Bucket) (bs ds : List Bucket) (o : Option ℕ) → (o ≡ None → bs ≡ ds) → cond same (Some 0) (place_after o) ≡ None → b ∷ bs ≡ cond same (c ∷ bs) (b ∷ ds)
-changed_none-step true b c bs ds o ih e = absurd cc
-changed_none-step false b c bs ds o ih e = ap (λ xs. b ∷ xs) (ih (none_after o e))
-
-pub changed_none : (id : ShareId) (f : Bucket → Bucket) (bs : List Bucket) → place_of id bs ≡ None → bs ≡ changed id f bs
-changed_none id f [] e = refl
-changed_none id f (b ∷ bs) e = changed_none-step (same_id b.id id) b (f b) bs (changed id f bs) (place_of id bs) (changed_none id f bs) e
 
 changed_at-step : (same : Bool) (f : Bucket → Bucket) (d b : Bucket) (bs ds : List Bucket) (o : Option ℕ) (k : ℕ) → ((j : ℕ) → o ≡ Some j → set bs j (f (get_or bs j d)) ≡ ds) → cond same (Some 0) (place_after o) ≡ Some k → set (b ∷ bs) k (f (get_or (b ∷ bs) k d)) ≡ cond same (f b ∷ bs) (b ∷ ds)
 changed_at-step true f d b bs ds o k ih e = let zero_is : k ≡ 0 = cc in rw zero_is refl
@@ -43,11 +33,26 @@ pub found_at : (id : ShareId) (bs : List Bucket) (k : ℕ) (d : Bucket) → plac
 found_at id [] k d e = absurd cc
 found_at id (b ∷ bs) k d e = found_at-step (same_id b.id id) b d bs (place_of id bs) (bucket_at id bs) k (λ j. found_at id bs j d) e
 
-missing-step : (same : Bool) (b : Bucket) (o : Option ℕ) (p : Option Bucket) → (o ≡ None → p ≡ None) → cond same (Some 0) (place_after o) ≡ None → cond same (Some b) p ≡ None
-missing-step true b o p ih e = absurd cc
-missing-step false b o p ih e = ih (none_after o e)
+-- where there is no bucket of a share, none ends
+ended_none-step : (same : Bool) (b : Bucket) (bs ds : List Bucket) (p : Option Bucket) → (p ≡ None → ds ≡ bs) → cond same (Some b) p ≡ None → cond (not same) (b ∷ ds) ds ≡ b ∷ bs
+ended_none-step true b bs ds p ih e = absurd cc
+ended_none-step false b bs ds p ih e = ap (λ xs. b ∷ xs) (ih e)
 
--- no place, no bucket
-pub missing : (id : ShareId) (bs : List Bucket) → place_of id bs ≡ None → bucket_at id bs ≡ None
-missing id [] e = refl
-missing id (b ∷ bs) e = missing-step (same_id b.id id) b (place_of id bs) (bucket_at id bs) (missing id bs) e
+ended_none : (id : ShareId) (bs : List Bucket) → bucket_at id bs ≡ None → ended id bs ≡ bs
+ended_none id [] e = refl
+ended_none id (b ∷ bs) e = ended_none-step (same_id b.id id) b bs (ended id bs) (bucket_at id bs) (ended_none id bs) e
+
+removed_at-step : (same : Bool) (b : Bucket) (bs ds : List Bucket) (o : Option ℕ) (k : ℕ) → (same ≡ true → ds ≡ bs) → ((j : ℕ) → o ≡ Some j → remove bs j ≡ ds) → cond same (Some 0) (place_after o) ≡ Some k
+    → remove (b ∷ bs) k ≡ cond (not same) (b ∷ ds) ds
+removed_at-step true b bs ds o k none ih e = let zero_is : k ≡ 0 = cc in rw zero_is (sym (none refl))
+removed_at-step false b bs ds o k none ih e =
+    let s = some_after o k e in
+    rw (s.2, add-one) (ap (λ xs. b ∷ xs) (ih s.0 s.1))
+
+-- the bucket at its place ends, where no share has two
+pub removed_at : (id : ShareId) (bs : List Bucket) (k : ℕ) → place_of id bs ≡ Some k → AreApart bs → remove bs k ≡ ended id bs
+removed_at id [] k e apart = absurd cc
+removed_at id (b ∷ bs) k e apart =
+    removed_at-step (same_id b.id id) b bs (ended id bs) (place_of id bs) k
+    (λ is. ended_none id bs (subst (λ (i : ShareId). bucket_at i bs ≡ None) (eq_of_same b.id id is) apart.0))
+    (λ j at. removed_at id bs j at apart.1) e

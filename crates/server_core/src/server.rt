@@ -67,6 +67,7 @@ pub struct Server<S: Store> {
 
 impl<S: Store> Model for Server<S> {
     ghost use Rattle.server_core.specs.Machine.{Machine};
+    ghost use Rattle.server_core.specs.Sound.{AreApart};
 
     ghost Value = { Machine S };
 
@@ -77,6 +78,8 @@ impl<S: Store> Model for Server<S> {
       capacity = s.capacity;
       readonly = s.readonly;
     } };
+
+    ghost invariant = { λ s. AreApart s.buckets.items };
 }
 
 // An answer repeats the request's session and number.
@@ -168,11 +171,11 @@ impl<S: Store> Server<S> {
         if let Some(digest) = self.store.closed(&id) {
             return Ok(Some(reply_to(message, Body::Already(digest))));
         }
-        if let Some(bucket) = find_bucket(&self.buckets, id) {
+        if let Some((place, bucket)) = find_bucket(&self.buckets, id) {
             if !bucket.is_owned(from, message.session) || bucket.length != length {
                 return Ok(Some(reply_to(message, Body::Busy)));
             }
-            touch_bucket(&mut self.buckets, id, now);
+            touch_bucket(&mut self.buckets, place, now);
             return Ok(Some(reply_to(message, Body::Granted)));
         }
         if self.is_full(length) {
@@ -203,7 +206,7 @@ impl<S: Store> Server<S> {
         if let Some(digest) = self.store.closed(&id) {
             return Ok(Some(reply_to(message, Body::Already(digest))));
         }
-        let Some(bucket) = find_bucket(&self.buckets, id) else {
+        let Some((place, bucket)) = find_bucket(&self.buckets, id) else {
             return Ok(Some(reply_to(message, Body::NoShare)));
         };
         if !bucket.is_owned(from, message.session) {
@@ -212,16 +215,16 @@ impl<S: Store> Server<S> {
         let so_far = bucket.bytes_so_far();
         let room = bucket.length.get().saturating_sub(so_far);
         if offset != so_far || room < bytes.len() as u64 {
-            touch_bucket(&mut self.buckets, id, now);
+            touch_bucket(&mut self.buckets, place, now);
             return Ok(Some(reply_to(message, Body::WrongOffset(so_far))));
         }
         match self.store.write(&id, offset, bytes) {
             Ok(()) => {
-                push_bytes(&mut self.buckets, id, bytes, now);
+                push_bytes(&mut self.buckets, place, bytes, now);
                 Ok(Some(reply_to(message, Body::Wrote(offset + bytes.len() as u64))))
             }
             Err(StoreError::StoreFault) => {
-                end_bucket(&mut self.buckets, id);
+                end_bucket(&mut self.buckets, place);
                 Err(ServerFault::StoreFault)
             }
             Err(StoreError::OutOfMemory) => Err(ServerFault::OutOfMemory),
@@ -245,7 +248,7 @@ impl<S: Store> Server<S> {
         if let Some(digest) = self.store.closed(&id) {
             return Ok(Some(reply_to(message, Body::Closed(digest))));
         }
-        let Some(bucket) = find_bucket(&self.buckets, id) else {
+        let Some((place, bucket)) = find_bucket(&self.buckets, id) else {
             return Ok(Some(reply_to(message, Body::NoShare)));
         };
         if !bucket.is_owned(from, message.session) {
@@ -255,17 +258,17 @@ impl<S: Store> Server<S> {
             Gathered::Whole(digest) => *digest,
             Gathered::Part(count, _) => {
                 let count = *count;
-                touch_bucket(&mut self.buckets, id, now);
+                touch_bucket(&mut self.buckets, place, now);
                 return Ok(Some(reply_to(message, Body::NotComplete(count))));
             }
         };
         match self.store.close(&id, &digest) {
             Ok(()) => {
-                end_bucket(&mut self.buckets, id);
+                end_bucket(&mut self.buckets, place);
                 Ok(Some(reply_to(message, Body::Closed(digest))))
             }
             Err(StoreError::StoreFault) => {
-                end_bucket(&mut self.buckets, id);
+                end_bucket(&mut self.buckets, place);
                 Err(ServerFault::StoreFault)
             }
             Err(StoreError::OutOfMemory) => Err(ServerFault::OutOfMemory),
@@ -285,9 +288,9 @@ impl<S: Store> Server<S> {
         ensures clock { self.new.clock ≡ self.old.clock }
         ensures terms { KeepsTerms self.old self.new }
     {
-        if let Some(bucket) = find_bucket(&self.buckets, id) {
+        if let Some((place, bucket)) = find_bucket(&self.buckets, id) {
             if bucket.is_owned(from, message.session) {
-                end_bucket(&mut self.buckets, id);
+                end_bucket(&mut self.buckets, place);
             }
         }
         Ok(Some(reply_to(message, Body::NoShare)))
@@ -323,7 +326,8 @@ impl<S: Store> Server<S> {
         now: u64,
     ) -> Result<Option<Message>, ServerFault>
         ensures serves { Serves S.calls self.old from message.now now result self.new }
-        ensures others { OthersBucketsStay from message.now.session self.old.buckets self.new.buckets }
+        ensures others { OthersBucketsStay from message.now.session self.old.buckets
+            self.new.buckets }
     {
         let now = self.later(now);
         let answer = self.answer(from, message, now);

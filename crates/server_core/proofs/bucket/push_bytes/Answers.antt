@@ -1,31 +1,19 @@
-use Rattle.std.proofs.Common.{◌≡◌, ◌∙◌, sym, ap, subst, set, length, IfSome, Option, Some, None}
+use Rattle.std.proofs.Common.{◌≡◌, ◌∙◌, sym, ap, subst, set, Some}
+use Rattle.std.proofs.lemmas.Option.{same_Some}
 use Rattle.server_core.specs.declared.bucket.Bucket.{Bucket}
-use Rattle.server_core.specs.declared.bucket.Gathered.{Gathered}
-use Rattle.server_core.specs.Buckets.{HasRoom, GoesOn, with_bytes, changed, bucket_at}
-use Rattle.server_core.proofs.Places.{changed_at, found_at, missing}
+use Rattle.server_core.specs.Buckets.{GoesOn, with_bytes, changed}
+use Rattle.server_core.proofs.Places.{changed_at, found_at}
 use Rattle.server_core.proofs.bucket.push_bytes.Goals as goal
 
-pub push-requires : goal.push-requires
-push-requires c =
-    let at : bucket_at c.args.id c.args.buckets.now.items ≡ Some c.index_mut.result.now =
-    found_at c.args.id c.args.buckets.now.items c.in-Some.place c.index_mut.result.now (cc) ∙ ap Some (sym c.index_mut.ensures.value) in
-    subst (λ (o : Option Bucket). IfSome o (λ (b : Bucket). HasRoom b.length (length c.args.bytes.now) b.gathered)) at c.requires
-
-pub returns-in-Some : goal.returns-in-Some
-returns-in-Some c =
+pub returns : goal.returns
+returns c = λ id b at is.
     let items = c.args.buckets.now.items in
-    let place = c.in-Some.place in
-    let at : bucket_at c.args.id items ≡ Some c.index_mut.result.now =
-    found_at c.args.id items place c.index_mut.result.now (cc) ∙ ap Some (sym c.index_mut.ensures.value) in
+    let place = c.args.place in
+    let lent = c.index_mut.result.now in
+    let same : b ≡ lent = same_Some b lent (sym is ∙ found_at id items place lent at ∙ ap Some (sym c.index_mut.ensures.value)) in
     let gathered = c.push.ensures.0 in
-    let after : set items place c.push.new.self ≡ changed c.args.id (with_bytes c.args.now gathered) items =
-    ap (λ (b : Bucket). set items place b) c.push.ensures.2
-    ∙ ap (λ (b : Bucket). set items place (with_bytes c.args.now gathered b)) c.index_mut.ensures.value
-    ∙ changed_at c.args.id (with_bytes c.args.now gathered) items place c.index_mut.result.now cc in
-    subst (λ (o : Option Bucket). IfSome o (λ (b : Bucket). (x : Gathered) × GoesOn b.length c.args.bytes.now b.gathered x × (set items place c.push.new.self ≡ changed c.args.id (with_bytes c.args.now x) items))) (sym at) (gathered, c.push.ensures.1, after)
-
-pub returns-in_default : goal.returns-in_default
-returns-in_default c =
-    let items = c.args.buckets.now.items in
-    let none : bucket_at c.args.id items ≡ None = missing c.args.id items cc in
-    subst (λ (o : Option Bucket). IfSome o (λ (b : Bucket). (x : Gathered) × GoesOn b.length c.args.bytes.now b.gathered x × (items ≡ changed c.args.id (with_bytes c.args.now x) items))) (sym none) tt
+    let after : set items place c.push.new.self ≡ changed id (with_bytes c.args.now gathered) items =
+    ap (λ (x : Bucket). set items place x) c.push.ensures.2
+    ∙ ap (λ (x : Bucket). set items place (with_bytes c.args.now gathered x)) c.index_mut.ensures.value
+    ∙ changed_at id (with_bytes c.args.now gathered) items place lent at in
+    (gathered, subst (λ (x : Bucket). GoesOn x.length c.args.bytes.now x.gathered gathered) (sym same) c.push.ensures.1, after)
