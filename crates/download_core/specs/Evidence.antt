@@ -1,5 +1,5 @@
 -- What proves the segments that a download made.
-use Rattle.std.specs.Prelude.{◌≡◌, ◌-◌, All, List, Option, Some, None, map, ⊤}
+use Rattle.std.specs.Prelude.{◌≡◌, ℕ, ◌-◌, All, List, Option, Some, None, map, ⊤}
 use Rattle.std.specs.List.{range_with_len}
 use Rattle.cap_text.specs.Cap.{VerifyCapValue}
 use Rattle.share_layout.specs.Geometry.{segment_count}
@@ -7,6 +7,7 @@ use Rattle.proved_parts.specs.Evidence.{IsProvedBy}
 use Rattle.proved_parts.specs.declared.evidence.Evidence.{Evidence}
 use Rattle.proved_parts.specs.declared.evidence.EvidencePart.{EvidencePart}
 use Rattle.request_record.specs.declared.requests.Request.{Request}
+use Rattle.share_beginnings.specs.Reads.{IsAnsweredBy}
 use Rattle.download_file.specs.Answers.{IsMadeSegment}
 use Rattle.download_file.specs.Right.{made_end}
 use Rattle.download_file.specs.State.{FileState}
@@ -26,6 +27,11 @@ abbrev pub IsEvidenceOf : VerifyCapValue → List Request → Option Found → O
 IsEvidenceOf cap entries None None = ⊤
 IsEvidenceOf cap entries (Some f) (Some e) = ProvesMade cap entries f.file e
 IsEvidenceOf cap entries found evidence = ⊥
+
+-- it is what answered the request for the extension block that was accepted
+abbrev pub IsAcceptedBlock : List Request → Option Found → List ℕ → Type 0
+IsAcceptedBlock entries None block = ⊥
+IsAcceptedBlock entries (Some f) block = IsAnsweredBy entries f.place block
 
 -- there is a part for each segment of the file
 abbrev pub HasAllParts : Option Found → Option Evidence → Type 0

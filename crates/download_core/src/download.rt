@@ -1,11 +1,11 @@
 //! A download: bytes of a file by its cap, from servers, only with what proves them.
 
 ghost use Rattle.std.specs.Prelude.{◌≡◌, ◌≢◌, ◌↔◌, ℕ, ◌<◌, ◌≤◌, [], Err, IfOk, IfSome, IsOk, OnErr};
-ghost use Rattle.std.specs.Prelude.{IsTrue, OnOk, false, is_some, nat_eq, true};
+ghost use Rattle.std.specs.Prelude.{IfNone, IsTrue, None, OnOk, false, is_some, nat_eq, true};
 ghost use Rattle.std.specs.List.{IsDistinct};
 ghost use Rattle.cap_text.specs.Cap.{verify_cap_of};
 ghost use Rattle.proved_parts.specs.Evidence.{IsProved};
-ghost use Rattle.download_core.specs.Evidence.{HasAllParts, IsEvidenceOf};
+ghost use Rattle.download_core.specs.Evidence.{HasAllParts, IsAcceptedBlock, IsEvidenceOf};
 ghost use Rattle.download_core.specs.Hashed.{GivenAreShown, IsGivenBy};
 ghost use Rattle.download_core.specs.Moves.{Advances, Begins, StopsAt, TakesPiece, TicksOn};
 ghost use Rattle.download_core.specs.Moves.{asked_servers};
@@ -191,6 +191,16 @@ impl Download {
         ensures given { IfSome result (IsGivenBy self.new) }
     {
         self.machine.take_piece()
+    }
+
+    /// The extension block that the download accepted. `None` where it accepted none yet.
+    pub fn extension_block(&self) -> Option<&[u8]>
+        ensures some { IfSome result (λ block. IsAcceptedBlock self.now.requests.entries
+            self.now.found block.now) }
+        ensures none { IfNone result (self.now.found ≡ None) }
+    {
+        self.machine.is_right();
+        self.machine.extension_block()
     }
 
     /// What proves the segments that were made so far: a part for each, in order. `None` where no

@@ -1,7 +1,7 @@
 //! A download's record, its file, and how it takes what comes.
 
 ghost use Rattle.std.specs.Prelude.{◌≡◌, ◌≢◌, ◌↔◌, ◌⊎◌, ℕ, ◌<◌, List, [], None, IfOk, IsOk, IsTrue};
-ghost use Rattle.std.specs.Prelude.{OnErr, OnOk, false, length, nat_eq, true};
+ghost use Rattle.std.specs.Prelude.{IfNone, IfSome, OnErr, OnOk, false, length, nat_eq, true};
 ghost use Rattle.std.specs.List.{IsDistinct};
 ghost use Rattle.cap_text.specs.Cap.{verify_cap_of};
 ghost use Rattle.request_record.specs.Asking.{AsksOnce, begun};
@@ -13,7 +13,7 @@ ghost use Rattle.share_beginnings.specs.Moves.{IsBlockAt};
 ghost use Rattle.share_beginnings.specs.Opening.{IsFound, nobody};
 ghost use Rattle.download_core.specs.declared.status.DownloadStatus.{DownloadStatus};
 ghost use Rattle.download_core.specs.declared.status.DownloadStatus.TheVariants.{Failed, Running};
-ghost use Rattle.download_core.specs.Evidence.{IsEvidenceOf};
+ghost use Rattle.download_core.specs.Evidence.{IsAcceptedBlock, IsEvidenceOf};
 ghost use Rattle.download_core.specs.Given.{IsFileIfFound, IsRightIfFound};
 ghost use Rattle.download_core.specs.Moves.{Advances, StopsAt, TakesPiece, TicksOn};
 ghost use Rattle.download_core.specs.Prompt.{IsPromptIfFound};
@@ -180,6 +180,24 @@ impl Machine {
         let message = requests.message_at(place, body);
         self.beginnings.take_next();
         Some((server, message))
+    }
+
+    /// The extension block that is accepted.
+    pub(crate) fn extension_block(&self) -> Option<&[u8]>
+        requires file { IsFileIfFound self.now.cap self.now.from self.now.to (entries_of self.now)
+            (found_of self.now.found) }
+        ensures some { IfSome result (λ block. IsAcceptedBlock (entries_of self.now)
+            (found_of self.now.found) block.now) }
+        ensures none { IfNone result (found_of self.now.found ≡ None) }
+    {
+        let Some(found) = &self.found else {
+            return None;
+        };
+        let requests = self.beginnings.holdings().requests();
+        let Some(text) = bytes_at(requests, found.place) else {
+            unreachable!();
+        };
+        Some(text)
     }
 
     /// What proves the segments that were made so far.
