@@ -1,5 +1,5 @@
 -- A check as a client of the loop.
-use Rattle.std.specs.Prelude.{◌≡◌, Bool, true, false}
+use Rattle.std.specs.Prelude.{◌≡◌, ◌≢◌, Bool, true, false}
 use Rattle.checker.specs.Moves.{Advances, TicksOn}
 use Rattle.checker.specs.Sending.{Takes}
 use Rattle.checker.specs.State.{CheckState}
@@ -13,6 +13,11 @@ is_to_carry Running = true
 is_to_carry Done = false
 is_to_carry Failed = false
 
+-- What a call does without memory: a check that runs fails, and one that ended is as it was.
+pub record GivesUp (old new : CheckState) : Type 0 where
+  pub running : old.status ≡ Running → new.status ≡ Failed
+  pub ended : old.status ≢ Running → new ≡ old
+
 -- what the calls of a check do
 abbrev pub check_calls : ClientCalls CheckState
 check_calls = record {
@@ -20,5 +25,5 @@ check_calls = record {
   takes = Takes;
   hears = λ old from m now new. Advances from m now old new;
   ticks = λ old now new. TicksOn now old new;
-  gives_up = λ old new. new.status ≡ Failed;
+  gives_up = GivesUp;
 }

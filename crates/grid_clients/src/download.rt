@@ -1,6 +1,7 @@
 //! A download as a client.
 
-ghost use Rattle.std.specs.Prelude.{◌≡◌, false, is_ok, not, true};
+ghost use Rattle.std.specs.Prelude.{◌≡◌, IfNone, IfSome, None, false, is_ok, not, true};
+ghost use Rattle.download_core.specs.Evidence.{IsAcceptedBlock};
 ghost use Rattle.grid_clients.specs.DownloadCalls.{Writes, download_calls, is_to_carry};
 
 use download_core::Download;
@@ -61,6 +62,15 @@ impl<W: Write> DownloadClient<W> {
         ensures { result.now ≡ self.now.download.blamed }
     {
         self.download.blamed()
+    }
+
+    /// The extension block that the download accepted. `None` where it accepted none yet.
+    pub fn extension_block(&self) -> Option<&[u8]>
+        ensures some { IfSome result (λ block. IsAcceptedBlock
+            self.now.download.requests.entries self.now.download.found block.now) }
+        ensures none { IfNone result (self.now.download.found ≡ None) }
+    {
+        self.download.extension_block()
     }
 
     /// Has the writer failed?
