@@ -32,6 +32,8 @@ use Rattle.download_core.specs.Sending as download_sends
 use Rattle.checker.specs.State.{CheckState}
 use Rattle.checker.specs.Moves as check
 use Rattle.checker.specs.Sending as check_sends
+use Rattle.checker.specs.declared.status.CheckStatus.{CheckStatus}
+use Rattle.checker.specs.declared.status.CheckStatus.TheVariants as checks
 use Rattle.world_operations.specs.declared.job.Job.{Job}
 use Rattle.world_operations.specs.declared.job.Job.TheVariants as jobs
 use Rattle.world_operations.specs.declared.message.Sent.{Sent}
@@ -39,7 +41,7 @@ use Rattle.world_operations.specs.declared.task.Task.{Task}
 use Rattle.world_operations.specs.declared.task.Task.TheVariants.{Uploading, Downloading, Checking, Gone}
 use Rattle.world_operations.specs.Tasks.{IsHappyTask, MayFail, index_of, requests_of}
 use Rattle.world_operations.specs.Jobs.{IsFor}
-use Rattle.world_operations.specs.Moves.{Advances, Takes, TakesPiece, TicksOn, UploadAdvances, UploadTicks, gives, never_fails, sent_to}
+use Rattle.world_operations.specs.Moves.{Advances, CheckTicks, Takes, TakesPiece, TicksOn, UploadAdvances, UploadTicks, gives, never_fails, sent_to}
 use Rattle.world_operations.specs.Follow.{Follows, GoesOn, IsFrameOf, IsRequestBy, IsSaid, Nothing, Said, SendsSome}
 use Rattle.world_operations.proofs.Places.{append_none, member_cases, member_none}
 use Rattle.world_operations.proofs.Records.{follows_asks, follows_itself, follows_message, follows_on, follows_same, follows_tick}
@@ -263,9 +265,17 @@ check_goes New c e same f = record {
 check_moves : (New : Said) (c e : CheckState) (r : RequestsState) → Follows New c.requests r → check.GoesOn r c e → GoesOn New (Checking c) (Checking e)
 check_moves New c e r f a = check_goes New c e a.cap (asks_follow New c.requests r e.requests a.asks f a.requests)
 
-check_ticks : (now : ℕ) (c e : CheckState) → check.TicksOn now c e → GoesOn Nothing (Checking c) (Checking e)
-check_ticks now c e (check.goes a) = check_moves Nothing c e (after_tick now c.requests) (follows_tick now c.requests) a
-check_ticks now c e (check.idles ended same) = same_goes Nothing (Checking c) (Checking e) (ap Checking same)
+-- does a check run?
+check_runs : (s : CheckStatus) → (s ≡ checks.Running) ⊎ (s ≢ checks.Running)
+check_runs checks.Running = inl refl
+check_runs checks.Done = inr (λ e. absurd cc)
+check_runs checks.Failed = inr (λ e. absurd cc)
+
+check_ticks : (now : ℕ) (c e : CheckState) → CheckTicks now c e → GoesOn Nothing (Checking c) (Checking e)
+check_ticks now c e a = elim (check_runs c.status) [
+  | inl runs ↦ check_moves Nothing c e (after_tick now c.requests) (follows_tick now c.requests) (a.running runs)
+  | inr over ↦ same_goes Nothing (Checking c) (Checking e) (ap Checking (a.ended over))
+]
 
 check_takes : (c e : CheckState) (f : Option (ℕ × Message)) → check_sends.Takes c f e → GoesOn Nothing (Checking c) (Checking e)
 check_takes c e None t = same_goes Nothing (Checking c) (Checking e) (ap Checking t.1)

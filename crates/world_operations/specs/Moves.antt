@@ -17,6 +17,8 @@ use Rattle.download_core.specs.State.{DownloadState}
 use Rattle.download_core.specs.declared.status.DownloadStatus.TheVariants.{Failed}
 use Rattle.checker.specs.Moves as check
 use Rattle.checker.specs.Sending as check_sends
+use Rattle.checker.specs.State.{CheckState}
+use Rattle.checker.specs.declared.status.CheckStatus.TheVariants as checks
 use Rattle.world_operations.specs.declared.job.Job.{Job}
 use Rattle.world_operations.specs.declared.job.Job.TheVariants as jobs
 use Rattle.world_operations.specs.declared.message.Sent.{Sent}
@@ -57,6 +59,11 @@ pub record UploadTicks (now : ℕ) (old new : upload_sends.Uploading (List (List
   pub running : old.course.status ≡ uploads.Running → upload.TicksOn now old.course new.course
   pub ended : old.course.status ≢ uploads.Running → new ≡ old
 
+-- A check takes note of a second only while it runs: once it is done nothing is outstanding.
+pub record CheckTicks (now : ℕ) (old new : CheckState) : Type 0 where
+  pub running : old.status ≡ checks.Running → check.TicksOn now old new
+  pub ended : old.status ≢ checks.Running → new ≡ old
+
 -- a call that succeeds makes no download fail
 abbrev pub StaysWell : DownloadState → DownloadState → Type 0
 StaysWell old new = old.status ≢ Failed → new.status ≢ Failed
@@ -74,7 +81,7 @@ abbrev pub TicksOn : ℕ → Task → Task → Type 0
 TicksOn now (Uploading old) (Uploading new) = UploadTicks now old new
 TicksOn now (Downloading old) (Downloading new) =
     download.TicksOn now old new × StaysWell old new
-TicksOn now (Checking old) (Checking new) = check.TicksOn now old new
+TicksOn now (Checking old) (Checking new) = CheckTicks now old new
 TicksOn now (Gone number) new = new ≡ Gone number
 TicksOn now old new = ⊥
 

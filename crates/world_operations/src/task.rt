@@ -3,6 +3,7 @@
 ghost use Rattle.std.specs.Prelude.{◌≡◌, ◌↔◌, ℕ, List, IfOk, IfSome, IsErrOf, IsTrue, None, OnErr};
 ghost use Rattle.std.specs.Prelude.{OnOk, map, nat_eq, true};
 ghost use Rattle.std.specs.List.{IsDistinct};
+ghost use Rattle.checker.specs.declared.status.CheckStatus.TheVariants as checks;
 ghost use Rattle.upload_core.specs.declared.status.ServerInfo.{ServerInfo};
 ghost use Rattle.upload_core.specs.declared.status.UploadStatus.TheVariants as uploads;
 ghost use Rattle.world_operations.specs.declared.job.Job.TheVariants as jobs;
@@ -11,7 +12,7 @@ ghost use Rattle.world_operations.specs.Follow.{GoesOn, IsSaid, Nothing};
 ghost use Rattle.world_operations.specs.Given.{IsGivenBy};
 ghost use Rattle.world_operations.specs.Jobs.{MayStart};
 ghost use Rattle.world_operations.specs.Moves.{Advances, Begins, Takes, TakesPiece, TicksOn};
-ghost use Rattle.world_operations.specs.Moves.{UploadAdvances, UploadTicks};
+ghost use Rattle.world_operations.specs.Moves.{CheckTicks, UploadAdvances, UploadTicks};
 ghost use Rattle.world_operations.specs.Tasks.{IsRightTask, MayFail, is_download, requests_of};
 ghost use Rattle.world_operations.specs.Tasks.{runs, upload_runs};
 
@@ -119,7 +120,7 @@ impl Task {
         match self {
             Task::Uploading(upload) => tick_upload(upload, now),
             Task::Downloading(download) => download.tick(now),
-            Task::Checking(check) => check.tick(now),
+            Task::Checking(check) => tick_check(check, now),
             Task::Gone(_) => Ok(()),
         }
     }
@@ -294,4 +295,15 @@ fn tick_upload(upload: &mut Upload<WholeShares>, now: u64) -> Result<(), AllocEr
         return Ok(());
     }
     upload.tick(now)
+}
+
+// A check takes note of a second while it runs.
+fn tick_check(check: &mut Check, now: u64) -> Result<(), AllocError>
+    ensures ok { OnOk result (CheckTicks now check.old check.new) }
+    ensures err { OnErr result (check.old.status ≡ checks.Running) }
+{
+    match check.status() {
+        CheckStatus::Running => check.tick(now),
+        CheckStatus::Done | CheckStatus::Failed => Ok(()),
+    }
 }
