@@ -1,10 +1,8 @@
 -- What an acknowledged pair says of the answer, and what the answer tells of the closed shares.
 use Rattle.std.proofs.Common.{◌≡◌, ℕ, ◌<◌, List, [], ◌∷◌, Bool, true, false, cond, length, nat_lt, Option, Some, None, slice_index_or, Contains, refl, sym, subst, ap, ◌∙◌, inl, inr, arith}
 use Rattle.std.specs.Prelude.{◌&&◌, bytes_eq, option_map}
-use Rattle.std.specs.Map.{values_of}
 use Rattle.std.proofs.lemmas.Bool.Decides.{nat_tests}
 use Rattle.std.proofs.lemmas.List.Elements.{All-contains, Contains-append_cases}
-use Rattle.std.proofs.lemmas.Map.Entries.{place_from_lookup}
 use Rattle.std.proofs.lemmas.Slice.Eq.{bytes_eq-Decides}
 use Rattle.wire.specs.declared.message.Body.{Body}
 use Rattle.wire.specs.declared.message.Body.TheVariants.{Ask, Allocate, Write, Close, Have, Already, Closed}
@@ -12,12 +10,12 @@ use Rattle.wire.specs.declared.message.HeldShare.{HeldShare}
 use Rattle.wire.specs.declared.message.ShareId.{ShareId}
 use Rattle.request_record.specs.declared.requests.Asked.{Asked}
 use Rattle.request_record.specs.declared.requests.Asked.TheVariants.{Holdings, Allocation, Writing, Closing}
-use Rattle.share_store.specs.Shelf.{Place, Shelf, closed_at, digest_at, place_of, same_place}
+use Rattle.share_store.specs.Shelf.{Shelf, closed_at, digest_at}
 use Rattle.share_store.specs.declared.shelf.ClosedShare.{ClosedShare}
 use Rattle.server_core.specs.Sound.{Tells, is_request}
 use Rattle.placement.specs.Matching.{Pair}
 use Rattle.request_record.specs.Asking.{Spells}
-use Rattle.world_operations.proofs.Places.{member_at, member_cases, member_here, member_map, member_none, member_there}
+use Rattle.world_operations.proofs.Places.{member_cases, member_here, member_none, member_there}
 use Rattle.upload_core.specs.Acknowledged.{acked_answer, acked_held, acked_share}
 use Rattle.upload_core.specs.State.{Goal}
 
@@ -154,9 +152,3 @@ pub closed_by : (id : ShareId) (s : Shelf) (digest : List ℕ) → digest_at id 
 closed_by id s digest e =
     let c = some_digest (closed_at id s.closed) digest e in
     record { share = c.0; found = c.1; digest_is = c.2 }
-
--- a closed share's bytes were hashed
-pub closed_among : (id : ShareId) (cs : List (Place × ClosedShare)) (c : ClosedShare) → closed_at id cs ≡ Some c → Contains (values_of cs) c
-closed_among id cs c e =
-    let p = place_from_lookup (same_place (place_of id)) cs c e in
-    member_map (λ (e : Place × ClosedShare). e.1) cs (p.1, c) (member_at cs p.0 (p.1, c) p.2)

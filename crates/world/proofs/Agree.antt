@@ -1,15 +1,14 @@
 -- Without a clash downloads of a cap agree, and with the file of each upload that answered Happy with it.
-use Rattle.std.proofs.Common.{◌≡◌, ℕ, ◌≤◌, List, length, refl, sym, subst}
+use Rattle.std.proofs.Common.{◌≡◌, ℕ, List, length, refl, subst}
 use Rattle.aes_ctr.specs.CounterMode.{xored}
 use Rattle.tagged_hash.specs.ConvergentKey.{convergent_key_of}
 use Rattle.cap_text.specs.Cap.{ReadCapValue}
-use Rattle.placement.specs.Matching.{Pair}
 use Rattle.ueb.specs.Block.{ueb_text}
 use Rattle.ueb.specs.Shape.{Contents}
 use Rattle.share_layout.specs.Geometry.{geometry_of}
 use Rattle.share_layout.specs.Pieces.{segments_of}
 use Rattle.file_encoding.specs.Encoding.{extension_block_contents}
-use Rattle.file_encoding.specs.Params.{UploadParameters, parameters_of}
+use Rattle.file_encoding.specs.Params.{parameters_of}
 use Rattle.file_encoding.proofs.Encodable.{has_shape}
 use Rattle.file_encoding.proofs.OwnEvidence.{own_trees_are_within}
 use Rattle.file_encoding.proofs.Parts.{files_of_caps}
@@ -23,7 +22,6 @@ use Rattle.download_core.specs.State.{DownloadState}
 use Rattle.download_core.proofs.HashedLemmas.{given_are_shown}
 use Rattle.world_operations.specs.declared.job.Job.{Job}
 use Rattle.world_operations.specs.declared.job.Job.TheVariants.{Download}
-use Rattle.world_operations.specs.declared.operation.Operation.{Operation}
 use Rattle.world_operations.specs.declared.task.Task.{Task}
 use Rattle.world_operations.specs.declared.task.Task.TheVariants.{Uploading, Downloading, Checking, Gone}
 use Rattle.world_operations.specs.Given.{IsGivenBy}

@@ -1,6 +1,6 @@
 -- What holds of a world goes on holding: where a server goes on, where more is sent, and where operations go on, begin, are forgotten or
 -- fail.
-use Rattle.std.proofs.Common.{◌≡◌, ℕ, ◌<◌, ◌≤◌, zero, suc, List, [], ◌∷◌, ◌++◌, Bool, true, false, length, map, Option, Some, None, Contains, refl, sym, subst, ap, ◌∙◌, inl, inr, ◌⊎◌, arith}
+use Rattle.std.proofs.Common.{◌≡◌, ℕ, ◌<◌, ◌≤◌, List, [], ◌∷◌, ◌++◌, Bool, true, false, length, map, Option, Some, None, Contains, refl, sym, subst, ap, ◌∙◌, inl, inr, ◌⊎◌, arith}
 use Rattle.std.specs.Prelude.{◌==◌, ◌&&◌, slice_get, slice_set, option_map, if◌then◌else◌}
 use Rattle.std.proofs.lemmas.List.{append_assoc, length-append}
 use Rattle.std.proofs.lemmas.List.Elements.{All-weaker, Contains-append_left, Contains-push_cases}
@@ -14,7 +14,6 @@ use Rattle.wire.specs.Frames.{IsBodyOf, IsMessage}
 use Rattle.wire.proofs.StreamLaws.{spelled_alike}
 use Rattle.request_record.specs.declared.requests.Asked.{Asked}
 use Rattle.request_record.specs.declared.requests.Request.{Request}
-use Rattle.request_record.specs.Record.{fits}
 use Rattle.share_store.specs.Memory.{MemoryState}
 use Rattle.share_store.specs.Shelf.{Shelf, digest_at}
 use Rattle.share_store.specs.declared.shelf.ClosedShare.{ClosedShare}
@@ -24,16 +23,16 @@ use Rattle.world_operations.specs.declared.job.Job.{Job}
 use Rattle.world_operations.specs.declared.job.Job.TheVariants.{Upload, Download, Check, Repair, NoRepair}
 use Rattle.world_operations.specs.declared.message.Sent.{Sent}
 use Rattle.world_operations.specs.declared.operation.Life.{Life}
-use Rattle.world_operations.specs.declared.operation.Life.TheVariants.{Forgotten, Live, Refused}
+use Rattle.world_operations.specs.declared.operation.Life.TheVariants.{Forgotten}
 use Rattle.world_operations.specs.declared.operation.Operation.{Operation}
 use Rattle.world_operations.specs.declared.task.Task.{Task}
 use Rattle.world_operations.specs.declared.task.Task.TheVariants.{Uploading, Downloading, Checking, Gone}
-use Rattle.world_operations.specs.Follow.{GoesOn, IsFrameOf, IsLostTask, IsNewTask, IsSaid, IsSameOperation, Moves, Nothing, Said, SendsSome}
+use Rattle.world_operations.specs.Follow.{GoesOn, IsFrameOf, IsLostTask, IsNewTask, IsSameOperation, Moves, Said, SendsSome}
 use Rattle.world_operations.specs.Given.{AreGivenBy}
 use Rattle.world_operations.specs.Jobs.{IsFor}
 use Rattle.world_operations.specs.Moves.{sent_to}
 use Rattle.world_operations.specs.Tasks.{IsRightTask, requests_of}
-use Rattle.world_operations.proofs.Places.{append_none, get_push, get_push_old, get_set, get_set_back, get_set_same, length_set, member_here, member_none, member_there, push_last, same_some}
+use Rattle.world_operations.proofs.Places.{append_none, get_push, get_push_old, get_set, get_set_back, get_set_same, length_set, member_here, member_none, member_there, same_some}
 use Rattle.world_operations.proofs.TaskMoves.{request_on}
 use Rattle.world.specs.State.{shelved}
 use Rattle.world.specs.Step.{forgotten_by, is_running, new_operation, with_life}

@@ -1,8 +1,7 @@
 -- What a consistent world says of uploads: Happy names acknowledged pairs, as many as were wanted, no server and no share twice.
-use Rattle.std.proofs.Common.{◌≡◌, ◌∙◌, ℕ, ◌≤◌, List, length, true, ap, subst, sym}
+use Rattle.std.proofs.Common.{◌≡◌, ℕ, ◌≤◌, List, length, ap, subst}
 use Rattle.placement.specs.Matching.{IsMatching, Pair}
 use Rattle.file_encoding.specs.Params.{UploadParameters}
-use Rattle.upload_core.specs.declared.status.UploadStatus.{UploadStatus}
 use Rattle.upload_core.specs.declared.status.UploadStatus.TheVariants.{Happy}
 use Rattle.upload_core.specs.State.{Goal, UploadState}
 use Rattle.upload_core.specs.Acknowledged.{acked_pairs}
@@ -18,7 +17,7 @@ use Rattle.world_operations.specs.Jobs.{IsFor}
 use Rattle.world_operations.specs.Tasks.{IsRightTask}
 use Rattle.world.specs.State.{WorldState}
 use Rattle.world.specs.Consistent.{IsConsistent}
-use Rattle.world.specs.Headline.{HappyIsMatched, IsUploadOf, goal}
+use Rattle.world.specs.Headline.{HappyIsMatched, IsUploadOf}
 
 abbrev pub Up : Type 0
 Up = upload_sends.Uploading (List (List ℕ))

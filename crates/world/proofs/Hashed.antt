@@ -1,7 +1,6 @@
 -- What is among the hash inputs of a world.
-use Rattle.std.proofs.Common.{◌≡◌, ℕ, List, Some, Contains, subst, sym}
+use Rattle.std.proofs.Common.{◌≡◌, ℕ, List, Some, Contains, refl, subst, sym}
 use Rattle.std.specs.Prelude.{slice_get}
-use Rattle.std.specs.Map.{values_of}
 use Rattle.tagged_hash.specs.TaggedHash.{tagged_input}
 use Rattle.tagged_hash.specs.declared.tag.Tag.TheVariants.{WholeShare}
 use Rattle.wire.specs.declared.message.ShareId.{ShareId}
@@ -19,10 +18,9 @@ use Rattle.world_operations.specs.declared.operation.Operation.{Operation}
 use Rattle.world_operations.specs.declared.task.Task.{Task}
 use Rattle.world_operations.specs.declared.task.Task.TheVariants.{Downloading}
 use Rattle.world_operations.specs.Given.{IsHashedBy}
-use Rattle.world_operations.proofs.Places.{member_at, member_map}
+use Rattle.world_operations.proofs.Places.{member_at}
 use Rattle.world.specs.State.{WorldState}
 use Rattle.world.specs.Headline.{IsHashed, closed, downloaded, started, started_inputs}
-use Rattle.world.proofs.Acked.{closed_among}
 
 -- all that an upload's encoding hashes
 pub encoding_among : (w : WorldState) (i : ℕ) (op : Operation) (file secret : List ℕ) (p : UploadParameters) (x : List ℕ)
@@ -34,8 +32,7 @@ encoding_among w i op file secret p x at job c =
 pub share_among : (w : WorldState) (node : ℕ) (m : Machine MemoryState) (id : ShareId) (c : ClosedShare)
     → slice_get w.servers node ≡ Some m → closed_at id m.store.shelf.closed ≡ Some c → IsHashed w (tagged_input WholeShare c.bytes)
 share_among w node m id c at found =
-    closed m (member_at w.servers node m at)
-    (member_map (λ (d : ClosedShare). tagged_input WholeShare d.bytes) (values_of m.store.shelf.closed) c (closed_among id m.store.shelf.closed c found))
+    closed m (member_at w.servers node m at) record { id = id; share = c; found = found; is = refl }
 
 -- what a download hashed for what it found
 pub download_among : (w : WorldState) (i : ℕ) (op : Operation) (d : DownloadState) (x : List ℕ)

@@ -1,9 +1,11 @@
 -- What was answered stays, whatever comes.
-use Rattle.std.proofs.Common.{◌≡◌, ℕ, List, [], ◌∷◌, ◌++◌, length, map, Option, Some, None, Contains, refl, sym, subst, ap, ◌∙◌, inl, inr, ◌⊎◌}
+use Rattle.std.proofs.Common.{◌≡◌, ℕ, List, [], ◌∷◌, ◌++◌, length, Some, false, Contains, refl, sym, subst, ap, ◌∙◌, inl, inr, ◌⊎◌}
 use Rattle.std.specs.Prelude.{slice_get, slice_set}
+use Rattle.std.proofs.lemmas.Bool.{false≢true}
 use Rattle.std.proofs.lemmas.List.{append_assoc}
 use Rattle.std.proofs.lemmas.List.Elements.{Contains-append_left}
 use Rattle.placement.specs.Matching.{Pair}
+use Rattle.request_record.specs.declared.requests.Request.{Request}
 use Rattle.share_store.specs.Memory.{MemoryState}
 use Rattle.server_core.specs.Machine.{Machine}
 use Rattle.server_core.specs.Sound.{ClosedStay}
@@ -13,12 +15,14 @@ use Rattle.world_operations.specs.declared.message.Sent.{Sent}
 use Rattle.world_operations.specs.declared.operation.Operation.{Operation}
 use Rattle.world_operations.specs.declared.task.Task.{Task}
 use Rattle.world_operations.specs.declared.task.Task.TheVariants.{Uploading, Downloading, Checking, Gone}
-use Rattle.world_operations.specs.Follow.{IsLostTask, Moves, Said, SendsSome}
-use Rattle.world_operations.specs.Tasks.{HasShares, IsHappyTask}
-use Rattle.world_operations.proofs.Places.{append_none, get_push_old, get_set_back, same_some}
+use Rattle.world_operations.specs.Follow.{IsLostTask, Moves, Said, SendsSome, StillAsks}
+use Rattle.world_operations.specs.Given.{IsHashedBy}
+use Rattle.world_operations.specs.declared.job.Job.{Job}
+use Rattle.world_operations.specs.Tasks.{HasShares, IsHappyTask, is_download, requests_of}
+use Rattle.world_operations.proofs.Places.{append_none, get_push_old, get_set_back, member_at, place_of_member, same_some}
 use Rattle.world.specs.State.{WorldState}
 use Rattle.world.specs.Step.{with_life}
-use Rattle.world.specs.Headline.{IsLater}
+use Rattle.world.specs.Headline.{IsGone, IsHashed, IsLater, StaysAt, closed, downloaded, started, started_inputs}
 use Rattle.world.proofs.Changes.{HaveOtherLives}
 use Rattle.world.proofs.Happy.{Up}
 
@@ -26,7 +30,12 @@ use Rattle.world.proofs.Happy.{Up}
 
 -- what was handed out stays, and a Happy upload stays Happy
 pub record GrowsAs (old new : Operation) : Type 0 where
+  pub node : new.node ≡ old.node
   pub job : new.job ≡ old.job
+  pub sent_before : new.sent_before ≡ old.sent_before
+  pub gone : IsGone old.task → IsGone new.task
+  pub asked : (place : ℕ) (r : Request) → slice_get (requests_of old.task).entries place ≡ Some r → IsGone new.task ⊎ StillAsks (requests_of new.task).entries place r
+  pub hashed : (input : List ℕ) → IsHashedBy old.task input → IsHashedBy new.task input
   pub happy : (pairs : List Pair) → IsHappyTask old.task pairs → IsHappyTask new.task pairs
   pub shares : (pairs : List Pair) (these : List (List ℕ)) → IsHappyTask old.task pairs → HasShares old.task these → HasShares new.task these
   pub pieces : List Piece
@@ -35,8 +44,22 @@ pub record GrowsAs (old new : Operation) : Type 0 where
 abbrev pub AllGrow : List Operation → List Operation → Type 0
 AllGrow old new = (i : ℕ) (op : Operation) → slice_get old i ≡ Some op → (next : Operation) × (slice_get new i ≡ Some next) × GrowsAs op next
 
+still_asks : (task : Task) (place : ℕ) (r : Request) → slice_get (requests_of task).entries place ≡ Some r → StillAsks (requests_of task).entries place r
+still_asks task place r at = record { request = r; at = at; server = refl; asked = refl }
+
 same_operation : (op : Operation) → GrowsAs op op
-same_operation op = record { job = refl; happy = λ pairs h. h; shares = λ pairs these h k. k; pieces = []; given = sym (append_none op.given) }
+same_operation op = record {
+  node = refl;
+  job = refl;
+  sent_before = refl;
+  gone = λ h. h;
+  asked = λ place r at. inr (still_asks op.task place r at);
+  hashed = λ input h. h;
+  happy = λ pairs h. h;
+  shares = λ pairs these h k. k;
+  pieces = [];
+  given = sym (append_none op.given);
+}
 
 pub none_grow : (operations : List Operation) → AllGrow operations operations
 none_grow operations i op at = (op, at, same_operation op)
@@ -49,13 +72,58 @@ one_grows operations number old new at g i op e = elim (get_set_back operations 
 ]
 
 pub lives_grow : (old new : List Operation) → HaveOtherLives old new → AllGrow old new
-lives_grow old new h i op e = (let f = h.on i op e in (with_life f.0 op, f.1, record { job = refl; happy = λ pairs k. k; shares = λ pairs these h k. k; pieces = []; given = sym (append_none op.given) }))
+lives_grow old new h i op e = (let f = h.on i op e in (
+  with_life f.0 op,
+  f.1,
+  record {
+    node = refl;
+    job = refl;
+    sent_before = refl;
+    gone = λ k. k;
+    asked = λ place r at. inr (still_asks op.task place r at);
+    hashed = λ input k. k;
+    happy = λ pairs k. k;
+    shares = λ pairs these h k. k;
+    pieces = [];
+    given = sym (append_none op.given);
+  },
+))
 
 pub one_more : (operations : List Operation) (new : Operation) → AllGrow operations (operations ++ new ∷ [])
 one_more operations new i op e = (op, get_push_old operations i op new e, same_operation op)
 
+hashes_nothing : (t : Task) → is_download t ≡ false → (input : List ℕ) → IsHashedBy t input → ⊥
+hashes_nothing (Uploading u) none input h = h
+hashes_nothing (Downloading d) none input h = false≢true (sym none)
+hashes_nothing (Checking c) none input h = h
+hashes_nothing (Gone number) none input h = h
+
 pub moves_grow : (New : Said) (number : ℕ) (old new : Operation) (before after : List Sent) → Moves New number old new before after → GrowsAs old new
-moves_grow New number old new before after m = record { job = m.same.job; happy = λ pairs h. by m.task pairs h; shares = λ pairs these h k. has m.task pairs these h k; pieces = m.same.pieces; given = m.same.given } where
+moves_grow New number old new before after m = record {
+  node = m.same.node;
+  job = m.same.job;
+  sent_before = m.same.sent_before;
+  gone = gone m.task;
+  asked = asked m.task;
+  hashed = hashed m.task;
+  happy = λ pairs h. by m.task pairs h;
+  shares = λ pairs these h k. has m.task pairs these h k;
+  pieces = m.same.pieces;
+  given = m.same.given;
+} where
+  gone : SendsSome New old.node old.task new.task before after ⊎ IsLostTask number old.task new.task before after → IsGone old.task → IsGone new.task
+  gone (inl s) h = (h.0, s.goes.gone h.0 h.1)
+  gone (inr l) h = (number, l.gone)
+
+  asked : SendsSome New old.node old.task new.task before after ⊎ IsLostTask number old.task new.task before after → (place : ℕ) (r : Request)
+      → slice_get (requests_of old.task).entries place ≡ Some r → IsGone new.task ⊎ StillAsks (requests_of new.task).entries place r
+  asked (inl s) place r at = inr (s.goes.follows.keeps place r at)
+  asked (inr l) place r at = inl (number, l.gone)
+
+  hashed : SendsSome New old.node old.task new.task before after ⊎ IsLostTask number old.task new.task before after → (input : List ℕ) → IsHashedBy old.task input → IsHashedBy new.task input
+  hashed (inl s) input h = s.goes.hashed input h
+  hashed (inr l) input h = absurd (hashes_nothing old.task l.no_download input h)
+
   by : SendsSome New old.node old.task new.task before after ⊎ IsLostTask number old.task new.task before after → (pairs : List Pair) → IsHappyTask old.task pairs → IsHappyTask new.task pairs
   by (inl s) pairs h = s.goes.happy pairs h
   by (inr l) pairs h = absurd (l.unhappy pairs h)
@@ -99,9 +167,43 @@ happy_upload (Downloading d) pairs h = absurd h
 happy_upload (Checking c) pairs h = absurd h
 happy_upload (Gone number) pairs h = absurd h
 
+hashed_later : (old new : WorldState) → AllStay old.servers new.servers → AllGrow old.operations new.operations → (input : List ℕ) → IsHashed old input → IsHashed new input
+hashed_later old new servers operations input (started op among of) =
+    let at = place_of_member old.operations op among in
+    let f = operations at.0 op at.1 in
+    started f.0 (member_at new.operations at.0 f.0 f.1) (subst (λ (j : Job). Contains (started_inputs j) input) (sym f.2.job) of)
+hashed_later old new servers operations input (downloaded op among by) =
+    let at = place_of_member old.operations op among in
+    let f = operations at.0 op at.1 in
+    downloaded f.0 (member_at new.operations at.0 f.0 f.1) (f.2.hashed input by)
+hashed_later old new servers operations input (closed m among of) =
+    let at = place_of_member old.servers m among in
+    let f = servers at.0 m at.1 in
+    closed f.0 (member_at new.servers at.0 f.0 f.1) record { id = of.id; share = of.share; found = f.2 of.id of.share of.found; is = of.is }
+
+stays_on : (b c : WorldState) → AllGrow b.operations c.operations → (number : ℕ) (old : Operation) → StaysAt b number old → StaysAt c number old
+stays_on b c grow number old s =
+    let f = grow number s.operation s.at in record {
+      operation = f.0;
+      at = f.1;
+      node = f.2.node ∙ s.node;
+      job = f.2.job ∙ s.job;
+      sent_before = f.2.sent_before ∙ s.sent_before;
+      gone = λ h. f.2.gone (s.gone h);
+      asked = λ place r at. elim (s.asked place r at) [
+        | inl gone ↦ inl (f.2.gone gone)
+        | inr still ↦ elim (f.2.asked place still.request still.at) [
+          | inl gone ↦ inl gone
+          | inr later ↦ inr record { request = later.request; at = later.at; server = later.server ∙ still.server; asked = later.asked ∙ still.asked }
+        ]
+      ];
+    }
+
 pub later_from : (old new : WorldState) → AllStay old.servers new.servers → AllGrow old.operations new.operations → ((more : List Sent) × (new.sent ≡ old.sent ++ more))
     → (length new.servers ≡ length old.servers) × (length new.heard ≡ length old.heard) → IsLater old new
 later_from old new servers operations sent nodes = record {
+  hashed = hashed_later old new servers operations;
+  operations = λ number operation s. stays_on old new operations number operation s;
   given = λ cap place byte g.
       let f = operations g.number g.operation g.at in record {
         number = g.number;
@@ -159,6 +261,8 @@ same_world w = later_from w w (none_change w.servers) (none_grow w.operations) (
 
 pub later_still : (a b c : WorldState) → IsLater a b → IsLater b c → IsLater a c
 later_still a b c f g = record {
+  hashed = λ input h. g.hashed input (f.hashed input h);
+  operations = λ number operation s. g.operations number operation (f.operations number operation s);
   given = λ cap place byte x. g.given cap place byte (f.given cap place byte x);
   uploaded = λ file secret p pairs x. g.uploaded file secret p pairs (f.uploaded file secret p pairs x);
   repaired = λ cap happy shares pairs x. g.repaired cap happy shares pairs (f.repaired cap happy shares pairs x);

@@ -3,18 +3,15 @@ use Rattle.lemmas.proofs.Ranges.{range_push}
 use Rattle.lemmas.proofs.Bools.{both}
 use Rattle.lemmas.proofs.Numbers.{same_number}
 use Rattle.lemmas.proofs.Results.{settled_by}
-use Rattle.std.proofs.Common.{◌≡◌, ◌≢◌, ℕ, zero, suc, ◌+◌, ◌-◌, ◌<◌, ◌≤◌, List, [], ◌∷◌, ◌++◌, Bool, true, false, length, map, take, drop, get_or, Option, Some, None, Result, Ok, Err, Contains, refl, sym, subst, ap, ◌∙◌, inl, inr, ◌⊎◌, arith}
-use Rattle.std.specs.Prelude.{OnErr, OnOk, ◌==◌, ◌&&◌, slice_get, slice_set}
+use Rattle.std.proofs.Common.{◌≡◌, ℕ, zero, suc, ◌+◌, ◌-◌, ◌<◌, ◌≤◌, List, [], ◌∷◌, ◌++◌, true, length, map, take, drop, get_or, Some, Result, Ok, Contains, refl, sym, subst, ap, ◌∙◌, inl, inr, arith}
+use Rattle.std.specs.Prelude.{OnErr, OnOk, ◌==◌, slice_get, slice_set}
 use Rattle.std.specs.List.{range_with_len}
-use Rattle.std.proofs.lemmas.Bool.Decides.{nat_tests}
 use Rattle.std.proofs.lemmas.List.{append_assoc, length-append}
 use Rattle.std.proofs.lemmas.Option.{slice_get_read}
 use Rattle.wire.specs.declared.message.Message.{Message}
 use Rattle.wire.specs.Frames.{IsBodyOf, IsMessage}
 use Rattle.share_store.specs.Memory.{MemoryState, memory_calls}
 use Rattle.server_core.specs.Machine.{Machine, Outcome, RestartsTo, Ticks}
-use Rattle.server_core.specs.Sound.{is_request}
-use Rattle.server_core.specs.declared.error.ServerFault.TheVariants.{OutOfMemory, StoreFault}
 use Rattle.upload_core.specs.declared.status.ServerInfo.{ServerInfo}
 use Rattle.world_operations.specs.declared.job.Job.{Job}
 use Rattle.world_operations.specs.declared.message.Sent.{Sent}
@@ -22,13 +19,13 @@ use Rattle.world_operations.specs.declared.operation.Life.{Life}
 use Rattle.world_operations.specs.declared.operation.Life.TheVariants.{Forgotten, Live, Refused}
 use Rattle.world_operations.specs.declared.operation.Operation.{Operation}
 use Rattle.world_operations.specs.declared.task.Task.{Task}
-use Rattle.world_operations.specs.Follow.{IsNewTask, IsSaid, Moves, Nothing, Said}
+use Rattle.world_operations.specs.Follow.{IsNewTask, IsSaid, Moves}
 use Rattle.world_operations.specs.Moves.{IsFlushed, OperationGets, sent_to}
 use Rattle.world_operations.specs.Tasks.{IsRightTask, requests_of}
 use Rattle.world_operations.proofs.Places.{append_none, get_below, push_last, same_some}
-use Rattle.world.specs.State.{WorldState, nodes_of, server_of, servers_of, shelved}
-use Rattle.world.specs.Step.{Delivers, HaveTicked, IsOperationOf, OperationsTick, Opens, RestartsAt, ServerGets, TaskGets, TicksAt, TicksOrStays, answer_to, failing, forgotten_by, is_live, is_live_at, new_operation, with_heard, with_life}
-use Rattle.world.specs.Step.{gets, nobody, to_liar}
+use Rattle.world.specs.State.{WorldState, server_of, shelved}
+use Rattle.world.specs.Step.{Delivers, HaveTicked, OperationsTick, Opens, RestartsAt, ServerGets, TaskGets, TicksAt, TicksOrStays, failing, forgotten_by, is_live, is_live_at, new_operation, with_heard, with_life}
+use Rattle.world.specs.Step.{gets, to_liar}
 use Rattle.world.specs.Parts.{NothingNew, OperationBecomes, OperationMoves, SaidBy, ServerBecomes, ServesBy}
 use Rattle.world.specs.Consistent.{Preserves}
 use Rattle.world.proofs.Changes.{all_forgotten, one_life}

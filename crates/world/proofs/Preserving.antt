@@ -1,17 +1,16 @@
 -- Each change of a world preserves what holds of it, and one after another does.
-use Rattle.std.proofs.Common.{◌≡◌, ℕ, ◌<◌, ◌≤◌, List, [], ◌∷◌, ◌++◌, ◌+◌, false, length, map, replicate, zero, suc, Option, Some, None, Result, Ok, Err, Contains, refl, sym, subst, ap, ◌∙◌, arith}
+use Rattle.std.proofs.Common.{◌≡◌, ℕ, ◌<◌, ◌≤◌, List, [], ◌∷◌, ◌++◌, length, replicate, zero, suc, Some, None, Ok, Err, Contains, refl, sym, subst, ap, ◌∙◌}
 use Rattle.std.specs.Prelude.{slice_get, slice_set}
 use Rattle.std.specs.List.Sorted.{IsStrictlySortedBy}
 use Rattle.std.proofs.lemmas.Option.{slice_get_within}
 use Rattle.wire.specs.declared.message.Body.{Body}
 use Rattle.wire.specs.declared.message.Message.{Message}
-use Rattle.wire.specs.Frames.{IsBodyOf, IsMessage}
+use Rattle.wire.specs.Frames.{IsBodyOf}
 use Rattle.request_record.specs.declared.requests.Asked.{Asked}
 use Rattle.share_store.specs.Memory.{MemoryState, memory_calls}
 use Rattle.share_store.specs.Shelf.{Shelf, Restarts, closed_at}
 use Rattle.server_core.specs.Machine.{Machine, Outcome, RestartsTo, Serves, Ticks}
-use Rattle.server_core.specs.Sound.{AreRight, Answers, ClosedStay, IsKept, IsSound, StaysSound, is_request}
-use Rattle.server_core.specs.declared.error.ServerFault.{ServerFault}
+use Rattle.server_core.specs.Sound.{AreRight, Answers, ClosedStay, IsKept, IsSound, StaysSound}
 use Rattle.server_core.proofs.Keeps.{messages_keep, restarts_keep, starts_sound, ticks_keep}
 use Rattle.server_core.proofs.Over.{serves_over}
 use Rattle.share_store.specs.MemoryKeeps.{memory_keeps}
@@ -24,10 +23,10 @@ use Rattle.world_operations.specs.Moves.{sent_to}
 use Rattle.world_operations.specs.Tasks.{IsRightTask, requests_of}
 use Rattle.world_operations.proofs.Places.{get_set_same, length_set, member_none, same_some}
 use Rattle.world.specs.State.{WorldState, new_server, new_world, shelved}
-use Rattle.world.specs.Step.{IsSpoken, answer_to, new_operation, with_heard}
-use Rattle.world.specs.Consistent.{AreConsistent, CameFrom, IsConsistent, Preserves}
+use Rattle.world.specs.Step.{IsSpoken, answer_to, new_operation}
+use Rattle.world.specs.Consistent.{CameFrom, IsConsistent, Preserves}
 use Rattle.world.specs.Headline.{IsLater}
-use Rattle.world.proofs.Changes.{HaveOtherLives, IsFounded, answered, lives_changed, operation_begins, operation_moves, said_by_liar, same_sent, sent_more, server_changed}
+use Rattle.world.proofs.Changes.{HaveOtherLives, answered, lives_changed, operation_begins, operation_moves, said_by_liar, same_sent, sent_more, server_changed}
 use Rattle.world.proofs.Later.{later_from, later_still, lives_grow, moves_grow, moves_send, no_more, none_change, none_grow, one_grows, one_more, one_stays, same_world}
 
 pub preserves_itself : (w : WorldState) → Preserves w w

@@ -17,7 +17,6 @@ use Rattle.world_operations.specs.declared.operation.Operation.{Operation}
 use Rattle.world_operations.specs.declared.task.Task.{Task}
 use Rattle.world_operations.specs.declared.task.Task.TheVariants.{Gone, Uploading}
 use Rattle.world_operations.specs.Follow.{IsRequestBy}
-use Rattle.world_operations.specs.Tasks.{index_of, requests_of}
 use Rattle.world_operations.proofs.Places.{same_some}
 use Rattle.world.specs.State.{WorldState, shelved}
 use Rattle.world.specs.Consistent.{IsConsistent, IsRequestOf}

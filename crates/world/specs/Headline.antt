@@ -1,12 +1,12 @@
 -- The headline: what holds of every world, however its nodes lie and whatever comes in which order.
-use Rattle.std.specs.Prelude.{◌≡◌, ℕ, ◌+◌, ◌<◌, ◌≤◌, List, [], ◌++◌, Some, length, map, slice_get}
-use Rattle.std.specs.Prelude.{slice_index_or, Contains}
-use Rattle.std.specs.Map.{values_of}
+use Rattle.std.specs.Prelude.{◌≡◌, ◌⊎◌, ℕ, ◌+◌, ◌<◌, ◌≤◌, List, [], ◌++◌, Some, length}
+use Rattle.std.specs.Prelude.{slice_get, slice_index_or, Contains}
 use Rattle.tagged_hash.specs.Clash.{HasNoClashIn}
 use Rattle.tagged_hash.specs.TaggedHash.{tagged_input}
 use Rattle.tagged_hash.specs.declared.tag.Tag.TheVariants.{WholeShare}
 use Rattle.cap_text.specs.Cap.{ReadCapValue, VerifyCapValue}
 use Rattle.wire.specs.declared.message.Message.{Message}
+use Rattle.wire.specs.declared.message.ShareId.{ShareId}
 use Rattle.wire.specs.Frames.{IsBodyOf}
 use Rattle.request_record.specs.declared.requests.Request.{Request}
 use Rattle.share_store.specs.Memory.{MemoryState}
@@ -26,8 +26,11 @@ use Rattle.world_operations.specs.declared.job.Job.{Job}
 use Rattle.world_operations.specs.declared.job.Job.TheVariants.{Upload, Download}
 use Rattle.world_operations.specs.declared.message.Sent.{Sent}
 use Rattle.world_operations.specs.declared.operation.Operation.{Operation}
-use Rattle.world_operations.specs.declared.task.Task.TheVariants.{Uploading}
+use Rattle.world_operations.specs.declared.task.Task.{Task}
+use Rattle.world_operations.specs.declared.task.Task.TheVariants.{Uploading, Gone}
+use Rattle.world_operations.specs.Follow.{StillAsks}
 use Rattle.world_operations.specs.Given.{IsHashedBy}
+use Rattle.world_operations.specs.Tasks.{requests_of}
 use Rattle.world.specs.Repaired.{IsRepaired}
 use Rattle.world.specs.State.{WorldState}
 
@@ -37,19 +40,26 @@ abbrev pub started_inputs : Job → List (List ℕ)
 started_inputs (Upload file secret p) = encoding_inputs file secret (parameters_of p)
 started_inputs job = []
 
-abbrev pub closed_inputs : Machine MemoryState → List (List ℕ)
-closed_inputs m =
-    map (λ (c : ClosedShare). tagged_input WholeShare c.bytes) (values_of m.store.shelf.closed)
+-- a share is closed at this server, and this is hashed for its digest
+pub record IsClosedInput (m : Machine MemoryState) (input : List ℕ) : Type 0 where
+  pub id : ShareId
+  pub share : ClosedShare
+  pub found : closed_at id m.store.shelf.closed ≡ Some share
+  pub is : input ≡ tagged_input WholeShare share.bytes
 
 -- For the files whose uploads were started, by downloads for what they found, and of the shares
 -- that are closed at honest servers.
-pub data IsHashed (w : WorldState) (input : List ℕ) : Type 0 where
-  started : (op : Operation) → Contains w.operations op → Contains (started_inputs op.job) input
-      → IsHashed w input
-  downloaded : (op : Operation) → Contains w.operations op → IsHashedBy op.task input
-      → IsHashed w input
-  closed : (m : Machine MemoryState) → Contains w.servers m → Contains (closed_inputs m) input
-      → IsHashed w input
+pub data IsHashedIn (operations : List Operation) (servers : List (Machine MemoryState))
+    (input : List ℕ) : Type 0 where
+  started : (op : Operation) → Contains operations op → Contains (started_inputs op.job) input
+      → IsHashedIn operations servers input
+  downloaded : (op : Operation) → Contains operations op → IsHashedBy op.task input
+      → IsHashedIn operations servers input
+  closed : (m : Machine MemoryState) → Contains servers m → IsClosedInput m input
+      → IsHashedIn operations servers input
+
+abbrev pub IsHashed : WorldState → List ℕ → Type 0
+IsHashed w = IsHashedIn w.operations w.servers
 
 -- no two of these clash
 abbrev pub HasNoClash : WorldState → Type 0
@@ -185,10 +195,31 @@ pub record IsTrusted (w : WorldState) : Type 0 where
   pub downloads_agree : HasNoClash w → DownloadsAgree w
   pub files_are_given : HasNoClash w → FilesAreGiven w
 
--- What was answered stays: a later world has every byte that was handed out, every upload and every
--- repair that answered Happy, every share that was closed, and all that was sent, and its nodes are
--- the same.
+-- no memory was found for its machine
+abbrev pub IsGone : Task → Type 0
+IsGone task = (number : ℕ) × (task ≡ Gone number)
+
+-- An operation stands at its place, as it was or further on: of the same node, for the same job and
+-- begun at the same moment. What it asked stays asked, unless its machine is gone, which then it
+-- stays.
+pub record StaysAt (w : WorldState) (number : ℕ) (old : Operation) : Type 0 where
+  pub operation : Operation
+  pub at : slice_get w.operations number ≡ Some operation
+  pub node : operation.node ≡ old.node
+  pub job : operation.job ≡ old.job
+  pub sent_before : operation.sent_before ≡ old.sent_before
+  pub gone : IsGone old.task → IsGone operation.task
+  pub asked : (place : ℕ) (r : Request)
+      → slice_get (requests_of old.task).entries place ≡ Some r
+      → IsGone operation.task ⊎ StillAsks (requests_of operation.task).entries place r
+
+-- What was answered stays: a later world has all that was hashed, every operation, every byte that
+-- was handed out, every upload and every repair that answered Happy, every share that was closed,
+-- and all that was sent, and its nodes are the same.
 pub record IsLater (old new : WorldState) : Type 0 where
+  pub hashed : (input : List ℕ) → IsHashed old input → IsHashed new input
+  pub operations : (number : ℕ) (operation : Operation)
+      → StaysAt old number operation → StaysAt new number operation
   pub given : (cap : ReadCapValue) (place byte : ℕ) → IsGiven old cap place byte
       → IsGiven new cap place byte
   pub uploaded : (file secret : List ℕ) (p : UploadParameters) (pairs : List Pair)

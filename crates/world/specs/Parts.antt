@@ -6,9 +6,7 @@ use Rattle.server_core.specs.Machine.{Machine, Outcome, Serves}
 use Rattle.world_operations.specs.declared.message.Sent.{Sent}
 use Rattle.world_operations.specs.declared.operation.Operation.{Operation}
 use Rattle.world_operations.specs.Follow.{IsSaid, Moves, Nothing, Said}
-use Rattle.world_operations.specs.Moves.{IsFlushed, OperationGets}
 use Rattle.world_operations.specs.Tasks.{IsRightTask, requests_of}
-use Rattle.world.specs.Step.{TicksOrStays}
 
 -- the server at a place becomes another, by a relation
 pub record ServerBecomes (R : Machine MemoryState → Machine MemoryState → Type 0)

@@ -1,5 +1,5 @@
 -- The world: its nodes, its operations, and all messages that were ever sent.
-use Rattle.std.specs.Prelude.{◌≡◌, ℕ, ◌+◌, ◌<◌, ◌≤◌, ◌^◌, List, [], length, Bool, false, decimal}
+use Rattle.std.specs.Prelude.{ℕ, ◌+◌, ◌<◌, ◌≤◌, ◌^◌, List, [], length, Bool, false, decimal}
 use Rattle.std.specs.Prelude.{map, replicate}
 use Rattle.std.specs.List.{range_with_len}
 use Rattle.sha1.specs.Sha1.{sha1}

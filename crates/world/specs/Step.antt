@@ -1,6 +1,6 @@
 -- One step of the world.
-use Rattle.std.specs.Prelude.{◌≡◌, ◌≢◌, ◌⊎◌, ℕ, ◌+◌, ◌-◌, ◌<◌, ◌≤◌, ◌^◌, ◌==◌, ◌&&◌, min, List, []}
-use Rattle.std.specs.Prelude.{◌∷◌, ◌++◌, true, false, Bool, Option, Some, None, Result, Ok, Err, ⊤}
+use Rattle.std.specs.Prelude.{◌≡◌, ◌≢◌, ◌⊎◌, ℕ, ◌+◌, ◌-◌, ◌≤◌, ◌^◌, ◌==◌, ◌&&◌, min, List, []}
+use Rattle.std.specs.Prelude.{◌∷◌, ◌++◌, true, false, Bool, Option, Some, None, Ok, Err, ⊤}
 use Rattle.std.specs.Prelude.{if◌then◌else◌, length, map, slice_get, slice_set}
 use Rattle.wire.specs.declared.message.Message.{Message}
 use Rattle.wire.specs.Frames.{IsBodyOf, IsMessage}
@@ -25,7 +25,7 @@ use Rattle.world_operations.specs.Tasks.{runs}
 use Rattle.world.specs.declared.event.Event.{Event}
 use Rattle.world.specs.declared.event.Event.TheVariants.{Start, Repair, Deliver, Forge, Turn}
 use Rattle.world.specs.declared.event.Event.TheVariants.{Pass, Tick, Restart, FailStore, Refuse}
-use Rattle.world.specs.State.{IsHonest, IsLiar, IsNode, WorldState, nodes_of, servers_of}
+use Rattle.world.specs.State.{IsHonest, IsNode, WorldState, nodes_of, servers_of}
 
 -- ---- parts of a world that change
 

@@ -1,4 +1,4 @@
-use Rattle.std.proofs.Common.{subst, sym, eqb, rules}
+use Rattle.std.proofs.Common.{subst, sym, eqb}
 use Rattle.std.specs.List.{IsDistinct}
 use Rattle.placement.proofs.Best.{range_distinct}
 use Rattle.world.proofs.Moving.{next_node}

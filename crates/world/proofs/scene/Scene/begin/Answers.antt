@@ -1,4 +1,4 @@
-use Rattle.std.proofs.Common.{List, ℕ, ◌∙◌, ap, eqb, length, map, rules, subst, sym}
+use Rattle.std.proofs.Common.{List, ◌∙◌, ap, eqb, length, map, rules, subst, sym}
 use Rattle.std.specs.List.{IsDistinct}
 use Rattle.upload_core.specs.declared.status.ServerInfo.{ServerInfo}
 use Rattle.world_operations.specs.Moves.{Begins}

@@ -1,4 +1,4 @@
-use Rattle.std.proofs.Common.{◌-◌, ◌<◌, List, Option, length, refl, sym, ap, subst, arith}
+use Rattle.std.proofs.Common.{◌-◌, ◌<◌, Option, length, refl, sym, ap, subst, arith}
 use Rattle.std.specs.Prelude.{IfNone, IfSome}
 use Rattle.wire.specs.declared.message.Message.{Message}
 use Rattle.wire.specs.Frames.{IsBodyOf}
@@ -8,6 +8,7 @@ use Rattle.world.specs.Step.{no_body}
 use Rattle.lemmas.proofs.Results.{on_ok}
 use Rattle.world.specs.State.{state_of}
 use Rattle.world.proofs.Moving.{at_place, body_of, heard_delivers, item_is, no_body_of}
+use Rattle.world.proofs.Preserving.{preserves_quiet}
 use Rattle.world.proofs.scene.Scene.deliver.Goals as goal
 
 pub returns-then-from-len-clause-ok : goal.returns-then-from-len-clause-ok
@@ -43,3 +44,9 @@ returns-in-None-clause-ok c x at =
     let low : item.to < length w.servers = omega (arith, c.if-from-len.false, c.from.ensures, c.len.ensures) in
     no_body (subst (λ (s : Sent). s.to < length w.servers) (sym (item_is w.sent c.args.place x item at c.requires c.index-sent.ensures)) low)
     (λ m b. none m (no_body_of w.sent c.args.place x c.index.result.now c.as_slice.result.now m at c.requires c.index.ensures c.as_slice.ensures b)) refl
+
+pub returns-in_err-message-clause-keeps : goal.returns-in_err-message-clause-keeps
+returns-in_err-message-clause-keeps c = preserves_quiet _ _ refl refl refl refl
+
+pub returns-in-None-clause-keeps : goal.returns-in-None-clause-keeps
+returns-in-None-clause-keeps c = preserves_quiet _ _ refl refl refl refl

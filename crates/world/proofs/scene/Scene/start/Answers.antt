@@ -1,8 +1,9 @@
-use Rattle.std.proofs.Common.{length, subst, sym}
+use Rattle.std.proofs.Common.{refl, length, subst, sym}
 use Rattle.world_operations.specs.declared.job.Job.{Job}
 use Rattle.world_operations.specs.Follow.{IsNewTask}
 use Rattle.world.specs.State.{state_of}
 use Rattle.world.specs.Step.{Opens}
+use Rattle.world.proofs.Preserving.{preserves_quiet}
 use Rattle.world.proofs.scene.Scene.start.Goals as goal
 
 pub open-requires-clause-new : goal.open-requires-clause-new
@@ -14,3 +15,9 @@ returns-clause-ok c = record {
   begins = c.in_ok-task.ensures.begins;
   opens = subst (λ (j : Job). Opens (state_of c.args.self.now) c.args.node j c.in_ok-task.task (state_of c.open.new.self)) c.in_ok-job.ensures c.in_ok-open.ensures.ok;
 }
+
+pub returns-in_err-task-clause-keeps : goal.returns-in_err-task-clause-keeps
+returns-in_err-task-clause-keeps c = preserves_quiet _ _ refl refl refl refl
+
+pub returns-in_err-job-clause-keeps : goal.returns-in_err-job-clause-keeps
+returns-in_err-job-clause-keeps c = preserves_quiet _ _ refl refl refl refl

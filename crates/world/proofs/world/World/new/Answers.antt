@@ -1,5 +1,4 @@
-use Rattle.std.proofs.Common.{◌∙◌, ◌+◌, ◌≤◌, arith, [], List, replicate, ap}
-use Rattle.world_operations.specs.declared.message.Sent.{Sent}
+use Rattle.std.proofs.Common.{◌∙◌, ◌+◌, ◌≤◌, arith, replicate, ap}
 use Rattle.world.specs.State.{new_server}
 use Rattle.world.proofs.Worlds.{new_is_kept}
 use Rattle.world.proofs.world.World.new.Goals as goal

@@ -1,8 +1,8 @@
-use Rattle.std.proofs.Common.{◌≡◌, ◌<◌, Ok, Some, length, rules}
+use Rattle.std.proofs.Common.{◌≡◌, ◌<◌, Some, length, rules}
 use Rattle.std.specs.Prelude.{slice_get}
 use Rattle.world.proofs.Later.{later_still}
 use Rattle.world.proofs.Moving.{at_place}
-use Rattle.world.proofs.Worlds.{running_on}
+use Rattle.world.proofs.Worlds.{running_begins, running_on}
 use Rattle.world.proofs.world.World.run.Goals as goal
 
 pub loop-taken-preserved : goal.loop-taken-preserved
@@ -16,3 +16,6 @@ loop-taken-preserved g c =
 pub returns-in-Err-clause-later : goal.returns-in-Err-clause-later
 returns-in-Err-clause-later g c =
     later_still c.args.self.now.state c.loop-taken.self.state c.step.new.self.state c.loop-taken.invariant.later c.in-Err.ensures.later
+
+pub loop-taken-init : goal.loop-taken-init
+loop-taken-init g c = running_begins c.args.self.now c.args.events.now c.is_trusted.ensures.trusted c.is_trusted.ensures.repairs

@@ -1,7 +1,8 @@
 use Rattle.std.proofs.Common.{subst}
-use Rattle.world.specs.Headline.{IsTrusted}
+use Rattle.world.specs.Headline.{IsLater, IsTrusted}
 use Rattle.world.specs.State.{WorldValue, state_of}
 use Rattle.world.specs.Repairs.{AreTrustedRepairs}
+use Rattle.world.proofs.Later.{same_world}
 use Rattle.world.proofs.Worlds.{kept_later, kept_repairs, kept_trusted}
 use Rattle.world.proofs.world.World.step.Goals as goal
 
@@ -34,3 +35,21 @@ returns-in-Err-Refused-clause-repairs g c =
 pub returns-in-Err-OutOfMemory-clause-repairs : goal.returns-in-Err-OutOfMemory-clause-repairs
 returns-in-Err-OutOfMemory-clause-repairs g c =
     kept_repairs (state_of c.take_event.new.self) (kept_later (state_of c.self.inside.scene) (state_of c.take_event.new.self) c.take_event.ensures.keeps c.self.invariant).0
+
+pub returns-then-self-clause-later : goal.returns-then-self-clause-later
+returns-then-self-clause-later g c = same_world _
+
+pub returns-in-Ok-clause-later : goal.returns-in-Ok-clause-later
+returns-in-Ok-clause-later g c =
+    subst (λ (w : WorldValue). IsLater w.state (state_of c.take_event.new.self)) c.self.view_is
+    (kept_later (state_of c.self.inside.scene) (state_of c.take_event.new.self) c.take_event.ensures.keeps c.self.invariant).1
+
+pub returns-in-Err-Refused-clause-later : goal.returns-in-Err-Refused-clause-later
+returns-in-Err-Refused-clause-later g c =
+    subst (λ (w : WorldValue). IsLater w.state (state_of c.take_event.new.self)) c.self.view_is
+    (kept_later (state_of c.self.inside.scene) (state_of c.take_event.new.self) c.take_event.ensures.keeps c.self.invariant).1
+
+pub returns-in-Err-OutOfMemory-clause-later : goal.returns-in-Err-OutOfMemory-clause-later
+returns-in-Err-OutOfMemory-clause-later g c =
+    subst (λ (w : WorldValue). IsLater w.state (state_of c.take_event.new.self)) c.self.view_is
+    (kept_later (state_of c.self.inside.scene) (state_of c.take_event.new.self) c.take_event.ensures.keeps c.self.invariant).1
