@@ -5,17 +5,17 @@ use Rattle.download_core.specs.declared.status.DownloadStatus.TheVariants as dow
 use Rattle.upload_core.specs.declared.status.UploadStatus.{UploadStatus}
 use Rattle.upload_core.specs.declared.status.UploadStatus.TheVariants.{Running, Happy}
 use Rattle.upload_core.specs.declared.status.UploadStatus.TheVariants.{Unhappy, Failed}
+use Rattle.grid_rules.specs.Fault.{fault_of_piece}
 use Rattle.grid_rules.specs.declared.fault.Fault.{Fault}
 use Rattle.grid_rules.specs.declared.fault.Fault.TheVariants as faults
 
--- The happiness that was reached, or the fault. The bytes of shares in memory are always there, so
--- that an upload of them fails for want of memory alone.
+-- the happiness that was reached, or the fault
 abbrev pub ending_of : ℕ → UploadStatus → Result ℕ Fault
 ending_of wanted Running = Err faults.TurnLimit
 ending_of wanted (Happy pairs) = Ok (length pairs)
 ending_of wanted (Unhappy reached blocking) =
     Err (faults.Unhappy reached wanted)
-ending_of wanted (Failed fault) = Err faults.OutOfMemory
+ending_of wanted (Failed fault) = Err (fault_of_piece fault)
 
 -- Nothing, where all bytes of the range were handed out, or the fault. A download fails for want of
 -- memory alone.

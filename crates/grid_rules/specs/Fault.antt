@@ -11,6 +11,8 @@ use Rattle.file_upload.specs.declared.shares.SharesError.{SharesError}
 use Rattle.file_upload.specs.declared.shares.SharesError.TheVariants as uploads
 use Rattle.download_core.specs.declared.status.DownloadError.{DownloadError}
 use Rattle.download_core.specs.declared.status.DownloadError.TheVariants as downloads
+use Rattle.upload_core.specs.declared.pieces.PieceFault.{PieceFault}
+use Rattle.upload_core.specs.declared.pieces.PieceFault.TheVariants as pieces
 use Rattle.local_grid.specs.declared.error.LoopError.{LoopError}
 use Rattle.local_grid.specs.declared.error.LoopError.TheVariants as loops
 use Rattle.grid_rules.specs.declared.fault.Fault.{Fault}
@@ -19,7 +21,7 @@ use Rattle.grid_rules.specs.declared.fault.Fault.TheVariants.{TooLarge, TooManyS
 use Rattle.grid_rules.specs.declared.fault.Fault.TheVariants.{NotEnoughShares, Inconsistent, File}
 use Rattle.grid_rules.specs.declared.fault.Fault.TheVariants.{BadRange, NeedsReadCap, Socket}
 use Rattle.grid_rules.specs.declared.fault.Fault.TheVariants.{TurnLimit, BadEvent, Stopped}
-use Rattle.grid_rules.specs.declared.fault.Fault.TheVariants.{BadScript}
+use Rattle.grid_rules.specs.declared.fault.Fault.TheVariants.{BadScript, SourceChanged, SourceFault}
 
 -- the number of a fault
 abbrev pub fault_number : Fault → ℕ
@@ -32,6 +34,8 @@ fault_number (Unhappy _ _) = 70
 fault_number NotEnoughShares = 71
 fault_number Inconsistent = 72
 fault_number BadRange = 73
+fault_number SourceChanged = 74
+fault_number SourceFault = 75
 fault_number BadEvent = 80
 fault_number Stopped = 81
 fault_number (File _ _) = 90
@@ -51,6 +55,8 @@ fault_status (Unhappy _ _) = 4
 fault_status NotEnoughShares = 5
 fault_status Inconsistent = 6
 fault_status BadRange = 3
+fault_status SourceChanged = 7
+fault_status SourceFault = 7
 fault_status BadEvent = 3
 fault_status Stopped = 7
 fault_status (File _ _) = 7
@@ -68,6 +74,12 @@ fault_of_cap caps.BadNumber = Cap caps.BadNumber
 fault_of_cap caps.BadParameters = Cap caps.BadParameters
 fault_of_cap caps.WrongParts = Cap caps.WrongParts
 fault_of_cap caps.LitTooLong = Cap caps.LitTooLong
+
+-- the fault that a fault of a share's pieces becomes
+abbrev pub fault_of_piece : PieceFault → Fault
+fault_of_piece pieces.OutOfMemory = OutOfMemory
+fault_of_piece pieces.SourceChanged = SourceChanged
+fault_of_piece pieces.SourceFault = SourceFault
 
 -- the fault that an error of encoding becomes
 abbrev pub fault_of_encoding : EncodeError → Fault

@@ -44,11 +44,13 @@ abbrev pub finding_json : ℕ → Finding → List ℕ
 finding_json server f = finding_object (server_name server) (base32 f.file.place.0)
     f.file.place.1 (state_text f.state)
 
--- the line and the object of all
+-- the line of all, which tells of those that could not be read where there are some
 abbrev pub last_line : Scrubbed → List ℕ
 last_line s = codes "shares " ++ (decimal s.shares ++ (codes " damaged " ++ (decimal s.damaged
-    ++ (codes " unreadable " ++ (decimal s.unreadable ++ codes "\n")))))
+    ++ (if nat_eq s.unreadable 0 then codes "\n"
+    else codes " unreadable " ++ (decimal s.unreadable ++ codes "\n")))))
 
+-- the object of all
 abbrev pub last_json : Scrubbed → List ℕ
 last_json s = codes "{\"shares\":" ++ (decimal s.shares ++ (codes ",\"damaged\":"
     ++ (decimal s.damaged ++ (codes ",\"unreadable\":" ++ (decimal s.unreadable ++ codes "}\n")))))

@@ -1,11 +1,21 @@
-//! The lines that tell what a cap says.
+//! Caps that are read of texts, and the lines that tell what they say.
 
-ghost use Rattle.std.specs.Prelude.{◌≡◌, IfOk};
+ghost use Rattle.std.specs.Prelude.{◌≡◌, ◌↔◌, IfOk, Ok};
 ghost use Rattle.std.specs.String.{string_bytes};
+ghost use Rattle.cap_text.specs.CapText.{Spells};
+ghost use Rattle.cap_text.specs.declared.cap.Cap.{Cap};
 ghost use Rattle.grid_rules.specs.CapLines.{cap_lines, share_lines};
 
+use crate::fault::Fault;
 use cap_text::{Cap, VerifyCap};
 use std::alloc::{AllocError, Global};
+
+/// The cap that a text spells, or the fault of the text.
+pub fn read_cap(text: &str) -> Result<Cap, Fault>
+    ensures { (cap : Cap) → (result ≡ Ok cap) ↔ Spells text.now cap }
+{
+    Ok(Cap::parse(text.as_bytes())?)
+}
 
 /// The lines of a cap: its kind, its numbers, and the verify cap; of a literal cap its kind and
 /// size.

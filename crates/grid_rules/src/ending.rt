@@ -19,7 +19,7 @@ pub fn reached_happiness(status: &UploadStatus, wanted: u16) -> Result<usize, Fa
             reached: *reached,
             wanted,
         }),
-        UploadStatus::Failed(_) => Err(Fault::OutOfMemory),
+        UploadStatus::Failed(fault) => Err(Fault::from(*fault)),
     }
 }
 

@@ -3,8 +3,8 @@
 ghost use Rattle.std.specs.Prelude.{◌≡◌, ◌≢◌, ◌↔◌, IsTrue};
 ghost use Rattle.std.specs.IoError.{error_kind};
 ghost use Rattle.grid_rules.specs.Fault.{fault_number, fault_of_cap, fault_of_encoding};
-ghost use Rattle.grid_rules.specs.Fault.{fault_of_download, fault_of_loop, fault_of_reading};
-ghost use Rattle.grid_rules.specs.Fault.{fault_of_shares, fault_status};
+ghost use Rattle.grid_rules.specs.Fault.{fault_of_download, fault_of_loop, fault_of_piece};
+ghost use Rattle.grid_rules.specs.Fault.{fault_of_reading, fault_of_shares, fault_status};
 
 use cap_text::CapError;
 use download_core::status::DownloadError;
@@ -14,6 +14,7 @@ use local_grid::error::LoopError;
 use std::alloc::{AllocError, AllocFailed};
 use std::io::{self, ErrorKind};
 use thiserror::Error;
+use upload_core::pieces::PieceFault;
 
 /// A fault. Its text is its name and what belongs to it.
 #[derive(Debug, Drop, Error)]
@@ -45,6 +46,12 @@ pub enum Fault {
     /// The range ends before it begins, or behind the file's end.
     #[error("BadRange")]
     BadRange,
+    /// The file that is stored changed while it was read, or became shorter.
+    #[error("SourceChanged")]
+    SourceChanged,
+    /// The file that is stored could not be read to its end.
+    #[error("SourceFault")]
+    SourceFault,
     /// What a script says is not there, or cannot be.
     #[error("BadEvent")]
     BadEvent,
@@ -84,6 +91,8 @@ impl Fault {
             Fault::NotEnoughShares => 71,
             Fault::Inconsistent => 72,
             Fault::BadRange => 73,
+            Fault::SourceChanged => 74,
+            Fault::SourceFault => 75,
             Fault::BadEvent => 80,
             Fault::Stopped => 81,
             Fault::File(..) => 90,
@@ -95,8 +104,8 @@ impl Fault {
     }
 
     /// The exit status: 3 for refused input, 4 for an unhappy upload, 5 for too few shares, 6 for
-    /// inconsistent ones, and 7 for memory, a file, a folder or a socket, for too many turns, and
-    /// for a world that was stopped.
+    /// inconsistent ones, and 7 for memory, a file that fails or changes, a folder or a socket, for
+    /// too many turns, and for a world that was stopped.
     pub fn status(&self) -> u8
         ensures { result ≡ fault_status self.now }
     {
@@ -113,6 +122,8 @@ impl Fault {
             Fault::NotEnoughShares => 5,
             Fault::Inconsistent => 6,
             Fault::OutOfMemory
+            | Fault::SourceChanged
+            | Fault::SourceFault
             | Fault::Stopped
             | Fault::File(..)
             | Fault::Socket
@@ -148,6 +159,18 @@ impl From<CapError> for Fault {
         match error {
             CapError::OutOfMemory => Fault::OutOfMemory,
             _ => Fault::Cap(error),
+        }
+    }
+}
+
+impl From<PieceFault> for Fault {
+    ghost from_gives = { λ error fault. fault ≡ fault_of_piece error };
+
+    fn from(error: PieceFault) -> Fault {
+        match error {
+            PieceFault::OutOfMemory => Fault::OutOfMemory,
+            PieceFault::SourceChanged => Fault::SourceChanged,
+            PieceFault::SourceFault => Fault::SourceFault,
         }
     }
 }

@@ -21,7 +21,7 @@ mod servers;
 
 pub use checking::{report_lines, report_status};
 pub use checking_json::{missing_shares, report_json};
-pub use describing::cap_lines;
+pub use describing::{cap_lines, read_cap};
 pub use ending::{reached_happiness, reached_range_end, world_status};
 pub use fault::{Fault, is_memory};
 pub use limits::Limit;

@@ -48,11 +48,14 @@ impl Scrubbed {
         }
     }
 
-    /// The line of all files.
+    /// The line of all files. Those that could not be read are told where there are some.
     pub fn line(&self, alloc: Global) -> Result<String, AllocError>
         ensures { IfOk result (λ line. string_bytes line ≡ last_line self.now) }
     {
         let (shares, damaged, unreadable) = (self.shares, self.damaged, self.unreadable);
+        if unreadable == 0 {
+            return format!(in alloc; "shares {shares} damaged {damaged}\n");
+        }
         format!(in alloc; "shares {shares} damaged {damaged} unreadable {unreadable}\n")
     }
 
