@@ -86,10 +86,30 @@ where
 {
     let mut nodes = Vec::new(rt.alloc());
     for (server, link) in servers.iter().zip(links) {
-        leave_out(&mut nodes, *server)?;
-        nodes.push(open_server(rt, grid, *server, purpose, link)?)?;
+        add_node(rt, grid, *server, purpose, link, &mut nodes)?;
     }
     Ok(nodes)
+}
+
+// Puts a server with its link at its number. One whose folder cannot be made or read is silent.
+fn add_node<R>(
+    rt: &R,
+    grid: &str,
+    server: NodeId,
+    purpose: Purpose,
+    link: ServerLink<R>,
+    nodes: &mut Vec<Option<ServerNode<R>>>,
+) -> Result<(), Fault>
+where
+    R: Files + Net + AllocGlobal + Clone + Drop,
+{
+    leave_out(nodes, server)?;
+    let node = match open_server(rt, grid, server, purpose)? {
+        Some(server) => Some(Node::new(server, link)),
+        None => None,
+    };
+    nodes.push(node)?;
+    Ok(())
 }
 
 // So many links.
@@ -127,34 +147,37 @@ where
 fn leave_out<N: Drop>(nodes: &mut Vec<Option<N>>, server: NodeId) -> Result<(), AllocError>
     ensures long { OnOk result (server ≤ length nodes.new.items) }
 {
-    while nodes.len() < usize::from(server) {
+    for _ in nodes.len()..usize::from(server) {
         nodes.push(None)?;
     }
     Ok(())
 }
 
-// The server over its folder. One whose folder cannot be made or read is silent.
+// The server over its folder, if that can be made and read.
 fn open_server<R>(
     rt: &R,
     grid: &str,
     server: NodeId,
     purpose: Purpose,
-    link: ServerLink<R>,
-) -> Result<Option<ServerNode<R>>, Fault>
+) -> Result<Option<Server<FolderStore<R>>>, Fault>
 where
-    R: Files + Net + AllocGlobal + Clone + Drop,
+    R: Files + AllocGlobal + Clone + Drop,
 {
-    let alloc = rt.alloc();
-    let folder = server_folder(alloc, grid, server)?;
+    let folder = server_folder(rt.alloc(), grid, server)?;
     match FolderStore::open(rt, folder.as_str(), purpose) {
-        Ok(store) => {
-            let readonly = store.is_readonly();
-            let server = Server::start(alloc, store, CAPACITY, readonly);
-            Ok(Some(Node::new(server, link)))
-        }
+        Ok(store) => Ok(Some(serving(rt.alloc(), store))),
         Err(StoreError::StoreFault) => Ok(None),
         Err(StoreError::OutOfMemory) => Err(Fault::OutOfMemory),
     }
+}
+
+// The server of a store.
+fn serving<R>(alloc: Global, store: FolderStore<R>) -> Server<FolderStore<R>>
+where
+    R: Files + AllocGlobal + Clone + Drop,
+{
+    let readonly = store.is_readonly();
+    Server::start(alloc, store, CAPACITY, readonly)
 }
 
 /// Whether nothing comes from a server of a grid any more, or nothing ever came.

@@ -1,5 +1,5 @@
-use Rattle.std.proofs.Common.{◌-◌, length}
+use Rattle.std.proofs.Common.{◌≡◌, length}
 use Rattle.grid_servers.proofs.servers.leave_out.Given as goal
 
-abbrev pub decreases-loop-nodes : goal.decreases-loop-nodes
-decreases-loop-nodes g l = l.server - length l.nodes.items
+abbrev pub invariant-loop : goal.invariant-loop
+invariant-loop g l = length l.nodes.items ≡ l.counter
