@@ -1,8 +1,12 @@
-//! The tests of caps and of extension blocks: what no contract says, values from outside, and calls
-//! on their happy paths.
+//! The tests of caps, extension blocks and frames that no row of a text shows, and those of the
+//! record of requests.
 #![tactic(auto)]
 
 #[cfg(test)]
 mod cap_text_tests;
+#[cfg(test)]
+mod frames_tests;
+#[cfg(test)]
+mod requests_tests;
 #[cfg(test)]
 mod ueb_tests;

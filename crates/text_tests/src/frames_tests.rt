@@ -1,13 +1,10 @@
-//! Frames, against the table of the format, and bytes that a program in Python wrote from it.
+//! Frames in pieces, and where memory is refused. What bytes are read as is in the rows of
+//! text_rows, which have these frames too.
 
 use std::alloc::{AllocError, Global};
-use wire::decoding::decode;
 use wire::error::WireError;
 use wire::feed::Feed;
-use wire::kind::Kind;
-use wire::message::{
-    Body, HeldList, HeldShare, Message, ReadData, ReadLength, ShareId, ShareLength, WriteData,
-};
+use wire::message::Message;
 
 // One frame of each kind, in session 0x0102030405060708, numbered as its kind.
 const FRAMES: [&[u8]; 17] = [
@@ -92,124 +89,6 @@ const FAULTY: [(&str, &[u8], u8); 14] = [
     ),
 ];
 
-// Bytes that may still become a frame.
-const PARTIAL: [(&str, &[u8]); 5] = [
-    ("nothing", b""),
-    ("three bytes", b"\x00\x00\x00"),
-    ("the longest length", b"\x00\x01\x00\x00"),
-    ("a kind that is not whole", b"\x00\x00\x00\x02\xff"),
-    (
-        "a frame without its last byte",
-        b"\x00\x00\x00!\x01\x01\x02\x03\x04\x05\x06\x07\x08\x00\x00\x00\x00\x00\x00\x00\x01\x00\x01\x02\x03\x04\x05\x06\x07\x08\x09\x0a\x0b\x0c\x0d\x0e",
-    ),
-];
-
-const SESSION: u64 = 0x0102_0304_0506_0708;
-
-const ID: ShareId = ShareId {
-    index: [0, 1, 2, 3, 4, 5, 6, 7, 8, 9, 10, 11, 12, 13, 14, 15],
-    share: 3,
-};
-
-const DIGEST: [u8; 32] = [
-    32, 33, 34, 35, 36, 37, 38, 39, 40, 41, 42, 43, 44, 45, 46, 47, 48, 49, 50, 51, 52, 53, 54, 55,
-    56, 57, 58, 59, 60, 61, 62, 63,
-];
-
-// Whether a message of this session and number has this frame, and the body of it.
-fn has_frame(alloc: Global, session: u64, number: u64, body: Option<Body>, frame: &[u8]) -> bool {
-    let Some(body) = body else {
-        return false;
-    };
-    let message = Message {
-        session,
-        number,
-        body,
-    };
-    match (message.encode(alloc), message.encode_body(alloc)) {
-        (Ok(bytes), Ok(body)) => {
-            bytes.as_slice() == frame && frame.get(4..) == Some(body.as_slice())
-        }
-        _ => false,
-    }
-}
-
-fn allocate(bytes: u64) -> Option<Body> {
-    let id = ShareId {
-        index: [0; 16],
-        share: 3,
-    };
-    Some(Body::Allocate(id, ShareLength::new(bytes)?))
-}
-
-// An Ask, a Granted and an Allocate of 633 bytes, of session 1.
-const WORKED: [&[u8]; 3] = [
-    b"\x00\x00\x00!\x01\x00\x00\x00\x00\x00\x00\x00\x01\x00\x00\x00\x00\x00\x00\x00\x01\x00\x00\x00\x00\x00\x00\x00\x00\x00\x00\x00\x00\x00\x00\x00\x00",
-    b"\x00\x00\x00\x11\x04\x00\x00\x00\x00\x00\x00\x00\x01\x00\x00\x00\x00\x00\x00\x00\x02",
-    b"\x00\x00\x00+\x03\x00\x00\x00\x00\x00\x00\x00\x01\x00\x00\x00\x00\x00\x00\x00\x02\x00\x00\x00\x00\x00\x00\x00\x00\x00\x00\x00\x00\x00\x00\x00\x00\x00\x03\x00\x00\x00\x00\x00\x00\x02y",
-];
-
-#[test]
-fn worked_frames(rt: HostRuntime) {
-    let alloc = rt.alloc();
-    assert!(rt; has_frame(alloc, 1, 1, Some(Body::Ask([0; 16])), WORKED[0]));
-    assert!(rt; has_frame(alloc, 1, 2, Some(Body::Granted), WORKED[1]));
-    assert!(rt; has_frame(alloc, 1, 2, allocate(633), WORKED[2]));
-}
-
-fn have(alloc: Global) -> Option<Body> {
-    let first = HeldShare {
-        share: 0,
-        digest: DIGEST,
-    };
-    let last = HeldShare {
-        share: 255,
-        digest: [0xee; 32],
-    };
-    let held = vec![in alloc; first, last].ok()?;
-    Some(Body::Have(true, HeldList::from_vec(held)?))
-}
-
-fn write(alloc: Global) -> Option<Body> {
-    let data = WriteData::from_vec(b"abc".to_vec(alloc).ok()?)?;
-    Some(Body::Write(ID, u64::MAX, data))
-}
-
-fn read() -> Option<Body> {
-    Some(Body::Read(ID, 5, ReadLength::new(32_768)?))
-}
-
-// The kinds with several fields, from their values.
-#[test]
-fn several_fields(rt: HostRuntime) {
-    let alloc = rt.alloc();
-    assert!(rt; has_frame(alloc, SESSION, 2, have(alloc), FRAMES[1]));
-    assert!(rt; has_frame(alloc, SESSION, 8, write(alloc), FRAMES[7]));
-    assert!(rt; has_frame(alloc, SESSION, 15, read(), FRAMES[14]));
-}
-
-// Whether a frame is one of this kind, in the session of all and numbered as its kind.
-fn is_of_kind(alloc: Global, frame: &[u8], number: u8) -> bool {
-    let Ok(message) = decode(alloc, frame.get(4..).unwrap_or(&[])) else {
-        return false;
-    };
-    if message.session != SESSION || message.number != u64::from(number) {
-        return false;
-    }
-    let Message { body, .. } = message;
-    Kind::of(&body).number() == number
-        && has_frame(alloc, SESSION, u64::from(number), Some(body), frame)
-}
-
-#[test]
-fn each_kind(rt: HostRuntime) {
-    let mut number: u8 = 0;
-    for frame in FRAMES {
-        number = number.wrapping_add(1);
-        assert!(rt; is_of_kind(rt.alloc(), frame, number), "kind {number}");
-    }
-}
-
 // Appends the frame of a message. No, where memory is out.
 fn appends(alloc: Global, out: &mut Vec<u8>, message: &Message) -> bool {
     match message.encode(alloc) {
@@ -280,31 +159,6 @@ fn told(feed: &mut Feed) -> u8 {
         Ok(None) => 0,
         Ok(Some(_)) => 255,
         Err(error) => error.number(),
-    }
-}
-
-// Whether bytes that begin so have this refusal, and still have it behind more bytes.
-fn has_refusal(alloc: Global, bytes: &[u8], number: u8) -> bool {
-    let mut feed = Feed::new(alloc);
-    feed.feed(bytes).is_ok()
-        && told(&mut feed) == number
-        && feed.feed(b"more").is_ok()
-        && told(&mut feed) == number
-}
-
-// Whether these bytes begin a frame that is not whole.
-fn is_partial(alloc: Global, bytes: &[u8]) -> bool {
-    let mut feed = Feed::new(alloc);
-    feed.feed(bytes).is_ok() && told(&mut feed) == 0
-}
-
-#[test]
-fn faults(rt: HostRuntime) {
-    for &(what, bytes, number) in &FAULTY {
-        assert!(rt; has_refusal(rt.alloc(), bytes, number), "{what}");
-    }
-    for &(what, bytes) in &PARTIAL {
-        assert!(rt; is_partial(rt.alloc(), bytes), "{what}");
     }
 }
 
