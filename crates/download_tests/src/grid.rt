@@ -98,11 +98,18 @@ fn read_cap(encoded: &Encoded) -> Option<ReadCap> {
 // Each share once.
 fn one_each(alloc: Global, shape: &Shape) -> Option<Vec<Placed>> {
     let mut placed = Vec::new(alloc);
-    for number in 0..shape.total.min(256) as usize {
-        let server = (number % shape.servers.clamp(1, 1000)) as u16;
-        placed.push((server, number as u8, number as u8)).ok()?;
+    for number in 0..=u8::MAX {
+        if u64::from(number) < shape.total {
+            let server = server_of(shape, number);
+            placed.push((server, number, number)).ok()?;
+        }
     }
     Some(placed)
+}
+
+// The server of a share.
+fn server_of(shape: &Shape, number: u8) -> NodeId {
+    (usize::from(number) % shape.servers.clamp(1, 1000)) as u16
 }
 
 fn held_of(alloc: Global, encoded: &Encoded, placed: &[Placed]) -> Option<Vec<Held>> {

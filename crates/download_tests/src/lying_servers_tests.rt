@@ -251,7 +251,15 @@ fn what_is_proved_is_handed_out_before_silence(rt: HostRuntime) {
 
 // What proves all of the small file, from these shares.
 fn evidence_from(alloc: Global, placed: &[Placed]) -> Option<Evidence> {
-    course_from(alloc, &SMALL, placed, &Wrong::Nothing)?.proved(8)
+    let course = course_from(alloc, &SMALL, placed, &Wrong::Nothing);
+    evidence_of(&course)
+}
+
+fn evidence_of(course: &Option<Course>) -> Option<Evidence> {
+    match course {
+        Some(course) => course.proved(8),
+        None => None,
+    }
 }
 
 // Whether downloads of one file from other shares have one segment for each number.

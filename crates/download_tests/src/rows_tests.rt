@@ -4,7 +4,6 @@ use crate::course::{Blamed, Course, Reads, Wanted};
 use crate::grid::{BLOCKS, Fault, Place, Shape, Wrong};
 use crate::shapes::course_of;
 use download_core::status::DownloadStatus;
-use std::alloc::Global;
 
 // 26 segments and 100 bytes, at three of five servers. Each block is as long as one read.
 const SIZE: usize = 26 * 98_304 + 100;
@@ -20,41 +19,43 @@ const ROWS: Shape = Shape {
     mark: 0,
 };
 
-// Does all of the file come, with so many shares blamed?
-fn is_whole(course: &Course, blamed: usize) -> bool {
-    course.ended(&Wanted {
-        status: DownloadStatus::Done,
-        bytes: SIZE,
-        parts: Some(27),
-        blamed: Blamed::Count(blamed),
-        reads: Reads::Any,
-    })
-}
+// All of the file comes.
+const WHOLE: Wanted = Wanted {
+    status: DownloadStatus::Done,
+    bytes: SIZE,
+    parts: Some(27),
+    blamed: Blamed::Count(0),
+    reads: Reads::Any,
+};
 
-// Are all segments handed out, eight at once as often as there are eight?
-fn rows_come(alloc: Global) -> bool {
-    let rows: [usize; 6] = [8, 8, 8, 1, 1, 1];
-    match course_of(alloc, &ROWS, &Wrong::Nothing, (0, SIZE)) {
-        Some(course) => is_whole(&course, 0) && course.pieces.as_slice() == rows.as_slice(),
-        None => false,
-    }
-}
+// All of it comes, and one share is blamed.
+const WHOLE_BUT_ONE: Wanted = Wanted {
+    status: DownloadStatus::Done,
+    bytes: SIZE,
+    parts: Some(27),
+    blamed: Blamed::Count(1),
+    reads: Reads::Any,
+};
 
-// Are all segments handed out, and one share blamed, where one block of the second row is wrong?
-fn comes_without_a_share(alloc: Global) -> bool {
-    let wrong = Wrong::Share(0, Fault::Flipped, Place::In(BLOCKS, 10 * BLOCK));
-    match course_of(alloc, &ROWS, &wrong, (0, SIZE)) {
-        Some(course) => is_whole(&course, 1) && course.pieces.first().copied() == Some(8),
-        None => false,
+// One block of the second row is wrong.
+const WRONG_BLOCK: Wrong = Wrong::Share(0, Fault::Flipped, Place::In(BLOCKS, 10 * BLOCK));
+
+// How many pieces were handed out each time, of a download that ended so.
+fn pieces_of<'a>(course: &'a Option<Course>, wanted: &Wanted) -> &'a [usize] {
+    match course {
+        Some(course) if course.ended(wanted) => course.pieces.as_slice(),
+        _ => &[],
     }
 }
 
 #[test]
 fn eight_segments_are_made_at_once(rt: HostRuntime) {
-    assert!(rt; rows_come(rt.alloc()));
+    let course = course_of(rt.alloc(), &ROWS, &Wrong::Nothing, (0, SIZE));
+    assert!(rt; pieces_of(&course, &WHOLE) == [8usize, 8, 8, 1, 1, 1].as_slice());
 }
 
 #[test]
 fn a_wrong_block_of_a_row_is_blamed(rt: HostRuntime) {
-    assert!(rt; comes_without_a_share(rt.alloc()));
+    let course = course_of(rt.alloc(), &ROWS, &WRONG_BLOCK, (0, SIZE));
+    assert!(rt; pieces_of(&course, &WHOLE_BUT_ONE).first().copied() == Some(8));
 }
