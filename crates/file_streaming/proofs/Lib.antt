@@ -1,0 +1,16 @@
+pub mod OneByOne
+pub mod Blocks
+pub mod Given
+pub mod KeyReading
+pub mod Segments
+pub mod ShareBlocks
+pub mod SecondPass
+pub mod TwoPasses
+pub mod Digests
+pub mod Keeping
+pub mod PieceTexts
+pub mod BlockLists
+pub mod OtherBytes
+pub mod MadeBlocks
+pub mod BlockPuts
+pub mod Sections

@@ -1,0 +1,12 @@
+use Rattle.std.proofs.Common.{◌≡◌, ℕ, [], ◌∷◌, ◌++◌, map, ap, sym, ◌∙◌, zero-add}
+use Rattle.std.proofs.lemmas.List.{map_push}
+use Rattle.std.proofs.lemmas.List.FromFn.{map-range_with_len_more}
+use Rattle.file_encoding.specs.Encoding.{share_hashes}
+use Rattle.file_streaming.proofs.finishing.write_all_hashes.Goals as goal
+
+pub loop-number-preserved : goal.loop-number-preserved
+loop-number-preserved c =
+    let n : ℕ = c.loop-number.number in
+    ap (map (λ (h : _). h.items)) c.in_ok-push.ensures.items ∙ map_push (λ (h : _). h.items) c.loop-number.hashes.items c.in_ok-write_share_hashes.field-0
+    ∙ (λ p. c.loop-number.invariant p ++ c.in_ok-write_share_hashes.ensures p ∷ [])
+    ∙ sym (map-range_with_len_more (share_hashes c.args.tree.now) 0 n n (zero-add n))

@@ -1,0 +1,7 @@
+use Rattle.std.proofs.Common.{◌≡◌, map}
+use Rattle.std.specs.List.{range_with_len}
+use Rattle.file_encoding.specs.Encoding.{share_hashes}
+use Rattle.file_streaming.proofs.finishing.write_all_hashes.Given as goal
+
+abbrev pub invariant-loop-number : goal.invariant-loop-number
+invariant-loop-number l = map (λ h. h.items) l.hashes.items ≡ map (share_hashes l.tree) (range_with_len 0 l.number)

@@ -1,0 +1,11 @@
+use Rattle.std.proofs.Common.{◌≡◌, length}
+use Rattle.file_streaming.proofs.SecondPass.{IsGatheredTo}
+use Rattle.file_streaming.proofs.gathering.gather.Given as goal
+
+abbrev pub invariant-loop-number : goal.invariant-loop-number
+invariant-loop-number g l = record {
+  to : IsGatheredTo g.S.Source.gives l.fn.source l.geometry l.encoder.cipher l.fn.hasher l.number l.gathering l.source;
+  shares : length l.gathering.shares.items ≡ l.geometry.total;
+  size : g.S.Source.size l.source ≡ g.S.Source.size l.fn.source;
+  failures : g.S.Source.failures l.source ≡ g.S.Source.failures l.fn.source;
+}

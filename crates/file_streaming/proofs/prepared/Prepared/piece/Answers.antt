@@ -1,0 +1,103 @@
+use Rattle.std.proofs.Common.{rules, ◌≡◌, ℕ, ◌+◌, ◌<◌, ◌≤◌, List, [], ◌++◌, length, get_or, ap, subst, sym, ◌∙◌, arith}
+use Rattle.std.proofs.lemmas.List.{get_or_default, length-replicate}
+use Rattle.share_layout.specs.Geometry.{share_data_size, tree_size}
+use Rattle.share_layout.specs.Layout.{header_size, layout_of}
+use Rattle.share_verify.specs.Pieces.{joined}
+use Rattle.file_streaming.specs.Making.{HasBlocks, IsMaking, IsPieceOf, Making}
+use Rattle.file_streaming.specs.Piece.{GivesPiece, leaves_of}
+use Rattle.file_streaming.specs.Prepared.{PreparedFile, share_length}
+use Rattle.file_streaming.specs.declared.prepared.Prepared.TheInside.{Inside}
+use Rattle.file_streaming.proofs.MadeBlocks.{same_error}
+use Rattle.file_streaming.proofs.PieceTexts.{piece-zeros, zeros}
+use Rattle.file_streaming.proofs.Sections.{blocks_of_any, is_making, kept_digests, share_short, texts_of, tree_count}
+use Rattle.file_streaming.proofs.prepared.Prepared.piece.Goals as goal
+
+-- what contracts see of the fields
+abbrev seen : Inside → PreparedFile
+seen i = record {
+  geometry = i.geometry;
+  cap = i.cap;
+  extension_block = i.extension_block.items;
+  leaves = i.ciphertext_tree;
+  block_leaves = i.block_trees.items;
+  digests = i.digests.items;
+}
+
+pub index-requires : goal.index-requires
+index-requires g c =
+    let i : Inside = c.self.inside in
+    omega (
+      arith,
+      c.from.ensures,
+      kept_digests (seen i) (texts_of i.share_hashes.items) i.encoder i.buffers c.self.invariant,
+      tree_count (seen i) (texts_of i.share_hashes.items) i.encoder i.buffers c.self.invariant,
+      ap (λ (p : PreparedFile). length p.digests) c.self.view_is,
+    )
+
+pub invariant_of-maker : goal.invariant_of-maker
+invariant_of-maker g c =
+    let i : Inside = c.self.inside in
+    let low : c.args.share < i.geometry.total =
+    omega (arith, kept_digests (seen i) (texts_of i.share_hashes.items) i.encoder i.buffers c.self.invariant, ap (λ (p : PreparedFile). length p.digests) c.self.view_is) in
+    let there : c.from.result < length i.block_trees.items =
+    omega (arith, c.from.ensures, low, tree_count (seen i) (texts_of i.share_hashes.items) i.encoder i.buffers c.self.invariant) in
+    let tree : c.index.result.now ≡ get_or i.block_trees.items c.args.share [] =
+    c.index.ensures ∙ get_or_default i.block_trees.items c.from.result c.index.result.now [] there ∙ ap (λ n. get_or i.block_trees.items n []) c.from.ensures in
+    let family : List (List ℕ) → Making = λ h. record { geometry = i.geometry; key = i.encoder.cipher; share = c.args.share; hashes = h } in
+    subst (λ (h : List (List ℕ)). IsMaking (family h) i.encoder.code) (sym tree)
+    (is_making (seen i) (texts_of i.share_hashes.items) i.encoder i.buffers c.self.invariant c.args.share low)
+
+pub put_blocks-requires-clause-inside : goal.put_blocks-requires-clause-inside
+put_blocks-requires-clause-inside g c =
+    let i : Inside = c.self.inside in
+    omega (
+      arith,
+      c.requires.inside,
+      c.fill.ensures.len,
+      share_short (seen i) (texts_of i.share_hashes.items) i.encoder i.buffers c.self.invariant,
+      ap (λ (p : PreparedFile). share_length p) c.self.view_is,
+    )
+
+pub returns-in_err-put_blocks-clause-changed : goal.returns-in_err-put_blocks-clause-changed
+returns-in_err-put_blocks-clause-changed g c = λ e file secret q is.
+    let i : Inside = c.self.inside in
+    let low : c.args.share < i.geometry.total =
+    omega (arith, c.requires.number, kept_digests (seen i) (texts_of i.share_hashes.items) i.encoder i.buffers c.self.invariant, ap (λ (p : PreparedFile). length p.digests) c.self.view_is) in
+    let there : c.from.result < length i.block_trees.items =
+    omega (arith, c.from.ensures, low, tree_count (seen i) (texts_of i.share_hashes.items) i.encoder i.buffers c.self.invariant) in
+    let tree : c.index.result.now ≡ get_or i.block_trees.items c.args.share [] =
+    c.index.ensures ∙ get_or_default i.block_trees.items c.from.result c.index.result.now [] there ∙ ap (λ n. get_or i.block_trees.items n []) c.from.ensures in
+    let family : List (List ℕ) → Making = λ h. record { geometry = i.geometry; key = i.encoder.cipher; share = c.args.share; hashes = h } in
+    let blocks : HasBlocks (family (leaves_of (seen i) c.args.share)) file =
+    blocks_of_any (seen i) (texts_of i.share_hashes.items) i.encoder i.buffers c.self.invariant c.args.share low file secret q (c.self.view_is ∙ is) in
+    c.in_err-put_blocks.ensures.changed (same_error c.from_residual.result _ _ c.from_residual.ensures.1 e) file
+    (subst (λ (h : List (List ℕ)). HasBlocks (family h) file) (sym tree) blocks)
+
+pub returns-clause-gives : goal.returns-clause-gives
+returns-clause-gives g c =
+    let i : Inside = c.self.inside in
+    let low : c.args.share < i.geometry.total =
+    omega (arith, c.requires.number, kept_digests (seen i) (texts_of i.share_hashes.items) i.encoder i.buffers c.self.invariant, ap (λ (p : PreparedFile). length p.digests) c.self.view_is) in
+    let there : c.from.result < length i.block_trees.items =
+    omega (arith, c.from.ensures, low, tree_count (seen i) (texts_of i.share_hashes.items) i.encoder i.buffers c.self.invariant) in
+    let tree : c.index.result.now ≡ get_or i.block_trees.items c.args.share [] =
+    c.index.ensures ∙ get_or_default i.block_trees.items c.from.result c.index.result.now [] there ∙ ap (λ n. get_or i.block_trees.items n []) c.from.ensures in
+    let put = c.in_ok-put_blocks.ensures.put in
+    let n : ℕ = length c.args.out.now in
+    let front : List ℕ = zeros (header_size (layout_of i.geometry)) in
+    let text : List ℕ = zeros (share_data_size i.geometry) in
+    let rest : List ℕ = zeros (share_length (seen i)) in
+    let within : c.args.offset + n ≤ share_length (seen i) = omega (arith, c.requires.inside, ap (λ (p : PreparedFile). share_length p) c.self.view_is) in
+    let cleared : c.fill.new.self ≡ zeros n = c.fill.ensures.after (search rules) in
+    let begun : IsPieceOf (front ++ text ++ (zeros (tree_size i.geometry) ++ rest)) c.args.offset c.fill.new.self =
+    subst (λ (o : List ℕ). IsPieceOf (front ++ text ++ (zeros (tree_size i.geometry) ++ rest)) c.args.offset o) (sym cleared)
+    (piece-zeros c.args.offset n (header_size (layout_of i.geometry)) (share_data_size i.geometry) (tree_size i.geometry) (share_length (seen i)) (omega (arith, within))) in
+    let long : length front ≡ header_size (layout_of i.geometry) = length-replicate (header_size (layout_of i.geometry)) 0 in
+    let given : GivesPiece (seen i) c.args.share c.args.offset c.put_sections.new.out = record {
+      blocks = put.blocks;
+      hashes = put.hashes ∙ tree;
+      size = put.size;
+      piece = c.put_sections.ensures front (joined put.blocks) rest long put.size
+          (put.put front text (zeros (tree_size i.geometry) ++ rest) long (length-replicate (share_data_size i.geometry) 0) begun);
+    } in
+    subst (λ (p : PreparedFile). GivesPiece p c.args.share c.args.offset c.put_sections.new.out) c.self.view_is given

@@ -1,0 +1,15 @@
+-- what public contracts rest on
+pub mod PrepareError
+pub mod PieceError
+pub mod Prepared
+pub mod Gathered
+pub mod Making
+pub mod Piece
+pub mod Laws
+-- words of private clauses
+pub mod KeyReading
+pub mod Shares
+pub mod Gathering
+pub mod Finishing
+pub mod Passes
+pub mod Kept

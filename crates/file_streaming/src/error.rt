@@ -1,0 +1,101 @@
+//! Why a file is not made ready.
+
+ghost use Rattle.std.specs.Prelude.{◌≡◌};
+ghost use Rattle.file_streaming.specs.PieceError.{piece_error_of, piece_number};
+ghost use Rattle.file_streaming.specs.PrepareError.{error_of, refusal_number};
+
+use sources::PartFault;
+use std::alloc::{AllocError, AllocFailed};
+
+/// Why a file is not made ready for its upload.
+#[derive(Clone, Copy, Debug, PartialEq, Eq)]
+pub enum PrepareError {
+    /// No memory was left (number 1).
+    OutOfMemory,
+    /// The file has more than `ueb::MAX_FILE_SIZE` bytes (number 30).
+    TooLarge,
+    /// The file has more than `ueb::MAX_SEGMENTS` segments of this size (number 31).
+    TooManySegments,
+    /// The source brought different bytes for one place, or ended early (number 74).
+    SourceChanged,
+    /// A read of the source failed (number 75).
+    SourceFault,
+}
+
+impl PrepareError {
+    /// The number of the refusal.
+    pub fn number(self) -> u8
+        ensures { result ≡ refusal_number self }
+    {
+        match self {
+            PrepareError::OutOfMemory => 1,
+            PrepareError::TooLarge => 30,
+            PrepareError::TooManySegments => 31,
+            PrepareError::SourceChanged => 74,
+            PrepareError::SourceFault => 75,
+        }
+    }
+}
+
+impl From<AllocError> for PrepareError {
+    ghost use Rattle.file_streaming.specs.declared.error.PrepareError.TheVariants.{OutOfMemory};
+
+    ghost from_gives = { λ _ e. e ≡ OutOfMemory };
+
+    fn from(_error: AllocError) -> PrepareError {
+        PrepareError::OutOfMemory
+    }
+}
+
+impl<T: Drop> From<AllocFailed<T>> for PrepareError {
+    ghost use Rattle.file_streaming.specs.declared.error.PrepareError.TheVariants.{OutOfMemory};
+
+    ghost from_gives = { λ _ e. e ≡ OutOfMemory };
+
+    fn from(_error: AllocFailed<T>) -> PrepareError {
+        PrepareError::OutOfMemory
+    }
+}
+
+impl From<PartFault> for PrepareError {
+    ghost from_gives = { λ fault e. e ≡ error_of fault };
+
+    fn from(fault: PartFault) -> PrepareError {
+        match fault {
+            PartFault::Ended => PrepareError::SourceChanged,
+            PartFault::Unreadable => PrepareError::SourceFault,
+        }
+    }
+}
+
+/// Why a piece of a share could not be had.
+#[derive(Clone, Copy, Debug, PartialEq, Eq)]
+pub enum PieceError {
+    /// The source has not the bytes any more that its shares are made of (number 74).
+    SourceChanged,
+    /// A read of the source failed (number 75).
+    SourceFault,
+}
+
+impl PieceError {
+    /// The number of the refusal.
+    pub fn number(self) -> u8
+        ensures { result ≡ piece_number self }
+    {
+        match self {
+            PieceError::SourceChanged => 74,
+            PieceError::SourceFault => 75,
+        }
+    }
+}
+
+impl From<PartFault> for PieceError {
+    ghost from_gives = { λ fault e. e ≡ piece_error_of fault };
+
+    fn from(fault: PartFault) -> PieceError {
+        match fault {
+            PartFault::Ended => PieceError::SourceChanged,
+            PartFault::Unreadable => PieceError::SourceFault,
+        }
+    }
+}

@@ -1,0 +1,293 @@
+// What follows from the leaves that a pass over a file gathered: trees, the extension block and the
+// digests of the shares.
+
+ghost use Rattle.std.specs.Prelude.{◌≡◌, ◌+◌, ◌*◌, ◌<◌, ◌≤◌, ◌^◌, ◌++◌, ℕ, List, length, map, All};
+ghost use Rattle.std.specs.Prelude.{replicate, take, IfOk};
+ghost use Rattle.std.specs.List.{range_with_len};
+ghost use Rattle.merkle.specs.Tree.{height, needed_numbers, tree_root};
+ghost use Rattle.tagged_hash.specs.TaggedHash.{tagged_hash};
+ghost use Rattle.tagged_hash.specs.TaggedHasher.{Holds};
+ghost use Rattle.tagged_hash.specs.declared.tag.Tag.TheVariants.{Ciphertext, WholeShare};
+ghost use Rattle.ueb.specs.Block.{ueb_text};
+ghost use Rattle.ueb.specs.Limits.{max_length};
+ghost use Rattle.ueb.specs.Shape.{IsFile, IsSegmentSize};
+ghost use Rattle.share_layout.specs.Layout.{spelled};
+ghost use Rattle.file_encoding.specs.Blocks.{numbered};
+ghost use Rattle.file_encoding.specs.Encoding.{share_hashes};
+ghost use Rattle.file_streaming.specs.Finishing.{HaveLeaves, IsFinished, bytes_behind};
+ghost use Rattle.file_streaming.specs.Gathered.{Gathered, IsGathered};
+ghost use Rattle.file_streaming.specs.Shares.{AreGiven, HoldShares};
+
+use crate::geometry::{build_tree, write_extension_block};
+use crate::shares::ShareSoFar;
+use merkle::Tree;
+use share_layout::{Geometry, Layout};
+use std::alloc::{AllocError, Global};
+use tagged_hash::TaggedHasher;
+
+/// What the shares of a file hold behind their blocks, beside the tree that is no longer used.
+#[derive(Drop)]
+pub(crate) struct Behind {
+    pub ciphertext_tree: Tree,
+    pub block_trees: Vec<Tree>,
+    pub share_hashes: Vec<Vec<u8>>,
+    pub extension_block: Vec<u8>,
+}
+
+/// What is kept of a file beside its key: what its shares hold behind their blocks, and their
+/// digests.
+#[derive(Drop)]
+pub(crate) struct Finished {
+    pub behind: Behind,
+    pub digests: Vec<[u8; 32]>,
+}
+
+// The trees of a file: over its segments, over the blocks of each share, and over the roots of
+// these.
+#[derive(Drop)]
+struct Trees {
+    ciphertext: Tree,
+    blocks: Vec<Tree>,
+    shares: Tree,
+}
+
+// The trees over the leaves of the shares.
+fn build_block_trees(alloc: Global, shares: &[ShareSoFar]) -> Result<Vec<Tree>, AllocError>
+    requires { All (λ share. HaveLeaves share.leaves.items) shares.now }
+    ensures { IfOk result
+        (λ trees. trees.items ≡ map (λ share. share.leaves.items) shares.now) }
+{
+    let mut trees = Vec::with_capacity(alloc, shares.len())?;
+    for share in shares {
+        trees.push(build_tree(alloc, &share.leaves)?)?;
+    }
+    Ok(trees)
+}
+
+// The tree over the roots of trees.
+fn build_share_tree(alloc: Global, block_trees: &[Tree]) -> Result<Tree, AllocError>
+    requires some { 0 < length block_trees.now }
+    requires few { length block_trees.now ≤ 256 }
+    ensures { IfOk result (λ tree. tree ≡ map tree_root block_trees.now) }
+{
+    let mut roots = Vec::with_capacity(alloc, block_trees.len())?;
+    for tree in block_trees {
+        roots.push(tree.root())?;
+    }
+    build_tree(alloc, &roots)
+}
+
+// The trees over the leaves of a file's segments and of its shares.
+fn build_trees(
+    alloc: Global,
+    leaves: &[[u8; 32]],
+    shares: &[ShareSoFar],
+) -> Result<Trees, AllocError>
+    requires leaves { HaveLeaves leaves.now }
+    requires all { All (λ share. HaveLeaves share.leaves.items) shares.now }
+    requires some { 0 < length shares.now }
+    requires few { length shares.now ≤ 256 }
+    ensures ciphertext { IfOk result (λ trees. trees.ciphertext ≡ leaves.now) }
+    ensures blocks { IfOk result
+        (λ trees. trees.blocks.items ≡ map (λ share. share.leaves.items) shares.now) }
+    ensures shares { IfOk result (λ trees. trees.shares ≡ map tree_root trees.blocks.items) }
+{
+    let ciphertext = build_tree(alloc, leaves)?;
+    let blocks = build_block_trees(alloc, shares)?;
+    let shares = build_share_tree(alloc, &blocks)?;
+    Ok(Trees {
+        ciphertext,
+        blocks,
+        shares,
+    })
+}
+
+// The numbers of the nodes that lead from a leaf to the root.
+fn needed_nodes(alloc: Global, tree: &Tree, leaf: u16) -> Result<Vec<u32>, AllocError>
+    requires { leaf < length tree.now }
+    ensures numbers { IfOk result (λ numbers. numbers.items ≡ needed_numbers
+        (height (length tree.now)) leaf) }
+{
+    match tree.needed(alloc, u32::from(leaf)) {
+        Ok(numbers) => Ok(numbers),
+        Err(_) => Err(AllocError),
+    }
+}
+
+// The nodes of these numbers, each behind its number in two bytes.
+fn write_numbered(alloc: Global, nodes: &[[u8; 32]], numbers: &[u32]) -> Result<Vec<u8>, AllocError>
+    requires inside { All (λ n. n < length nodes.now) numbers.now }
+    requires few { length nodes.now ≤ 2 ^ 16 }
+    ensures { IfOk result (λ bytes. bytes.items ≡ numbered nodes.now numbers.now) }
+{
+    let mut bytes = Vec::new(alloc);
+    for number in numbers {
+        bytes.extend_from_slice(&(*number as u16).to_be_bytes())?;
+        bytes.extend_from_slice(&nodes[*number as usize])?;
+    }
+    Ok(bytes)
+}
+
+// The hashes that a share carries of the share tree.
+fn write_share_hashes(alloc: Global, tree: &Tree, share: u16) -> Result<Vec<u8>, AllocError>
+    requires there { share < length tree.now }
+    requires few { length tree.now ≤ 256 }
+    ensures { IfOk result (λ hashes. hashes.items ≡ share_hashes tree.now share) }
+{
+    let numbers = needed_nodes(alloc, tree, share)?;
+    write_numbered(alloc, tree.nodes(), &numbers)
+}
+
+// The share hashes of all shares.
+fn write_all_hashes(alloc: Global, tree: &Tree, total: u16) -> Result<Vec<Vec<u8>>, AllocError>
+    requires all { length tree.now ≡ total }
+    requires few { total ≤ 256 }
+    ensures { IfOk result (λ hashes. map (λ h. h.items) hashes.items
+        ≡ map (share_hashes tree.now) (range_with_len 0 total)) }
+{
+    let mut hashes = Vec::with_capacity(alloc, usize::from(total))?;
+    for number in 0..total {
+        hashes.push(write_share_hashes(alloc, tree, number)?)?;
+    }
+    Ok(hashes)
+}
+
+// What shares hold behind their blocks, by the trees of their file and the hash of its ciphertext.
+fn write_behind(
+    alloc: Global,
+    geometry: &Geometry,
+    crypttext_hash: [u8; 32],
+    trees: Trees,
+) -> Result<Behind, AllocError>
+    requires all { length trees.shares ≡ geometry.now.total }
+    requires file { IsFile geometry.now.needed geometry.now.total geometry.now.size }
+    requires segments { IsSegmentSize geometry.now.needed geometry.now.size
+        geometry.now.segment_size }
+    ensures ciphertext { IfOk result (λ behind. behind.ciphertext_tree ≡ trees.ciphertext) }
+    ensures blocks { IfOk result (λ behind. behind.block_trees.items ≡ trees.blocks.items) }
+    ensures hashes { IfOk result (λ behind. map (λ h. h.items) behind.share_hashes.items
+        ≡ map (share_hashes trees.shares) (range_with_len 0 geometry.now.total)) }
+    ensures extension_block { IfOk result (λ behind. behind.extension_block.items
+        ≡ ueb_text (record {
+          needed_shares = geometry.now.needed;
+          total_shares = geometry.now.total;
+          size = geometry.now.size;
+          segment_size = geometry.now.segment_size;
+          crypttext_hash = crypttext_hash;
+          crypttext_root_hash = tree_root trees.ciphertext;
+          share_root_hash = tree_root trees.shares;
+        })) }
+    ensures short { IfOk result (λ behind. length behind.extension_block.items ≤ max_length) }
+{
+    let share_hashes = write_all_hashes(alloc, &trees.shares, geometry.total())?;
+    let extension_block = write_extension_block(
+        alloc,
+        geometry,
+        crypttext_hash,
+        trees.ciphertext.root(),
+        trees.shares.root(),
+    )?;
+    Ok(Behind {
+        ciphertext_tree: trees.ciphertext,
+        block_trees: trees.blocks,
+        share_hashes,
+        extension_block,
+    })
+}
+
+/// A length as it stands before the extension block in a share, at the beginning of eight bytes,
+/// and how many of them there are.
+pub(crate) fn spelled_length(layout: Layout, len: usize) -> ([u8; 8], usize)
+    requires { len < 2 ^ 32 }
+    ensures text { take result.1 result.0 ≡ spelled layout len }
+    ensures short { result.1 ≤ 8 }
+{
+    match layout {
+        Layout::One => {
+            let bytes = (len as u32).to_be_bytes();
+            ([bytes[0], bytes[1], bytes[2], bytes[3], 0, 0, 0, 0], 4)
+        }
+        Layout::Two => ((len as u64).to_be_bytes(), 8),
+    }
+}
+
+// Adds so many rows of 32 zero bytes.
+fn add_zeros(whole: &mut TaggedHasher, rows: u32)
+    ensures { (given : List ℕ) → Holds whole.old WholeShare given
+        → Holds whole.new WholeShare (given ++ replicate (rows * 32) 0) }
+{
+    for _row in 0..rows {
+        whole.update(&[0; 32]);
+    }
+}
+
+// The digest of the share of a number, whose header and blocks the hasher was given.
+fn finish_digest(
+    geometry: &Geometry,
+    mut whole: TaggedHasher,
+    behind: &Behind,
+    number: usize,
+) -> [u8; 32]
+    requires tree { number < length behind.now.block_trees.items }
+    requires hashes { number < length behind.now.share_hashes.items }
+    requires short { length behind.now.extension_block.items ≤ max_length }
+    ensures { (given : List ℕ) → Holds whole WholeShare given → result
+        ≡ tagged_hash WholeShare (given ++ bytes_behind geometry.now behind.now number) }
+{
+    add_zeros(&mut whole, geometry.tree_size() / 32);
+    whole.update(behind.ciphertext_tree.nodes().as_flattened());
+    whole.update(behind.block_trees[number].nodes().as_flattened());
+    whole.update(&behind.share_hashes[number]);
+    let (length, width) = spelled_length(geometry.layout(), behind.extension_block.len());
+    whole.update(&length[..width]);
+    whole.update(&behind.extension_block);
+    whole.finish()
+}
+
+// The digests of the shares of a file, whose headers and blocks were given to their hashers.
+fn finish_digests(
+    alloc: Global,
+    geometry: &Geometry,
+    behind: &Behind,
+    shares: Vec<ShareSoFar>,
+) -> Result<Vec<[u8; 32]>, AllocError>
+    requires trees { length behind.now.block_trees.items ≡ length shares.items }
+    requires hashes { length behind.now.share_hashes.items ≡ length shares.items }
+    requires short { length behind.now.extension_block.items ≤ max_length }
+    ensures { (written : ℕ → List ℕ) → AreGiven written shares.items
+        → IfOk result (λ digests. digests.items ≡ map (λ i. tagged_hash WholeShare
+        (written i ++ bytes_behind geometry.now behind.now i))
+        (range_with_len 0 (length shares.items))) }
+{
+    let mut digests = Vec::with_capacity(alloc, shares.len())?;
+    for share in shares {
+        let ShareSoFar { leaves: _, whole } = share;
+        let number = digests.len();
+        digests.push(finish_digest(geometry, whole, behind, number))?;
+    }
+    Ok(digests)
+}
+
+/// What is kept of a file whose segments are gathered.
+pub(crate) fn finish(
+    alloc: Global,
+    geometry: &Geometry,
+    ciphertext: TaggedHasher,
+    leaves: &[[u8; 32]],
+    shares: Vec<ShareSoFar>,
+) -> Result<Finished, AllocError>
+    requires leaves { HaveLeaves leaves.now }
+    requires all { All (λ share. HaveLeaves share.leaves.items) shares.items }
+    requires count { length shares.items ≡ geometry.now.total }
+    requires file { IsFile geometry.now.needed geometry.now.total geometry.now.size }
+    requires segments { IsSegmentSize geometry.now.needed geometry.now.size
+        geometry.now.segment_size }
+    ensures { (text : List ℕ) (s : Gathered) → IsGathered geometry.now text s
+        → Holds ciphertext Ciphertext s.ciphertext → leaves.now ≡ s.leaves
+        → HoldShares s shares.items → IfOk result (IsFinished geometry.now text) }
+{
+    let trees = build_trees(alloc, leaves, &shares)?;
+    let behind = write_behind(alloc, geometry, ciphertext.finish(), trees)?;
+    let digests = finish_digests(alloc, geometry, &behind, shares)?;
+    Ok(Finished { behind, digests })
+}

@@ -1,0 +1,118 @@
+// Two passes over a source: the first for its key, the second for the key again and all hashes.
+
+ghost use Rattle.std.specs.Prelude.{◌≡◌, ◌⊎◌, ◌≤◌, [], length, IfErr, IfOk, IsErrOf};
+ghost use Rattle.tagged_hash.specs.TaggedHasher.{HoldsFile};
+ghost use Rattle.sources.specs.Change.{HasChanged};
+ghost use Rattle.sources.specs.Source.{HasFailedMore};
+ghost use Rattle.file_streaming.specs.Gathering.{AreBuffers};
+ghost use Rattle.file_streaming.specs.Passes.{AreTwoPasses, IsOtherPass, IsSecondPass};
+
+use crate::error::PrepareError;
+use crate::first_pass::read_key;
+use crate::gathering::{Buffers, Encoder, Gathering, file_encoder, gather};
+use crate::shares::ShareSoFar;
+use share_layout::Geometry;
+use sources::Source;
+use std::alloc::Global;
+use tagged_hash::{KeyHasher, TaggedHasher};
+
+// The hasher of a file's key, which was given no byte yet.
+fn key_hasher(geometry: &Geometry, secret: &[u8]) -> KeyHasher
+    requires { length secret.now ≤ 64 }
+    ensures { HoldsFile result geometry.now.needed geometry.now.total geometry.now.segment_size
+        secret.now [] }
+{
+    KeyHasher::new(
+        geometry.needed(),
+        geometry.total(),
+        geometry.segment_size(),
+        secret,
+    )
+}
+
+/// The key of a source, what the second pass over it gathered, and what it was gathered by.
+#[derive(Drop)]
+pub(crate) struct Passes {
+    pub key: [u8; 16],
+    pub encoder: Encoder,
+    pub buffers: Buffers,
+    pub ciphertext: TaggedHasher,
+    pub leaves: Vec<[u8; 32]>,
+    pub shares: Vec<ShareSoFar>,
+}
+
+// Reads a source a second time. It has to have the key of the first time.
+fn read_again<S: Source>(
+    alloc: Global,
+    source: &mut S,
+    geometry: &Geometry,
+    secret: &[u8],
+    key: [u8; 16],
+    mut buffers: Buffers,
+) -> Result<Passes, PrepareError>
+    requires secret { length secret.now ≤ 64 }
+    requires buffers { AreBuffers geometry.now buffers }
+    ensures passes { IfOk result
+        (λ p. IsSecondPass S.gives source.old geometry.now secret.now p source.new) }
+    ensures key { IfOk result (λ p. p.key ≡ key) }
+    ensures changed { IsErrOf result PrepareError.SourceChanged
+        → IsOtherPass S.gives source.old geometry.now secret.now key source.new }
+    ensures fault { IsErrOf result PrepareError.SourceFault
+        → HasFailedMore (S.failures source.old) (S.failures source.new) }
+    ensures size { S.size source.new ≡ S.size source.old }
+    ensures no_other { IfErr result (λ e. (e ≡ PrepareError.OutOfMemory)
+        ⊎ (e ≡ PrepareError.SourceChanged) ⊎ (e ≡ PrepareError.SourceFault)) }
+{
+    let encoder = file_encoder(alloc, geometry, &key)?;
+    let hasher = key_hasher(geometry, secret);
+    let gathering = gather(
+        alloc,
+        source,
+        geometry,
+        &encoder,
+        hasher,
+        &mut buffers.segment,
+        &mut buffers.block,
+    )?;
+    let Gathering {
+        key: second,
+        ciphertext,
+        leaves,
+        shares,
+    } = gathering;
+    if second.finish() != key {
+        return Err(PrepareError::SourceChanged);
+    }
+    Ok(Passes {
+        key,
+        encoder,
+        buffers,
+        ciphertext,
+        leaves,
+        shares,
+    })
+}
+
+/// Reads a source twice. Both passes have to have one key.
+pub(crate) fn read_twice<S: Source>(
+    alloc: Global,
+    source: &mut S,
+    geometry: &Geometry,
+    secret: &[u8],
+) -> Result<Passes, PrepareError>
+    requires { length secret.now ≤ 64 }
+    ensures passes { IfOk result
+        (λ p. AreTwoPasses S.gives source.old geometry.now secret.now p source.new) }
+    ensures changed { IsErrOf result PrepareError.SourceChanged
+        → HasChanged S.gives source.old geometry.now.size source.new }
+    ensures fault { IsErrOf result PrepareError.SourceFault
+        → HasFailedMore (S.failures source.old) (S.failures source.new) }
+    ensures size { S.size source.new ≡ S.size source.old }
+    ensures no_other { IfErr result (λ e. (e ≡ PrepareError.OutOfMemory)
+        ⊎ (e ≡ PrepareError.SourceChanged) ⊎ (e ≡ PrepareError.SourceFault)) }
+{
+    let mut buffers = Buffers::of(alloc, geometry)?;
+    let hasher = key_hasher(geometry, secret);
+    let key = read_key(source, geometry.size(), hasher, &mut buffers.segment)?;
+    read_again(alloc, source, geometry, secret, key, buffers)
+}

@@ -1,0 +1,168 @@
+//! A file that was made ready for its upload.
+
+ghost use Rattle.std.specs.Prelude.{◌≡◌, ◌⊎◌, ◌<◌, ◌≤◌, ◌^◌, ℕ, List, length, IfErr, IfOk};
+ghost use Rattle.std.specs.Prelude.{IsErrOf};
+ghost use Rattle.aes_ctr.specs.CounterMode.{xored};
+ghost use Rattle.ueb.specs.Limits.{max_file_size, min_file_size};
+ghost use Rattle.ueb.specs.Shape.{IsFile, IsSegmentSize};
+ghost use Rattle.file_encoding.specs.Params.{HasTooManySegments, IsEncodable, parameters_of};
+ghost use Rattle.sources.specs.Change.{HasChanged};
+ghost use Rattle.sources.specs.Source.{HasFailedMore};
+ghost use Rattle.file_streaming.specs.Passes.{IsPassOf};
+ghost use Rattle.file_streaming.specs.Prepared.{IsPreparedFrom, prepared_by, share_length};
+
+use crate::error::PrepareError;
+use crate::finishing::{Finished, finish};
+use crate::gathering::{Buffers, Encoder};
+use crate::geometry::{file_cap, file_geometry};
+use crate::passes::{Passes, read_twice};
+use cap_text::ReadCap;
+use file_encoding::Params;
+use merkle::Tree;
+use share_layout::{Geometry, Places};
+use sources::Source;
+use std::alloc::{AllocError, Global};
+use std::marker::Model;
+use tagged_hash::{Tag, tagged};
+
+/// What is kept of a file: its cap, the digests of its shares, and the trees of its hashes. Of the
+/// file's bytes it holds those of one segment at most.
+#[derive(Drop)]
+pub struct Prepared {
+    pub(crate) geometry: Geometry,
+    cap: ReadCap,
+    pub(crate) extension_block: Vec<u8>,
+    pub(crate) ciphertext_tree: Tree,
+    pub(crate) block_trees: Vec<Tree>,
+    pub(crate) share_hashes: Vec<Vec<u8>>,
+    digests: Vec<[u8; 32]>,
+    pub(crate) encoder: Encoder,
+    pub(crate) buffers: Buffers,
+}
+
+impl Model for Prepared {
+    ghost use Rattle.std.specs.Prelude.{map};
+    ghost use Rattle.file_streaming.specs.Kept.{IsKept};
+    ghost use Rattle.file_streaming.specs.Prepared.{PreparedFile};
+
+    ghost Value = { PreparedFile };
+
+    ghost view = { λ p. record {
+      geometry = p.geometry;
+      cap = p.cap;
+      extension_block = p.extension_block.items;
+      leaves = p.ciphertext_tree;
+      block_leaves = p.block_trees.items;
+      digests = p.digests.items;
+    } };
+
+    // It is of a file, and what is hidden belongs to it.
+    ghost invariant = { λ p. IsKept (record {
+      geometry = p.geometry;
+      cap = p.cap;
+      extension_block = p.extension_block.items;
+      leaves = p.ciphertext_tree;
+      block_leaves = p.block_trees.items;
+      digests = p.digests.items;
+    }) (map (λ h. h.items) p.share_hashes.items) p.encoder p.buffers };
+}
+
+impl Prepared {
+    /// The file's cap.
+    pub fn cap(&self) -> &ReadCap
+        ensures { result.now ≡ self.now.cap }
+    {
+        &self.cap
+    }
+
+    /// The digests of the file's shares, by number.
+    pub fn digests(&self) -> &[[u8; 32]]
+        ensures digests { result.now ≡ self.now.digests }
+        ensures few { length self.now.digests ≤ 256 }
+    {
+        &self.digests
+    }
+
+    /// The length of each share in bytes.
+    pub fn share_length(&self) -> u64
+        ensures length { result ≡ share_length self.now }
+        ensures some { 1 ≤ result }
+        ensures short { result ≤ 2 ^ 41 }
+    {
+        let places = Places::of(&self.geometry);
+        places.extension_block + (places.layout.width() + self.extension_block.len()) as u64
+    }
+}
+
+// What is kept of a file that was read twice.
+fn keep(alloc: Global, geometry: Geometry, passes: Passes) -> Result<Prepared, AllocError>
+    requires some { (file : List ℕ) × IsPassOf geometry file passes }
+    requires file { IsFile geometry.needed geometry.total geometry.size }
+    requires segments { IsSegmentSize geometry.needed geometry.size geometry.segment_size }
+    ensures { (file : List ℕ) → IsPassOf geometry file passes → IfOk result
+        (λ p. p ≡ prepared_by geometry passes.key (xored passes.key file)) }
+{
+    let Passes {
+        key,
+        encoder,
+        buffers,
+        ciphertext,
+        leaves,
+        shares,
+    } = passes;
+    let Finished { behind, digests } = finish(alloc, &geometry, ciphertext, &leaves, shares)?;
+    let ueb_hash = tagged(Tag::ExtensionBlock, &behind.extension_block);
+    Ok(Prepared {
+        cap: file_cap(&geometry, key, ueb_hash),
+        geometry,
+        extension_block: behind.extension_block,
+        ciphertext_tree: behind.ciphertext_tree,
+        block_trees: behind.block_trees,
+        share_hashes: behind.share_hashes,
+        digests,
+        encoder,
+        buffers,
+    })
+}
+
+/// Reads a source twice, each byte once from place 0 up: for the key, and for the key again and all
+/// hashes. Both keys have to be equal.
+///
+/// The secret has at most 64 bytes, and the source at least `ueb::MIN_FILE_SIZE`. Refuses
+/// `TooLarge` and `TooManySegments`, in this order, before the first read; then `SourceChanged`
+/// where two reads of one place differed or the source ended early, `SourceFault` where a read
+/// failed, and `OutOfMemory`.
+pub fn prepare<S: Source>(
+    alloc: Global,
+    source: &mut S,
+    secret: &[u8],
+    params: &Params,
+) -> Result<Prepared, PrepareError>
+    requires secret { length secret.now ≤ 64 }
+    requires not_small { min_file_size ≤ S.size source.old }
+    ensures prepared { IfOk result (λ p. IsPreparedFrom S.gives (S.size source.old)
+        source.old secret.now (parameters_of params.now) p source.new) }
+    ensures fits { IfOk result (λ _. IsEncodable (S.size source.old) params.now) }
+    ensures size { S.size source.new ≡ S.size source.old }
+    // When each refusal comes.
+    ensures too_large { IsErrOf result PrepareError.TooLarge
+        → max_file_size < S.size source.old }
+    ensures too_many { IsErrOf result PrepareError.TooManySegments
+        → HasTooManySegments (S.size source.old) params.now }
+    ensures changed { IsErrOf result PrepareError.SourceChanged
+        → HasChanged S.gives source.old (S.size source.old) source.new }
+    ensures fault { IsErrOf result PrepareError.SourceFault
+        → HasFailedMore (S.failures source.old) (S.failures source.new) }
+    // A file that has no encoding is refused for its size alone, and nothing of it is read.
+    ensures early { (IsEncodable (S.size source.old) params.now → ⊥) → source.new ≡ source.old }
+    ensures refused { (IsEncodable (S.size source.old) params.now → ⊥) → IfErr result (λ e.
+        (e ≡ PrepareError.TooLarge) ⊎ (e ≡ PrepareError.TooManySegments)) }
+    // A file that has an encoding is not refused for its size.
+    ensures memory { IsEncodable (S.size source.old) params.now → IfErr result (λ e.
+        (e ≡ PrepareError.OutOfMemory) ⊎ (e ≡ PrepareError.SourceChanged)
+        ⊎ (e ≡ PrepareError.SourceFault)) }
+{
+    let geometry = file_geometry(source.len(), params)?;
+    let passes = read_twice(alloc, source, &geometry, secret)?;
+    Ok(keep(alloc, geometry, passes)?)
+}
