@@ -1,0 +1,55 @@
+-- What is to be placed by what is kept of a file, and by its whole shares.
+use Rattle.std.proofs.Common.{◌≡◌, ℕ, ◌+◌, ◌<◌, List, [], ◌++◌, length, get_or, map, ap, sym, ◌∙◌, arith, zero-add}
+use Rattle.std.specs.List.{range_with_len}
+use Rattle.std.proofs.lemmas.List.{length-append}
+use Rattle.std.proofs.lemmas.List.FromFn.{get_or-map-range_with_len}
+use Rattle.aes_ctr.specs.CounterMode.{xored}
+use Rattle.aes_ctr.proofs.StreamLemmas.{length-xored_from}
+use Rattle.tagged_hash.specs.TaggedHash.{share_digest}
+use Rattle.cap_text.specs.Cap.{verify_cap_of}
+use Rattle.ueb.specs.Block.{ueb_text}
+use Rattle.ueb.specs.Shape.{IsShape}
+use Rattle.share_layout.specs.Geometry.{Geometry}
+use Rattle.share_layout.specs.Layout.{header, layout_of, places_of, spelled, width}
+use Rattle.share_layout.specs.Pieces.{segments_of}
+use Rattle.share_layout.specs.Share.{HaveLengths, Sections, share_bytes}
+use Rattle.share_layout.proofs.LayoutLemmas.{length-header, length-spelled}
+use Rattle.file_encoding.specs.Encoding.{ciphertext_encoding, encoding_of, extension_block_contents, sections_of, share_of}
+use Rattle.file_encoding.proofs.OwnShares.{lengths, written}
+use Rattle.file_streaming.specs.Prepared.{geometry_for, key_for}
+use Rattle.streamed_upload.specs.Laws.{GoalsAreOne}
+
+-- how long eight lists in a row are
+eight_long : (a b c d e f g h : List ℕ) → length (a ++ b ++ c ++ d ++ e ++ f ++ g ++ h)
+    ≡ length a + (length b + (length c + (length d + (length e + (length f + (length g + length h))))))
+eight_long a b c d e f g h = simp length-append (omega arith)
+
+some_shares : (needed total size segment_size : ℕ) → IsShape needed total size segment_size → 0 < total
+some_shares needed total size segment_size shape = omega (arith, shape.file.some_needed, shape.file.enough)
+
+-- the length of a share, by that of its extension block
+length-share : (g : Geometry) (s : Sections) → HaveLengths g s
+    → length (share_bytes g s) ≡ (places_of g).extension_block + width (layout_of g) + length s.extension_block
+length-share g s are =
+    let all = eight_long (header g) s.blocks s.unused s.ciphertext_tree s.block_tree s.share_hashes (spelled (layout_of g) (length s.extension_block)) s.extension_block in
+    omega (arith, all, length-header (layout_of g) g, length-spelled (layout_of g) (length s.extension_block), are.blocks, are.unused, are.ciphertext_tree, are.block_tree, are.share_hashes)
+
+pub goals_are_one : GoalsAreOne
+unfolding ciphertext_encoding encoding_of
+goals_are_one file secret p shape =
+    let g : Geometry = geometry_for file p in
+    let key : List ℕ = key_for file secret p in
+    let ciphertext : List ℕ = xored key file in
+    let whole : length ciphertext ≡ g.size = length-xored_from key 0 file in
+    let segments : List (List ℕ) = segments_of g ciphertext in
+    let block : List ℕ = ueb_text (extension_block_contents g ciphertext segments) in
+    let some : 0 < g.total = some_shares p.needed p.total (length file) g.segment_size shape in
+    let s : Sections = sections_of g segments block 0 in
+    let are = lengths g ciphertext shape whole 0 some block (written g ciphertext shape whole).short in
+    let here : get_or (map (share_of g segments block) (range_with_len 0 g.total)) 0 [] ≡ share_of g segments block 0 =
+    get_or-map-range_with_len (share_of g segments block) 0 g.total 0 0 [] some (zero-add 0) in
+    λ i. record {
+      cap = verify_cap_of (ciphertext_encoding g key ciphertext).cap;
+      digests = map share_digest (ciphertext_encoding g key ciphertext).shares;
+      share_length = sym (ap length here ∙ length-share g s are) i;
+    }

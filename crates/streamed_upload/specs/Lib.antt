@@ -1,0 +1,4 @@
+-- what public contracts rest on
+pub mod Streamed
+pub mod Ready
+pub mod Laws
