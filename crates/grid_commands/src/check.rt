@@ -3,16 +3,15 @@
 ghost use Rattle.std.specs.Prelude.{nat_eq};
 ghost use Rattle.std.specs.List.{IsDistinct};
 
-use crate::notes::{note_blame, note_servers};
-use crate::{DONE, Failure, LITERAL, print, read_cap};
+use crate::{DONE, LITERAL};
 use cap_text::{Cap, VerifyCap};
 use checker::Check;
 use checker::status::Report;
 use grid_clients::check::CheckClient;
 use grid_clients::watched::Watched;
-use grid_rules::{Fault, Verb, missing_shares, report_json, report_lines, report_status};
+use grid_rules::{Fault, Verb, missing_shares, read_cap, report_json, report_lines, report_status};
 use grid_servers::{FIRST_SESSION, FolderGrid, Purpose, is_grid, open_servers, standing_servers};
-use grid_telling::{Counting, Progress};
+use grid_telling::{Counting, Failure, Progress, note_blame, note_servers, print};
 use grid_words::CheckWords;
 use share_reading::Verdict;
 use std::alloc::Global;

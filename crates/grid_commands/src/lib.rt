@@ -1,32 +1,26 @@
 //! The commands of `grid`, which keeps files on a grid of servers that need not be trusted.
 //!
 //! `grid` takes the words of the command line and two writers, and gives the exit status. A `put`
-//! is an upload, a `get` one download or several, a `check` a check, and a `repair` a check and an
-//! upload, which `local_grid` carries on; a `scrub` reads the servers' folders; `world` is a script
-//! that `grid_scripts` runs. Which words there are stands in `grid_words`, and what is told in
-//! `grid_rules` and `grid_telling`.
+//! is an upload, a `get` one download or several in `grid_gets`, a `check` a check, and a `repair`
+//! a check and an upload, which `local_grid` carries on; a `scrub` reads the servers' folders;
+//! `world` is a script that `grid_scripts` runs. Which words there are stands in `grid_words`, and
+//! what is told in `grid_rules` and `grid_telling`.
 #![tactic(auto)]
 
 mod check;
-mod get;
 mod mending;
-mod notes;
-mod output;
 mod placing;
 mod put;
 mod repair;
 mod script;
 mod scrub;
-mod spans;
 
-ghost use Rattle.std.specs.Prelude.{◌≡◌};
-
-use cap_text::Cap;
 use clap::error::ErrorKind;
-use grid_rules::{Fault, cap_lines};
-use grid_telling::Progress;
+use grid_gets::get;
+use grid_rules::{Fault, cap_lines, read_cap};
+use grid_telling::{Failure, Progress, print};
 use grid_words::{Request, read_words};
-use std::alloc::{AllocError, Global};
+use std::alloc::Global;
 use std::convert::AsStr;
 use std::io::{self, IsTerminal};
 use std::net::Net;
@@ -42,37 +36,6 @@ const FAILED: u8 = 7;
 
 // What is told of a cap that holds its file.
 const LITERAL: &[u8] = b"literal\n";
-
-/// Why a run ended without its result.
-#[derive(Drop)]
-enum Failure {
-    /// The words are wrong, or ask for help.
-    Words(clap::Error),
-    Fault(Fault),
-    /// The result could not be written.
-    Writer,
-}
-
-impl From<Fault> for Failure {
-    ghost use Rattle.grid_commands.specs.declared.Failure.TheVariants as failures;
-
-    ghost from_gives = { λ fault failure. failure ≡ failures.Fault fault };
-
-    fn from(fault: Fault) -> Failure {
-        Failure::Fault(fault)
-    }
-}
-
-impl From<AllocError> for Failure {
-    ghost use Rattle.grid_commands.specs.declared.Failure.TheVariants as failures;
-    ghost use Rattle.grid_rules.specs.declared.fault.Fault.TheVariants as faults;
-
-    ghost from_gives = { λ _ failure. failure ≡ failures.Fault faults.OutOfMemory };
-
-    fn from(_error: AllocError) -> Failure {
-        Failure::Fault(Fault::OutOfMemory)
-    }
-}
 
 /// Runs the command that `words` asks for, of which the first is the program's name. Its result
 /// goes to `out`, and a fault, as one line with its number and name, to `err`. A `get` writes as it
@@ -100,19 +63,40 @@ where
     O: io::Write,
     E: io::Write + IsTerminal,
 {
+    match read_words(rt.alloc(), words) {
+        Ok(request) => serve(rt, &request, out, err),
+        Err(error) => tell_words(rt.alloc(), &error, out, err),
+    }
+}
+
+// Runs a command that was read, and gives the exit status.
+fn serve<R, O, E>(rt: &R, request: &Request<'_>, out: &mut O, err: &mut E) -> u8
+where
+    R: Files + Net + Clock + AllocGlobal + Clone + Drop,
+    O: io::Write,
+    E: io::Write + IsTerminal,
+{
     let mut progress = Progress::new(rt, &mut *err);
-    let ended = run(rt, words, out, &mut progress);
-    let verbose = progress.is_verbose();
+    progress.set_verbose(request.is_verbose());
+    let ended = run(rt, request, out, &mut progress);
     progress.clear();
     match ended {
         Ok(status) => status,
         Err(Failure::Writer) => FAILED,
-        Err(Failure::Fault(fault)) => report(rt.alloc(), err, &fault, verbose),
-        Err(Failure::Words(error)) => match error.kind() {
-            ErrorKind::OutOfMemory => report(rt.alloc(), err, &Fault::OutOfMemory, false),
-            _ if error.use_stderr() => show(rt.alloc(), err, &error, WRONG_WORDS),
-            _ => show(rt.alloc(), out, &error, DONE),
-        },
+        Err(Failure::Fault(fault)) => report(rt.alloc(), err, &fault, request.is_verbose()),
+    }
+}
+
+// Tells why words ask for no command, or the help that they ask for, and gives the exit status.
+fn tell_words<O, E>(alloc: Global, error: &clap::Error, out: &mut O, err: &mut E) -> u8
+where
+    O: io::Write,
+    E: io::Write,
+{
+    match error.kind() {
+        ErrorKind::OutOfMemory => report(alloc, err, &Fault::OutOfMemory, false),
+        _ if error.use_stderr() => show(alloc, err, error, WRONG_WORDS),
+        _ => show(alloc, out, error, DONE),
     }
 }
 
@@ -129,29 +113,7 @@ const NOT_UTF8: &[u8] = b"error: invalid UTF-8 was detected in one or more argum
 For more information, try '--help'.\n";
 
 // Runs a command, writes its result, and gives the exit status.
-fn run<R, S, O, E>(
-    rt: &R,
-    words: &[S],
-    out: &mut O,
-    progress: &mut Progress<'_, R, E>,
-) -> Result<u8, Failure>
-where
-    R: Files + Net + Clock + AllocGlobal + Clone + Drop,
-    S: AsStr,
-    O: io::Write,
-    E: io::Write + IsTerminal,
-{
-    match read_words(rt.alloc(), words) {
-        Err(error) => Err(Failure::Words(error)),
-        Ok(request) => {
-            progress.set_verbose(request.is_verbose());
-            run_request(rt, &request, out, progress)
-        }
-    }
-}
-
-// The same of words that were read.
-fn run_request<R, O, E>(
+fn run<R, O, E>(
     rt: &R,
     request: &Request<'_>,
     out: &mut O,
@@ -164,7 +126,7 @@ where
 {
     match request {
         Request::Put(words) => done(print(out, &put::put(rt, words, progress)?)),
-        Request::Get(words) => done(get::get(rt, words, out, progress)),
+        Request::Get(words) => done(get(rt, words, out, progress)),
         Request::Check(words) => check::check(rt, words, out, progress),
         Request::Repair(words) => done(print(out, &repair::repair(rt, words, progress)?)),
         Request::Scrub(words) => scrub::scrub(rt, words, out, progress),
@@ -176,19 +138,6 @@ where
 // The exit status where the result is written.
 fn done(written: Result<(), Failure>) -> Result<u8, Failure> {
     written.map(|()| DONE)
-}
-
-// Writes bytes of a result, and all that was written before them.
-fn print<O: io::Write>(out: &mut O, bytes: &[u8]) -> Result<(), Failure> {
-    if out.write_all(bytes).is_err() || out.flush().is_err() {
-        return Err(Failure::Writer);
-    }
-    Ok(())
-}
-
-// The cap that a text spells.
-fn read_cap(text: &str) -> Result<Cap, Fault> {
-    Ok(Cap::parse(text.as_bytes())?)
 }
 
 // The lines that tell what the cap says that this text spells.

@@ -1,11 +1,10 @@
 //! Shares that are placed on servers, by a `put` or a `repair`.
 
-use crate::notes::note_servers;
 use grid_clients::upload::UploadClient;
 use grid_clients::watched::Watched;
 use grid_rules::{Fault, reached_happiness};
 use grid_servers::{Durability, FolderGrid, Purpose};
-use grid_telling::Progress;
+use grid_telling::{Progress, note_servers};
 use std::io::{IsTerminal, Write};
 use std::net::Net;
 use std::rt::{Clock, Files};

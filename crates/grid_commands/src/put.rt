@@ -4,7 +4,6 @@ ghost use Rattle.std.specs.Prelude.{◌≤◌, ◌<◌, length, IfOk, nat_eq};
 ghost use Rattle.std.specs.List.{IsDistinct};
 
 use crate::mending::mend_servers;
-use crate::notes::note_limits;
 use crate::placing::{Placing, carry_upload, durability_of};
 use cap_text::{Cap, LitCap};
 use file_encoding::Params;
@@ -14,7 +13,7 @@ use grid_servers::{
     FIRST_SESSION, MAX_SERVERS, Purpose, at_path, can_be_grid, make_grid, open_servers,
     read_at_most, read_input,
 };
-use grid_telling::{Counting, Progress};
+use grid_telling::{Counting, Progress, note_limits};
 use grid_words::{PutWords, SecretWords};
 use std::alloc::Global;
 use std::io::{IsTerminal, Write};

@@ -1,20 +1,21 @@
 //! `grid repair`: the missing shares of a cap's file are made again and placed on servers, by
 //! anyone who has its verify cap.
 
-ghost use Rattle.std.specs.Prelude.{◌≤◌, ◌<◌, IfOk, nat_eq};
+ghost use Rattle.std.specs.Prelude.{◌≤◌, ◌<◌, ℕ, IfOk, List, nat_eq};
 ghost use Rattle.std.specs.List.{IsDistinct};
+ghost use Rattle.file_encoding.specs.Decoded.{IsDecodedFrom};
+ghost use Rattle.file_encoding.specs.RemadeLaws.{ArePassing};
 
+use crate::LITERAL;
 use crate::check::{carry_check, share_bytes, verify_cap};
 use crate::mending::mend_servers;
-use crate::notes::note_limits;
 use crate::placing::{Placing, carry_upload, durability_of};
-use crate::{LITERAL, read_cap};
 use cap_text::VerifyCap;
-use file_encoding::{regenerate_all, regenerated_pass};
+use file_encoding::{DecodedFile, Share, decode_shares, regenerated_pass};
 use file_upload::shares::{PreparedShares, prepare_shares};
-use grid_rules::{Fault, Limit, Verb, servers_of};
+use grid_rules::{Fault, Limit, Verb, read_cap, servers_of};
 use grid_servers::{FIRST_SESSION, FolderGrid, Purpose, is_grid, open_servers, standing_servers};
-use grid_telling::{Counting, Progress};
+use grid_telling::{Counting, Progress, note_limits};
 use grid_words::RepairWords;
 use std::alloc::Global;
 use std::io::{IsTerminal, Write};
@@ -89,8 +90,8 @@ where
     Err(Fault::BadParameters)
 }
 
-// Repairs a file over these servers: a check finds its good shares, of which all are made again, and
-// an upload places those that are missing. It gives the happiness that was reached.
+// Repairs a file over these servers: a check finds its good shares, of which all are made again,
+// and an upload places those that are missing. It gives the happiness that was reached.
 fn repair_over<R, E>(
     rt: &R,
     placing: &Placing<'_>,
@@ -135,20 +136,37 @@ where
     client.good_shares(alloc)?.ok_or(Fault::OutOfMemory)
 }
 
-// All shares of a file, made ready for their upload. The good ones are let go.
+// All shares of a file, made ready for their upload.
 fn make_shares(
     alloc: Global,
     cap: &VerifyCap,
     happy: u16,
     good: Vec<(u16, Vec<u8>)>,
 ) -> Result<PreparedShares, Fault> {
+    let shares = remake(alloc, cap, good)?;
+    Ok(prepare_shares(alloc, cap, happy, shares)?)
+}
+
+// All shares of a file. The good ones are let go before the others are made, and the file with them
+// once they are.
+fn remake(alloc: Global, cap: &VerifyCap, good: Vec<(u16, Vec<u8>)>) -> Result<Vec<Share>, Fault>
+    ensures { IfOk result (λ shares. ArePassing cap.now shares.items) }
+{
+    let file = decode(alloc, cap, good)?;
+    regenerated_pass();
+    Ok(file.make_shares(alloc)?)
+}
+
+// The file that good shares give.
+fn decode(alloc: Global, cap: &VerifyCap, good: Vec<(u16, Vec<u8>)>) -> Result<DecodedFile, Fault>
+    ensures { IfOk result (λ file. (numbers : List ℕ) × (strings : List (List ℕ))
+        × IsDecodedFrom cap.now numbers strings file) }
+{
     let mut given = Vec::with_capacity(alloc, good.len())?;
     for share in good.as_slice() {
         given.push((share.0, share.1.as_slice()))?;
     }
-    let shares = regenerate_all(alloc, cap, given.as_slice())?;
-    regenerated_pass();
-    Ok(prepare_shares(alloc, cap, happy, shares)?)
+    Ok(decode_shares(alloc, cap, given.as_slice())?)
 }
 
 // The upload of all shares to these servers, which are distinct.

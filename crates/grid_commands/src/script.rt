@@ -1,9 +1,9 @@
 //! `grid world`: a script of a world, run.
 
-use crate::{Failure, print};
 use grid_rules::{Fault, world_status};
 use grid_scripts::run_text;
 use grid_servers::{at_path, read_at_most};
+use grid_telling::{Failure, print};
 use std::io::Write;
 use std::rt::Files;
 

@@ -3,10 +3,9 @@
 
 ghost use Rattle.std.specs.Prelude.{◌<◌, length, IfOk, IfSome};
 
-use crate::{Failure, print};
 use grid_rules::{Fault, Scrubbed, Verb, finding_json, finding_line, is_memory, server_name};
 use grid_servers::{is_grid, server_folder, standing_servers};
-use grid_telling::{Counting, Progress};
+use grid_telling::{Counting, Failure, Progress, print};
 use grid_words::ScrubWords;
 use share_scrub::{Action, Finding, Handling, Scrub, State};
 use share_store::error::StoreError;

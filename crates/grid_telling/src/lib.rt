@@ -1,9 +1,14 @@
 //! What a command of `grid` tells on standard error while it runs: how far it is, where that is a
-//! terminal, and which servers serve badly, where the user asks for it.
+//! terminal, and which servers serve badly, where the user asks for it; and how it ends where it has
+//! no result.
 #![tactic(auto)]
 
 mod counted;
+mod notes;
+mod outcome;
 mod progress;
 
 pub use counted::{Counted, Writing};
+pub use notes::{note_blame, note_limits, note_servers};
+pub use outcome::{Failure, print};
 pub use progress::{Counting, Progress};

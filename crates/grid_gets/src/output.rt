@@ -1,8 +1,8 @@
 //! The file that a `get` writes with `-o`.
 
-use crate::Failure;
 use grid_rules::Fault;
 use grid_servers::at_path;
+use grid_telling::Failure;
 use std::fs;
 use std::fs::{File, OpenFile};
 use std::io::{self, ErrorKind, Write};

@@ -4,15 +4,13 @@
 ghost use Rattle.std.specs.Prelude.{nat_eq};
 ghost use Rattle.std.specs.List.{IsDistinct};
 
-use crate::Failure;
-use crate::notes::note_blame;
 use cap_text::ReadCap;
 use download_core::Download;
 use grid_clients::download::DownloadClient;
 use grid_clients::watched::Watched;
 use grid_rules::{ByteRange, Fault, reached_range_end};
 use grid_servers::{FIRST_SESSION, FolderGrid, is_silent, servers_without};
-use grid_telling::{Counted, Progress, Writing};
+use grid_telling::{Counted, Failure, Progress, Writing, note_blame};
 use local_grid::error::LoopError;
 use share_holdings::holding::Blame;
 use std::alloc::Global;
@@ -38,6 +36,8 @@ where
     nodes: FolderGrid<R>,
     // those that are asked only where the others do not have enough
     suspects: Vec<NodeId>,
+    // that of the spans before
+    extension_block: Option<Vec<u8>>,
     session: u64,
 }
 
@@ -59,6 +59,7 @@ where
             grid,
             nodes,
             suspects: Vec::new(rt.alloc()),
+            extension_block: None,
             session: FIRST_SESSION,
         }
     }
@@ -142,11 +143,28 @@ where
         let mut watched = Watched::new(client, Writing::new(&mut *progress, &count));
         let carried = self.nodes.run(&mut watched);
         let client = watched.into_client();
+        self.compare(client.extension_block())?;
         self.suspect(servers, client.blamed(), progress)?;
         reached(
             end_of(carried, &client),
             span.from.saturating_add(count.get()),
         )
+    }
+
+    // Compares the extension block of a span with that of the spans before. Both have the hash that
+    // the cap tells.
+    fn compare(&mut self, block: Option<&[u8]>) -> Result<(), Fault> {
+        let Some(block) = block else {
+            return Ok(());
+        };
+        match &self.extension_block {
+            Some(first) if first.as_slice() != block => Err(Fault::Inconsistent),
+            Some(_) => Ok(()),
+            None => {
+                self.extension_block = Some(Vec::from_slice(self.rt.alloc(), block)?);
+                Ok(())
+            }
+        }
     }
 
     // Takes note of the servers that were blamed, or are silent now.

@@ -1,8 +1,8 @@
 //! What is told with `-v` of servers that serve badly.
 
+use crate::progress::Progress;
 use grid_rules::{Fault, Limit, server_name, told_path};
 use grid_servers::{FolderGrid, Purpose, folder_fault, is_silent, server_folder};
-use grid_telling::Progress;
 use std::alloc::Global;
 use std::io::{self, IsTerminal, Write};
 use std::net::Net;
@@ -18,7 +18,7 @@ const REFUSED: Remark = ("refused", "it takes no further shares");
 
 /// Tells of each of these servers that is silent, or that refused shares, with the path of its
 /// folder and the system's reason, where that is found by trying.
-pub(crate) fn note_servers<R, E>(
+pub fn note_servers<R, E>(
     rt: &R,
     grid: &str,
     servers: &[NodeId],
@@ -82,7 +82,7 @@ fn server_line(
 }
 
 /// Tells of a server that answered a share which failed a check.
-pub(crate) fn note_blame<R, E>(
+pub fn note_blame<R, E>(
     rt: &R,
     grid: &str,
     server: NodeId,
@@ -103,7 +103,7 @@ where
 }
 
 /// Tells of each number that is outside its range.
-pub(crate) fn note_limits<R, E>(
+pub fn note_limits<R, E>(
     rt: &R,
     limits: &[Limit<'_>],
     progress: &mut Progress<'_, R, E>,

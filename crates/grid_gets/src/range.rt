@@ -3,14 +3,12 @@
 ghost use Rattle.std.specs.Prelude.{◌≡◌, ◌≤◌, length};
 ghost use Rattle.grid_rules.specs.Range.{IsWithin};
 
-use crate::notes::note_servers;
 use crate::output::Part;
 use crate::spans::Spans;
-use crate::{Failure, print, read_cap};
 use cap_text::{Cap, ReadCap};
-use grid_rules::{ByteRange, Fault, Verb, range_of};
+use grid_rules::{ByteRange, Fault, Verb, range_of, read_cap};
 use grid_servers::{Purpose, is_grid, open_servers, standing_servers};
-use grid_telling::{Counting, Progress};
+use grid_telling::{Counting, Failure, Progress, note_servers, print};
 use grid_words::GetWords;
 use std::io::{IsTerminal, Write};
 use std::net::Net;
@@ -18,7 +16,7 @@ use std::rt::{Clock, Files};
 
 /// Writes bytes of the file of a cap, to a file where one is named: from the cap itself where it
 /// holds the file, else from what the servers answer, each segment once it is proved.
-pub(crate) fn get<R, O, E>(
+pub fn get<R, O, E>(
     rt: &R,
     words: &GetWords<'_>,
     out: &mut O,

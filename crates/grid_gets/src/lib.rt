@@ -1,0 +1,8 @@
+//! What a `get` does: a range of a file is got span by span, and written to a writer or a file.
+#![tactic(auto)]
+
+mod output;
+mod range;
+mod spans;
+
+pub use range::get;

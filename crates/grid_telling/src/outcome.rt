@@ -1,0 +1,44 @@
+//! How a command ends that does not do all that was asked.
+
+ghost use Rattle.std.specs.Prelude.{◌≡◌};
+
+use grid_rules::Fault;
+use std::alloc::AllocError;
+use std::io::Write;
+
+/// Why a command ended without its result.
+#[derive(Drop)]
+pub enum Failure {
+    Fault(Fault),
+    /// The result could not be written.
+    Writer,
+}
+
+impl From<Fault> for Failure {
+    ghost use Rattle.grid_telling.specs.declared.outcome.Failure.TheVariants as failures;
+
+    ghost from_gives = { λ fault failure. failure ≡ failures.Fault fault };
+
+    fn from(fault: Fault) -> Failure {
+        Failure::Fault(fault)
+    }
+}
+
+impl From<AllocError> for Failure {
+    ghost use Rattle.grid_telling.specs.declared.outcome.Failure.TheVariants as failures;
+    ghost use Rattle.grid_rules.specs.declared.fault.Fault.TheVariants as faults;
+
+    ghost from_gives = { λ _ failure. failure ≡ failures.Fault faults.OutOfMemory };
+
+    fn from(_error: AllocError) -> Failure {
+        Failure::Fault(Fault::OutOfMemory)
+    }
+}
+
+/// Writes bytes of a result, and all that was written before them.
+pub fn print<O: Write>(out: &mut O, bytes: &[u8]) -> Result<(), Failure> {
+    if out.write_all(bytes).is_err() || out.flush().is_err() {
+        return Err(Failure::Writer);
+    }
+    Ok(())
+}
