@@ -11,7 +11,7 @@ use std::test::Fail;
 use tagged_hash::share_digest;
 
 // The bytes i modulo 251.
-pub(crate) fn counted(alloc: Global, size: usize) -> Result<Vec<u8>, AllocError> {
+fn counted(alloc: Global, size: usize) -> Result<Vec<u8>, AllocError> {
     let mut bytes = Vec::with_capacity(alloc, size)?;
     for i in 0..size {
         bytes.push((i % 251) as u8)?;
@@ -64,7 +64,6 @@ fn becomes(
 #[test]
 fn files_become_their_caps(rt: HostRuntime) -> Result<(), Fail> {
     let alloc = rt.alloc();
-    let long = counted(alloc, 131_074)?;
     assert!(rt;
         becomes(
             alloc,
@@ -77,7 +76,7 @@ fn files_become_their_caps(rt: HostRuntime) -> Result<(), Fail> {
     assert!(rt;
         becomes(
             alloc,
-            &long[..56],
+            &counted(alloc, 56)?,
             b"",
             (3, 10, 131_072),
             "URI:CHK:5ervuplwjtqf5caeknmrecgz54:24yuguv5na3h27x2i5w2i77yy5yujv6vcnbabzeljhzb4gaqqzyq:3:10:56"
@@ -86,7 +85,7 @@ fn files_become_their_caps(rt: HostRuntime) -> Result<(), Fail> {
     assert!(rt;
         becomes(
             alloc,
-            &long,
+            &counted(alloc, 131_074)?,
             b"",
             (3, 10, 131_072),
             "URI:CHK:x45opozjlsd45uhibsv2apw46e:upsh3wg4mj5hhojd7qv6ug2rqe7zphsxgbnniumsdns2twtt3vyq:3:10:131074"
@@ -95,7 +94,7 @@ fn files_become_their_caps(rt: HostRuntime) -> Result<(), Fail> {
     assert!(rt;
         becomes(
             alloc,
-            &long[..30_000],
+            &counted(alloc, 30_000)?,
             b"friends of the grid",
             (2, 5, 4096),
             "URI:CHK:7lybh5ouvumxd73pofyvmqwohi:tgutdhok27z7bf3fuj4wxdxubyrgszgkvscudrmudup63ucwbgcq:2:5:30000"
@@ -104,7 +103,7 @@ fn files_become_their_caps(rt: HostRuntime) -> Result<(), Fail> {
     assert!(rt;
         becomes(
             alloc,
-            &long[..256],
+            &counted(alloc, 256)?,
             b"",
             (256, 256, 131_072),
             "URI:CHK:6ozi2qamud4qu5yb4pxpwvwg6q:cybh7pnuhaymiyfoyrjqrpph4h5ifrdfnw5eqyv7pmgguelrnr7a:256:256:256"
@@ -116,13 +115,12 @@ fn files_become_their_caps(rt: HostRuntime) -> Result<(), Fail> {
 #[test]
 fn any_geometry_is_prepared(rt: HostRuntime) -> Result<(), Fail> {
     let alloc = rt.alloc();
-    let long = counted(alloc, 301)?;
     for size in [56, 57, 63, 64, 100, 299, 300, 301] {
-        let file = &long[..size];
-        assert!(rt; becomes(alloc, file, b"s", (1, 1, 1), "")?);
-        assert!(rt; becomes(alloc, file, b"", (2, 3, 7), "")?);
-        assert!(rt; becomes(alloc, file, b"", (3, 10, 100), "")?);
-        assert!(rt; becomes(alloc, file, b"", (7, 9, 300), "")?);
+        let file = counted(alloc, size)?;
+        assert!(rt; becomes(alloc, &file, b"s", (1, 1, 1), "")?);
+        assert!(rt; becomes(alloc, &file, b"", (2, 3, 7), "")?);
+        assert!(rt; becomes(alloc, &file, b"", (3, 10, 100), "")?);
+        assert!(rt; becomes(alloc, &file, b"", (7, 9, 300), "")?);
     }
     Ok(())
 }
