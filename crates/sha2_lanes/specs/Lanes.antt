@@ -1,5 +1,5 @@
 -- Eight lists side by side in vectors of eight words: lane j of vector i is what list j has at
--- place i. These are words of private clauses.
+-- place i. These are words of private clauses, but `text` stands in public ones too.
 use Rattle.std.proofs.Common.{Bor}
 use Rattle.std.specs.Prelude.{◌≡◌, ℕ, ◌*◌, ◌<◌, List, [], ◌∷◌, ◌++◌, All, length, map}
 use Rattle.std.specs.Prelude.{slice_index, slice_index_or}

@@ -10,7 +10,7 @@ use crate::words::words;
 use std::simd::prelude::*;
 
 // How many bytes a block has.
-const BLOCK_LEN: usize = 64;
+pub(crate) const BLOCK_LEN: usize = 64;
 
 // Puts bytes, which stand in a text from byte `place` on, into the text's block from byte `start`
 // on: those that lie within the block.

@@ -10,7 +10,7 @@ use std::simd::prelude::*;
 
 // The words of eight blocks in a row.
 #[inline(always)]
-fn first_words(group: &[u8]) -> [u32x8; 16]
+pub(crate) fn first_words(group: &[u8]) -> [u32x8; 16]
     requires { 512 ≤ length group.now }
     ensures { AreWords (λ j. take 64 (drop (j * 64) group.now)) result }
 {
