@@ -15,6 +15,7 @@ use input::{HashInput, first_half};
 mod convergence;
 mod decimal;
 mod hasher;
+mod hashers;
 mod input;
 mod row;
 mod tag;
@@ -22,6 +23,7 @@ mod tag;
 pub use convergence::KeyHasher;
 pub use decimal::{DecimalText, read_decimal};
 pub use hasher::TaggedHasher;
+pub use hashers::TaggedHashers;
 pub use row::{pieces_from, tagged_eight, tagged_pieces};
 pub use tag::Tag;
 
