@@ -15,6 +15,8 @@ mod sha256_tests;
 #[cfg(test)]
 mod sha2_lanes_tests;
 #[cfg(test)]
+mod streams_tests;
+#[cfg(test)]
 mod tagged_hash_tests;
 #[cfg(test)]
 mod zfec_code_tests;

@@ -42,7 +42,7 @@ fn pieces_hashed(
     Ok(Sha256::digest(hashes.as_flattened()))
 }
 
-fn text_of(alloc: Global, len: usize) -> Result<Vec<u8>, AllocError>
+pub(crate) fn text_of(alloc: Global, len: usize) -> Result<Vec<u8>, AllocError>
     ensures { IfOk result (λ text. vec_len text ≡ len) }
 {
     let mut text = vec![in alloc; 0u8; len]?;
