@@ -1,7 +1,7 @@
 //! Texts in memory, and one that takes another's place while it is read.
 
 use sources::{
-    ChangingSource, PartFault, SliceSource, Source, read_part, steady_sources_stay, texts_stay,
+    ChangingSource, PartFault, SliceSource, Source, read_part, changes_are_brought, texts_stay,
     unlike_passes_differ,
 };
 use std::alloc::{AllocError, Global};
@@ -66,7 +66,7 @@ fn passes_over_two_texts(rt: HostRuntime) -> Result<(), Fail> {
     assert!(rt; first.starts_with(&[0; 20]) && first.ends_with(&[255; 36]) && second == [255; 56]);
     let (first, second) = two_passes(rt.alloc(), 57)?;
     assert!(rt; first == [0; 56] && second[0] == 0 && second.ends_with(&[255; 55]));
-    steady_sources_stay();
+    changes_are_brought();
     Ok(())
 }
 

@@ -1,3 +1,3 @@
 pub mod PartReading
 pub mod Differ
-pub mod Steady
+pub mod Brought

@@ -2,7 +2,7 @@
 use Rattle.std.specs.Prelude.{◌≡◌, ◌≢◌, ℕ, List, length}
 use Rattle.sources.specs.Source.{IsPass}
 use Rattle.sources.specs.Change.{HasChanged}
-use Rattle.sources.specs.Texts.{Changing, GivesChanging, GivesText}
+use Rattle.sources.specs.Texts.{Changing, GivesChanging, GivesText, read_once, text_of}
 
 -- a law: where two passes brought different bytes, two reads of one place did
 abbrev pub UnlikePassesDiffer : {S : Type 0} → (S → ℕ → List ℕ → S → Type 0) → Type 0
@@ -15,12 +15,8 @@ abbrev pub TextsStay : Type 0
 TextsStay = (text file new : List ℕ) → IsPass GivesText (length text) text file new
     → (file ≡ text) × (new ≡ text)
 
--- the source has this text twice: nothing changes
-pub record IsSteady (text : List ℕ) (s : Changing) : Type 0 where
-  pub file : s.file ≡ text
-  pub other : s.other ≡ text
-
--- a law: a pass over a source whose two texts are one brings that text, and so does the next
-abbrev pub SteadySourcesStay : Type 0
-SteadySourcesStay = (text file : List ℕ) (old new : Changing) → IsSteady text old
-    → IsPass GivesChanging (length text) old file new → (file ≡ text) × IsSteady text new
+-- a law: a pass over a source that changes brings the text that stands first, and then the other
+abbrev pub ChangesAreBrought : Type 0
+ChangesAreBrought = (old new : Changing) (file : List ℕ) → length old.other ≡ length old.file
+    → IsPass GivesChanging (length old.file) old file new
+    → (file ≡ text_of old) × (new ≡ read_once old)

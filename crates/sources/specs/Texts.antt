@@ -1,5 +1,5 @@
 -- Sources over texts in memory.
-use Rattle.std.specs.Prelude.{◌≡◌, ◌≢◌, ◌⊎◌, ℕ, ◌-◌, ◌≤◌, List, length}
+use Rattle.std.specs.Prelude.{◌≡◌, ◌≢◌, ◌⊎◌, ℕ, ◌-◌, ◌≤◌, List, ◌++◌, length, take, drop}
 use Rattle.sources.specs.Source.{IsFrom}
 
 -- each read comes from one text, which stays
@@ -18,3 +18,11 @@ GivesChanging s place bytes after =
     ((s.left ≢ 0) × IsFrom s.file place bytes × (length bytes ≤ s.left)
     × (after ≡ record s { left = s.left - length bytes }))
     ⊎ ((s.left ≡ 0) × IsFrom s.other place bytes × (after ≡ s))
+
+-- what its next pass brings: the first `left` bytes of `file`, and `other` from there on
+abbrev pub text_of : Changing → List ℕ
+text_of s = take s.left s.file ++ drop s.left s.other
+
+-- and the source after that pass
+abbrev pub read_once : Changing → Changing
+read_once s = record s { left = s.left - length s.file }

@@ -1,6 +1,6 @@
 //! What holds of passes over sources. Each law is a contract; its call does nothing.
 
-ghost use Rattle.sources.specs.Laws.{SteadySourcesStay, TextsStay, UnlikePassesDiffer};
+ghost use Rattle.sources.specs.Laws.{ChangesAreBrought, TextsStay, UnlikePassesDiffer};
 
 use crate::source::Source;
 
@@ -14,7 +14,8 @@ pub fn texts_stay()
     ensures { TextsStay }
 {}
 
-/// A pass over a source that changes between two texts which are one brings that text.
-pub fn steady_sources_stay()
-    ensures { SteadySourcesStay }
+/// A pass over a source that changes brings so many bytes of the one text as it has left, and then
+/// the other.
+pub fn changes_are_brought()
+    ensures { ChangesAreBrought }
 {}

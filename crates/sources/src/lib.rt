@@ -12,7 +12,7 @@ mod source;
 pub use changing::ChangingSource;
 pub use error::{PartFault, SourceFault};
 pub use file::FileSource;
-pub use laws::{steady_sources_stay, texts_stay, unlike_passes_differ};
+pub use laws::{changes_are_brought, texts_stay, unlike_passes_differ};
 pub use part::read_part;
 pub use slice::SliceSource;
 pub use source::Source;

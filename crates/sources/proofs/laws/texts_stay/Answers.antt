@@ -1,4 +1,4 @@
-use Rattle.sources.proofs.Steady.{texts_stay}
+use Rattle.sources.proofs.Brought.{texts_stay}
 use Rattle.sources.proofs.laws.texts_stay.Goals as goal
 
 pub returns : goal.returns
