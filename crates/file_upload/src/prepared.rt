@@ -18,7 +18,7 @@ use std::alloc::{AllocError, Global};
 use std::marker::Model;
 use upload_core::Upload;
 use upload_core::pieces::WholeShares;
-use upload_core::status::ServerInfo;
+use upload_core::status::{ServerInfo, UploadGoal};
 
 /// A file that was made ready.
 #[derive(Drop)]
@@ -106,6 +106,14 @@ impl PreparedUpload {
         ensures { result ≡ length_of self.now.shares }
     {
         self.shares.share_length()
+    }
+
+    /// The shares, and what is to be placed of them.
+    pub fn into_parts(self) -> (WholeShares, UploadGoal)
+        ensures shares { result.0 ≡ self.shares }
+        ensures goal { result.1 ≡ goal_of self }
+    {
+        self.shares.into_parts()
     }
 
     /// Begins the upload: each of the servers is asked, in the order of the file, which shares it

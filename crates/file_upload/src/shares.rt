@@ -141,6 +141,14 @@ impl PreparedShares {
         self.goal.share_length().get()
     }
 
+    /// The shares, and what is to be placed of them.
+    pub fn into_parts(self) -> (WholeShares, UploadGoal)
+        ensures shares { result.0 ≡ self.shares }
+        ensures goal { result.1 ≡ shares_goal self.cap self.shares }
+    {
+        (self.pieces, self.goal)
+    }
+
     /// Begins the upload: each of the servers is asked, in the order of the file, which shares it
     /// holds. The servers are of distinct nodes.
     pub fn start(
@@ -156,11 +164,8 @@ impl PreparedShares {
             upload.course) }
         ensures pieces { IfOk result (λ upload. upload.pieces ≡ self.shares) }
     {
-        let PreparedShares {
-            happy,
-            pieces,
-            goal,
-        } = self;
+        let happy = self.happy;
+        let (pieces, goal) = self.into_parts();
         Upload::start(alloc, pieces, goal, happy, servers, session, now)
     }
 }

@@ -119,6 +119,14 @@ impl<S: Source + Drop> PreparedStream<S> {
         self.pieces.kept.share_length()
     }
 
+    /// The pieces, and what is to be placed of them.
+    pub fn into_parts(self) -> (Streamed<S>, UploadGoal)
+        ensures pieces { result.0 ≡ self.pieces }
+        ensures goal { result.1 ≡ goal_of self.pieces.kept }
+    {
+        (self.pieces, self.goal)
+    }
+
     /// Begins the upload: each of the servers is asked, in the order of the file, which shares it
     /// holds. The servers are of distinct nodes.
     pub fn start(
@@ -133,11 +141,8 @@ impl<S: Source + Drop> PreparedStream<S> {
             Begins (goal_of self.pieces.kept) self.happy servers.now session now upload.course) }
         ensures pieces { IfOk result (λ upload. upload.pieces ≡ self.pieces) }
     {
-        let PreparedStream {
-            happy,
-            pieces,
-            goal,
-        } = self;
+        let happy = self.happy;
+        let (pieces, goal) = self.into_parts();
         Upload::start(alloc, pieces, goal, happy, servers, session, now)
     }
 }
