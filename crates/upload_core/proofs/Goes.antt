@@ -30,7 +30,7 @@ use Rattle.upload_core.specs.Acknowledged.{acked_pairs}
 use Rattle.upload_core.specs.Transfers.{follow_up}
 use Rattle.upload_core.specs.Rounds.{IsToPlace, has_failed_since}
 use Rattle.upload_core.specs.Moves.{AreInOrder, GoesOn, Stops, TicksWith, all_follow_ups, asks_after, ends, follow_ups_at, places, waits}
-use Rattle.upload_core.specs.Course.{IsCourse, IsInside, IsOfTold, MayPlace, allocations, asked_servers, is_holdings}
+use Rattle.upload_core.specs.Course.{IsCourse, IsInside, IsOfTold, IsWaitedFor, MayPlace, allocations, asked_servers, is_holdings}
 use Rattle.upload_core.specs.Trails.{AreFollowed, AreTrails, IsAbout, IsAtEnd, IsBefore, IsNew, rank_of, share_of}
 use Rattle.upload_core.proofs.Follow.{IsOnward, follow_none, follow_onward}
 use Rattle.upload_core.proofs.Records.{Goes, MayAsk, course_asked, course_goes, told_push, goes_refl, goes_settled, goes_ticked, length_goes}
@@ -224,7 +224,7 @@ pub round_course : (u : UploadState) (pairs : List Pair) (k round : ℕ) (new : 
 round_course u pairs k round new le e may once c =
     let asks : List (ℕ × Asked) = allocations u.goal.share_length (take k pairs) in
     let t : IsCourse (with_record u new) = subst (λ (r : RequestsState). IsCourse (with_record u r)) (sym e) (course_pairs u (take k pairs) (All-take (MayPlace u) k pairs may) (distinct_front k pairs once) c) in
-    record { few = t.few; distinct = t.distinct; inside = t.inside; of_told = t.of_told; trails = t.trails; begun = omega (arith, le, length_asked asks u.requests, ap (λ (r : RequestsState). length r.entries) e) }
+    record { few = t.few; distinct = t.distinct; inside = t.inside; of_told = t.of_told; waited = t.waited; trails = t.trails; begun = omega (arith, le, length_asked asks u.requests, ap (λ (r : RequestsState). length r.entries) e) }
 
 pub plan_at : (ro ro2 w w2 : List ℕ) (held held2 : List Pair) (n n2 : ℕ) (m1 m2 m3 left : List Pair) (un : List ℕ) → ro ≡ ro2 → w ≡ w2 → held ≡ held2 → n ≡ n2 → IsPlan ro w held n m1 m2 m3 left un → IsPlan ro2 w2 held2 n2 m1 m2 m3 left un
 plan_at ro ro2 w w2 held held2 n n2 m1 m2 m3 left un a b c d p =
@@ -300,6 +300,10 @@ inside_begun : (g : Goal) (now : ℕ) (servers : List ℕ) → All (λ (r : Requ
 inside_begun g now [] = All-nil (λ (r : Request). IsInside g r.asked)
 inside_begun g now (s ∷ ss) = All-cons (λ (r : Request). IsInside g r.asked) (first_request s Holdings now) (asks_at now ss) tt (inside_begun g now ss)
 
+waited_begun : (now : ℕ) (servers : List ℕ) → All IsWaitedFor (asks_at now servers)
+waited_begun now [] = All-nil IsWaitedFor
+waited_begun now (s ∷ ss) = All-cons IsWaitedFor (first_request s Holdings now) (asks_at now ss) (λ t. refl) (waited_begun now ss)
+
 of_told_begun : (es : List Request) (now : ℕ) (servers : List ℕ) → All (IsOfTold es) (asks_at now servers)
 of_told_begun es now [] = All-nil (IsOfTold es)
 of_told_begun es now (s ∷ ss) = All-cons (IsOfTold es) (first_request s Holdings now) (asks_at now ss) (inl refl) (of_told_begun es now ss)
@@ -327,6 +331,7 @@ begun_course u servers session now e first few d =
       distinct = subst (IsDistinct eqb) (sym (ap asked_servers is ∙ asked_begun now servers)) d;
       inside = subst (All (λ (r : Request). IsInside u.goal r.asked)) (sym is) (inside_begun u.goal now servers);
       of_told = subst (All (IsOfTold u.requests.entries)) (sym is) (of_told_begun u.requests.entries now servers);
+      waited = subst (All IsWaitedFor) (sym is) (waited_begun now servers);
       trails = subst (AreTrails u.goal) (sym is) (trails_begun u.goal now servers);
       begun = omega (arith, first);
     }

@@ -11,10 +11,11 @@ use Rattle.request_record.specs.declared.requests.Asked.TheVariants.{Holdings, A
 use Rattle.request_record.specs.declared.requests.Outcome.{Outcome}
 use Rattle.request_record.specs.declared.requests.Outcome.TheVariants.{Unawaited, Outstanding, Answered, Lost}
 use Rattle.request_record.specs.declared.requests.Request.{Request}
-use Rattle.request_record.specs.Record.{RequestsState, asked_more, first_request, is_lost_at, is_outstanding, is_resent_at, age_of, passed, resent_one, ticked_one, with_outcome}
+use Rattle.request_record.specs.Record.{RequestsState, asked_more, first_outcome, first_request, is_lost_at, is_outstanding, is_resent_at, age_of, passed, resent_one, ticked_one, with_outcome}
 use Rattle.upload_core.specs.State.{Goal, UploadState, with_record}
 use Rattle.upload_core.specs.Rounds.{asked_answered_as, has_answered_as}
-use Rattle.upload_core.specs.Course.{IsCourse, IsInside, IsOfTold, asked_servers, has_told, is_holdings, is_told}
+use Rattle.upload_core.specs.Course.{IsCourse, IsInside, IsOfTold, IsWaitedFor, asked_servers, has_told, is_holdings, is_told, is_unawaited}
+use Rattle.upload_core.specs.Transfers.{is_transfer}
 use Rattle.upload_core.specs.Trails.{AreTrails, GoesFurther, IsAbout, IsBefore, rank_of, share_of}
 use Rattle.placement.specs.Matching.{Pair}
 use Rattle.std.proofs.lemmas.Bool.{cases_lt, or_left, or_right}
@@ -30,6 +31,7 @@ pub record IsSame (r n : Request) : Type 0 where
   pub asked : n.asked ≡ r.asked
   pub told : has_told r ≡ true → has_told n ≡ true
   pub still : is_outstanding r.outcome ≡ false → n ≡ r
+  pub waits : is_unawaited n.outcome ≡ true → is_unawaited r.outcome ≡ true
 
 abbrev pub Goes : List Request → List Request → Type 0
 Goes [] [] = Unit {0}
@@ -38,7 +40,7 @@ Goes (r ∷ rs) [] = ⊥
 Goes (r ∷ rs) (n ∷ ns) = IsSame r n × Goes rs ns
 
 same_refl : (r : Request) → IsSame r r
-same_refl r = record { server = refl; asked = refl; told = λ h. h; still = λ q. refl }
+same_refl r = record { server = refl; asked = refl; told = λ h. h; still = λ q. refl; waits = λ h. h }
 
 pub goes_refl : (es : List Request) → Goes es es
 goes_refl [] = tt
@@ -67,8 +69,14 @@ untold r w h = elim (either (has_answered_as true r) (has_answered_as false r) h
 ]
 
 -- a request that waits, with any outcome
-same_settled : (r : Request) (o : Outcome) → is_outstanding r.outcome ≡ true → IsSame r (with_outcome r o)
-same_settled r o w = record { server = refl; asked = refl; told = λ h. absurd (untold r w h); still = λ q. absurd (true≢false (sym w ∙ q)) }
+same_settled : (r : Request) (o : Outcome) → is_unawaited o ≡ false → is_outstanding r.outcome ≡ true → IsSame r (with_outcome r o)
+same_settled r o known w = record {
+  server = refl;
+  asked = refl;
+  told = λ h. absurd (untold r w h);
+  still = λ q. absurd (true≢false (sym w ∙ q));
+  waits = λ h. absurd (true≢false (sym h ∙ known));
+}
 
 pub same_ticked : (now : ℕ) (r : Request) → IsSame r (ticked_one now r)
 same_ticked now r = by (is_lost_at now r) (is_resent_at now r) refl refl
@@ -77,8 +85,8 @@ same_ticked now r = by (is_lost_at now r) (is_resent_at now r) refl refl
     waits_again f = (both (is_outstanding r.outcome) (nat_lt (age_of now r) 20) (both (is_outstanding r.outcome && nat_lt (age_of now r) 20) (nat_lt r.marks (passed (age_of now r))) f).0).0
 
     by : (lost again : Bool) → is_lost_at now r ≡ lost → is_resent_at now r ≡ again → IsSame r (cond lost (with_outcome r Lost) (cond again (resent_one now r) r))
-    by true again e f = same_settled r Lost (both (is_outstanding r.outcome) (nat_le 20 (now - r.first_sent)) e).0
-    by false true e f = record { server = refl; asked = refl; told = λ h. h; still = λ q. absurd (true≢false (sym (waits_again f) ∙ q)) }
+    by true again e f = same_settled r Lost refl (both (is_outstanding r.outcome) (nat_le 20 (now - r.first_sent)) e).0
+    by false true e f = record { server = refl; asked = refl; told = λ h. h; still = λ q. absurd (true≢false (sym (waits_again f) ∙ q)); waits = λ h. h }
     by false false e f = same_refl r
 
 pub goes_ticked : (now : ℕ) (es : List Request) → Goes es (map (ticked_one now) es)
@@ -89,7 +97,7 @@ pub goes_settled : (es : List Request) (place : ℕ) (r : Request) (body : Body)
 goes_settled [] place r body e w = absurd cc
 goes_settled (q ∷ qs) zero r body e w =
     let same : q ≡ r = cc in
-    (subst (λ (x : Request). IsSame x (with_outcome r (Answered body))) (sym same) (same_settled r (Answered body) w), goes_refl qs)
+    (subst (λ (x : Request). IsSame x (with_outcome r (Answered body))) (sym same) (same_settled r (Answered body) refl w), goes_refl qs)
 goes_settled (q ∷ qs) (suc place) r body e w = (same_refl q, goes_settled qs place r body e w)
 
 -- the request that was at a place
@@ -174,6 +182,27 @@ of_told_goes old new (r ∷ rs) (n ∷ ns) more k all =
     ])
     (of_told_goes old new rs ns more k.1 (All-tail (IsOfTold old) r rs all))
 
+waited_goes : (es ns : List Request) → Goes es ns → All IsWaitedFor es → All IsWaitedFor ns
+waited_goes [] [] k all = all
+waited_goes [] (n ∷ ns) k all = absurd k
+waited_goes (r ∷ rs) [] k all = absurd k
+waited_goes (r ∷ rs) (n ∷ ns) k all = All-cons IsWaitedFor n ns here (waited_goes rs ns k.1 (All-tail IsWaitedFor r rs all))
+  where
+    here : IsWaitedFor n
+    here t = by (is_unawaited n.outcome) refl
+      where
+        by : (b : Bool) → is_unawaited n.outcome ≡ b → is_unawaited n.outcome ≡ false
+        by true e = absurd (true≢false (sym (k.0.waits e) ∙ All-head IsWaitedFor r rs all (ap is_transfer (sym k.0.asked) ∙ t)))
+        by false e = e
+
+first_waited : (asked : Asked) → is_transfer asked ≡ true → is_unawaited (first_outcome asked) ≡ false
+first_waited Holdings t = refl
+first_waited (Allocation share len) t = refl
+first_waited (Writing share offset len) t = refl
+first_waited (Closing share) t = refl
+first_waited (Reading share offset len) t = refl
+first_waited (Aborting share) t = absurd (true≢false (sym t))
+
 -- a request is about the pair that the one before it was about
 pub about_was : (pair : Pair) (r n : Request) → IsSame r n → IsAbout pair n → IsAbout pair r
 about_was pair r n s a = (sym s.server ∙ a.0, ap share_of (sym s.asked) ∙ a.1)
@@ -194,6 +223,7 @@ course_goes u r k c = record {
   distinct = subst (IsDistinct eqb) (sym (asked_goes u.requests.entries r.entries k)) c.distinct;
   inside = inside_goes u.goal u.requests.entries r.entries k c.inside;
   of_told = of_told_goes u.requests.entries r.entries u.requests.entries r.entries (λ s h. told_goes s u.requests.entries r.entries k h) k c.of_told;
+  waited = waited_goes u.requests.entries r.entries k c.waited;
   trails = trails_goes u.goal u.requests.entries r.entries k c.trails;
   begun = omega (arith, c.begun, length_goes u.requests.entries r.entries k);
 }
@@ -246,6 +276,7 @@ course_asked u ask may c =
       of_told = All-push (IsOfTold (es ++ new ∷ [])) es new
           (All-weaker (IsOfTold es) (IsOfTold (es ++ new ∷ [])) (λ q h. elim h [ inl x ↦ inl x | inr t ↦ inr (told_push es new q.server t) ]) es c.of_told)
           (inr (told_push es new ask.0 may.told));
+      waited = All-push IsWaitedFor es new c.waited (first_waited ask.1);
       trails = trails_push u.goal es new may.further c.trails;
       begun = omega (arith, c.begun, length-append es (new ∷ []));
     }

@@ -203,7 +203,7 @@ right_of u kept recorded = record {
 }
 
 pub course_status : (u : UploadState) (status : UploadStatus) → IsCourse u → IsCourse (record u { status = status })
-course_status u status c = record { few = c.few; distinct = c.distinct; inside = c.inside; of_told = c.of_told; trails = c.trails; begun = c.begun }
+course_status u status c = record { few = c.few; distinct = c.distinct; inside = c.inside; of_told = c.of_told; waited = c.waited; trails = c.trails; begun = c.begun }
 
 pub begins_kept : (goal : Goal) (happy : ℕ) (servers : List ServerInfo) (session now : ℕ) (u : UploadState) → Begins goal happy servers session now u → IsCourse u → IsKept u
 begins_kept goal happy servers session now u b c = let moves = begins_moves goal happy servers session now u b c in kept_of u moves.stands c moves.going
@@ -214,7 +214,7 @@ failed_kept u fault c = kept_of (record u { status = Failed fault }) (stands_fai
 pub sent_kept : (u : UploadState) → IsKept u → IsKept (with_record u (one_sent u.requests))
 sent_kept u kept =
     let c = kept.course in
-    kept_of (with_record u (one_sent u.requests)) (stands_sent u kept.stands) (record { few = c.few; distinct = c.distinct; inside = c.inside; of_told = c.of_told; trails = c.trails; begun = c.begun }) (λ is. let can = kept.going is in record { followed = can.followed; rounds = can.rounds })
+    kept_of (with_record u (one_sent u.requests)) (stands_sent u kept.stands) (record { few = c.few; distinct = c.distinct; inside = c.inside; of_told = c.of_told; waited = c.waited; trails = c.trails; begun = c.begun }) (λ is. let can = kept.going is in record { followed = can.followed; rounds = can.rounds })
 
 -- a step that went on, or found no memory
 module _ {X E : Type 0} (mid new : UploadState) (c : IsCourse new) where

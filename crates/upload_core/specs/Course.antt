@@ -7,6 +7,9 @@ use Rattle.request_record.specs.declared.requests.Asked.{Asked}
 use Rattle.request_record.specs.declared.requests.Asked.TheVariants.{Holdings, Allocation, Writing}
 use Rattle.request_record.specs.declared.requests.Asked.TheVariants.{Closing}
 use Rattle.request_record.specs.declared.requests.Asked.TheVariants.{Reading, Aborting}
+use Rattle.request_record.specs.declared.requests.Outcome.{Outcome}
+use Rattle.request_record.specs.declared.requests.Outcome.TheVariants.{Unawaited, Outstanding}
+use Rattle.request_record.specs.declared.requests.Outcome.TheVariants.{Answered, Lost}
 use Rattle.request_record.specs.declared.requests.Request.{Request}
 use Rattle.request_record.specs.Record.{outstanding_count}
 use Rattle.wire.specs.Limits.{most_data}
@@ -16,6 +19,7 @@ use Rattle.upload_core.specs.declared.status.UploadStatus.{UploadStatus}
 use Rattle.upload_core.specs.declared.status.UploadStatus.TheVariants.{Running, Unhappy}
 use Rattle.upload_core.specs.State.{Goal, UploadState}
 use Rattle.upload_core.specs.Acknowledged.{acked_pairs}
+use Rattle.upload_core.specs.Transfers.{is_transfer}
 use Rattle.upload_core.specs.Trails.{AreFollowed, AreTrails, IsAbout, IsNew}
 use Rattle.upload_core.specs.Right.{has_ended}
 use Rattle.upload_core.specs.Rounds.{EndsAs, IsHopeless, IsPlacing, IsSettled, Placing}
@@ -57,6 +61,17 @@ IsInside g (Aborting share) = share < length g.digests
 abbrev pub IsOfTold : List Request → Request → Type 0
 IsOfTold entries r = (is_holdings r.asked ≡ true) ⊎ (is_told entries r.server ≡ true)
 
+-- is it a request whose answer is not waited for?
+abbrev pub is_unawaited : Outcome → Bool
+is_unawaited Unawaited = true
+is_unawaited Outstanding = false
+is_unawaited (Answered body) = false
+is_unawaited Lost = false
+
+-- an answer to a request of a transfer is waited for
+abbrev pub IsWaitedFor : Request → Type 0
+IsWaitedFor r = is_transfer r.asked ≡ true → is_unawaited r.outcome ≡ false
+
 -- No server is asked twice which shares it holds, each request is for the goal, and each trail goes
 -- on.
 pub record IsCourse (u : UploadState) : Type 0 where
@@ -64,6 +79,7 @@ pub record IsCourse (u : UploadState) : Type 0 where
   pub distinct : IsDistinct nat_eq (asked_servers u.requests.entries)
   pub inside : All (λ (r : Request). IsInside u.goal r.asked) u.requests.entries
   pub of_told : All (IsOfTold u.requests.entries) u.requests.entries
+  pub waited : All IsWaitedFor u.requests.entries
   pub trails : AreTrails u.goal u.requests.entries
   pub begun : u.round ≤ length u.requests.entries
 

@@ -61,13 +61,14 @@ IsBody gives fails index old asked (Ok body) new = Tells gives index old asked b
 IsBody gives fails index old asked (Err fault) new = Faults fails old asked fault new
 
 -- What is sent next: nothing, where there is nothing to send or the upload failed; nothing, where
--- the pieces gave no bytes, by which the upload fails; or the first request to send.
+-- the pieces of one that runs gave no bytes, by which it fails; or the first request to send.
 pub data Takes {P : Type 0} (gives : P → ℕ → ℕ → List ℕ → P → Type 0)
     (fails : P → ℕ → ℕ → ℕ → PieceFault → P → Type 0) (old : Uploading P)
     (taken : Option (ℕ × Message)) (new : Uploading P) : Type 0 where
   nothing : first_to_send old.course ≡ None → taken ≡ None → new ≡ old
       → Takes gives fails old taken new
   ceases : (place server : ℕ) (asked : Asked) (fault : PieceFault)
+      → old.course.status ≡ Running
       → first_to_send old.course ≡ Some place → AsksAt old.course place server asked
       → Faults fails old.pieces asked fault new.pieces → taken ≡ None
       → new.course ≡ record old.course { status = Failed fault } → Takes gives fails old taken new

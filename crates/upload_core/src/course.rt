@@ -187,7 +187,9 @@ impl Course {
     pub(crate) fn first(&self) -> Option<usize>
         ensures value { result ≡ first_to_send self.now }
         ensures there { IfSome result (λ place. place < length self.now.requests.entries) }
+        ensures recorded { IsRecord self.now.requests }
     {
+        let _ = self.requests.entries();
         match self.status {
             UploadStatus::Failed(_) => None,
             _ => self.requests.first(),

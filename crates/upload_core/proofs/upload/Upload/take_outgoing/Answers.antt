@@ -1,4 +1,5 @@
 use Rattle.std.proofs.Common.{◌≡◌, Some, sym, ap, subst, ◌∙◌}
+use Rattle.request_record.specs.Record.{IsRecord}
 use Rattle.upload_core.specs.declared.status.UploadStatus.TheVariants.{Failed}
 use Rattle.upload_core.specs.State.{UploadState, with_record}
 use Rattle.upload_core.specs.Course.{IsKept}
@@ -25,7 +26,9 @@ returns-in-Err-clause-ok g c =
     let asks : AsksAt old.course c.in-Some.place c.request_at-server.result.0 c.request_at-server.result.1 = subst (λ (x : Uploading g.row.P.Denot). AsksAt x.course c.in-Some.place c.request_at-server.result.0 c.request_at-server.result.1) c.self.view_is c.request_at-server.ensures.value in
     let body : IsBody g.P.Pieces.gives g.P.Pieces.fails old.course.goal.cap.storage_index old.pieces c.request_at-server.result.1 c.in_ok-body.field-0 mid.pieces = subst (λ (x : Uploading g.row.P.Denot). IsBody g.P.Pieces.gives g.P.Pieces.fails old.course.goal.cap.storage_index old.pieces c.request_at-server.result.1 c.in_ok-body.field-0 x.pieces) (sym c.self-2.view_is) c.in_ok-body.ensures.ok in
     let same : mid.course ≡ old.course = ap (λ (x : Uploading g.row.P.Denot). x.course) c.self-2.view_is ∙ c.in_ok-body.ensures.course in
-    ceases_now g.P.Pieces.gives g.P.Pieces.fails old mid c.in-Some.place c.request_at-server.result.0 c.request_at-server.result.1 c.in_ok-body.field-0 first asks body same c.in-Err.fault c.fail.new.self c.in-Err.is c.fail.ensures
+    let kept : IsKept old.course = subst (λ (x : Uploading g.row.P.Denot). IsKept x.course) c.self.view_is c.self.invariant.2 in
+    let recorded : IsRecord old.course.requests = subst (λ (x : Uploading g.row.P.Denot). IsRecord x.course.requests) c.self.view_is c.in-Some.ensures.recorded in
+    ceases_now g.P.Pieces.gives g.P.Pieces.fails old mid c.in-Some.place c.request_at-server.result.0 c.request_at-server.result.1 c.in_ok-body.field-0 first asks body same c.in-Err.fault c.fail.new.self kept recorded c.in-Err.is c.fail.ensures
 
 pub invariant_of-self : goal.invariant_of-self
 invariant_of-self g c =
