@@ -62,12 +62,12 @@ last_part [] (y ∷ ys) (suc left) (suc place) same low = absurd cc
 last_part (x ∷ xs) [] (suc left) (suc place) same low = absurd cc
 last_part (x ∷ xs) (y ∷ ys) (suc left) (suc place) same low = last_part xs ys left place (omega (arith, same)) (omega (arith, low))
 
-one_length : (xs ys : List ℕ) (left : ℕ) → length ys ≡ length xs → length (take left xs ++ drop left ys) ≡ length xs
-one_length xs ys zero same = same
-one_length [] [] (suc left) same = refl
-one_length [] (y ∷ ys) (suc left) same = absurd cc
-one_length (x ∷ xs) [] (suc left) same = absurd cc
-one_length (x ∷ xs) (y ∷ ys) (suc left) same = ap suc (one_length xs ys left (omega (arith, same)))
+pub mixed_long : (xs ys : List ℕ) (left : ℕ) → length ys ≡ length xs → length (take left xs ++ drop left ys) ≡ length xs
+mixed_long xs ys zero same = same
+mixed_long [] [] (suc left) same = refl
+mixed_long [] (y ∷ ys) (suc left) same = absurd cc
+mixed_long (x ∷ xs) [] (suc left) same = absurd cc
+mixed_long (x ∷ xs) (y ∷ ys) (suc left) same = ap suc (mixed_long xs ys left (omega (arith, same)))
 
 -- so far were the texts of a source read
 record IsReadUpTo (first : Changing) (place : ℕ) (s : Changing) : Type 0 where
@@ -78,7 +78,7 @@ record IsReadUpTo (first : Changing) (place : ℕ) (s : Changing) : Type 0 where
 read_next : (first s after : Changing) (place : ℕ) (bytes : List ℕ) → length first.other ≡ length first.file → IsReadUpTo first place s → GivesChanging s place bytes after
     → IsFrom (text_of first) place bytes × IsReadUpTo first (place + length bytes) after
 read_next first s after place bytes same at gives =
-    let long : length (text_of first) ≡ length first.file = one_length first.file first.other first.left same in
+    let long : length (text_of first) ≡ length first.file = mixed_long first.file first.other first.left same in
     elim gives [
       | inl g ↦
           let from : IsFrom first.file place bytes = subst (λ t. IsFrom t place bytes) at.file g.1 in (
@@ -109,7 +109,7 @@ read_next first s after place bytes same at gives =
 pub changes_are_brought : (old new : Changing) (file : List ℕ) → length old.other ≡ length old.file → IsPass GivesChanging (length old.file) old file new
     → (file ≡ text_of old) × (new ≡ read_once old)
 changes_are_brought old new file same pass =
-    let long : length (text_of old) ≡ length old.file = one_length old.file old.other old.left same in
+    let long : length (text_of old) ≡ length old.file = mixed_long old.file old.other old.left same in
     let all : IsPass GivesChanging (length (text_of old)) old file new = subst (λ n. IsPass GivesChanging n old file new) (sym long) pass in
     let is = whole GivesChanging (text_of old) (IsReadUpTo old) (λ s after place bytes at gives. read_next old s after place bytes same at gives) old new file record { file = refl; other = refl; left = omega arith } all in
     let make : List ℕ → List ℕ → ℕ → Changing = λ f o l. record { file = f; other = o; left = l } in
