@@ -2,4 +2,5 @@ pub mod Places
 pub mod Records
 pub mod TaskMoves
 pub mod Beginnings
+pub mod Uploads
 pub mod Sending

@@ -1,9 +1,8 @@
 -- How a record goes on: what was asked stays at its place, and what is answered was answered before, or is by the message that comes.
 use Rattle.lemmas.proofs.Bools.{both}
 use Rattle.lemmas.proofs.Numbers.{same_number}
-use Rattle.std.proofs.Common.{◌≡◌, ℕ, zero, suc, ◌+◌, ◌-◌, List, [], ◌∷◌, ◌++◌, Bool, true, false, length, Option, Some, None, refl, sym, subst, ap, ◌∙◌, inl, inr, ◌⊎◌, arith}
+use Rattle.std.proofs.Common.{◌≡◌, ℕ, zero, suc, ◌+◌, ◌-◌, List, [], ◌∷◌, Bool, true, false, Option, Some, None, refl, sym, subst, ap, ◌∙◌, inl, inr, ◌⊎◌, arith}
 use Rattle.std.specs.Prelude.{◌==◌, ◌&&◌, max, not, slice_get, option_map, if◌then◌else◌}
-use Rattle.std.proofs.lemmas.Bool.Decides.{nat_tests}
 use Rattle.std.proofs.lemmas.Option.{slice_get-map}
 use Rattle.wire.specs.declared.message.Body.{Body}
 use Rattle.wire.specs.declared.message.Message.{Message}
@@ -13,7 +12,7 @@ use Rattle.request_record.specs.declared.requests.Outcome.TheVariants.{Answered,
 use Rattle.request_record.specs.declared.requests.Request.{Request}
 use Rattle.request_record.specs.Asking.{after_message, after_tick}
 use Rattle.request_record.specs.Record.{RequestsState, answered_in, asked_all, asked_more, at, awaits_at, counted, counted_at, first_outcome, first_request, fits, is_lost_at, is_outstanding, is_resent_at, resent_one, ticked, ticked_one, with_outcome, without}
-use Rattle.world_operations.specs.Follow.{Follows, IsSaid, Nothing, Said, StillAsks, WasAnswered}
+use Rattle.world_operations.specs.Follow.{Follows, IsSaid, Nothing, Said, StillAsks}
 use Rattle.world_operations.proofs.Places.{get_push, get_push_old, get_set, get_set_back, same_some}
 
 itself : (entries : List Request) (place : ℕ) (r : Request) → slice_get entries place ≡ Some r → StillAsks entries place r

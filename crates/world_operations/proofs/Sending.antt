@@ -1,6 +1,6 @@
 -- Sending all that there is to send, and handing out all that was made, one after another.
-use Rattle.std.proofs.Common.{◌≡◌, ◌∙◌, ℕ, ◌+◌, ◌<◌, true, List, [], ◌∷◌, ◌++◌, length, Some, Result, Ok, Err, refl, sym, ap, subst, inl, inr, false, arith}
-use Rattle.std.specs.Prelude.{OnOk, drop, slice_get}
+use Rattle.std.proofs.Common.{◌≡◌, ◌∙◌, ℕ, ◌+◌, ◌<◌, true, List, [], ◌∷◌, ◌++◌, length, Some, refl, sym, ap, subst, inl, inr, false, arith}
+use Rattle.std.specs.Prelude.{drop, slice_get}
 use Rattle.std.proofs.lemmas.List.{append_assoc}
 use Rattle.std.proofs.lemmas.List.Elements.{Contains-push_cases}
 use Rattle.wire.specs.declared.message.Message.{Message}
@@ -21,7 +21,9 @@ use Rattle.world_operations.specs.declared.task.Task.{Task}
 use Rattle.world_operations.specs.declared.task.Task.TheVariants.{Uploading, Downloading, Checking, Gone}
 use Rattle.world_operations.specs.Given.{AreGivenBy, IsGivenBy}
 use Rattle.world_operations.specs.Tasks.{MayFail, is_download, requests_of}
-use Rattle.world_operations.specs.Moves.{HandsOne, HandsOut, HandsSome, IsFlushed, Sends, SendsAll, SendsOne, Takes, TakesPiece, gives, never_fails, sent_to}
+use Rattle.world_operations.specs.Moves.{HandsOne, HandsOut, HandsSome, IsFlushed, Sends, SendsAll, SendsOne, Takes, TakesPiece, sent_to}
+use Rattle.world_operations.specs.UploadPieces.{fails, gives}
+use Rattle.world_operations.specs.declared.upload_pieces.UploadPieces.{UploadPieces}
 use Rattle.world_operations.specs.Follow.{GoesOn, IsSameOperation, Moves, Nothing, Said, SendsSome}
 use Rattle.world_operations.proofs.Places.{append_none}
 use Rattle.world_operations.proofs.TaskMoves.{fails_unhappy, goes_nowhere, goes_on, handed, sends_none, sends_on}
@@ -72,10 +74,10 @@ download_dropped downloads.NotEnoughShares xs ys place e f = dropped xs ys place
 download_dropped downloads.Inconsistent xs ys place e f = dropped xs ys place e f
 download_dropped downloads.Failed xs ys place e f = absurd cc
 
-upload_less : (u v : upload_sends.Uploading (List (List ℕ))) (f : ℕ × Message) → upload_sends.Takes gives never_fails u (Some f) v
+upload_less : (u v : upload_sends.Uploading UploadPieces) (f : ℕ × Message) → upload_sends.Takes gives fails u (Some f) v
     → length v.course.requests.outgoing < length u.course.requests.outgoing
 upload_less u v f (upload_sends.nothing first none is) = absurd cc
-upload_less u v f (upload_sends.ceases place server asked fault first there faults none is) = absurd cc
+upload_less u v f (upload_sends.ceases place server asked fault running first there faults none is) = absurd cc
 upload_less u v f (upload_sends.sends place server asked body first there tells some is) =
     upload_dropped u.course.status u.course.requests.outgoing v.course.requests.outgoing place first (ap (λ (x : UploadState). x.requests.outgoing) is)
 

@@ -1,22 +1,21 @@
 -- How a machine goes on: what it is for stays, its record goes on, and each frame that it sends is of one of its requests.
-use Rattle.std.proofs.Common.{◌≡◌, ◌≢◌, ℕ, ◌+◌, List, [], ◌∷◌, ◌++◌, true, Option, Some, None, Result, Ok, Err, OnOk, OnErr, Contains, refl, sym, subst, ap, ◌∙◌, inl, inr, ◌⊎◌}
-use Rattle.std.specs.Prelude.{drop, slice_get}
+use Rattle.std.proofs.Common.{◌≡◌, ◌≢◌, ℕ, List, [], ◌∷◌, ◌++◌, true, Option, Some, None, Result, Ok, Err, OnOk, OnErr, refl, sym, subst, ap, ◌∙◌, inl, inr, ◌⊎◌}
+use Rattle.std.specs.Prelude.{slice_get}
 use Rattle.std.proofs.lemmas.List.{append_assoc}
 use Rattle.std.proofs.lemmas.List.Elements.{Contains-append_cases}
 use Rattle.cap_text.specs.Cap.{ReadCapValue, VerifyCapValue, verify_cap_of}
-use Rattle.file_encoding.specs.RemadeLaws.{ArePassing}
-use Rattle.file_upload.specs.Shares.{shares_goal}
 use Rattle.placement.specs.Matching.{Pair}
 use Rattle.wire.specs.declared.message.Body.{Body}
 use Rattle.wire.specs.declared.message.Body.TheVariants.{Ask, Allocate, Write, Close, Abort, Read}
 use Rattle.wire.specs.declared.message.Message.{Message}
-use Rattle.wire.specs.Frames.{IsBodyOf, IsMessage, spelling}
+use Rattle.wire.specs.Frames.{IsMessage}
 use Rattle.request_record.specs.declared.requests.Asked.{Asked}
 use Rattle.request_record.specs.declared.requests.Asked.TheVariants.{Holdings, Allocation, Writing, Closing, Reading, Aborting}
 use Rattle.request_record.specs.declared.requests.Request.{Request}
 use Rattle.request_record.specs.Asking.{Spells, after_message, after_tick, lost_by_tick, message_at}
 use Rattle.request_record.specs.Record.{RequestsState, asked_all, counts_at}
 use Rattle.server_core.specs.Sound.{is_request}
+use Rattle.upload_core.specs.declared.pieces.PieceFault.{PieceFault}
 use Rattle.upload_core.specs.declared.status.UploadStatus.{UploadStatus}
 use Rattle.upload_core.specs.declared.status.UploadStatus.TheVariants as uploads
 use Rattle.upload_core.specs.State.{Goal, UploadState, with_record}
@@ -41,7 +40,10 @@ use Rattle.world_operations.specs.declared.task.Task.{Task}
 use Rattle.world_operations.specs.declared.task.Task.TheVariants.{Uploading, Downloading, Checking, Gone}
 use Rattle.world_operations.specs.Tasks.{IsHappyTask, MayFail, index_of, requests_of}
 use Rattle.world_operations.specs.Jobs.{IsFor}
-use Rattle.world_operations.specs.Moves.{Advances, CheckTicks, Takes, TakesPiece, TicksOn, UploadAdvances, UploadTicks, gives, never_fails, sent_to}
+use Rattle.world_operations.specs.Moves.{Advances, CheckTicks, Takes, TakesPiece, TicksOn, UploadAdvances, UploadTicks, sent_to}
+use Rattle.world_operations.specs.UploadPieces.{fails, gives}
+use Rattle.world_operations.specs.declared.upload_pieces.UploadPieces.{UploadPieces}
+use Rattle.world_operations.specs.declared.upload_pieces.UploadPieces.TheVariants.{Whole, Streamed}
 use Rattle.world_operations.specs.Follow.{Follows, GoesOn, IsFrameOf, IsRequestBy, IsSaid, Nothing, Said, SendsSome}
 use Rattle.world_operations.proofs.Places.{append_none, member_cases, member_none}
 use Rattle.world_operations.proofs.Records.{follows_asks, follows_itself, follows_message, follows_on, follows_same, follows_tick}
@@ -71,20 +73,24 @@ asks_more New old r asks f = follows_on New old r (asked_all asks r) f (follows_
 -- ---- uploads
 
 abbrev State : Type 0
-State = upload_sends.Uploading (List (List ℕ))
+State = upload_sends.Uploading UploadPieces
 
 record SameUpload (u v : UploadState) : Type 0 where
   pub goal : v.goal ≡ u.goal
   pub wanted : v.wanted ≡ u.wanted
   pub happy : (pairs : List Pair) → u.status ≡ uploads.Happy pairs → v.status ≡ uploads.Happy pairs
 
-upload_goes : (New : Said) (u v : State) → v.pieces ≡ u.pieces → SameUpload u.course v.course → Follows New u.course.requests v.course.requests → GoesOn New (Uploading u) (Uploading v)
+-- shares in memory stay
+abbrev KeepWhole : UploadPieces → UploadPieces → Type 0
+KeepWhole old new = (shares : List (List ℕ)) → old ≡ Whole shares → new ≡ Whole shares
+
+upload_goes : (New : Said) (u v : State) → KeepWhole u.pieces v.pieces → SameUpload u.course v.course → Follows New u.course.requests v.course.requests → GoesOn New (Uploading u) (Uploading v)
 upload_goes New u v pieces same f = record {
   follows = f;
   index = ap (λ (g : Goal). g.cap.storage_index) same.goal;
   is_for = kept;
   happy = same.happy;
-  shares = λ these h. pieces ∙ h;
+  shares = pieces;
   given = λ p h. h;
   hashed = λ input h. h;
   gone = λ number e. absurd cc;
@@ -92,13 +98,16 @@ upload_goes New u v pieces same f = record {
   where
     kept : (e : Job) → IsFor e (Uploading u) → IsFor e (Uploading v)
     kept (jobs.Upload file secret p) h = (same.goal ∙ h.0, same.wanted ∙ h.1, h.2)
+    kept (jobs.Changing file other after secret p) h = (same.goal ∙ h.0, same.wanted ∙ h.1, h.2, h.3)
     kept (jobs.Download cap from to) h = absurd h
     kept (jobs.Check cap) h = absurd h
     kept (jobs.Repair cap happy) h = record {
-      goal = same.goal ∙ h.goal ∙ ap (shares_goal cap) (sym pieces);
+      shares = h.shares;
+      pieces = pieces h.shares h.pieces;
+      goal = same.goal ∙ h.goal;
       wanted = same.wanted ∙ h.wanted;
       may = h.may;
-      passing = subst (ArePassing cap) (sym pieces) h.passing;
+      passing = h.passing;
     }
     kept (jobs.NoRepair cap why) h = absurd h
 
@@ -141,7 +150,7 @@ runs_not_happy s pairs e f = clash (sym e ∙ f) where
   clash : uploads.Running ≡ uploads.Happy pairs → ⊥
   clash g = cc
 
-running_goes : (New : Said) (u v : State) → v.pieces ≡ u.pieces → u.course.status ≡ uploads.Running → Runs New u.course v.course → GoesOn New (Uploading u) (Uploading v)
+running_goes : (New : Said) (u v : State) → KeepWhole u.pieces v.pieces → u.course.status ≡ uploads.Running → Runs New u.course v.course → GoesOn New (Uploading u) (Uploading v)
 running_goes New u v pieces e r =
     upload_goes New u v pieces record { goal = r.goal; wanted = r.wanted; happy = λ pairs h. absurd (runs_not_happy u.course.status pairs e h) } r.follows
 
@@ -149,39 +158,51 @@ upload_advances : (from now : ℕ) (m : Message) (u v : State) → UploadAdvance
 upload_advances from now m u v a =
     let New : Said = IsSaid from m u.course.requests.session in
     elim (runs u.course.status) [
-      | inl e ↦ running_goes New u v a.pieces e
+      | inl e ↦ running_goes New u v (λ shares h. a.pieces ∙ h) e
           (answered New u.course v.course (counts_at from m u.course.requests) (after_message from m now u.course.requests) (follows_message from now m u.course.requests) ((a.running e).running e))
       | inr e ↦ same_goes New (Uploading u) (Uploading v) (ap Uploading (a.ended e))
     ]
 
 upload_ticks : (now : ℕ) (u v : State) → UploadTicks now u v → GoesOn Nothing (Uploading u) (Uploading v)
 upload_ticks now u v a = elim (runs u.course.status) [
-  | inl e ↦ running_goes Nothing u v a.pieces e
+  | inl e ↦ running_goes Nothing u v (λ shares h. a.pieces ∙ h) e
       (lost Nothing u.course v.course (lost_by_tick now u.course.requests) (after_tick now u.course.requests) (follows_tick now u.course.requests) ((a.running e).running e))
   | inr e ↦ same_goes Nothing (Uploading u) (Uploading v) (ap Uploading (a.ended e))
 ]
 
-never : (u v : List (List ℕ)) (asked : Asked) (fault : _) → upload_sends.Faults never_fails u asked fault v → ⊥
-never u v Holdings fault f = f
-never u v (Allocation share len) fault f = f
-never u v (Writing share offset len) fault f = f
-never u v (Closing share) fault f = f
-never u v (Reading share offset len) fault f = f
-never u v (Aborting share) fault f = f
+-- shares in memory stay when bytes of them are given, and they always are
+none_fail : (old new : UploadPieces) (asked : Asked) (fault : PieceFault) → upload_sends.Faults fails old asked fault new → KeepWhole old new
+none_fail old new Holdings fault f = absurd f
+none_fail old new (Allocation share len) fault f = absurd f
+none_fail (Whole these) new (Writing share offset len) fault f = absurd f
+none_fail (Streamed s) new (Writing share offset len) fault f = λ shares e. absurd cc
+none_fail old new (Closing share) fault f = absurd f
+none_fail old new (Reading share offset len) fault f = absurd f
+none_fail old new (Aborting share) fault f = absurd f
 
-same_pieces : (index old new : _) (asked : Asked) (body : _) → upload_sends.Tells gives index old asked body new → new ≡ old
-same_pieces index old new Holdings body t = t.1
-same_pieces index old new (Allocation share len) body t = t.1
-same_pieces index old new (Writing share offset len) body t = t.1.1
-same_pieces index old new (Closing share) body t = t.1
-same_pieces index old new (Reading share offset len) body t = t.1
-same_pieces index old new (Aborting share) body t = t.1
+gives_keep : (old new : UploadPieces) (share offset : ℕ) (bytes : List ℕ) → gives old share offset bytes new → KeepWhole old new
+gives_keep (Whole old) (Whole new) share offset bytes g = λ shares e. ap Whole g.1 ∙ e
+gives_keep (Whole old) (Streamed new) share offset bytes g = absurd g
+gives_keep (Streamed old) new share offset bytes g = λ shares e. absurd cc
 
-upload_takes : (u v : State) (f : Option (ℕ × Message)) → upload_sends.Takes gives never_fails u f v → GoesOn Nothing (Uploading u) (Uploading v)
+tells_keep : (index : List ℕ) (old new : UploadPieces) (asked : Asked) (body : Body) → upload_sends.Tells gives index old asked body new → KeepWhole old new
+tells_keep index old new Holdings body t = λ shares e. t.1 ∙ e
+tells_keep index old new (Allocation share len) body t = λ shares e. t.1 ∙ e
+tells_keep index old new (Writing share offset len) body t = gives_keep old new share offset t.0 t.1
+tells_keep index old new (Closing share) body t = λ shares e. t.1 ∙ e
+tells_keep index old new (Reading share offset len) body t = λ shares e. t.1 ∙ e
+tells_keep index old new (Aborting share) body t = λ shares e. t.1 ∙ e
+
+upload_takes : (u v : State) (f : Option (ℕ × Message)) → upload_sends.Takes gives fails u f v → GoesOn Nothing (Uploading u) (Uploading v)
 upload_takes u v f (upload_sends.nothing first none is) = same_goes Nothing (Uploading u) (Uploading v) (ap Uploading is)
-upload_takes u v f (upload_sends.ceases place server asked fault first there faults none is) = absurd (never u.pieces v.pieces asked fault faults)
+upload_takes u v f (upload_sends.ceases place server asked fault running first there faults none is) =
+    running_goes Nothing u v (none_fail u.pieces v.pieces asked fault faults) running record {
+      goal = ap (λ (x : UploadState). x.goal) is;
+      wanted = ap (λ (x : UploadState). x.wanted) is;
+      follows = follows_same Nothing u.course.requests v.course.requests (ap (λ (x : UploadState). x.requests.session) is) (ap (λ (x : UploadState). x.requests.entries) is);
+    }
 upload_takes u v f (upload_sends.sends place server asked body first there tells some is) =
-    upload_goes Nothing u v (same_pieces u.course.goal.cap.storage_index u.pieces v.pieces asked body tells)
+    upload_goes Nothing u v (tells_keep u.course.goal.cap.storage_index u.pieces v.pieces asked body tells)
     record {
       goal = ap (λ (x : UploadState). x.goal) is;
       wanted = ap (λ (x : UploadState). x.wanted) is;
@@ -209,6 +230,7 @@ download_goes New d e same range f stays hashed = record {
   where
     kept : (x : Job) → IsFor x (Downloading d) → IsFor x (Downloading e)
     kept (jobs.Upload file secret p) h = absurd h
+    kept (jobs.Changing file other after secret p) h = absurd h
     kept (jobs.Repair cap happy) h = absurd h
     kept (jobs.NoRepair cap why) h = absurd h
     kept (jobs.Download cap from to) h = (same ∙ h.0, range.0 ∙ h.1, range.1 ∙ h.2)
@@ -257,6 +279,7 @@ check_goes New c e same f = record {
   where
     kept : (x : Job) → IsFor x (Checking c) → IsFor x (Checking e)
     kept (jobs.Upload file secret p) h = absurd h
+    kept (jobs.Changing file other after secret p) h = absurd h
     kept (jobs.Repair cap happy) h = absurd h
     kept (jobs.NoRepair cap why) h = absurd h
     kept (jobs.Download cap from to) h = absurd h
@@ -389,7 +412,7 @@ frame_on New old new node x g f = record {
   asks = f.asks;
 }
 
-tells_spells : (index : List ℕ) (old new : List (List ℕ)) (asked : Asked) (body : Body) → upload_sends.Tells gives index old asked body new → Spells index asked body
+tells_spells : (index : List ℕ) (old new : UploadPieces) (asked : Asked) (body : Body) → upload_sends.Tells gives index old asked body new → Spells index asked body
 tells_spells index old new Holdings body t = t.0
 tells_spells index old new (Allocation share len) body t = t.0
 tells_spells index old new (Writing share offset len) body t = subst (Spells index (Writing share offset len)) (sym t.3) (refl, refl, t.2)
@@ -413,9 +436,9 @@ framed t node to place m request body entry server spelled is spoken =
       asks = asks (index_of t) request.asked m.body spells;
     }
 
-upload_framed : (u v : State) (node to : ℕ) (m : Message) → upload_sends.Takes gives never_fails u (Some (to, m)) v → IsMessage m → IsFrameOf (Uploading u) node (sent_to node to m)
+upload_framed : (u v : State) (node to : ℕ) (m : Message) → upload_sends.Takes gives fails u (Some (to, m)) v → IsMessage m → IsFrameOf (Uploading u) node (sent_to node to m)
 upload_framed u v node to m (upload_sends.nothing first none is) spoken = absurd cc
-upload_framed u v node to m (upload_sends.ceases place server asked fault first there faults none is) spoken = absurd cc
+upload_framed u v node to m (upload_sends.ceases place server asked fault running first there faults none is) spoken = absurd cc
 upload_framed u v node to m (upload_sends.sends place server asked body first there tells some is) spoken =
     let pair : (to, m) ≡ (server, message_at place body u.course.requests) = same_pair (to, m) (server, message_at place body u.course.requests) some in
     let index : List ℕ = u.course.goal.cap.storage_index in

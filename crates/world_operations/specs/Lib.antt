@@ -3,6 +3,7 @@ pub mod Tasks
 pub mod Jobs
 pub mod Given
 pub mod Moves
+pub mod UploadPieces
 pub mod Follow
 pub mod Status
 pub mod Repairs

@@ -3,11 +3,15 @@ use Rattle.std.specs.Prelude.{◌≡◌, ◌≢◌, ℕ, Bool, true, false, List
 use Rattle.std.specs.Prelude.{Option, Some, None}
 use Rattle.wire.specs.declared.message.Message.{Message}
 use Rattle.wire.specs.Frames.{IsMessage, spelling}
+use Rattle.sources.specs.Change.{HasChanged}
+use Rattle.sources.specs.Texts.{Changing as TwoTexts, GivesChanging}
+use Rattle.file_encoding.specs.Params.{UploadParameters, parameters_of}
+use Rattle.file_streaming.specs.Prepared.{IsPreparedFrom}
 use Rattle.file_upload.specs.Prepared.{goal_of, prepared_of}
-use Rattle.upload_core.specs.declared.pieces.PieceFault.{PieceFault}
+use Rattle.streamed_upload.specs.Ready.{goal_of as kept_goal}
+use Rattle.streamed_upload.specs.Streamed.{Streaming}
 use Rattle.upload_core.specs.declared.status.ServerInfo.{ServerInfo}
 use Rattle.upload_core.specs.declared.status.UploadStatus.TheVariants as uploads
-use Rattle.upload_core.specs.Pieces.{piece_of}
 use Rattle.upload_core.specs.Moves as upload
 use Rattle.upload_core.specs.Sending as upload_sends
 use Rattle.download_segments.specs.declared.piece.Piece.{Piece}
@@ -23,23 +27,39 @@ use Rattle.world_operations.specs.declared.job.Job.{Job}
 use Rattle.world_operations.specs.declared.job.Job.TheVariants as jobs
 use Rattle.world_operations.specs.declared.message.Sent.{Sent}
 use Rattle.world_operations.specs.declared.operation.Operation.{Operation}
+use Rattle.world_operations.specs.declared.upload_pieces.UploadPieces.{UploadPieces}
+use Rattle.world_operations.specs.declared.upload_pieces.UploadPieces.TheVariants.{Whole, Streamed}
 use Rattle.world_operations.specs.declared.task.Task.{Task}
 use Rattle.world_operations.specs.declared.task.Task.TheVariants.{Uploading, Downloading}
 use Rattle.world_operations.specs.declared.task.Task.TheVariants.{Checking, Gone}
+use Rattle.world_operations.specs.Jobs.{changing}
+use Rattle.world_operations.specs.UploadPieces.{fails, gives}
 
--- what whole shares give of a share, and that they always do
-abbrev pub gives : List (List ℕ) → ℕ → ℕ → List ℕ → List (List ℕ) → Type 0
-gives shares share offset bytes after =
-    (bytes ≡ piece_of shares share offset (length bytes)) × (after ≡ shares)
+-- An upload begins of a source that changes: it was read twice, and what is kept is of what the
+-- second pass brought.
+pub record BeginsChanging (file other : List ℕ) (after : ℕ) (secret : List ℕ)
+    (p : UploadParameters) (servers : List ServerInfo) (session now : ℕ)
+    (u : upload_sends.Uploading UploadPieces) : Type 0 where
+  pub stream : Streaming TwoTexts
+  pub prepared : IsPreparedFrom GivesChanging (length file) (changing file other after) secret
+      (parameters_of p) stream.kept stream.source
+  pub begins : upload.Begins (kept_goal stream.kept) p.happy servers session now u.course
+  pub pieces : u.pieces ≡ Streamed stream
 
-abbrev pub never_fails : List (List ℕ) → ℕ → ℕ → ℕ → PieceFault → List (List ℕ) → Type 0
-never_fails shares share offset len fault after = ⊥
+-- it has failed as it began: two reads of one place differed
+abbrev pub FailsChanging : List ℕ → List ℕ → ℕ → Type 0
+FailsChanging file other after =
+    (new : TwoTexts) × HasChanged GivesChanging (changing file other after) (length file) new
 
 -- a task begins as its job says, with all of these servers
 abbrev pub Begins : Job → List ServerInfo → List ℕ → ℕ → ℕ → Task → Type 0
 Begins (jobs.Upload file secret p) servers nodes session now (Uploading u) =
     upload.Begins (goal_of (prepared_of file secret p)) p.happy servers session now u.course
-    × (u.pieces ≡ (prepared_of file secret p).shares)
+    × (u.pieces ≡ Whole (prepared_of file secret p).shares)
+Begins (jobs.Changing file other after secret p) servers nodes session now (Uploading u) =
+    BeginsChanging file other after secret p servers session now u
+Begins (jobs.Changing file other after secret p) servers nodes session now (Gone number) =
+    (number ≡ session) × FailsChanging file other after
 Begins (jobs.Download cap from to) servers nodes session now (Downloading d) =
     download.Begins cap from to nodes session now d
 Begins (jobs.Check cap) servers nodes session now (Checking c) =
@@ -48,13 +68,13 @@ Begins job servers nodes session now task = ⊥
 
 -- An upload goes on only while it runs: once it ended nothing is outstanding.
 pub record UploadAdvances (from : ℕ) (m : Message) (now : ℕ)
-    (old new : upload_sends.Uploading (List (List ℕ))) : Type 0 where
+    (old new : upload_sends.Uploading UploadPieces) : Type 0 where
   pub pieces : new.pieces ≡ old.pieces
   pub running : old.course.status ≡ uploads.Running
       → upload.Advances from m now old.course new.course
   pub ended : old.course.status ≢ uploads.Running → new ≡ old
 
-pub record UploadTicks (now : ℕ) (old new : upload_sends.Uploading (List (List ℕ))) : Type 0 where
+pub record UploadTicks (now : ℕ) (old new : upload_sends.Uploading UploadPieces) : Type 0 where
   pub pieces : new.pieces ≡ old.pieces
   pub running : old.course.status ≡ uploads.Running → upload.TicksOn now old.course new.course
   pub ended : old.course.status ≢ uploads.Running → new ≡ old
@@ -86,7 +106,7 @@ TicksOn now (Gone number) new = new ≡ Gone number
 TicksOn now old new = ⊥
 
 abbrev pub Takes : Task → Option (ℕ × Message) → Task → Type 0
-Takes (Uploading old) frame (Uploading new) = upload_sends.Takes gives never_fails old frame new
+Takes (Uploading old) frame (Uploading new) = upload_sends.Takes gives fails old frame new
 Takes (Downloading old) frame (Downloading new) = download_sends.Takes old frame new
 Takes (Checking old) frame (Checking new) = check_sends.Takes old frame new
 Takes (Gone number) frame new = (frame ≡ None) × (new ≡ Gone number)

@@ -10,6 +10,8 @@ use Rattle.upload_core.specs.Sending as upload_sends
 use Rattle.world_operations.specs.declared.job.Job.{Job}
 use Rattle.world_operations.specs.declared.job.Job.TheVariants.{Repair, NoRepair}
 use Rattle.world_operations.specs.declared.job.Unmade.TheVariants.{NotEnoughShares, Inconsistent}
+use Rattle.world_operations.specs.declared.upload_pieces.UploadPieces.{UploadPieces}
+use Rattle.world_operations.specs.declared.upload_pieces.UploadPieces.TheVariants.{Whole}
 use Rattle.world_operations.specs.declared.task.Task.{Task}
 use Rattle.world_operations.specs.declared.task.Task.TheVariants.{Uploading, Gone}
 
@@ -18,10 +20,10 @@ use Rattle.world_operations.specs.declared.task.Task.TheVariants.{Uploading, Gon
 pub data BeginsRepair (cap : VerifyCapValue) (happy : ℕ) (numbers : List ℕ)
     (strings : List (List ℕ)) (servers : List ServerInfo) (session now : ℕ) (job : Job)
     (task : Task) : Type 0 where
-  makes : (shares : List (List ℕ)) (u : upload_sends.Uploading (List (List ℕ)))
+  makes : (shares : List (List ℕ)) (u : upload_sends.Uploading UploadPieces)
       → AreRegenerated cap numbers strings shares → job ≡ Repair cap happy → task ≡ Uploading u
       → upload.Begins (shares_goal cap shares) happy servers session now u.course
-      → u.pieces ≡ shares
+      → u.pieces ≡ Whole shares
       → BeginsRepair cap happy numbers strings servers session now job task
   lacks : LacksShares cap numbers strings → job ≡ NoRepair cap NotEnoughShares
       → task ≡ Gone session

@@ -8,7 +8,7 @@ use Rattle.checker.specs.declared.status.CheckStatus.{CheckStatus}
 use Rattle.checker.specs.declared.status.CheckStatus.TheVariants as checks
 use Rattle.world_operations.specs.declared.job.Job.{Job}
 use Rattle.world_operations.specs.declared.job.Job.TheVariants.{Upload, Download, Check}
-use Rattle.world_operations.specs.declared.job.Job.TheVariants.{Repair, NoRepair}
+use Rattle.world_operations.specs.declared.job.Job.TheVariants.{Changing, Repair, NoRepair}
 use Rattle.world_operations.specs.declared.job.Unmade.{Unmade}
 use Rattle.world_operations.specs.declared.job.Unmade.TheVariants as unmade
 use Rattle.world_operations.specs.declared.operation.Life.{Life}
@@ -26,6 +26,7 @@ use Rattle.world_operations.specs.declared.task.Task.TheVariants.{Checking, Gone
 -- on how many servers the shares of an upload or of a repair have to be
 abbrev pub happy_of : Job → ℕ
 happy_of (Upload file secret p) = p.happy
+happy_of (Changing file other after secret p) = p.happy
 happy_of (Download cap from to) = 0
 happy_of (Check cap) = 0
 happy_of (Repair cap happy) = happy

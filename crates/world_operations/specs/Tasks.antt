@@ -1,5 +1,5 @@
 -- What the kinds of operation have in common.
-use Rattle.std.specs.Prelude.{◌≡◌, ◌≢◌, ℕ, Bool, true, false, List, [], ⊤}
+use Rattle.std.specs.Prelude.{◌≡◌, ℕ, Bool, true, false, List, [], ⊤}
 use Rattle.cap_text.specs.Cap.{verify_cap_of}
 use Rattle.request_record.specs.Asking.{fresh}
 use Rattle.request_record.specs.Record.{RequestsState}
@@ -13,6 +13,7 @@ use Rattle.download_core.specs.Right as download
 use Rattle.checker.specs.declared.status.CheckStatus.{CheckStatus}
 use Rattle.checker.specs.declared.status.CheckStatus.TheVariants as checks
 use Rattle.checker.specs.Right as check
+use Rattle.world_operations.specs.declared.upload_pieces.UploadPieces.TheVariants.{Whole}
 use Rattle.world_operations.specs.declared.task.Task.{Task}
 use Rattle.world_operations.specs.declared.task.Task.TheVariants.{Uploading, Downloading}
 use Rattle.world_operations.specs.declared.task.Task.TheVariants.{Checking, Gone}
@@ -71,9 +72,9 @@ IsHappyTask (Downloading d) pairs = ⊥
 IsHappyTask (Checking c) pairs = ⊥
 IsHappyTask (Gone number) pairs = ⊥
 
--- it is an upload of these shares
+-- it is an upload of these shares, in memory
 abbrev pub HasShares : Task → List (List ℕ) → Type 0
-HasShares (Uploading u) shares = u.pieces ≡ shares
+HasShares (Uploading u) shares = u.pieces ≡ Whole shares
 HasShares (Downloading d) shares = ⊥
 HasShares (Checking c) shares = ⊥
 HasShares (Gone number) shares = ⊥

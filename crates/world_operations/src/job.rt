@@ -22,6 +22,10 @@ pub enum Unmade {
 pub enum Job {
     /// The upload of a file: its bytes, the convergence secret and the parameters.
     Upload(Bytes, Bytes, Params),
+    /// The upload of a source that changes: two texts of one length, of which the first bytes that
+    /// it hands out, so many, are of the one and later ones of the other; the convergence secret
+    /// and the parameters. The file is what the second of two passes over it brings.
+    Changing(Bytes, Bytes, u64, Bytes, Params),
     /// The download of a cap's file, from one place to before another.
     Download(ReadCap, u64, u64),
     /// The check of a cap's shares.
@@ -41,6 +45,13 @@ impl Job {
         match self {
             Job::Upload(file, secret, params) => Ok(Job::Upload(
                 copied(alloc, file)?,
+                copied(alloc, secret)?,
+                *params,
+            )),
+            Job::Changing(file, other, after, secret, params) => Ok(Job::Changing(
+                copied(alloc, file)?,
+                copied(alloc, other)?,
+                *after,
                 copied(alloc, secret)?,
                 *params,
             )),

@@ -13,3 +13,4 @@ pub mod pieces;
 mod repair;
 pub mod status;
 pub mod task;
+pub mod upload_pieces;

@@ -9,15 +9,16 @@ ghost use Rattle.file_upload.specs.Shares.{MayWant, shares_goal};
 ghost use Rattle.upload_core.specs.declared.status.ServerInfo.{ServerInfo};
 ghost use Rattle.upload_core.specs.Moves.{Begins};
 ghost use Rattle.world_operations.specs.Repairs.{BeginsRepair};
+ghost use Rattle.world_operations.specs.declared.upload_pieces.UploadPieces.TheVariants.{Whole};
 
 use crate::job::{Job, Unmade};
 use crate::task::Task;
+use crate::upload_pieces::UploadPieces;
 use cap_text::VerifyCap;
 use file_encoding::{ReadError, Share, regenerate_all};
 use file_upload::shares::{SharesError, prepare_shares};
 use std::alloc::{AllocError, Global};
 use upload_core::Upload;
-use upload_core::pieces::WholeShares;
 use upload_core::status::ServerInfo;
 
 impl Task {
@@ -99,16 +100,20 @@ fn begin_upload(
     servers: &[ServerInfo],
     session: u64,
     now: u64,
-) -> Result<Upload<WholeShares>, AllocError>
+) -> Result<Upload<UploadPieces>, AllocError>
     requires may { MayWant cap.now happy }
     requires passing { ArePassing cap.now shares.items }
     requires servers { IsDistinct nat_eq (map (λ (s : ServerInfo). s.node) servers.now) }
     ensures begins { IfOk result (λ upload. Begins (shares_goal cap.now shares.items) happy
         servers.now session now upload.course) }
-    ensures pieces { IfOk result (λ upload. upload.pieces ≡ shares.items) }
+    ensures pieces { IfOk result (λ upload. upload.pieces ≡ Whole shares.items) }
 {
     match prepare_shares(alloc, cap, happy, shares) {
-        Ok(prepared) => prepared.start(alloc, servers, session, now),
+        Ok(prepared) => {
+            let (shares, goal) = prepared.into_parts();
+            let pieces = UploadPieces::Whole(shares);
+            Upload::start(alloc, pieces, goal, happy, servers, session, now)
+        }
         Err(SharesError::OutOfMemory) => Err(AllocError),
         Err(SharesError::BadParameters) => unreachable!(),
     }

@@ -80,7 +80,7 @@ fn happy_of(job: &Job) -> u16
     ensures { result ≡ happy_of job.now }
 {
     match job {
-        Job::Upload(_, _, params) => params.happy(),
+        Job::Upload(_, _, params) | Job::Changing(_, _, _, _, params) => params.happy(),
         Job::Repair(_, happy) => *happy,
         Job::Download(_, _, _) | Job::Check(_) | Job::NoRepair(_, _) => 0,
     }

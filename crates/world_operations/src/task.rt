@@ -1,33 +1,40 @@
 //! The machine of an operation.
 
 ghost use Rattle.std.specs.Prelude.{◌≡◌, ◌↔◌, ℕ, List, IfOk, IfSome, IsErrOf, IsTrue, None, OnErr};
-ghost use Rattle.std.specs.Prelude.{OnOk, map, nat_eq, true};
+ghost use Rattle.std.specs.Prelude.{OnOk, length, map, nat_eq, true};
 ghost use Rattle.std.specs.List.{IsDistinct};
 ghost use Rattle.checker.specs.declared.status.CheckStatus.TheVariants as checks;
+ghost use Rattle.streamed_upload.specs.Ready.{goal_of};
+ghost use Rattle.upload_core.specs.Moves as upload;
+ghost use Rattle.upload_core.specs.Sending.{Uploading};
 ghost use Rattle.upload_core.specs.declared.status.ServerInfo.{ServerInfo};
 ghost use Rattle.upload_core.specs.declared.status.UploadStatus.TheVariants as uploads;
 ghost use Rattle.world_operations.specs.declared.job.Job.TheVariants as jobs;
 ghost use Rattle.world_operations.specs.declared.task.StartError.{StartError};
+ghost use Rattle.world_operations.specs.declared.upload_pieces.UploadPieces.TheVariants.{Streamed};
 ghost use Rattle.world_operations.specs.Follow.{GoesOn, IsSaid, Nothing};
 ghost use Rattle.world_operations.specs.Given.{IsGivenBy};
-ghost use Rattle.world_operations.specs.Jobs.{MayStart};
+ghost use Rattle.world_operations.specs.Jobs.{MayStart, changing};
 ghost use Rattle.world_operations.specs.Moves.{Advances, Begins, Takes, TakesPiece, TicksOn};
 ghost use Rattle.world_operations.specs.Moves.{CheckTicks, UploadAdvances, UploadTicks};
 ghost use Rattle.world_operations.specs.Tasks.{IsRightTask, MayFail, is_download, requests_of};
 ghost use Rattle.world_operations.specs.Tasks.{runs, upload_runs};
 
 use crate::job::Job;
+use crate::upload_pieces::UploadPieces;
 use cap_text::{ReadCap, VerifyCap};
 use checker::Check;
 use checker::status::CheckStatus;
 use download_core::Download;
 use download_core::status::{DownloadError, DownloadStatus, Piece};
 use file_encoding::{EncodeError, Params};
+use file_streaming::PrepareError;
 use file_upload::prepared::{FileUpload, prepare};
+use sources::ChangingSource;
 use std::alloc::{AllocError, Global};
+use streamed_upload::prepared::{PreparedStream, prepare_stream};
 use ueb::MIN_FILE_SIZE;
 use upload_core::Upload;
-use upload_core::pieces::WholeShares;
 use upload_core::status::{ServerInfo, UploadStatus};
 use wire::message::{Message, NodeId};
 
@@ -51,11 +58,12 @@ impl From<AllocError> for StartError {
 /// The machine of an operation, whichever it is.
 #[derive(Drop)]
 pub enum Task {
-    Uploading(Upload<WholeShares>),
+    Uploading(Upload<UploadPieces>),
     Downloading(Download),
     Checking(Check),
-    /// There is no machine, only the operation's number: a repair made no shares, or a call of an
-    /// upload or of a check found no memory, which leaves nothing to be said of the machine.
+    /// There is no machine, only the operation's number: a repair made no shares, the source of an
+    /// upload changed while it was read, or a call of an upload or of a check found no memory,
+    /// which leaves nothing to be said of the machine.
     Gone(u64),
 }
 
@@ -80,6 +88,17 @@ impl Task {
             Job::Upload(file, secret, params) => begin_upload(
                 alloc,
                 file.as_slice(),
+                secret.as_slice(),
+                params,
+                servers,
+                session,
+                now,
+            ),
+            Job::Changing(file, other, after, secret, params) => begin_changing(
+                alloc,
+                file.as_slice(),
+                other.as_slice(),
+                *after,
                 secret.as_slice(),
                 params,
                 servers,
@@ -209,14 +228,89 @@ fn begin_upload(
     }
     let _ = params.needed();
     match prepare(alloc, file, secret, params) {
-        Ok(FileUpload::Shares(prepared)) => match prepared.start(alloc, servers, session, now) {
-            Ok(upload) => Ok(Task::Uploading(upload)),
-            Err(_) => Err(StartError::OutOfMemory),
-        },
+        Ok(FileUpload::Shares(prepared)) => {
+            let happy = prepared.happy();
+            let (shares, goal) = prepared.into_parts();
+            let pieces = UploadPieces::Whole(shares);
+            let upload = Upload::start(alloc, pieces, goal, happy, servers, session, now)?;
+            Ok(Task::Uploading(upload))
+        }
         Ok(FileUpload::Literal(_)) => Err(StartError::Refused),
         Err(EncodeError::OutOfMemory) => Err(StartError::OutOfMemory),
         Err(_) => Err(StartError::Refused),
     }
+}
+
+// Begins the upload of a source that changes. It has failed where two reads of one place differed.
+fn begin_changing(
+    alloc: Global,
+    file: &[u8],
+    other: &[u8],
+    after: u64,
+    secret: &[u8],
+    params: &Params,
+    servers: &[ServerInfo],
+    session: u64,
+    now: u64,
+) -> Result<Task, StartError>
+    requires { IsDistinct nat_eq (map (λ (s : ServerInfo). s.node) servers.now) }
+    ensures begins { (nodes : List ℕ) → IfOk result
+        (Begins (jobs.Changing file.now other.now after secret.now params.now) servers.now nodes
+        session now) }
+    ensures may { IfOk result
+        (λ _. MayStart (jobs.Changing file.now other.now after secret.now params.now)) }
+    ensures refused { IsErrOf result StartError.Refused
+        → MayStart (jobs.Changing file.now other.now after secret.now params.now) → ⊥ }
+{
+    if (file.len() as u64) < MIN_FILE_SIZE || secret.len() > 64 || other.len() != file.len() {
+        return Err(StartError::Refused);
+    }
+    let _ = params.needed();
+    let source = two_texts(alloc, file, other, after)?;
+    match prepare_stream(alloc, source, secret, params) {
+        Ok(prepared) => begin_stream(alloc, prepared, servers, session, now),
+        Err(PrepareError::SourceChanged) => Ok(Task::Gone(session)),
+        Err(PrepareError::OutOfMemory) => Err(StartError::OutOfMemory),
+        Err(PrepareError::SourceFault) => unreachable!(),
+        Err(_) => Err(StartError::Refused),
+    }
+}
+
+// A source of two texts of one length.
+fn two_texts(
+    alloc: Global,
+    file: &[u8],
+    other: &[u8],
+    after: u64,
+) -> Result<ChangingSource, AllocError>
+    requires { length other.now ≡ length file.now }
+    ensures { IfOk result (λ source. source ≡ changing file.now other.now after) }
+{
+    let file = Vec::from_slice(alloc, file)?;
+    let other = Vec::from_slice(alloc, other)?;
+    Ok(ChangingSource::new(file, other, after))
+}
+
+// Begins the upload of a source that was read twice.
+fn begin_stream(
+    alloc: Global,
+    prepared: PreparedStream<ChangingSource>,
+    servers: &[ServerInfo],
+    session: u64,
+    now: u64,
+) -> Result<Task, StartError>
+    requires { IsDistinct nat_eq (map (λ (s : ServerInfo). s.node) servers.now) }
+    ensures begun { IfOk result (λ task. (u : Uploading UploadPieces) × (task ≡ Task.Uploading u)
+        × (u.pieces ≡ Streamed prepared.pieces)
+        × upload.Begins (goal_of prepared.pieces.kept) prepared.happy servers.now session now
+        u.course) }
+    ensures no_other { IsErrOf result StartError.Refused → ⊥ }
+{
+    let happy = prepared.happy();
+    let (stream, goal) = prepared.into_parts();
+    let pieces = UploadPieces::Streamed(stream);
+    let upload = Upload::start(alloc, pieces, goal, happy, servers, session, now)?;
+    Ok(Task::Uploading(upload))
 }
 
 // Begins a download.
@@ -263,7 +357,7 @@ fn begin_check(
 }
 
 // Does it still run?
-fn is_running(upload: &Upload<WholeShares>) -> bool
+fn is_running(upload: &Upload<UploadPieces>) -> bool
     ensures state { result ≡ upload_runs upload.now.course.status }
     ensures runs { IsTrue result ↔ (upload.now.course.status ≡ uploads.Running) }
 {
@@ -272,7 +366,7 @@ fn is_running(upload: &Upload<WholeShares>) -> bool
 
 // A message comes to an upload, which takes it while it runs.
 fn answer_upload(
-    upload: &mut Upload<WholeShares>,
+    upload: &mut Upload<UploadPieces>,
     from: NodeId,
     message: Message,
     now: u64,
@@ -287,7 +381,7 @@ fn answer_upload(
 }
 
 // An upload takes note of a second while it runs.
-fn tick_upload(upload: &mut Upload<WholeShares>, now: u64) -> Result<(), AllocError>
+fn tick_upload(upload: &mut Upload<UploadPieces>, now: u64) -> Result<(), AllocError>
     ensures ok { OnOk result (UploadTicks now upload.old upload.new) }
     ensures err { OnErr result (upload.old.course.status ≡ uploads.Running) }
 {
