@@ -80,7 +80,8 @@ downloads_agree w c no_clash cap place a b f g =
 
 pub files_are_given : (w : WorldState) → IsConsistent w → HasNoClash w → FilesAreGiven w
 files_are_given w c no_clash file secret p pairs place byte up given =
-    let may = (for_upload w up.number file secret p up.operation up.upload c up.upload_of).2 in
+    let is_for = for_upload w up.number file secret p up.operation up.upload c up.upload_of in
+    let may = is_for.may in
     let g = geometry_of (length file) p.needed p.total p.max_segment in
     let ciphertext : List ℕ = xored (convergent_key_of p.needed p.total g.segment_size secret file) file in
     let u : Contents = extension_block_contents g ciphertext (segments_of g ciphertext) in
@@ -89,6 +90,6 @@ files_are_given w c no_clash file secret p pairs place byte up given =
     let piece = proved w c cap place byte given in
     file_agrees_in (IsHashed w) no_clash cap (ueb_text u) piece.block u piece.contents ciphertext file given.piece
     (files_of_caps file secret (parameters_of p) (has_shape (length file) p may.chosen may.not_small may.encodable))
-    (encoding_among w up.number up.operation file secret p _ up.upload_of.at up.upload_of.job own.0)
-    (λ input k. encoding_among w up.number up.operation file secret p input up.upload_of.at up.upload_of.job (own.1 input k))
+    (encoding_among w up.number up.operation file secret p _ up.upload_of.at up.upload_of.uploads is_for.one_key own.0)
+    (λ input k. encoding_among w up.number up.operation file secret p input up.upload_of.at up.upload_of.uploads is_for.one_key (own.1 input k))
     piece.given place byte (byte_of w cap place byte given)

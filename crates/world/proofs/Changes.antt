@@ -20,7 +20,7 @@ use Rattle.share_store.specs.declared.shelf.ClosedShare.{ClosedShare}
 use Rattle.server_core.specs.Machine.{Machine}
 use Rattle.server_core.specs.Sound.{ClosedStay, IsAnswer, IsSound, Tells, is_request}
 use Rattle.world_operations.specs.declared.job.Job.{Job}
-use Rattle.world_operations.specs.declared.job.Job.TheVariants.{Upload, Download, Check, Repair, NoRepair}
+use Rattle.world_operations.specs.declared.job.Job.TheVariants.{Upload, Changing, Download, Check, Repair, NoRepair}
 use Rattle.world_operations.specs.declared.message.Sent.{Sent}
 use Rattle.world_operations.specs.declared.operation.Life.{Life}
 use Rattle.world_operations.specs.declared.operation.Life.TheVariants.{Forgotten}
@@ -255,6 +255,10 @@ for_gone (Upload file secret p) (Uploading u) number h = h.2
 for_gone (Upload file secret p) (Gone n) number h = h
 for_gone (Upload file secret p) (Downloading d) number h = absurd h
 for_gone (Upload file secret p) (Checking c) number h = absurd h
+for_gone (Changing file other after secret p) (Uploading u) number h = h.2
+for_gone (Changing file other after secret p) (Gone n) number h = h
+for_gone (Changing file other after secret p) (Downloading d) number h = absurd h
+for_gone (Changing file other after secret p) (Checking c) number h = absurd h
 for_gone (Download cap from to) task number h = tt
 for_gone (Check cap) task number h = tt
 for_gone (Repair cap happy) task number h = tt

@@ -8,25 +8,22 @@ use Rattle.upload_core.specs.Acknowledged.{acked_pairs}
 use Rattle.upload_core.specs.Right.{IsRight, has_ended}
 use Rattle.upload_core.specs.Rounds.{EndsAs, IsHappy}
 use Rattle.upload_core.specs.Sending as upload_sends
-use Rattle.world_operations.specs.declared.job.Job.{Job}
-use Rattle.world_operations.specs.declared.job.Job.TheVariants.{Upload}
 use Rattle.world_operations.specs.declared.operation.Operation.{Operation}
-use Rattle.world_operations.specs.declared.task.Task.{Task}
-use Rattle.world_operations.specs.declared.task.Task.TheVariants.{Uploading}
 use Rattle.world_operations.specs.Jobs.{IsFor}
+use Rattle.world_operations.specs.declared.upload_pieces.UploadPieces.{UploadPieces}
 use Rattle.world_operations.specs.Tasks.{IsRightTask}
+use Rattle.world_operations.proofs.Uploads.{IsForFile, for_file}
 use Rattle.world.specs.State.{WorldState}
 use Rattle.world.specs.Consistent.{IsConsistent}
 use Rattle.world.specs.Headline.{HappyIsMatched, IsUploadOf}
 
 abbrev pub Up : Type 0
-Up = upload_sends.Uploading (List (List ℕ))
+Up = upload_sends.Uploading UploadPieces
 
 -- an upload's machine is for its job
 pub for_upload : (w : WorldState) (number : ℕ) (file secret : List ℕ) (p : UploadParameters) (op : Operation) (u : Up) → IsConsistent w → IsUploadOf w number file secret p op u
-    → IsFor (Upload file secret p) (Uploading u)
-for_upload w number file secret p op u c of =
-    subst (λ (t : Task). IsFor (Upload file secret p) t) of.task (subst (λ (j : Job). IsFor j op.task) of.job (c.fine number op of.at).started)
+    → IsForFile op.job file secret p u
+for_upload w number file secret p op u c of = for_file op.job file secret p u of.uploads (subst (IsFor op.job) of.task (c.fine number op of.at).started)
 
 right_upload : (w : WorldState) (number : ℕ) (file secret : List ℕ) (p : UploadParameters) (op : Operation) (u : Up) → IsConsistent w → IsUploadOf w number file secret p op u → IsRight u.course
 right_upload w number file secret p op u c of = subst IsRightTask of.task (c.fine number op of.at).right
@@ -40,6 +37,6 @@ happy_is_matched w c file secret p pairs up =
     let is_for = for_upload w up.number file secret p up.operation up.upload c up.upload_of in
     let ends = ends_happy u pairs (right_upload w up.number file secret p up.operation up.upload c up.upload_of) up.status in
     record {
-      matching = subst (λ (g : Goal). IsMatching (acked_pairs g u.requests.entries) pairs) is_for.0 ends.largest.matching;
-      enough = subst (λ (n : ℕ). n ≤ length pairs) is_for.1 ends.enough;
+      matching = subst (λ (g : Goal). IsMatching (acked_pairs g u.requests.entries) pairs) is_for.goal ends.largest.matching;
+      enough = subst (λ (n : ℕ). n ≤ length pairs) is_for.wanted ends.enough;
     }

@@ -12,21 +12,19 @@ use Rattle.download_core.specs.Hashed as download
 use Rattle.download_core.specs.State.{DownloadState}
 use Rattle.file_encoding.specs.Inputs.{encoding_inputs}
 use Rattle.file_encoding.specs.Params.{UploadParameters, parameters_of}
-use Rattle.world_operations.specs.declared.job.Job.{Job}
-use Rattle.world_operations.specs.declared.job.Job.TheVariants.{Upload}
 use Rattle.world_operations.specs.declared.operation.Operation.{Operation}
 use Rattle.world_operations.specs.declared.task.Task.{Task}
 use Rattle.world_operations.specs.declared.task.Task.TheVariants.{Downloading}
 use Rattle.world_operations.specs.Given.{IsHashedBy}
+use Rattle.world_operations.specs.Jobs.{HasOneKey, Uploads}
 use Rattle.world_operations.proofs.Places.{member_at}
 use Rattle.world.specs.State.{WorldState}
-use Rattle.world.specs.Headline.{IsHashed, closed, downloaded, started, started_inputs}
+use Rattle.world.specs.Headline.{IsHashed, closed, downloaded, started}
 
 -- all that an upload's encoding hashes
 pub encoding_among : (w : WorldState) (i : ℕ) (op : Operation) (file secret : List ℕ) (p : UploadParameters) (x : List ℕ)
-    → slice_get w.operations i ≡ Some op → op.job ≡ Upload file secret p → Contains (encoding_inputs file secret (parameters_of p)) x → IsHashed w x
-encoding_among w i op file secret p x at job c =
-    started op (member_at w.operations i op at) (subst (λ (j : Job). Contains (started_inputs j) x) (sym job) c)
+    → slice_get w.operations i ≡ Some op → Uploads op.job file secret p → HasOneKey op.job → Contains (encoding_inputs file secret (parameters_of p)) x → IsHashed w x
+encoding_among w i op file secret p x at uploads one_key c = started op file secret p (member_at w.operations i op at) uploads one_key c
 
 -- a share that is closed at an honest server
 pub share_among : (w : WorldState) (node : ℕ) (m : Machine MemoryState) (id : ShareId) (c : ClosedShare)

@@ -64,9 +64,9 @@ acknowledged_keep w c no_clash file secret p pair a honest =
     let right : closed.share.digest ≡ tagged_hash WholeShare closed.share.bytes = (c.sound pair.0 m server.1).right.digests id closed.share closed.found in
     let bytes : closed.share.bytes ≡ slice_index_or shares pair.1 [] =
     data_agrees_in (IsHashed w) no_clash WholeShare closed.share.bytes (slice_index_or shares pair.1 []) (share_among w pair.0 m id closed.share server.1 closed.found)
-    (encoding_among w a.answer.session a.operation file secret p _ a.upload_of.at a.upload_of.job (share_hashed file secret p pair.1 low))
+    (encoding_among w a.answer.session a.operation file secret p _ a.upload_of.at a.upload_of.uploads is_for.one_key (share_hashed file secret p pair.1 low))
     (sym right ∙ closed.digest_is ∙ digest) in
-    subst (λ (g : Goal). Keeps w pair.0 g.cap.storage_index pair.1 (slice_index_or shares pair.1 [])) is_for.0
+    subst (λ (g : Goal). Keeps w pair.0 g.cap.storage_index pair.1 (slice_index_or shares pair.1 [])) is_for.goal
     record { machine = m; closed = closed.share; at = server.1; found = closed.found; bytes_are = bytes }
 
 -- what counted was answered

@@ -18,11 +18,12 @@ use Rattle.world_operations.specs.declared.task.Task.TheVariants.{Uploading, Dow
 use Rattle.world_operations.specs.Follow.{IsLostTask, Moves, Said, SendsSome, StillAsks}
 use Rattle.world_operations.specs.Given.{IsHashedBy}
 use Rattle.world_operations.specs.declared.job.Job.{Job}
+use Rattle.world_operations.specs.Jobs.{HasOneKey, Uploads}
 use Rattle.world_operations.specs.Tasks.{HasShares, IsHappyTask, is_download, requests_of}
 use Rattle.world_operations.proofs.Places.{append_none, get_push_old, get_set_back, member_at, place_of_member, same_some}
 use Rattle.world.specs.State.{WorldState}
 use Rattle.world.specs.Step.{with_life}
-use Rattle.world.specs.Headline.{IsGone, IsHashed, IsLater, StaysAt, closed, downloaded, started, started_inputs}
+use Rattle.world.specs.Headline.{IsGone, IsHashed, IsLater, StaysAt, closed, downloaded, started}
 use Rattle.world.proofs.Changes.{HaveOtherLives}
 use Rattle.world.proofs.Happy.{Up}
 
@@ -168,10 +169,10 @@ happy_upload (Checking c) pairs h = absurd h
 happy_upload (Gone number) pairs h = absurd h
 
 hashed_later : (old new : WorldState) → AllStay old.servers new.servers → AllGrow old.operations new.operations → (input : List ℕ) → IsHashed old input → IsHashed new input
-hashed_later old new servers operations input (started op among of) =
+hashed_later old new servers operations input (started op file secret p among uploads one_key of) =
     let at = place_of_member old.operations op among in
     let f = operations at.0 op at.1 in
-    started f.0 (member_at new.operations at.0 f.0 f.1) (subst (λ (j : Job). Contains (started_inputs j) input) (sym f.2.job) of)
+    started f.0 file secret p (member_at new.operations at.0 f.0 f.1) (subst (λ (j : Job). Uploads j file secret p) (sym f.2.job) uploads) (subst HasOneKey (sym f.2.job) one_key) of
 hashed_later old new servers operations input (downloaded op among by) =
     let at = place_of_member old.operations op among in
     let f = operations at.0 op at.1 in
@@ -225,7 +226,7 @@ later_from old new servers operations sent nodes = record {
         number = up.number;
         operation = f.0;
         upload = t.upload;
-        upload_of = record { at = f.1; job = f.2.job ∙ up.upload_of.job; task = t.task };
+        upload_of = record { at = f.1; uploads = subst (λ (j : Job). Uploads j file secret p) (sym f.2.job) up.upload_of.uploads; task = t.task };
         status = t.status;
       };
   repaired = λ cap happy shares pairs r.

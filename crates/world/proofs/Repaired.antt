@@ -37,12 +37,14 @@ use Rattle.upload_core.specs.State.{Goal, UploadState}
 use Rattle.file_encoding.proofs.Binding.{file_shares_are_bound}
 use Rattle.file_upload.specs.Shares.{shares_goal}
 use Rattle.world_operations.specs.declared.job.Job.{Job}
-use Rattle.world_operations.specs.declared.job.Job.TheVariants.{Upload, Repair}
+use Rattle.world_operations.specs.declared.job.Job.TheVariants.{Repair}
 use Rattle.world_operations.specs.declared.message.Sent.{Sent}
 use Rattle.world_operations.specs.declared.operation.Operation.{Operation}
 use Rattle.world_operations.specs.declared.task.Task.{Task}
-use Rattle.world_operations.specs.declared.task.Task.TheVariants.{Uploading, Downloading, Checking, Gone}
+use Rattle.world_operations.specs.declared.task.Task.TheVariants.{Uploading}
+use Rattle.world_operations.specs.declared.upload_pieces.UploadPieces.TheVariants.{Whole}
 use Rattle.world_operations.specs.Jobs.{IsFor, IsRepair, IsUpload}
+use Rattle.world_operations.proofs.Uploads.{could_start}
 use Rattle.world_operations.specs.Tasks.{IsRightTask, requests_of}
 use Rattle.world_operations.proofs.Places.{get_below, member_at, member_flat_cases, member_none, place_of_member, same_some}
 use Rattle.world.specs.State.{WorldState, shelved}
@@ -163,8 +165,11 @@ for_repair : (w : WorldState) (number : ℕ) (cap : VerifyCapValue) (happy : ℕ
 for_repair w number cap happy op u c of =
     subst (λ (t : Task). IsFor (Repair cap happy) t) of.task (subst (λ (j : Job). IsFor j op.task) of.job (c.fine number op of.at).started)
 
-goal_of_shares : (cap : VerifyCapValue) (happy : ℕ) (u : Up) (shares : List (List ℕ)) → IsRepair cap happy u → u.pieces ≡ shares → u.course.goal ≡ shares_goal cap shares
-goal_of_shares cap happy u shares is same = is.goal ∙ ap (shares_goal cap) same
+one_list : (these those : List (List ℕ)) → Whole these ≡ Whole those → these ≡ those
+one_list these those e = cc
+
+goal_of_shares : (cap : VerifyCapValue) (happy : ℕ) (u : Up) (shares : List (List ℕ)) → IsRepair cap happy u → u.pieces ≡ Whole shares → u.course.goal ≡ shares_goal cap shares
+goal_of_shares cap happy u shares is same = is.goal ∙ ap (shares_goal cap) (one_list is.shares shares (sym is.pieces ∙ same))
 
 repairs_are_matched : (w : WorldState) → IsConsistent w → RepairsAreMatched w
 repairs_are_matched w c cap happy shares pairs r =
@@ -202,37 +207,37 @@ repairs_are_acknowledged w c cap happy shares pairs pair r chosen =
     }
 
 -- what is hashed of a share that was made, by itself and where it is checked
-module _ (w : WorldState) (c : IsConsistent w) (number : ℕ) (cap : VerifyCapValue) (happy : ℕ) (op : Operation) (u : Up) (of : IsRepairOf w number cap happy op u)
-    (n : ℕ) (low : n < length u.pieces) where
-  is : IsRepair cap happy u
-  is = for_repair w number cap happy op u c of
-
+module _ (w : WorldState) (number : ℕ) (cap : VerifyCapValue) (happy : ℕ) (op : Operation) (u : Up) (of : IsRepairOf w number cap happy op u) (is : IsRepair cap happy u)
+    (n : ℕ) (low : n < length is.shares) where
   below : n < cap.total
   below = subst (λ (k : ℕ). n < k) is.passing.count low
 
-  hashed_of : (v : Contents) (s : Sections) → IsSound cap n (slice_index_or u.pieces n []) v s → (input : List ℕ)
-      → Contains (tagged_input WholeShare (slice_index_or u.pieces n []) ∷ share_inputs v n s) input → IsHashedInAll w input
+  hashed_of : (v : Contents) (s : Sections) → IsSound cap n (slice_index_or is.shares n []) v s → (input : List ℕ)
+      → Contains (tagged_input WholeShare (slice_index_or is.shares n []) ∷ share_inputs v n s) input → IsHashedInAll w input
   hashed_of v s sound input among = repaired op (member_at w.operations number op of.at) record {
     cap = cap;
     happy = happy;
     upload = u;
     job = of.job;
     task = of.task;
+    shares = is.shares;
+    shares_are = is.pieces;
     hashed = record { number = n; below = low; contents = v; sections = s; sound = sound; among = among };
   }
 
-  whole_hashed : IsHashedInAll w (tagged_input WholeShare (slice_index_or u.pieces n []))
+  whole_hashed : IsHashedInAll w (tagged_input WholeShare (slice_index_or is.shares n []))
   whole_hashed =
       let sound = is.passing.sound n below in
-      hashed_of sound.0 sound.1 sound.2 (tagged_input WholeShare (slice_index_or u.pieces n [])) (0, omega arith, refl)
+      hashed_of sound.0 sound.1 sound.2 (tagged_input WholeShare (slice_index_or is.shares n [])) (0, omega arith, refl)
 
 repairs_keep : (w : WorldState) → IsConsistent w → HasNoClashInAll w → RepairsKeep w
 repairs_keep w c no_clash cap happy shares pair a =
     let is = for_repair w a.answer.session cap happy a.operation a.upload c a.repair_of in
     let hashed : (n : ℕ) → n < length shares → IsHashedInAll w (tagged_input WholeShare (slice_index_or shares n [])) =
     λ n low.
-    subst (λ (these : List (List ℕ)). IsHashedInAll w (tagged_input WholeShare (slice_index_or these n []))) a.shares_are
-    (whole_hashed w c a.answer.session cap happy a.operation a.upload a.repair_of n (subst (λ (these : List (List ℕ)). n < length these) (sym a.shares_are) low)) in
+    let same : is.shares ≡ shares = one_list is.shares shares (sym is.pieces ∙ a.shares_are) in
+    subst (λ (these : List (List ℕ)). IsHashedInAll w (tagged_input WholeShare (slice_index_or these n []))) same
+    (whole_hashed w a.answer.session cap happy a.operation a.upload a.repair_of is n (subst (λ (these : List (List ℕ)). n < length these) (sym same) low)) in
     keeps w c no_clash cap shares pair a.operation a.upload (goal_of_shares cap happy a.upload shares is a.shares_are) hashed
     record {
       frame = a.frame;
@@ -250,43 +255,36 @@ repairs_keep w c no_clash cap happy shares pair a =
       acknowledges = a.acknowledges;
     }
 
--- an upload that was started could start
-may_be : (file secret : List ℕ) (p : UploadParameters) (task : Task) → IsFor (Upload file secret p) task → IsUpload file secret p
-may_be file secret p (Uploading u) h = h.2
-may_be file secret p (Gone number) h = h
-may_be file secret p (Downloading d) h = absurd h
-may_be file secret p (Checking c) h = absurd h
-
 repairs_make_own : (w : WorldState) → IsConsistent w → HasNoClashInAll w → RepairsMakeOwn w
-repairs_make_own w c no_clash file secret p happy number place started repair upload at job of =
+repairs_make_own w c no_clash file secret p happy number place started repair upload at uploads one_key of =
     let cap : VerifyCapValue = verify_cap_of (prepared_of file secret p).cap in
     let own : List (List ℕ) = (encoding_of file secret (parameters_of p)).shares in
     let is = for_repair w place cap happy repair upload c of in
-    let may : IsUpload file secret p = may_be file secret p started.task (subst (λ (j : Job). IsFor j started.task) job (c.fine number started at).started) in
+    let may : IsUpload file secret p = could_start started.job file secret p started.task uploads (c.fine number started at).started in
     let shape = has_shape (length file) p may.chosen may.not_small may.encodable in
     let count : length own ≡ p.total = length-shares file secret (parameters_of p) in
     let total : cap.total ≡ p.total = total_is file secret p in
-    ext_get_or [] upload.pieces own (is.passing.count ∙ total ∙ sym count) (λ i low.
+    is.pieces ∙ ap Whole (ext_get_or [] is.shares own (is.passing.count ∙ total ∙ sym count) (λ i low.
     let below : i < cap.total = omega (arith, low, is.passing.count) in
     let sound = is.passing.sound i below in
     let inputs : List (List ℕ) = encoding_inputs file secret (parameters_of p) ++ share_inputs sound.0 i sound.1 in
     let all : (input : List ℕ) → Contains inputs input → IsHashedInAll w input =
     λ input k. elim (Contains-append_cases (encoding_inputs file secret (parameters_of p)) (share_inputs sound.0 i sound.1) input k) [
-      | inl of_file ↦ hashed_too (encoding_among w number started file secret p input at job of_file)
-      | inr of_share ↦ hashed_of w c place cap happy repair upload of i low sound.0 sound.1 sound.2 input
-          (member_there (tagged_input WholeShare (slice_index_or upload.pieces i [])) input (share_inputs sound.0 i sound.1) of_share)
+      | inl of_file ↦ hashed_too (encoding_among w number started file secret p input at uploads one_key of_file)
+      | inr of_share ↦ hashed_of w place cap happy repair upload of is i low sound.0 sound.1 sound.2 input
+          (member_there (tagged_input WholeShare (slice_index_or is.shares i [])) input (share_inputs sound.0 i sound.1) of_share)
     ] in
     file_shares_are_bound inputs (no_clash_of (IsHashedInAll w) inputs no_clash all) file secret (parameters_of p) shape
     (λ input k. Contains-append_left (encoding_inputs file secret (parameters_of p)) (share_inputs sound.0 i sound.1) input k)
-    i (slice_index_or upload.pieces i []) sound.0 sound.1
+    i (slice_index_or is.shares i []) sound.0 sound.1
     record {
       sound = sound.2;
       among = λ input k. Contains-append_right (encoding_inputs file secret (parameters_of p)) (share_inputs sound.0 i sound.1) input k;
-    })
+    }))
 
 pub repairs_trusted : (w : WorldState) → IsConsistent w → AreTrustedRepairs w
 repairs_trusted w c = record {
-  repairs_pass = λ cap happy number op u of. (for_repair w number cap happy op u c of).passing;
+  repairs_pass = λ cap happy number op u of. (let is = for_repair w number cap happy op u c of in (is.shares, is.pieces, is.passing));
   repairs_are_matched = repairs_are_matched w c;
   repairs_are_acknowledged = repairs_are_acknowledged w c;
   repairs_keep = repairs_keep w c;

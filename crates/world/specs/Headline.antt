@@ -22,23 +22,20 @@ use Rattle.upload_core.specs.Acknowledged.{acked_answer, acked_pairs}
 use Rattle.upload_core.specs.Sending as upload_sends
 use Rattle.upload_core.specs.State.{Goal}
 use Rattle.download_segments.specs.declared.piece.Piece.{Piece}
-use Rattle.world_operations.specs.declared.job.Job.{Job}
-use Rattle.world_operations.specs.declared.job.Job.TheVariants.{Upload, Download}
+use Rattle.world_operations.specs.declared.job.Job.TheVariants.{Download}
 use Rattle.world_operations.specs.declared.message.Sent.{Sent}
 use Rattle.world_operations.specs.declared.operation.Operation.{Operation}
 use Rattle.world_operations.specs.declared.task.Task.{Task}
 use Rattle.world_operations.specs.declared.task.Task.TheVariants.{Uploading, Gone}
+use Rattle.world_operations.specs.declared.upload_pieces.UploadPieces.{UploadPieces}
 use Rattle.world_operations.specs.Follow.{StillAsks}
 use Rattle.world_operations.specs.Given.{IsHashedBy}
+use Rattle.world_operations.specs.Jobs.{HasOneKey, Uploads}
 use Rattle.world_operations.specs.Tasks.{requests_of}
 use Rattle.world.specs.Repaired.{IsRepaired}
 use Rattle.world.specs.State.{WorldState}
 
 -- ---- what was hashed
-
-abbrev pub started_inputs : Job → List (List ℕ)
-started_inputs (Upload file secret p) = encoding_inputs file secret (parameters_of p)
-started_inputs job = []
 
 -- a share is closed at this server, and this is hashed for its digest
 pub record IsClosedInput (m : Machine MemoryState) (input : List ℕ) : Type 0 where
@@ -47,11 +44,14 @@ pub record IsClosedInput (m : Machine MemoryState) (input : List ℕ) : Type 0 w
   pub found : closed_at id m.store.shelf.closed ≡ Some share
   pub is : input ≡ tagged_input WholeShare share.bytes
 
--- For the files whose uploads were started, by downloads for what they found, and of the shares
+-- For the files whose uploads were started (of a source that changes, where both passes have one
+-- key), by downloads for what they found, and of the shares
 -- that are closed at honest servers.
 pub data IsHashedIn (operations : List Operation) (servers : List (Machine MemoryState))
     (input : List ℕ) : Type 0 where
-  started : (op : Operation) → Contains operations op → Contains (started_inputs op.job) input
+  started : (op : Operation) (file secret : List ℕ) (p : UploadParameters) → Contains operations op
+      → Uploads op.job file secret p → HasOneKey op.job
+      → Contains (encoding_inputs file secret (parameters_of p)) input
       → IsHashedIn operations servers input
   downloaded : (op : Operation) → Contains operations op → IsHashedBy op.task input
       → IsHashedIn operations servers input
@@ -83,9 +83,9 @@ pub record IsGiven (w : WorldState) (cap : ReadCapValue) (place byte : ℕ) : Ty
 
 -- this operation is an upload of a file
 pub record IsUploadOf (w : WorldState) (number : ℕ) (file secret : List ℕ) (p : UploadParameters)
-    (operation : Operation) (upload : upload_sends.Uploading (List (List ℕ))) : Type 0 where
+    (operation : Operation) (upload : upload_sends.Uploading UploadPieces) : Type 0 where
   pub at : slice_get w.operations number ≡ Some operation
-  pub job : operation.job ≡ Upload file secret p
+  pub uploads : Uploads operation.job file secret p
   pub task : operation.task ≡ Uploading upload
 
 -- an upload of a file answered Happy with these pairs
@@ -93,7 +93,7 @@ pub record IsUploaded (w : WorldState) (file secret : List ℕ) (p : UploadParam
     (pairs : List Pair) : Type 0 where
   pub number : ℕ
   pub operation : Operation
-  pub upload : upload_sends.Uploading (List (List ℕ))
+  pub upload : upload_sends.Uploading UploadPieces
   pub upload_of : IsUploadOf w number file secret p operation upload
   pub status : upload.course.status ≡ Happy pairs
 
@@ -108,7 +108,7 @@ pub record IsAcknowledgement (w : WorldState) (file secret : List ℕ) (p : Uplo
   pub frame : Sent
   pub answer : Message
   pub operation : Operation
-  pub upload : upload_sends.Uploading (List (List ℕ))
+  pub upload : upload_sends.Uploading UploadPieces
   pub place : ℕ
   pub request : Request
   pub was_sent : Contains w.sent frame

@@ -14,11 +14,13 @@ use Rattle.upload_core.specs.Sending as upload_sends
 use Rattle.world_operations.specs.declared.job.Job.TheVariants.{Repair}
 use Rattle.world_operations.specs.declared.operation.Operation.{Operation}
 use Rattle.world_operations.specs.declared.task.Task.TheVariants.{Uploading}
+use Rattle.world_operations.specs.declared.upload_pieces.UploadPieces.{UploadPieces}
+use Rattle.world_operations.specs.declared.upload_pieces.UploadPieces.TheVariants.{Whole}
 use Rattle.world.specs.State.{WorldState}
 
 -- this operation is a repair of a cap's file, for so many servers at least, that made shares
 pub record IsRepairOf (w : WorldState) (number : ℕ) (cap : VerifyCapValue) (happy : ℕ)
-    (operation : Operation) (upload : upload_sends.Uploading (List (List ℕ))) : Type 0 where
+    (operation : Operation) (upload : upload_sends.Uploading UploadPieces) : Type 0 where
   pub at : slice_get w.operations number ≡ Some operation
   pub job : operation.job ≡ Repair cap happy
   pub task : operation.task ≡ Uploading upload
@@ -28,9 +30,9 @@ pub record IsRepaired (w : WorldState) (cap : VerifyCapValue) (happy : ℕ)
     (shares : List (List ℕ)) (pairs : List Pair) : Type 0 where
   pub number : ℕ
   pub operation : Operation
-  pub upload : upload_sends.Uploading (List (List ℕ))
+  pub upload : upload_sends.Uploading UploadPieces
   pub repair_of : IsRepairOf w number cap happy operation upload
-  pub shares_are : upload.pieces ≡ shares
+  pub shares_are : upload.pieces ≡ Whole shares
   pub status : upload.course.status ≡ Happy pairs
 
 -- of one of these shares, which passes: itself whole, and what is hashed where it is checked
@@ -48,7 +50,9 @@ pub record IsHashedOf (cap : VerifyCapValue) (shares : List (List ℕ)) (input :
 pub record IsHashedByRepair (operation : Operation) (input : List ℕ) : Type 0 where
   pub cap : VerifyCapValue
   pub happy : ℕ
-  pub upload : upload_sends.Uploading (List (List ℕ))
+  pub upload : upload_sends.Uploading UploadPieces
   pub job : operation.job ≡ Repair cap happy
   pub task : operation.task ≡ Uploading upload
-  pub hashed : IsHashedOf cap upload.pieces input
+  pub shares : List (List ℕ)
+  pub shares_are : upload.pieces ≡ Whole shares
+  pub hashed : IsHashedOf cap shares input

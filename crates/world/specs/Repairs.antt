@@ -13,9 +13,11 @@ use Rattle.file_upload.specs.Prepared.{prepared_of}
 use Rattle.file_upload.specs.Shares.{shares_goal}
 use Rattle.upload_core.specs.Acknowledged.{acked_answer, acked_pairs}
 use Rattle.upload_core.specs.Sending as upload_sends
-use Rattle.world_operations.specs.declared.job.Job.TheVariants.{Upload}
 use Rattle.world_operations.specs.declared.message.Sent.{Sent}
 use Rattle.world_operations.specs.declared.operation.Operation.{Operation}
+use Rattle.world_operations.specs.declared.upload_pieces.UploadPieces.{UploadPieces}
+use Rattle.world_operations.specs.declared.upload_pieces.UploadPieces.TheVariants.{Whole}
+use Rattle.world_operations.specs.Jobs.{HasOneKey, Uploads}
 use Rattle.world.specs.Headline.{IsHashed, Keeps}
 use Rattle.world.specs.Repaired.{IsHashedByRepair, IsRepairOf, IsRepaired}
 use Rattle.world.specs.State.{WorldState}
@@ -38,13 +40,13 @@ pub record IsRepairAcknowledgement (w : WorldState) (cap : VerifyCapValue) (happ
   pub frame : Sent
   pub answer : Message
   pub operation : Operation
-  pub upload : upload_sends.Uploading (List (List ℕ))
+  pub upload : upload_sends.Uploading UploadPieces
   pub place : ℕ
   pub request : Request
   pub was_sent : Contains w.sent frame
   pub spelled : IsBodyOf answer frame.body
   pub repair_of : IsRepairOf w answer.session cap happy operation upload
-  pub shares_are : upload.pieces ≡ shares
+  pub shares_are : upload.pieces ≡ Whole shares
   pub entry : slice_get upload.course.requests.entries place ≡ Some request
   pub number : answer.number ≡ place + 1
   pub from : frame.from ≡ request.server
@@ -64,8 +66,9 @@ KeepsMade w cap shares pair = pair.0 < length w.servers
 abbrev pub RepairsPass : WorldState → Type 0
 RepairsPass w =
     (cap : VerifyCapValue) (happy number : ℕ) (operation : Operation)
-    (upload : upload_sends.Uploading (List (List ℕ)))
-    → IsRepairOf w number cap happy operation upload → ArePassing cap upload.pieces
+    (upload : upload_sends.Uploading UploadPieces)
+    → IsRepairOf w number cap happy operation upload
+    → (shares : List (List ℕ)) × (upload.pieces ≡ Whole shares) × ArePassing cap shares
 
 -- A repair that answers Happy names acknowledged pairs, no server and no share twice, as many as
 -- were wanted.
@@ -99,10 +102,11 @@ RepairsKeep w =
 abbrev pub RepairsMakeOwn : WorldState → Type 0
 RepairsMakeOwn w =
     (file secret : List ℕ) (p : UploadParameters) (happy number place : ℕ)
-    (started repair : Operation) (upload : upload_sends.Uploading (List (List ℕ)))
-    → slice_get w.operations number ≡ Some started → started.job ≡ Upload file secret p
+    (started repair : Operation) (upload : upload_sends.Uploading UploadPieces)
+    → slice_get w.operations number ≡ Some started → Uploads started.job file secret p
+    → HasOneKey started.job
     → IsRepairOf w place (verify_cap_of (prepared_of file secret p).cap) happy repair upload
-    → upload.pieces ≡ (prepared_of file secret p).shares
+    → upload.pieces ≡ Whole (prepared_of file secret p).shares
 
 -- What holds of the repairs of one world. It holds of every world.
 pub record AreTrustedRepairs (w : WorldState) : Type 0 where
