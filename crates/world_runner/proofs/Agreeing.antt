@@ -10,7 +10,7 @@ use Rattle.cap_text.specs.Cap.{ReadCapValue}
 use Rattle.file_upload.specs.Prepared.{prepared_of}
 use Rattle.download_segments.specs.declared.piece.Piece.{Piece}
 use Rattle.world_operations.specs.declared.job.Job.{Job}
-use Rattle.world_operations.specs.declared.job.Job.TheVariants.{Upload, Download, Check, Repair, NoRepair}
+use Rattle.world_operations.specs.declared.job.Job.TheVariants.{Upload, Changing, Download, Check, Repair, NoRepair}
 use Rattle.world_operations.specs.declared.operation.Operation.{Operation}
 use Rattle.world_runner.specs.Agreement.{Agree, HandedOut, HasByte}
 use Rattle.world_runner.specs.Agreeing.{AgreesAs, AgreesWith, AllHave, AreSame, GoOn, Has}
@@ -94,6 +94,7 @@ agree_with operations agree op c = at_job op.job refl
         sym (agree.uploads op second (prepared_of file secret p).cap place b a c (Contains-get_or operations k' d' low')
         (record { file = file; secret = secret; p = p; pairs = happy.0; job = e; upload = upload; cap_is = refl; happy = happy.1; byte_is = subst (λ (i : ℕ). slice_get file i ≡ Some b) at hb.2 })
         (record { from = from'; to = to'; piece = third; job = e'; handed_out = Contains-get_or second.given l m lm; byte_is = ha }))
+    at_job (Changing one other after secret p) e = tt
     at_job (Check cap) e = tt
     at_job (Repair cap happy) e = tt
     at_job (NoRepair cap why) e = tt

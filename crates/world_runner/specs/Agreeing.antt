@@ -5,7 +5,7 @@ use Rattle.file_upload.specs.Prepared.{prepared_of}
 use Rattle.download_segments.specs.declared.piece.Piece.{Piece}
 use Rattle.world_operations.specs.declared.job.Job.{Job}
 use Rattle.world_operations.specs.declared.job.Job.TheVariants.{Upload, Download, Check, Repair}
-use Rattle.world_operations.specs.declared.job.Job.TheVariants.{NoRepair}
+use Rattle.world_operations.specs.declared.job.Job.TheVariants.{Changing, NoRepair}
 use Rattle.world_operations.specs.declared.operation.Operation.{Operation}
 use Rattle.world_operations.specs.declared.status.Status.TheVariants.{Happy}
 use Rattle.world_operations.specs.Jobs.{IsUpload}
@@ -33,12 +33,13 @@ AllHave cap place bytes operations = All (Has cap place bytes) operations
 abbrev pub IsHappy : Operation → Type 0
 IsHappy op = (pairs : ℕ) × (status_of op ≡ Happy pairs)
 
--- all downloads agree with an operation
+-- All downloads agree with an operation. A script starts no upload of a source that changes.
 abbrev pub AgreesAs : Job → Operation → List Operation → Type 0
 AgreesAs (Download cap from to) op operations =
     All (λ (piece : Piece). AllHave cap piece.place piece.bytes operations) op.given
 AgreesAs (Upload file secret p) op operations = IsHappy op → IsUpload file secret p
     → AllHave (prepared_of file secret p).cap 0 file operations
+AgreesAs (Changing one other after secret p) op operations = ⊤
 AgreesAs (Check cap) op operations = ⊤
 AgreesAs (Repair cap happy) op operations = ⊤
 AgreesAs (NoRepair cap why) op operations = ⊤

@@ -4,7 +4,7 @@ use Rattle.std.specs.Prelude.{length, map, sum}
 use Rattle.download_segments.specs.declared.piece.Piece.{Piece}
 use Rattle.world_operations.specs.declared.job.Job.{Job}
 use Rattle.world_operations.specs.declared.job.Job.TheVariants.{Upload, Download, Check, Repair}
-use Rattle.world_operations.specs.declared.job.Job.TheVariants.{NoRepair}
+use Rattle.world_operations.specs.declared.job.Job.TheVariants.{Changing, NoRepair}
 use Rattle.world_operations.specs.declared.operation.Operation.{Operation}
 use Rattle.world_operations.specs.declared.status.Status.{Status}
 use Rattle.world_operations.specs.declared.status.Status.TheVariants.{Running, Forgotten, Happy}
@@ -15,6 +15,7 @@ use Rattle.world_operations.specs.Status.{status_of}
 
 abbrev pub kind_text : Job → List ℕ
 kind_text (Upload file secret p) = codes "upload"
+kind_text (Changing file other after secret p) = codes "upload"
 kind_text (Download cap from to) = codes "download"
 kind_text (Check cap) = codes "check"
 kind_text (Repair cap happy) = codes "repair"

@@ -42,7 +42,8 @@ fn agree_with(
             Some(cap) => Ok(have_bytes(&cap, 0, file.as_slice(), operations)),
             None => Ok(true),
         },
-        Job::Upload(_, _, _) | Job::Check(_) | Job::Repair(_, _) | Job::NoRepair(_, _) => Ok(true),
+        Job::Upload(_, _, _) | Job::Changing(_, _, _, _, _) => Ok(true),
+        Job::Check(_) | Job::Repair(_, _) | Job::NoRepair(_, _) => Ok(true),
     }
 }
 

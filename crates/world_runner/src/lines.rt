@@ -28,7 +28,7 @@ fn kind_text(job: &Job) -> &'static str
     ensures { result.now ≡ kind_text job.now }
 {
     match job {
-        Job::Upload(_, _, _) => "upload",
+        Job::Upload(_, _, _) | Job::Changing(_, _, _, _, _) => "upload",
         Job::Download(_, _, _) => "download",
         Job::Check(_) => "check",
         Job::Repair(_, _) | Job::NoRepair(_, _) => "repair",

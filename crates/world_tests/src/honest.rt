@@ -17,7 +17,27 @@ pub(crate) fn upload(alloc: Global, needed: u64, happy: u64, total: u64) -> Opti
     Some(Job::Upload(file, Bytes::from_vec(Vec::new(alloc)), params))
 }
 
-// The read cap of that file.
+// The upload, by one server, of a source of 56 bytes: so many of those that it hands out are zero,
+// and later ones 255.
+pub(crate) fn changing(alloc: Global, after: u64) -> Option<Job> {
+    let params = Params::new(1, 1, 1, 131_072).ok()?;
+    let file = Bytes::from_vec(vec![in alloc; 0u8; 56].ok()?);
+    let other = Bytes::from_vec(vec![in alloc; 255u8; 56].ok()?);
+    let secret = Bytes::from_vec(Vec::new(alloc));
+    Some(Job::Changing(file, other, after, secret, params))
+}
+
+// The download of a whole file of 56 such bytes, of which one share is enough and there is one.
+pub(crate) fn download_of(alloc: Global, byte: u8) -> Option<Job> {
+    let params = Params::new(1, 1, 1, 131_072).ok()?;
+    let Encoded { cap, shares: _ } = encode_all(alloc, &[byte; 56], &[], &params).ok()?;
+    match cap {
+        Cap::Chk(cap) => Some(Job::Download(cap, 0, 56)),
+        Cap::Verify(_) | Cap::Lit(_) => None,
+    }
+}
+
+// The read cap of 56 zeros with three shares, of which one is enough.
 pub(crate) fn read_cap(alloc: Global) -> Option<ReadCap> {
     let params = Params::new(1, 3, 3, 131_072).ok()?;
     let Encoded { cap, shares: _ } = encode_all(alloc, &[0; 56], &[], &params).ok()?;

@@ -4,6 +4,8 @@
 #[cfg(test)]
 mod agreement_tests;
 #[cfg(test)]
+mod changing_tests;
+#[cfg(test)]
 mod honest;
 #[cfg(test)]
 mod keepers;
