@@ -6,7 +6,6 @@ use Rattle.std.proofs.lemmas.Option.{slice_get-get_or}
 use Rattle.std.proofs.lemmas.Simd.{map-map}
 use Rattle.aes_ctr.specs.CounterMode.{xored}
 use Rattle.aes_ctr.proofs.StreamLemmas.{length-xored_from}
-use Rattle.merkle.specs.Tree.{tree_root}
 use Rattle.tagged_hash.specs.TaggedHash.{share_digest, tagged_hash}
 use Rattle.tagged_hash.specs.declared.tag.Tag.TheVariants.{Block, CiphertextSegment, ExtensionBlock}
 use Rattle.cap_text.specs.Cap.{ReadCapValue}

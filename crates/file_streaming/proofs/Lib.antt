@@ -8,9 +8,4 @@ pub mod SecondPass
 pub mod TwoPasses
 pub mod Digests
 pub mod Keeping
-pub mod PieceTexts
-pub mod BlockLists
-pub mod OtherBytes
-pub mod MadeBlocks
-pub mod BlockPuts
 pub mod Sections

@@ -1,9 +1,9 @@
 -- One segment after another gives what the encoding says of whole lists.
-use Rattle.std.proofs.Common.{◌≡◌, ℕ, zero, suc, ◌+◌, ◌*◌, ◌≤◌, List, [], ◌∷◌, ◌++◌, length, take, drop, min, replicate, bit_xor, refl, ap, sym, inl, inr, ◌∙◌, arith}
+use Rattle.std.proofs.Common.{◌≡◌, ℕ, zero, suc, ◌+◌, ◌*◌, ◌≤◌, List, [], ◌∷◌, ◌++◌, length, take, drop, min, replicate, refl, ap, sym, inl, inr, ◌∙◌, arith}
 use Rattle.std.proofs.lemmas.List.{append_assoc, append-nil, length-drop, length-take, take-append-drop}
 use Rattle.std.proofs.lemmas.Grind.{div_ceil_times}
 use Rattle.std.proofs.lemmas.Bool.{cases_lt}
-use Rattle.aes_ctr.specs.CounterMode.{stream_byte, xored, xored_from}
+use Rattle.aes_ctr.specs.CounterMode.{xored, xored_from}
 use Rattle.aes_ctr.proofs.StreamLemmas.{length-xored_from}
 use Rattle.tagged_hash.specs.TaggedHash.{share_digest, tagged_hash}
 use Rattle.tagged_hash.specs.declared.tag.Tag.TheVariants.{Block, CiphertextSegment, WholeShare}
@@ -14,21 +14,10 @@ use Rattle.merkle.specs.Tree.{tree_nodes}
 use Rattle.share_verify.specs.Pieces.{block_hashes, joined}
 use Rattle.proved_parts.specs.FileOf.{segment_hashes}
 use Rattle.file_encoding.specs.Encoding.{block_of, blocks_of, share_hashes, share_leaves, share_of}
+use Rattle.block_making.proofs.Streams.{drop-xored, take-xored}
 use Rattle.file_streaming.specs.Gathered.{Gathered, IsGathered, behind_blocks, gathered, gathered_more, gathered_none}
 
 -- ---- encryption segment by segment
-
-pub take-xored : (key : List ℕ) (n place : ℕ) (text : List ℕ) → take n (xored_from key place text) ≡ xored_from key place (take n text)
-take-xored key zero place text = refl
-take-xored key (suc n) place [] = refl
-take-xored key (suc n) place (b ∷ bs) = ap (λ (r : List ℕ). bit_xor b (stream_byte key place) ∷ r) (take-xored key n (place + 1) bs)
-
-pub drop-xored : (key : List ℕ) (n place : ℕ) (text : List ℕ) → drop n (xored_from key place text) ≡ xored_from key (place + n) (drop n text)
-drop-xored key zero place text = let e : place ≡ place + 0 = omega arith in ap (λ p. xored_from key p text) e
-drop-xored key (suc n) place [] = refl
-drop-xored key (suc n) place (b ∷ bs) =
-    let e : place + 1 + n ≡ place + suc n = omega arith in
-    drop-xored key n (place + 1) bs ∙ ap (λ p. xored_from key p (drop n bs)) e
 
 -- the pieces of no text are empty, so encrypted they are the same at each place
 xored-nothing : (key : List ℕ) (p q : ℕ) (text : List ℕ) → length text ≡ 0 → xored_from key p text ≡ xored_from key q text

@@ -27,11 +27,11 @@ use Rattle.share_layout.specs.Geometry.{Geometry, IsGeometry, block_size, segmen
 use Rattle.share_layout.specs.Pieces.{block_length, pieces, segment_length}
 use Rattle.ueb.specs.Shape.{rounded_up}
 use Rattle.file_encoding.proofs.Padding.{length-padded}
-use Rattle.sources.specs.Source.{IsPass, IsRead}
+use Rattle.sources.specs.Source.{IsRead}
 use Rattle.file_streaming.specs.Gathered.{Gathered, gathered, gathered_more, gathered_none}
 use Rattle.file_streaming.specs.Gathering.{HasGathered, IsGatheredFrom, IsSegmentGathered}
 use Rattle.file_streaming.specs.declared.gathering.Gathering.{Gathering}
-use Rattle.file_streaming.proofs.KeyReading.{is_read-append}
+use Rattle.block_making.proofs.ReadRuns.{is_read-append}
 use Rattle.file_streaming.proofs.Segments.{gathered-push}
 use Rattle.file_streaming.proofs.ShareBlocks.{shares_more}
 use Rattle.file_streaming.specs.Shares.{HasBlockMore, HaveBlocksMore}
@@ -45,16 +45,16 @@ block-is k i size segment padded some is long =
     λ p. share_block k i (one p) (is p)
 
 -- the lengths of a segment's parts in a buffer
-pub record AreRooms (len size needed k : ℕ) (segment out block : List ℕ) : Type 0 where
+pub record AreRooms (len size needed k : ℕ) (segment out : List ℕ) : Type 0 where
   pub part : length out ≡ len
   pub padded : length (out ++ drop len (take (size * needed) segment)) ≡ rounded_up len k
-  pub blocks : length (out ++ drop len (take (size * needed) segment)) ≡ k * length (take size block)
+  pub blocks : length (out ++ drop len (take (size * needed) segment)) ≡ k * size
 
-pub rooms : (g : Geometry) (number len size needed k : ℕ) (segment out block : List ℕ) → IsGeometry g → number < segment_count g
-    → length segment ≡ g.segment_size → length block ≡ block_size g → len ≡ segment_length g number → size ≡ block_length g number → needed ≡ g.needed
+pub rooms : (g : Geometry) (number len size needed k : ℕ) (segment out : List ℕ) → IsGeometry g → number < segment_count g
+    → length segment ≡ g.segment_size → len ≡ segment_length g number → size ≡ block_length g number → needed ≡ g.needed
     → k ≡ g.needed → size ≤ block_size g → segment_length g number ≤ size * g.needed → length out ≡ length (take len (take (size * needed) segment))
-    → AreRooms len size needed k segment out block
-rooms g number len size needed k segment out block valid within long wide len_is size_is needed_is k_is low holds out_is =
+    → AreRooms len size needed k segment out
+rooms g number len size needed k segment out valid within long len_is size_is needed_is k_is low holds out_is =
     let enough : len ≤ size * needed = subst (λ n. n ≤ size * needed) (sym len_is) (subst (λ n. segment_length g number ≤ size * n) (sym needed_is) holds) in
     let padded : List ℕ = take (size * needed) segment in
     let one : size * needed ≤ block_size g * needed = mul-le-mul_right {m = size} {n = block_size g} needed low in
@@ -64,23 +64,11 @@ rooms g number len size needed k segment out block valid within long wide len_is
     let total : length (out ++ drop len padded) ≡ size * needed = length-append out (drop len padded) ∙ omega (arith, part, whole, length-drop len padded, enough) in
     let same : needed ≡ k = needed_is ∙ sym k_is in
     let up : size ≡ div_ceil len k = size_is ∙ (cut_lengths g number valid within).shared ∙ λ p. div_ceil (sym len_is p) (sym k_is p) in
-    let block_is : length (take size block) ≡ size = length-take-le size block (omega (arith, wide, low)) in
     record {
       part = part;
       padded = total ∙ λ p. up p * same p;
-      blocks = total ∙ ap (λ n. size * n) same ∙ mul_comm size k ∙ ap (λ n. k * n) (sym block_is);
+      blocks = total ∙ ap (λ n. size * n) same ∙ mul_comm size k;
     }
-
--- a segment begins before the end of its file, and does not reach behind it
-pub begins-before : (g : Geometry) (number : ℕ) → IsGeometry g → number < segment_count g → number * g.segment_size < g.size
-begins-before g number valid within =
-    let over = (div_ceil_times g.size g.segment_size valid.some_segment).1 in
-    let next : (number + 1) * g.segment_size ≤ segment_count g * g.segment_size = mul-le-mul_right {m = number + 1} {n = segment_count g} g.segment_size (omega arith) in
-    omega (arith, over, next)
-
-pub ends-within : (g : Geometry) (number place len : ℕ) → IsGeometry g → number < segment_count g → place ≡ number * g.segment_size → len ≡ segment_length g number
-    → place + len ≤ g.size
-ends-within g number place len valid within place_is len_is = omega (arith, begins-before g number valid within, place_is, len_is)
 
 -- what stands in a buffer whose last bytes are cleared
 pub cleared : (k len rest : ℕ) (encrypted behind zeros : List ℕ) → length encrypted ≡ len → rest ≡ length (encrypted ++ behind) - len → zeros ≡ replicate rest 0

@@ -23,13 +23,13 @@ use Rattle.file_encoding.specs.Encoding.{Parameters, blocks_of, ciphertext_encod
 use Rattle.file_encoding.proofs.OwnShares.{lengths, valid, written}
 use Rattle.file_streaming.specs.Gathered.{behind_blocks}
 use Rattle.file_streaming.specs.Kept.{IsKept}
-use Rattle.file_streaming.specs.Making.{HasBlocks, IsMaking, IsPieceOf, Making, put_at}
+use Rattle.block_making.specs.Making.{HasBlocks, IsMaking, IsPieceOf, Making, put_at}
 use Rattle.file_streaming.specs.Piece.{leaves_of}
 use Rattle.file_streaming.specs.Prepared.{PreparedFile, geometry_for, key_for, prepared_by, prepared_of, share_length}
 use Rattle.file_streaming.specs.declared.gathering.Buffers.{Buffers}
-use Rattle.file_streaming.specs.declared.gathering.Encoder.{Encoder}
+use Rattle.block_making.specs.declared.encoder.Encoder.{Encoder}
 use Rattle.file_streaming.proofs.OneByOne.{behind}
-use Rattle.file_streaming.proofs.PieceTexts.{piece-before, put-next}
+use Rattle.block_making.proofs.PieceTexts.{piece-before, put-next}
 
 -- the bytes of each
 abbrev pub texts_of : List (Vec ℕ Global) → List (List ℕ)
@@ -103,17 +103,7 @@ module _ (p : PreparedFile) (hashes : List (List ℕ)) (e : Encoder) (b : Buffer
 
     -- the share's blocks are made by what is kept
     abbrev pub making_of : Making
-    making_of = record { geometry = g; key = e.cipher; share = share; hashes = leaves_of p share }
-
-    pub is_making : IsMaking making_of e.code
-    is_making = record {
-      geometry = geometry_valid;
-      file = kept.file;
-      blocks = record { long = kept.long; hashes = leaves_are };
-      needed = kept.needed;
-      total = kept.total;
-      number = low;
-    }
+    making_of = record { geometry = g; key = e.cipher; leaves = p.block_leaves; share = share }
 
     -- they are those of each file of which it may be kept
     pub blocks_of_any : (file secret : List ℕ) (q : Parameters) → p ≡ prepared_of file secret q → HasBlocks making_of file
@@ -200,3 +190,16 @@ module _ (p : PreparedFile) (hashes : List (List ℕ)) (e : Encoder) (b : Buffer
         let whole : p4 ++ (n ++ eb) ++ [] ≡ h ++ blocks ++ behind_blocks g p.leaves (leaves_of p share) (map tree_root p.block_leaves) eb share =
         append-nil (p4 ++ (n ++ eb)) ∙ sym (append_assoc p4 n eb) ∙ behind (h ++ blocks) z ct bt sh n eb in
         subst (λ (t : List ℕ). IsPieceOf t offset o5) whole s6
+
+-- the blocks of a share are made by what is kept
+pub is_making : (p : PreparedFile) (hashes : List (List ℕ)) (e : Encoder) (b : Buffers) (kept : IsKept p hashes e b) (share : ℕ) (low : share < p.geometry.total)
+    → IsMaking (making_of p hashes e b kept share low) e.code
+is_making p hashes e b kept share low = record {
+  geometry = geometry_valid p hashes e b kept;
+  file = kept.file;
+  blocks = λ i below. record { long = kept.long; hashes = leaves_are p hashes e b kept i below };
+  count = tree_count p hashes e b kept;
+  needed = kept.needed;
+  total = kept.total;
+  number = low;
+}

@@ -1,9 +1,11 @@
 -- Shares with one block more.
-use Rattle.std.proofs.Common.{◌≡◌, ℕ, zero, suc, ◌+◌, ◌<◌, ◌≤◌, ◌≢◌, ◌⊎◌, List, [], ◌∷◌, ◌++◌, length, get_or, Some, refl, inl, inr, ap, sym, subst, ◌∙◌, arith}
+use Rattle.std.proofs.Common.{◌≡◌, ℕ, zero, suc, ◌+◌, ◌-◌, ◌<◌, ◌≤◌, ◌≢◌, List, [], ◌∷◌, ◌++◌, length, take, drop, get_or, Some, refl, inl, inr, ap, sym, subst, ◌∙◌, arith}
 use Rattle.std.specs.Prelude.{slice_get}
 use Rattle.std.proofs.Math.ListN.{set, length-set}
 use Rattle.std.proofs.lemmas.Bool.{cases_eq, cases_lt}
+use Rattle.std.proofs.lemmas.List.{length-append, length-drop, length-take-le}
 use Rattle.std.proofs.lemmas.Option.{same_Some, slice_get-get_or, slice_get_within}
+use borrow.Rule.Slice.PartMut.{put_mid}
 use Rattle.lemmas.proofs.Places.{get_pushed, get_set, get_set_other}
 use Rattle.tagged_hash.specs.TaggedHash.{tagged_hash}
 use Rattle.tagged_hash.specs.declared.tag.Tag.TheVariants.{Block}
@@ -34,6 +36,77 @@ so_far-more block old now done share next far within here more = record {
   ];
   same = λ i high. let apart : i ≢ done = omega (arith, high) in get_set_other now done i next apart ∙ far.same i (omega (arith, high));
 }
+
+-- ---- a group of shares
+
+get_front : {X : Type 0} (xs ys : List X) (i : ℕ) → i < length xs → slice_get (xs ++ ys) i ≡ slice_get xs i
+get_front [] ys i low = absurd (omega (arith, low))
+get_front (x ∷ xs) ys zero low = refl
+get_front (x ∷ xs) ys (suc i) low = get_front xs ys i (omega (arith, low))
+
+get_behind : {X : Type 0} (xs ys : List X) (n i : ℕ) → n ≡ length xs + i → slice_get (xs ++ ys) n ≡ slice_get ys i
+get_behind [] ys n i is = (let e : n ≡ i = omega (arith, is) in ap (slice_get ys) e)
+get_behind (x ∷ xs) ys zero i is = absurd (omega (arith, is))
+get_behind (x ∷ xs) ys (suc n) i is = get_behind xs ys n i (omega (arith, is))
+
+get_drop : {X : Type 0} (k : ℕ) (xs : List X) (i : ℕ) → slice_get (drop k xs) i ≡ slice_get xs (k + i)
+get_drop zero xs i = let e : i ≡ 0 + i = omega arith in ap (slice_get xs) e
+get_drop (suc k) [] i = refl
+get_drop (suc k) (x ∷ xs) i = get_drop k xs i ∙ (let e : suc (k + i) ≡ suc k + i = omega arith in ap (slice_get (x ∷ xs)) e)
+
+get_take : {X : Type 0} (k : ℕ) (xs : List X) (i : ℕ) → i < k → slice_get (take k xs) i ≡ slice_get xs i
+get_take zero xs i low = absurd (omega (arith, low))
+get_take (suc k) [] i low = refl
+get_take (suc k) (x ∷ xs) zero low = refl
+get_take (suc k) (x ∷ xs) (suc i) low = get_take k xs i (omega (arith, low))
+
+-- a group more has one block more
+module _ (block : ℕ → List ℕ) (old now group : List ShareSoFar) (done count : ℕ) (within : done + count ≤ length now) where
+  abbrev next : List ShareSoFar
+  next = put_mid done count now group
+
+  before_group : length (take done now) ≡ done
+  before_group = length-take-le done now (omega (arith, within))
+
+  -- the same blocks by other words
+  pub same_blocks : (lanes : ℕ → List ℕ) → ((i : ℕ) → i < count → lanes i ≡ block (done + i)) → HaveBlocksMore lanes (take count (drop done now)) group
+      → HaveBlocksMore (λ i. block (done + i)) (take count (drop done now)) group
+  same_blocks lanes are more = record {
+    count = more.count;
+    each = λ i before after was is.
+        let low : i < count = omega (arith, slice_get_within (take count (drop done now)) i before was, length-take-le count (drop done now) (omega (arith, within, length-drop done now))) in
+        subst (λ (b : List ℕ). HasBlockMore b before after) (are i low) (more.each i before after was is);
+  }
+
+  pub so_far-group : HaveSoFar block old now done → HaveBlocksMore (λ i. block (done + i)) (take count (drop done now)) group → HaveSoFar block old next (done + count)
+  so_far-group far more =
+      let front : List ShareSoFar = take done now in
+      let behind : List ShareSoFar = drop count (drop done now) in
+      let long : length group ≡ count = more.count ∙ length-take-le count (drop done now) (omega (arith, within, length-drop done now)) in
+      let total : length next ≡ length now =
+      length-append front (group ++ behind) ∙ omega (arith, before_group, length-append group behind, long, length-drop count (drop done now), length-drop done now, within) in
+      let low : (i : ℕ) → i < done → slice_get next i ≡ slice_get now i =
+      λ i below. get_front front (group ++ behind) i (omega (arith, below, before_group)) ∙ get_take done now i below in
+      let mid : (j : ℕ) → j < count → slice_get next (done + j) ≡ slice_get group j =
+      λ j below. get_behind front (group ++ behind) (done + j) j (omega (arith, before_group)) ∙ get_front group behind j (omega (arith, below, long)) in
+      let high : (i j : ℕ) → i ≡ done + count + j → slice_get next i ≡ slice_get now i =
+      λ i j is.
+      get_behind front (group ++ behind) i (count + j) (omega (arith, before_group, is)) ∙ get_behind group behind (count + j) j (omega (arith, long))
+      ∙ get_drop count (drop done now) j ∙ get_drop done now (count + j) ∙ (let e : done + (count + j) ≡ i = omega (arith, is) in ap (slice_get now) e) in
+      record {
+        count = total ∙ far.count;
+        added = λ i before after below was is. elim (cases_lt i done) [
+          | inl first ↦ far.added i before after first was (sym (low i first) ∙ is)
+          | inr later ↦ (let j : ℕ = i - done in
+              let at : done + j ≡ i = omega (arith, later) in
+              let inside : j < count = omega (arith, below, later) in
+              let there : slice_get (take count (drop done now)) j ≡ Some before =
+              get_take count (drop done now) j inside ∙ get_drop done now j ∙ ap (slice_get now) at ∙ far.same i later ∙ was in
+              let here : slice_get group j ≡ Some after = sym (mid j inside) ∙ ap (slice_get next) at ∙ is in
+              subst (λ n. HasBlockMore (block n) before after) at (more.each j before after there here))
+        ];
+        same = λ i above. high i (i - (done + count)) (omega (arith, above)) ∙ far.same i (omega (arith, above));
+      }
 
 pub so_far-all : (block : ℕ → List ℕ) (old now : List ShareSoFar) (done : ℕ) → HaveSoFar block old now done → length now ≤ done → HaveBlocksMore block old now
 so_far-all block old now done far over = record {

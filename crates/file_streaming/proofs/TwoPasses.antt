@@ -1,5 +1,5 @@
 -- What two passes over a source come to.
-use Rattle.std.proofs.Common.{◌≡◌, ℕ, ◌≤◌, List, length, refl, inl, inr, ap, sym, subst, ◌∙◌, arith}
+use Rattle.std.proofs.Common.{◌≡◌, ℕ, List, length, inl, inr, ap, sym, subst, ◌∙◌, arith}
 use Rattle.aes_ctr.specs.CounterMode.{xored}
 use Rattle.tagged_hash.specs.ConvergentKey.{convergent_key_of}
 use Rattle.share_layout.specs.Geometry.{Geometry, geometry_of}
@@ -10,7 +10,7 @@ use Rattle.sources.proofs.Differ.{have_differed}
 use Rattle.file_streaming.specs.Passes.{AreTwoPasses, IsOtherPass, key_by}
 use Rattle.file_streaming.specs.Prepared.{IsPreparedFrom, PreparedFile, key_for, prepared_by}
 use Rattle.file_streaming.specs.declared.passes.Passes.{Passes}
-use Rattle.file_streaming.proofs.KeyReading.{ended-later}
+use Rattle.block_making.proofs.ReadRuns.{ended-later}
 
 module _ {S : Type 0} (gives : S → ℕ → List ℕ → S → Type 0) where
   pub ended_changes : (old : S) (size : ℕ) (new : S) → HasEndedEarly gives old size new → HasChanged gives old size new

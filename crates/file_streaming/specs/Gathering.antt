@@ -1,5 +1,5 @@
 -- What the second pass over a source holds.
-use Rattle.std.specs.Prelude.{◌≡◌, ℕ, ◌*◌, List, [], ◌++◌, length}
+use Rattle.std.specs.Prelude.{◌≡◌, ℕ, ◌*◌, List, ◌++◌, length}
 use Rattle.aes_ctr.specs.CounterMode.{xored_from}
 use Rattle.tagged_hash.specs.TaggedHasher.{Holds, HoldsFile}
 use Rattle.tagged_hash.specs.declared.tag.Tag.TheVariants.{Ciphertext}
@@ -38,7 +38,7 @@ pub record IsGatheredFrom {S : Type 0} (gives : S → ℕ → List ℕ → S →
   pub pass : IsPass gives g.size old file new
   pub has : HasGathered g (gathered g key 0 (segments_of g file) (gathered_none g)) secret file x
 
--- they have room for a segment with its padding, and for a block
+-- they have room for a segment with its padding, and for eight blocks
 pub record AreBuffers (g : Geometry) (b : Buffers) : Type 0 where
   pub segment : length b.segment.items ≡ g.segment_size
-  pub block : length b.block.items ≡ block_size g
+  pub lanes : length b.lanes.items ≡ 8 * block_size g

@@ -5,10 +5,12 @@ use Rattle.aes_ctr.specs.CounterMode.{xored}
 use Rattle.merkle.specs.Tree.{tree_root}
 use Rattle.ueb.specs.Shape.{IsShape}
 use Rattle.file_encoding.specs.Encoding.{share_hashes}
+use Rattle.block_making.specs.Making.{AreSlots}
+use Rattle.block_making.specs.declared.encoder.Encoder.{Encoder}
+use Rattle.block_slots.specs.Slots.{Slots}
 use Rattle.file_streaming.specs.Gathering.{AreBuffers}
 use Rattle.file_streaming.specs.Prepared.{PreparedFile, prepared_by}
 use Rattle.file_streaming.specs.declared.gathering.Buffers.{Buffers}
-use Rattle.file_streaming.specs.declared.gathering.Encoder.{Encoder}
 
 -- It is kept of a file, and its segments are made again by this encoder in these buffers. These are
 -- the hashes that each share carries of the share tree.
@@ -23,3 +25,9 @@ pub record IsKept (p : PreparedFile) (hashes : List (List ℕ)) (e : Encoder) (b
   pub needed : e.code.k ≡ p.geometry.needed
   pub total : e.code.n ≡ p.geometry.total
   pub buffers : AreBuffers p.geometry b
+
+-- so it is, and what the slots hold are blocks with the hashes that are kept
+pub record IsHeld (p : PreparedFile) (hashes : List (List ℕ)) (e : Encoder) (b : Buffers)
+    (slots : Slots) : Type 0 where
+  pub kept : IsKept p hashes e b
+  pub verified : AreSlots p.geometry p.block_leaves slots

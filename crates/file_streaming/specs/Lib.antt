@@ -1,9 +1,7 @@
 -- what public contracts rest on
 pub mod PrepareError
-pub mod PieceError
 pub mod Prepared
 pub mod Gathered
-pub mod Making
 pub mod Piece
 pub mod Laws
 -- words of private clauses

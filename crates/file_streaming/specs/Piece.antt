@@ -13,7 +13,7 @@ use Rattle.share_verify.specs.Pieces.{block_hashes, joined}
 use Rattle.file_encoding.specs.Encoding.{Parameters, blocks_of, encoding_of}
 use Rattle.sources.specs.Change.{DiffersFromFile}
 use Rattle.file_streaming.specs.Gathered.{behind_blocks}
-use Rattle.file_streaming.specs.Making.{IsPieceOf}
+use Rattle.block_making.specs.Making.{IsPieceOf}
 use Rattle.file_streaming.specs.Prepared.{PreparedFile, geometry_for, key_for, prepared_of}
 
 -- the leaves of a share's block tree that are kept

@@ -1,7 +1,7 @@
 //! Why a file is not made ready.
 
 ghost use Rattle.std.specs.Prelude.{◌≡◌};
-ghost use Rattle.file_streaming.specs.PieceError.{piece_error_of, piece_number};
+ghost use Rattle.block_making.specs.PieceError.{piece_error_of, piece_number};
 ghost use Rattle.file_streaming.specs.PrepareError.{error_of, refusal_number};
 
 use sources::PartFault;
@@ -64,38 +64,6 @@ impl From<PartFault> for PrepareError {
         match fault {
             PartFault::Ended => PrepareError::SourceChanged,
             PartFault::Unreadable => PrepareError::SourceFault,
-        }
-    }
-}
-
-/// Why a piece of a share could not be had.
-#[derive(Clone, Copy, Debug, PartialEq, Eq)]
-pub enum PieceError {
-    /// The source has not the bytes any more that its shares are made of (number 74).
-    SourceChanged,
-    /// A read of the source failed (number 75).
-    SourceFault,
-}
-
-impl PieceError {
-    /// The number of the refusal.
-    pub fn number(self) -> u8
-        ensures { result ≡ piece_number self }
-    {
-        match self {
-            PieceError::SourceChanged => 74,
-            PieceError::SourceFault => 75,
-        }
-    }
-}
-
-impl From<PartFault> for PieceError {
-    ghost from_gives = { λ fault e. e ≡ piece_error_of fault };
-
-    fn from(fault: PartFault) -> PieceError {
-        match fault {
-            PartFault::Ended => PieceError::SourceChanged,
-            PartFault::Unreadable => PieceError::SourceFault,
         }
     }
 }

@@ -17,11 +17,11 @@ use crate::error::PrepareError;
 use crate::geometry::file_code;
 use crate::shares::{ShareSoFar, add_blocks, begin_shares};
 use aes_ctr::Aes128;
+use block_making::Encoder;
 use share_layout::Geometry;
 use sources::{Source, read_part};
 use std::alloc::{AllocError, Global};
 use tagged_hash::{KeyHasher, Tag, TaggedHasher, tagged};
-use zfec_code::Code;
 
 /// What is gathered of a file: its key, the hash of its ciphertext, the leaves of the ciphertext
 /// tree, and its shares by number.
@@ -31,13 +31,6 @@ pub(crate) struct Gathering {
     pub ciphertext: TaggedHasher,
     pub leaves: Vec<[u8; 32]>,
     pub shares: Vec<ShareSoFar>,
-}
-
-/// What segments are encrypted and encoded by.
-#[derive(Drop)]
-pub(crate) struct Encoder {
-    pub code: Code,
-    pub cipher: Aes128,
 }
 
 /// The encoder of a file with this key.
@@ -74,20 +67,23 @@ impl Gathering {
     }
 
     // Gathers a segment, of so many bytes at the beginning of the buffer, which stands at this
-    // place of its file. The buffer has room for its padding alone, and its bytes are lost.
+    // place of its file. The buffer has room for its padding alone, and its bytes are lost. Its
+    // blocks have `size` bytes, and there is room for eight.
     fn add(
         &mut self,
         encoder: &Encoder,
         place: u64,
         len: usize,
         padded: &mut [u8],
-        block: &mut [u8],
+        size: usize,
+        lanes: &mut [u8],
     ) -> Result<(), AllocError>
         requires place { place + len < 2 ^ 64 }
         requires some { 0 < encoder.now.code.k }
         requires small { encoder.now.code.k ≤ 256 }
         requires padded { length padded.old ≡ rounded_up len encoder.now.code.k }
-        requires block { length padded.old ≡ encoder.now.code.k * length block.old }
+        requires block { length padded.old ≡ encoder.now.code.k * size }
+        requires room { 8 * size ≤ length lanes.old }
         requires total { length self.old.shares.items ≡ encoder.now.code.n }
         requires few { length self.old.shares.items ≤ 256 }
         ensures shares { OnOk result
@@ -104,15 +100,15 @@ impl Gathering {
         self.ciphertext.update(segment);
         self.leaves.push(tagged(Tag::CiphertextSegment, segment))?;
         padded[len..].fill(0);
-        add_blocks(&encoder.code, padded, block, &mut self.shares)
+        add_blocks(&encoder.code, padded, size, lanes, &mut self.shares)
     }
 }
 
-/// Room for a segment with its padding, and for a block.
+/// Room for a segment with its padding, and for eight blocks side by side.
 #[derive(Drop)]
 pub(crate) struct Buffers {
     pub segment: Vec<u8>,
-    pub block: Vec<u8>,
+    pub lanes: Vec<u8>,
 }
 
 impl Buffers {
@@ -122,7 +118,7 @@ impl Buffers {
     {
         Ok(Buffers {
             segment: vec![in alloc; 0u8; geometry.segment_size() as usize]?,
-            block: vec![in alloc; 0u8; geometry.block_size() as usize]?,
+            lanes: vec![in alloc; 0u8; 8 * geometry.block_size() as usize]?,
         })
     }
 }
@@ -134,14 +130,14 @@ fn gather_segment<S: Source>(
     number: u32,
     encoder: &Encoder,
     segment: &mut [u8],
-    block: &mut [u8],
+    lanes: &mut [u8],
     gathering: &mut Gathering,
 ) -> Result<(), PrepareError>
     requires number { number < segment_count geometry.now }
     requires needed { encoder.now.code.k ≡ geometry.now.needed }
     requires total { encoder.now.code.n ≡ geometry.now.total }
     requires segment { length segment.old ≡ geometry.now.segment_size }
-    requires block { length block.old ≡ block_size geometry.now }
+    requires lanes { length lanes.old ≡ 8 * block_size geometry.now }
     requires shares { length gathering.old.shares.items ≡ geometry.now.total }
     ensures shares { OnOk result (length gathering.new.shares.items ≡ geometry.now.total) }
     ensures gathered { OnOk result (IsSegmentGathered S.gives source.old geometry.now
@@ -160,7 +156,7 @@ fn gather_segment<S: Source>(
     let size = geometry.block_length(number) as usize;
     let padded = &mut segment[..size * usize::from(geometry.needed())];
     read_part(source, place, &mut padded[..len])?;
-    gathering.add(encoder, place, len, padded, &mut block[..size])?;
+    gathering.add(encoder, place, len, padded, size, lanes)?;
     Ok(())
 }
 
@@ -172,12 +168,12 @@ pub(crate) fn gather<S: Source>(
     encoder: &Encoder,
     hasher: KeyHasher,
     segment: &mut [u8],
-    block: &mut [u8],
+    lanes: &mut [u8],
 ) -> Result<Gathering, PrepareError>
     requires needed { encoder.now.code.k ≡ geometry.now.needed }
     requires total { encoder.now.code.n ≡ geometry.now.total }
     requires segment { length segment.old ≡ geometry.now.segment_size }
-    requires block { length block.old ≡ block_size geometry.now }
+    requires lanes { length lanes.old ≡ 8 * block_size geometry.now }
     ensures gathered { (secret : List ℕ) → HoldsFile hasher geometry.now.needed
         geometry.now.total geometry.now.segment_size secret []
         → IfOk result (λ x. IsGatheredFrom S.gives source.old geometry.now
@@ -198,7 +194,7 @@ pub(crate) fn gather<S: Source>(
             number,
             encoder,
             segment,
-            block,
+            lanes,
             &mut gathering,
         )?;
     }

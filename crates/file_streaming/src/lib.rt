@@ -13,6 +13,7 @@ mod pieces;
 mod prepared;
 mod shares;
 
-pub use error::{PieceError, PrepareError};
+pub use block_making::PieceError;
+pub use error::PrepareError;
 pub use laws::{blocks_or_clash, digests_in_order, one_by_one, pieces_are_right};
 pub use prepared::{Prepared, prepare};

@@ -9,8 +9,9 @@ ghost use Rattle.file_streaming.specs.Passes.{AreTwoPasses, IsOtherPass, IsSecon
 
 use crate::error::PrepareError;
 use crate::first_pass::read_key;
-use crate::gathering::{Buffers, Encoder, Gathering, file_encoder, gather};
+use crate::gathering::{Buffers, Gathering, file_encoder, gather};
 use crate::shares::ShareSoFar;
+use block_making::Encoder;
 use share_layout::Geometry;
 use sources::Source;
 use std::alloc::Global;
@@ -72,7 +73,7 @@ fn read_again<S: Source>(
         &encoder,
         hasher,
         &mut buffers.segment,
-        &mut buffers.block,
+        &mut buffers.lanes,
     )?;
     let Gathering {
         key: second,

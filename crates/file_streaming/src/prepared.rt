@@ -8,14 +8,17 @@ ghost use Rattle.ueb.specs.Shape.{IsFile, IsSegmentSize};
 ghost use Rattle.file_encoding.specs.Params.{HasTooManySegments, IsEncodable, parameters_of};
 ghost use Rattle.sources.specs.Change.{HasChanged};
 ghost use Rattle.sources.specs.Source.{HasFailedMore};
+ghost use Rattle.block_making.specs.Making.{AreSlots};
 ghost use Rattle.file_streaming.specs.Passes.{IsPassOf};
 ghost use Rattle.file_streaming.specs.Prepared.{IsPreparedFrom, prepared_by, share_length};
 
 use crate::error::PrepareError;
 use crate::finishing::{Finished, finish};
-use crate::gathering::{Buffers, Encoder};
+use crate::gathering::Buffers;
 use crate::geometry::{file_cap, file_geometry};
 use crate::passes::{Passes, read_twice};
+use block_making::Encoder;
+use block_slots::{BlockSlots, window_for};
 use cap_text::ReadCap;
 use file_encoding::Params;
 use merkle::Tree;
@@ -26,7 +29,7 @@ use std::marker::Model;
 use tagged_hash::{Tag, tagged};
 
 /// What is kept of a file: its cap, the digests of its shares, and the trees of its hashes. Of the
-/// file's bytes it holds those of one segment at most.
+/// file's bytes it holds those of one segment and of some blocks at most.
 #[derive(Drop)]
 pub struct Prepared {
     pub(crate) geometry: Geometry,
@@ -38,11 +41,12 @@ pub struct Prepared {
     digests: Vec<[u8; 32]>,
     pub(crate) encoder: Encoder,
     pub(crate) buffers: Buffers,
+    pub(crate) slots: BlockSlots,
 }
 
 impl Model for Prepared {
     ghost use Rattle.std.specs.Prelude.{map};
-    ghost use Rattle.file_streaming.specs.Kept.{IsKept};
+    ghost use Rattle.file_streaming.specs.Kept.{IsHeld};
     ghost use Rattle.file_streaming.specs.Prepared.{PreparedFile};
 
     ghost Value = { PreparedFile };
@@ -57,14 +61,15 @@ impl Model for Prepared {
     } };
 
     // It is of a file, and what is hidden belongs to it.
-    ghost invariant = { λ p. IsKept (record {
+    ghost invariant = { λ p. IsHeld (record {
       geometry = p.geometry;
       cap = p.cap;
       extension_block = p.extension_block.items;
       leaves = p.ciphertext_tree;
       block_leaves = p.block_trees.items;
       digests = p.digests.items;
-    }) (map (λ h. h.items) p.share_hashes.items) p.encoder p.buffers };
+    }) (map (λ h. h.items) p.share_hashes.items) p.encoder p.buffers
+        p.slots };
 }
 
 impl Prepared {
@@ -122,7 +127,17 @@ fn keep(alloc: Global, geometry: Geometry, passes: Passes) -> Result<Prepared, A
         digests,
         encoder,
         buffers,
+        slots: file_slots(alloc, &geometry)?,
     })
+}
+
+// Slots for the blocks of a file. They are free.
+fn file_slots(alloc: Global, geometry: &Geometry) -> Result<BlockSlots, AllocError>
+    ensures { (leaves : List (List (List ℕ))) → IfOk result (AreSlots geometry.now leaves) }
+{
+    let size = geometry.block_size();
+    let window = window_for(size, geometry.segment_count());
+    Ok(BlockSlots::new(alloc, geometry.total(), size, window)?)
 }
 
 /// Reads a source twice, each byte once from place 0 up: for the key, and for the key again and all

@@ -1,11 +1,11 @@
 -- A source with what is kept of it: where the bytes of an upload's shares come from.
 use Rattle.std.specs.Prelude.{◌≡◌, ℕ, List, length}
 use Rattle.sources.specs.Source.{HasFailedMore}
-use Rattle.file_streaming.specs.Making.{WereRead}
+use Rattle.block_making.specs.Making.{WereRead}
 use Rattle.file_streaming.specs.Piece.{GivesPiece, IsOfNoFile}
 use Rattle.file_streaming.specs.Prepared.{PreparedFile}
-use Rattle.file_streaming.specs.declared.error.PieceError.{PieceError}
-use Rattle.file_streaming.specs.declared.error.PieceError.TheVariants as piece_error
+use Rattle.block_making.specs.declared.error.PieceError.{PieceError}
+use Rattle.block_making.specs.declared.error.PieceError.TheVariants as piece_error
 use Rattle.upload_core.specs.declared.pieces.PieceFault.{PieceFault}
 use Rattle.upload_core.specs.declared.pieces.PieceFault.TheVariants.{OutOfMemory, SourceChanged}
 use Rattle.upload_core.specs.declared.pieces.PieceFault.TheVariants.{SourceFault}

@@ -1,8 +1,7 @@
-use Rattle.std.proofs.Common.{◌≡◌, ℕ, List, length, map, ap, sym, ◌∙◌, arith}
+use Rattle.std.proofs.Common.{◌≡◌, ℕ, List, length, map, ap, sym, ◌∙◌}
 use Rattle.std.specs.List.{range_with_len}
 use Rattle.std.proofs.lemmas.List.{length-map}
 use Rattle.std.proofs.lemmas.List.FromFn.{length-map-range_with_len}
-use Rattle.std.proofs.lemmas.Result.{IfOk-weaker}
 use Rattle.merkle.specs.Tree.{tree_root}
 use Rattle.tagged_hash.specs.TaggedHash.{tagged_hash}
 use Rattle.tagged_hash.specs.declared.tag.Tag.TheVariants.{Ciphertext}
@@ -12,7 +11,6 @@ use Rattle.share_layout.specs.Pieces.{segments_of}
 use Rattle.share_verify.specs.Pieces.{block_hashes}
 use Rattle.proved_parts.specs.FileOf.{segment_hashes}
 use Rattle.file_encoding.specs.Encoding.{blocks_of, share_hashes, share_leaves}
-use Rattle.file_streaming.specs.Finishing.{IsFinished}
 use Rattle.file_streaming.specs.declared.finishing.Behind.{Behind}
 use Rattle.file_streaming.specs.declared.finishing.Trees.{Trees}
 use Rattle.file_streaming.proofs.Digests.{block_leaves_are, digests_are, roots_are}

@@ -1,11 +1,11 @@
-use Rattle.std.proofs.Common.{◌≡◌, ℕ, ◌-◌, ◌*◌, ◌/◌, ◌^◌, List, [], ◌++◌, length, map, replicate, slice_index_or, ap, sym, ◌∙◌, arith}
+use Rattle.std.proofs.Common.{◌≡◌, ℕ, ◌-◌, ◌*◌, ◌/◌, ◌^◌, [], ◌++◌, length, map, replicate, slice_index_or, ap, sym, ◌∙◌, arith}
 use Rattle.std.proofs.Math.Nat.{mul-div_cancel}
 use Rattle.std.proofs.lemmas.List.{get_or-map, get_or_read}
 use Rattle.merkle.specs.Tree.{height, tree_nodes}
 use Rattle.tagged_hash.specs.TaggedHash.{tagged_hash}
 use Rattle.tagged_hash.specs.declared.tag.Tag.TheVariants.{WholeShare}
 use Rattle.share_layout.specs.Geometry.{Geometry, segment_count, tree_size}
-use Rattle.share_layout.specs.Layout.{layout_of, spelled}
+use Rattle.share_layout.specs.Layout.{spelled}
 use Rattle.share_verify.specs.Pieces.{joined}
 use Rattle.file_streaming.specs.declared.finishing.Behind.{Behind}
 use Rattle.file_streaming.proofs.OneByOne.{behind}

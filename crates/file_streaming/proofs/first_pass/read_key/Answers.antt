@@ -2,7 +2,8 @@ use Rattle.std.proofs.Common.{◌≡◌, ℕ, ◌+◌, ◌≤◌, List, ◌++◌
 use Rattle.std.proofs.lemmas.List.{length-take, take_at}
 use Rattle.tagged_hash.specs.TaggedHasher.{HoldsFile}
 use Rattle.sources.proofs.PartReading.{err-again}
-use Rattle.file_streaming.proofs.KeyReading.{ended-later, pass-more}
+use Rattle.block_making.proofs.ReadRuns.{ended-later}
+use Rattle.file_streaming.proofs.KeyReading.{pass-more}
 use Rattle.file_streaming.proofs.first_pass.read_key.Goals as goal
 
 pub loop-done-preserved : goal.loop-done-preserved

@@ -1,7 +1,8 @@
 use Rattle.std.proofs.Common.{◌≡◌, ℕ, ◌<◌, refl, ◌∙◌, arith}
 use Rattle.share_layout.specs.Geometry.{Geometry, segment_count}
-use Rattle.file_streaming.proofs.KeyReading.{ended-later}
-use Rattle.file_streaming.proofs.SecondPass.{begins-before, changed-again, gathered-all, gathered-begin, gathered-more}
+use Rattle.block_making.proofs.ReadRuns.{ended-later}
+use Rattle.block_making.proofs.MadeBlocks.{begins-before}
+use Rattle.file_streaming.proofs.SecondPass.{changed-again, gathered-all, gathered-begin, gathered-more}
 use Rattle.file_streaming.proofs.gathering.gather.Goals as goal
 
 pub loop-number-init : goal.loop-number-init

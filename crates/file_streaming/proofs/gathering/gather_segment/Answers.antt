@@ -4,8 +4,9 @@ use Rattle.aes_ctr.specs.CounterMode.{xored_from}
 use Rattle.sources.specs.Source.{IsRead}
 use Rattle.file_streaming.specs.Gathered.{gathered_more}
 use Rattle.file_streaming.specs.Gathering.{HasGathered}
-use Rattle.file_streaming.proofs.KeyReading.{ended-wider}
-use Rattle.file_streaming.proofs.SecondPass.{ended_fault, ends-within, rooms}
+use Rattle.block_making.proofs.ReadRuns.{ended-wider}
+use Rattle.block_making.proofs.MadeBlocks.{ends-within}
+use Rattle.file_streaming.proofs.SecondPass.{ended_fault, rooms}
 use Rattle.file_streaming.proofs.gathering.gather_segment.Goals as goal
 
 pub returns-in_err-read_part-clause-ended : goal.returns-in_err-read_part-clause-ended
@@ -23,14 +24,14 @@ returns-in_err-read_part-clause-ended g c = λ e.
 pub add-requires-clause-padded : goal.add-requires-clause-padded
 add-requires-clause-padded g c =
     (rooms c.args.geometry.now c.args.number c.segment_length-len.result c.block_length-size.result c.from-3.result c.args.encoder.now.code.k c.args.segment.now
-    c.read_part.new.out c.args.block.now c.segment_size.ensures.valid c.requires.number c.requires.segment c.requires.block c.segment_length-len.ensures.value
+    c.read_part.new.out c.segment_size.ensures.valid c.requires.number c.requires.segment c.segment_length-len.ensures.value
     c.block_length-size.ensures.value (c.from-3.ensures ∙ c.needed.ensures.value) c.requires.needed c.block_length-size.ensures.range.1 c.block_length-size.ensures.enough
     c.read_part.auto.out).padded
 
 pub add-requires-clause-block : goal.add-requires-clause-block
 add-requires-clause-block g c =
     (rooms c.args.geometry.now c.args.number c.segment_length-len.result c.block_length-size.result c.from-3.result c.args.encoder.now.code.k c.args.segment.now
-    c.read_part.new.out c.args.block.now c.segment_size.ensures.valid c.requires.number c.requires.segment c.requires.block c.segment_length-len.ensures.value
+    c.read_part.new.out c.segment_size.ensures.valid c.requires.number c.requires.segment c.segment_length-len.ensures.value
     c.block_length-size.ensures.value (c.from-3.ensures ∙ c.needed.ensures.value) c.requires.needed c.block_length-size.ensures.range.1 c.block_length-size.ensures.enough
     c.read_part.auto.out).blocks
 
@@ -46,7 +47,7 @@ returns-clause-gathered g c =
     let behind : List ℕ = drop len (take (c.block_length-size.result * c.from-3.result) c.args.segment.now) in
     let place_is : place ≡ c.args.number * c.args.geometry.now.segment_size = λ p. c.from.ensures p * (c.from-2.ensures ∙ c.segment_size.ensures.value) p in
     let room = rooms c.args.geometry.now c.args.number len c.block_length-size.result c.from-3.result c.args.encoder.now.code.k c.args.segment.now
-    out c.args.block.now c.segment_size.ensures.valid c.requires.number c.requires.segment c.requires.block c.segment_length-len.ensures.value
+    out c.segment_size.ensures.valid c.requires.number c.requires.segment c.segment_length-len.ensures.value
     c.block_length-size.ensures.value (c.from-3.ensures ∙ c.needed.ensures.value) c.requires.needed c.block_length-size.ensures.range.1 c.block_length-size.ensures.enough
     c.read_part.auto.out in
     record {

@@ -21,8 +21,8 @@ returns-clause-passes g c =
     subst (λ (key : List ℕ). HasGathered geometry (gathered geometry key 0 (segments_of geometry read.file) (gathered_none geometry)) secret read.file x) cipher read.has in
     let segment : (with_items c.args.buffers.segment c.gather.new.segment).items ≡ c.gather.new.segment =
     with_items_is c.args.buffers.segment c.gather.new.segment (omega (arith, c.gather.auto.segment, ap length c.deref_mut.ensures.value, c.args.buffers.segment.ok.0)) in
-    let block : (with_items c.args.buffers.block c.gather.new.block).items ≡ c.gather.new.block =
-    with_items_is c.args.buffers.block c.gather.new.block (omega (arith, c.gather.auto.block, ap length c.deref_mut-2.ensures.value, c.args.buffers.block.ok.0)) in
+    let lanes : (with_items c.args.buffers.lanes c.gather.new.lanes).items ≡ c.gather.new.lanes =
+    with_items_is c.args.buffers.lanes c.gather.new.lanes (omega (arith, c.gather.auto.lanes, ap length c.deref_mut-2.ensures.value, c.args.buffers.lanes.ok.0)) in
     record {
       file = read.file;
       pass = read.pass;
@@ -34,7 +34,7 @@ returns-clause-passes g c =
         cipher = cipher;
         buffers = record {
           segment = ap length segment ∙ c.gather.auto.segment ∙ ap length c.deref_mut.ensures.value ∙ c.requires.buffers.segment;
-          block = ap length block ∙ c.gather.auto.block ∙ ap length c.deref_mut-2.ensures.value ∙ c.requires.buffers.block;
+          lanes = ap length lanes ∙ c.gather.auto.lanes ∙ ap length c.deref_mut-2.ensures.value ∙ c.requires.buffers.lanes;
         };
         ciphertext = has.ciphertext;
         leaves = has.leaves;

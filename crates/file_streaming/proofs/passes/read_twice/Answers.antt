@@ -1,4 +1,4 @@
-use Rattle.std.proofs.Common.{ℕ, subst}
+use Rattle.std.proofs.Common.{subst}
 use Rattle.share_layout.specs.Geometry.{Geometry}
 use Rattle.sources.specs.Source.{HasFailedMore}
 use Rattle.file_streaming.specs.KeyReading.{IsKeyRead}

@@ -1,7 +1,7 @@
 use Rattle.std.proofs.Common.{◌≡◌, ℕ, ◌+◌, List, ◌++◌, length, take, ap, ◌∙◌, arith}
 use Rattle.std.proofs.lemmas.List.{length-take}
-use Rattle.file_streaming.specs.Making.{put_at}
-use Rattle.file_streaming.proofs.PieceTexts.{put-twice}
+use Rattle.block_making.specs.Making.{put_at}
+use Rattle.block_making.proofs.PieceTexts.{put-twice}
 use Rattle.file_streaming.proofs.pieces.put_ending.Goals as goal
 
 pub returns : goal.returns

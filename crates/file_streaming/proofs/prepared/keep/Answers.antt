@@ -1,4 +1,4 @@
-use Rattle.std.proofs.Common.{◌≡◌, ℕ, List, [], ap, refl, sym, subst, ◌∙◌}
+use Rattle.std.proofs.Common.{ℕ, List, ap, sym, subst, ◌∙◌}
 use Rattle.aes_ctr.specs.CounterMode.{xored}
 use Rattle.tagged_hash.specs.TaggedHash.{tagged_hash}
 use Rattle.tagged_hash.specs.declared.tag.Tag.TheVariants.{ExtensionBlock}
@@ -31,7 +31,10 @@ invariant_of-result c =
     let f : Finished = c.in_ok-behind.field-0 in
     let is : IsFinished g (xored p.key file) f =
     c.in_ok-behind.ensures (xored p.key file) (gathered_of g p.key file) (gathered_is g file p pass shape) pass.ciphertext (c.deref.ensures.value ∙ pass.leaves) pass.shares in
-    kept_too g file p pass shape f is c.tagged-ueb_hash.result c.file_cap.result (c.tagged-ueb_hash.ensures ∙ ap (tagged_hash ExtensionBlock) c.deref-2.ensures.value) c.file_cap.ensures
+    record {
+      kept = kept_too g file p pass shape f is c.tagged-ueb_hash.result c.file_cap.result (c.tagged-ueb_hash.ensures ∙ ap (tagged_hash ExtensionBlock) c.deref-2.ensures.value) c.file_cap.ensures;
+      verified = c.in_ok-file_slots.ensures f.behind.block_trees.items;
+    }
 
 pub returns : goal.returns
 returns c = λ file pass.

@@ -1,4 +1,4 @@
-use Rattle.std.proofs.Common.{◌≡◌, ℕ, ap, subst, ◌∙◌}
+use Rattle.std.proofs.Common.{ap, subst, ◌∙◌}
 use Rattle.share_layout.specs.Geometry.{geometry_of}
 use Rattle.file_encoding.specs.Encoding.{Parameters}
 use Rattle.file_encoding.specs.Params.{IsEncodable, parameters_of}

@@ -1,23 +1,26 @@
-use Rattle.std.proofs.Common.{◌≡◌, ℕ, ◌<◌, List, length, get_or, ap, subst, ◌∙◌, arith}
-use Rattle.std.proofs.lemmas.Option.{slice_get-get_or}
+use Rattle.std.proofs.Common.{◌≡◌, ℕ, ◌+◌, ◌-◌, ◌*◌, ◌≤◌, List, length, min, subst, arith}
+use Rattle.std.proofs.lemmas.Grind.{div_ceil_times}
 use Rattle.zfec_code.specs.ShareValue.{share_block}
-use Rattle.file_encoding.proofs.ShareBlock.{share_block-is}
-use Rattle.file_streaming.specs.Shares.{HasBlockMore}
-use Rattle.file_streaming.proofs.ShareBlocks.{so_far-all, so_far-more}
+use Rattle.file_streaming.specs.declared.shares.ShareSoFar.{ShareSoFar}
+use Rattle.file_streaming.proofs.ShareBlocks.{HaveSoFar, same_blocks, so_far-all, so_far-group}
 use Rattle.file_streaming.proofs.shares.add_blocks.Goals as goal
 
-pub loop-number-preserved : goal.loop-number-preserved
-loop-number-preserved c =
-    let n : ℕ = c.loop-number.number in
-    let k : ℕ = c.args.code.now.k in
-    let within : n < length c.loop-number.shares = omega (arith, c.loop-number-test.true, c.loop-number.auto.shares) in
-    let block : c.encode.new.out ≡ share_block k n (length c.args.block.now) c.args.padded.now =
-    share_block-is k n c.args.padded.now c.encode.new.out c.requires.small (λ t. (c.type_inv.padded t).fits) c.encode.ensures
-    ∙ ap (λ size. share_block k n size c.args.padded.now) (c.encode.auto.out ∙ c.loop-number.auto.block) in
-    let share = get_or c.loop-number.shares n c.index-shares-number.result in
-    so_far-more _ _ c.loop-number.shares n share c.add.new.self c.loop-number.invariant within
-    (slice_get-get_or c.loop-number.shares n c.index-shares-number.result within)
-    (subst (λ b. HasBlockMore b share c.add.new.self) block c.in_ok-add.ensures)
+pub loop-group-preserved : goal.loop-group-preserved
+loop-group-preserved c =
+    let block : ℕ → List ℕ = λ i. share_block c.args.code.now.k i c.args.size c.args.padded.now in
+    let old : List ShareSoFar = c.args.shares.now in
+    let now : List ShareSoFar = c.loop-group.shares in
+    let first : ℕ = 8 * c.loop-group.group in
+    let count : ℕ = c.min-end.result - first in
+    let low : first ≤ length old = omega (arith, c.loop-group-test.true, c.loop-group.auto.group-end, c.div_ceil-group-end.ensures, (div_ceil_times (length old) 8 (omega arith)).1) in
+    let within : first + count ≤ length now = omega (arith, low, c.min-end.ensures, c.loop-group.auto.shares) in
+    let here : min first (length old) ≡ first = omega (arith, low) in
+    let next : first + count ≡ min (8 * (c.loop-group.group + 1)) (length old) = omega (arith, low, c.min-end.ensures, c.loop-group.auto.shares) in
+    subst (HaveSoFar block old _) next
+    (so_far-group block old now c.add_group.new.group first count within (subst (HaveSoFar block old now) here c.loop-group.invariant)
+    (same_blocks block old now c.add_group.new.group first count within _ c.encode_group.ensures c.in_ok-add_group.ensures))
 
 pub returns : goal.returns
-returns c = so_far-all _ _ _ c.loop-number.number c.loop-number.invariant (omega (arith, c.loop-number-test.false, c.loop-number.auto.shares))
+returns c =
+    let all = (div_ceil_times (length c.args.shares.now) 8 (omega arith)).0 in
+    so_far-all _ _ _ _ c.loop-group.invariant (omega (arith, c.loop-group-test.false, c.loop-group.auto.group-end, c.div_ceil-group-end.ensures, c.loop-group.auto.shares, all))

@@ -1,5 +1,4 @@
-use Rattle.std.proofs.Common.{length, subst, sym, arith}
-use Rattle.std.proofs.lemmas.List.{length_push}
+use Rattle.std.proofs.Common.{subst, sym, arith}
 use Rattle.file_streaming.specs.Gathered.{gathered_none}
 use Rattle.file_streaming.specs.Shares.{HoldShares}
 use Rattle.file_streaming.proofs.ShareBlocks.{held-push}

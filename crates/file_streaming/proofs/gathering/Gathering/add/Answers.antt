@@ -1,4 +1,4 @@
-use Rattle.std.proofs.Common.{◌≡◌, ◌-◌, ◌*◌, ◌≤◌, replicate, ℕ, List, [], ◌∷◌, ◌++◌, length, take, drop, refl, ap, subst, sym, ◌∙◌, arith}
+use Rattle.std.proofs.Common.{◌≡◌, ◌-◌, ◌≤◌, replicate, ℕ, List, [], ◌∷◌, ◌++◌, length, take, drop, refl, ap, subst, sym, ◌∙◌, arith}
 use Rattle.std.proofs.lemmas.List.{length-append, length-drop, length-take, length-take-le}
 use Rattle.std.proofs.lemmas.Result.{on_ok_weaker}
 use Rattle.std.proofs.lemmas.List.{with_items_is}
@@ -37,13 +37,13 @@ returns-clause-gathered c = λ g s secret file same has.
     let is : padded ≡ padded_segment k encrypted = cleared k len (length all - len) c.xor_at.new.text behind c.fill.new.self long refl zeros whole ∙ ap (padded_segment k) c.xor_at.ensures in
     let old : List ShareSoFar = c.args.self.now.shares.items in
     let new : List ShareSoFar = c.add_blocks.new.shares in
-    let block : ℕ → List ℕ = λ i. share_block k i (length c.args.block.now) padded in
+    let block : ℕ → List ℕ = λ i. share_block k i (c.args.size) padded in
     let own : c.deref_mut.result.now ≡ old = c.deref_mut.ensures.value in
     on_ok_weaker c.add_blocks.result
     (λ more.
     let added : HaveBlocksMore block old new = subst (λ (shares : List ShareSoFar). HaveBlocksMore block shares new) own more in
     let written : (with_items c.args.self.now.shares new).items ≡ new = with_items_is c.args.self.now.shares new (omega (arith, added.count, c.args.self.now.shares.ok.0)) in
-    gathered-segment g k s secret file segment encrypted padded (length c.args.block.now) c.args.self.now _ same c.requires.some has is
+    gathered-segment g k s secret file segment encrypted padded (c.args.size) c.args.self.now _ same c.requires.some has is
     (ap (λ n. rounded_up n k) (sym (ap length c.xor_at.ensures) ∙ long) ∙ sym c.requires.padded ∙ c.requires.block)
     (c.update.ensures g.needed g.total g.segment_size secret file has.key)
     (subst (λ (e : List ℕ). Holds c.update-2.new.self Ciphertext (s.ciphertext ++ e)) c.xor_at.ensures (c.update-2.ensures Ciphertext s.ciphertext has.ciphertext))

@@ -7,5 +7,5 @@ use Rattle.file_streaming.proofs.prepared.Prepared.digests.Goals as goal
 pub returns-clause-few : goal.returns-clause-few
 returns-clause-few c =
     let p : PreparedFile = c.args.self.now in
-    let kept = subst (λ (p : PreparedFile). IsKept p (texts_of c.self.inside.share_hashes.items) c.self.inside.encoder c.self.inside.buffers) c.self.view_is c.self.invariant in
+    let kept = subst (λ (p : PreparedFile). IsKept p (texts_of c.self.inside.share_hashes.items) c.self.inside.encoder c.self.inside.buffers) c.self.view_is c.self.invariant.kept in
     omega (arith, kept_digests p (texts_of c.self.inside.share_hashes.items) c.self.inside.encoder c.self.inside.buffers kept, kept.shape.file.shares)

@@ -1,15 +1,15 @@
-use Rattle.std.proofs.Common.{rules, ◌≡◌, ℕ, ◌+◌, ◌<◌, ◌≤◌, List, [], ◌++◌, length, get_or, ap, subst, sym, ◌∙◌, arith}
-use Rattle.std.proofs.lemmas.List.{get_or_default, length-replicate}
+use Rattle.std.proofs.Common.{rules, ◌≡◌, ℕ, ◌+◌, ◌<◌, ◌≤◌, List, ◌++◌, length, ap, subst, sym, ◌∙◌, arith}
+use Rattle.std.proofs.lemmas.List.{length-replicate}
 use Rattle.share_layout.specs.Geometry.{share_data_size, tree_size}
 use Rattle.share_layout.specs.Layout.{header_size, layout_of}
 use Rattle.share_verify.specs.Pieces.{joined}
-use Rattle.file_streaming.specs.Making.{HasBlocks, IsMaking, IsPieceOf, Making}
-use Rattle.file_streaming.specs.Piece.{GivesPiece, leaves_of}
+use Rattle.block_making.specs.Making.{ArePut, HaveBlocks, IsMaking, IsPieceOf, Making}
+use Rattle.file_streaming.specs.Piece.{GivesPiece}
 use Rattle.file_streaming.specs.Prepared.{PreparedFile, share_length}
 use Rattle.file_streaming.specs.declared.prepared.Prepared.TheInside.{Inside}
-use Rattle.file_streaming.proofs.MadeBlocks.{same_error}
-use Rattle.file_streaming.proofs.PieceTexts.{piece-zeros, zeros}
-use Rattle.file_streaming.proofs.Sections.{blocks_of_any, is_making, kept_digests, share_short, texts_of, tree_count}
+use Rattle.block_making.proofs.MadeBlocks.{same_error}
+use Rattle.block_making.proofs.PieceTexts.{piece-zeros, zeros}
+use Rattle.file_streaming.proofs.Sections.{blocks_of_any, is_making, kept_digests, share_short, texts_of}
 use Rattle.file_streaming.proofs.prepared.Prepared.piece.Goals as goal
 
 -- what contracts see of the fields
@@ -23,29 +23,18 @@ seen i = record {
   digests = i.digests.items;
 }
 
-pub index-requires : goal.index-requires
-index-requires g c =
-    let i : Inside = c.self.inside in
-    omega (
-      arith,
-      c.from.ensures,
-      kept_digests (seen i) (texts_of i.share_hashes.items) i.encoder i.buffers c.self.invariant,
-      tree_count (seen i) (texts_of i.share_hashes.items) i.encoder i.buffers c.self.invariant,
-      ap (λ (p : PreparedFile). length p.digests) c.self.view_is,
-    )
+-- what makes the blocks of a share
+abbrev making : Inside → ℕ → List (List (List ℕ)) → Making
+making i share leaves = record { geometry = i.geometry; key = i.encoder.cipher; leaves = leaves; share = share }
 
-pub invariant_of-maker : goal.invariant_of-maker
-invariant_of-maker g c =
+pub new-maker-requires : goal.new-maker-requires
+new-maker-requires g c =
     let i : Inside = c.self.inside in
+    let kept = c.self.invariant.kept in
     let low : c.args.share < i.geometry.total =
-    omega (arith, kept_digests (seen i) (texts_of i.share_hashes.items) i.encoder i.buffers c.self.invariant, ap (λ (p : PreparedFile). length p.digests) c.self.view_is) in
-    let there : c.from.result < length i.block_trees.items =
-    omega (arith, c.from.ensures, low, tree_count (seen i) (texts_of i.share_hashes.items) i.encoder i.buffers c.self.invariant) in
-    let tree : c.index.result.now ≡ get_or i.block_trees.items c.args.share [] =
-    c.index.ensures ∙ get_or_default i.block_trees.items c.from.result c.index.result.now [] there ∙ ap (λ n. get_or i.block_trees.items n []) c.from.ensures in
-    let family : List (List ℕ) → Making = λ h. record { geometry = i.geometry; key = i.encoder.cipher; share = c.args.share; hashes = h } in
-    subst (λ (h : List (List ℕ)). IsMaking (family h) i.encoder.code) (sym tree)
-    (is_making (seen i) (texts_of i.share_hashes.items) i.encoder i.buffers c.self.invariant c.args.share low)
+    omega (arith, c.requires.number, kept_digests (seen i) (texts_of i.share_hashes.items) i.encoder i.buffers kept, ap (λ (p : PreparedFile). length p.digests) c.self.view_is) in
+    subst (λ (l : List (List (List ℕ))). IsMaking (making i c.args.share l) i.encoder.code) (sym c.deref.ensures.value)
+    (is_making (seen i) (texts_of i.share_hashes.items) i.encoder i.buffers kept c.args.share low)
 
 pub put_blocks-requires-clause-inside : goal.put_blocks-requires-clause-inside
 put_blocks-requires-clause-inside g c =
@@ -54,35 +43,25 @@ put_blocks-requires-clause-inside g c =
       arith,
       c.requires.inside,
       c.fill.ensures.len,
-      share_short (seen i) (texts_of i.share_hashes.items) i.encoder i.buffers c.self.invariant,
+      share_short (seen i) (texts_of i.share_hashes.items) i.encoder i.buffers c.self.invariant.kept,
       ap (λ (p : PreparedFile). share_length p) c.self.view_is,
     )
 
 pub returns-in_err-put_blocks-clause-changed : goal.returns-in_err-put_blocks-clause-changed
 returns-in_err-put_blocks-clause-changed g c = λ e file secret q is.
     let i : Inside = c.self.inside in
-    let low : c.args.share < i.geometry.total =
-    omega (arith, c.requires.number, kept_digests (seen i) (texts_of i.share_hashes.items) i.encoder i.buffers c.self.invariant, ap (λ (p : PreparedFile). length p.digests) c.self.view_is) in
-    let there : c.from.result < length i.block_trees.items =
-    omega (arith, c.from.ensures, low, tree_count (seen i) (texts_of i.share_hashes.items) i.encoder i.buffers c.self.invariant) in
-    let tree : c.index.result.now ≡ get_or i.block_trees.items c.args.share [] =
-    c.index.ensures ∙ get_or_default i.block_trees.items c.from.result c.index.result.now [] there ∙ ap (λ n. get_or i.block_trees.items n []) c.from.ensures in
-    let family : List (List ℕ) → Making = λ h. record { geometry = i.geometry; key = i.encoder.cipher; share = c.args.share; hashes = h } in
-    let blocks : HasBlocks (family (leaves_of (seen i) c.args.share)) file =
-    blocks_of_any (seen i) (texts_of i.share_hashes.items) i.encoder i.buffers c.self.invariant c.args.share low file secret q (c.self.view_is ∙ is) in
+    let blocks : HaveBlocks (making i c.args.share i.block_trees.items) file =
+    λ share low. blocks_of_any (seen i) (texts_of i.share_hashes.items) i.encoder i.buffers c.self.invariant.kept share low file secret q (c.self.view_is ∙ is) in
+    let same : c.new-maker.result ≡ making i c.args.share i.block_trees.items = c.new-maker.ensures ∙ ap (making i c.args.share) c.deref.ensures.value in
     c.in_err-put_blocks.ensures.changed (same_error c.from_residual.result _ _ c.from_residual.ensures.1 e) file
-    (subst (λ (h : List (List ℕ)). HasBlocks (family h) file) (sym tree) blocks)
+    (subst (λ (m : Making). HaveBlocks m file) (sym same) blocks)
 
 pub returns-clause-gives : goal.returns-clause-gives
 returns-clause-gives g c =
     let i : Inside = c.self.inside in
-    let low : c.args.share < i.geometry.total =
-    omega (arith, c.requires.number, kept_digests (seen i) (texts_of i.share_hashes.items) i.encoder i.buffers c.self.invariant, ap (λ (p : PreparedFile). length p.digests) c.self.view_is) in
-    let there : c.from.result < length i.block_trees.items =
-    omega (arith, c.from.ensures, low, tree_count (seen i) (texts_of i.share_hashes.items) i.encoder i.buffers c.self.invariant) in
-    let tree : c.index.result.now ≡ get_or i.block_trees.items c.args.share [] =
-    c.index.ensures ∙ get_or_default i.block_trees.items c.from.result c.index.result.now [] there ∙ ap (λ n. get_or i.block_trees.items n []) c.from.ensures in
-    let put = c.in_ok-put_blocks.ensures.put in
+    let same : c.new-maker.result ≡ making i c.args.share i.block_trees.items = c.new-maker.ensures ∙ ap (making i c.args.share) c.deref.ensures.value in
+    let put : ArePut (making i c.args.share i.block_trees.items) c.args.offset c.fill.new.self c.put_blocks.new.out =
+    subst (λ (m : Making). ArePut m c.args.offset c.fill.new.self c.put_blocks.new.out) same c.in_ok-put_blocks.ensures.put in
     let n : ℕ = length c.args.out.now in
     let front : List ℕ = zeros (header_size (layout_of i.geometry)) in
     let text : List ℕ = zeros (share_data_size i.geometry) in
@@ -95,7 +74,7 @@ returns-clause-gives g c =
     let long : length front ≡ header_size (layout_of i.geometry) = length-replicate (header_size (layout_of i.geometry)) 0 in
     let given : GivesPiece (seen i) c.args.share c.args.offset c.put_sections.new.out = record {
       blocks = put.blocks;
-      hashes = put.hashes ∙ tree;
+      hashes = put.hashes;
       size = put.size;
       piece = c.put_sections.ensures front (joined put.blocks) rest long put.size
           (put.put front text (zeros (tree_size i.geometry) ++ rest) long (length-replicate (share_data_size i.geometry) 0) begun);

@@ -6,7 +6,7 @@ use Rattle.file_streaming.specs.Piece.{leaves_of}
 use Rattle.share_layout.specs.Layout.{header, places_of, spelled}
 use Rattle.share_verify.specs.Pieces.{joined}
 use Rattle.file_streaming.specs.Kept.{IsKept}
-use Rattle.file_streaming.specs.Making.{put_at}
+use Rattle.block_making.specs.Making.{put_at}
 use Rattle.file_streaming.specs.Prepared.{PreparedFile}
 use Rattle.file_streaming.proofs.Sections.{block_short, hash_count, hashes_at, kept_digests, sections_put, texts_of, tree_count}
 use Rattle.file_streaming.proofs.prepared.Prepared.put_sections.Goals as goal
@@ -14,7 +14,7 @@ use Rattle.file_streaming.proofs.prepared.Prepared.put_sections.Goals as goal
 pub index-requires : goal.index-requires
 index-requires c =
     let p : PreparedFile = c.args.self.now in
-    let kept = subst (λ (p : PreparedFile). IsKept p (texts_of c.self.inside.share_hashes.items) c.self.inside.encoder c.self.inside.buffers) c.self.view_is c.self.invariant in
+    let kept = subst (λ (p : PreparedFile). IsKept p (texts_of c.self.inside.share_hashes.items) c.self.inside.encoder c.self.inside.buffers) c.self.view_is c.self.invariant.kept in
     omega (
       arith,
       c.from-share.ensures,
@@ -26,7 +26,7 @@ index-requires c =
 pub index-requires-2 : goal.index-requires-2
 index-requires-2 c =
     let p : PreparedFile = c.args.self.now in
-    let kept = subst (λ (p : PreparedFile). IsKept p (texts_of c.self.inside.share_hashes.items) c.self.inside.encoder c.self.inside.buffers) c.self.view_is c.self.invariant in
+    let kept = subst (λ (p : PreparedFile). IsKept p (texts_of c.self.inside.share_hashes.items) c.self.inside.encoder c.self.inside.buffers) c.self.view_is c.self.invariant.kept in
     omega (
       arith,
       c.from-share.ensures,
@@ -38,7 +38,7 @@ index-requires-2 c =
 pub put_ending-requires-clause-short : goal.put_ending-requires-clause-short
 put_ending-requires-clause-short c =
     let p : PreparedFile = c.args.self.now in
-    let kept = subst (λ (p : PreparedFile). IsKept p (texts_of c.self.inside.share_hashes.items) c.self.inside.encoder c.self.inside.buffers) c.self.view_is c.self.invariant in
+    let kept = subst (λ (p : PreparedFile). IsKept p (texts_of c.self.inside.share_hashes.items) c.self.inside.encoder c.self.inside.buffers) c.self.view_is c.self.invariant.kept in
     omega (
       arith,
       block_short p (texts_of c.self.inside.share_hashes.items) c.self.inside.encoder c.self.inside.buffers kept,
@@ -51,7 +51,7 @@ returns c =
     let p : PreparedFile = c.args.self.now in
     let share : ℕ = c.args.share in
     let hashes : List (List ℕ) = texts_of c.self.inside.share_hashes.items in
-    let kept : IsKept p hashes c.self.inside.encoder c.self.inside.buffers = subst (λ (p : PreparedFile). IsKept p hashes c.self.inside.encoder c.self.inside.buffers) c.self.view_is c.self.invariant in
+    let kept : IsKept p hashes c.self.inside.encoder c.self.inside.buffers = subst (λ (p : PreparedFile). IsKept p hashes c.self.inside.encoder c.self.inside.buffers) c.self.view_is c.self.invariant.kept in
     let low : share < p.geometry.total = omega (arith, c.requires.number, kept_digests p hashes c.self.inside.encoder c.self.inside.buffers kept) in
     let places = c.of-places.ensures.places ∙ ap (λ (p : PreparedFile). places_of p.geometry) c.self.view_is in
     let number : c.from-share.result ≡ share = c.from-share.ensures in
