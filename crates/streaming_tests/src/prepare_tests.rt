@@ -2,7 +2,7 @@
 
 use cap_text::Cap;
 use file_encoding::{Encoded, Params, encode_all};
-use file_streaming::{PieceError, PrepareError, Prepared, prepare};
+use file_streaming::{PrepareError, Prepared, prepare};
 use sources::{ChangingSource, FileSource, SliceSource, Source};
 use std::alloc::{AllocError, Global};
 use std::io;
@@ -11,7 +11,7 @@ use std::test::Fail;
 use tagged_hash::share_digest;
 
 // The bytes i modulo 251.
-fn counted(alloc: Global, size: usize) -> Result<Vec<u8>, AllocError> {
+pub(crate) fn counted(alloc: Global, size: usize) -> Result<Vec<u8>, AllocError> {
     let mut bytes = Vec::with_capacity(alloc, size)?;
     for i in 0..size {
         bytes.push((i % 251) as u8)?;
@@ -149,9 +149,9 @@ fn sources_that_change(rt: HostRuntime) -> Result<(), Fail> {
 
 // A reader of zero bytes that has no more, or whose reads fail, after a number of reads.
 #[derive(Drop)]
-struct Halting {
-    left: u64,
-    fails: bool,
+pub(crate) struct Halting {
+    pub left: u64,
+    pub fails: bool,
 }
 
 impl Read for Halting {
@@ -223,44 +223,4 @@ fn sources_that_end_or_fail(rt: HostRuntime) {
             assert_eq!(rt; refusal(rt.alloc(), reader, 56, 131_072), Some(expected));
         }
     }
-}
-
-// A piece of a share that is made again from its file, or none where it does not lie in the share.
-fn piece_of(
-    prepared: &mut Prepared,
-    file: &[u8],
-    number: u8,
-    offset: u64,
-    out: &mut [u8],
-) -> Option<Result<(), PieceError>> {
-    if usize::from(number) >= prepared.digests().len() {
-        return None;
-    }
-    let length = prepared.share_length();
-    if offset > length || out.len() as u64 > length - offset {
-        return None;
-    }
-    Some(prepared.piece(&mut SliceSource::new(file), number, offset, out))
-}
-
-// The first bytes of the last share of a file are those of its whole encoding.
-#[test]
-fn a_share_is_made_again(rt: HostRuntime) -> Result<(), Fail> {
-    let alloc = rt.alloc();
-    let Ok(params) = Params::new(3, 1, 10, 100) else {
-        return Err(Fail::from("numbers"));
-    };
-    let file = vec![in alloc; 7u8; 301]?;
-    let Ok(encoded) = encode_all(alloc, &file, b"", &params) else {
-        return Err(Fail::from("encoding"));
-    };
-    let Ok(mut prepared) = prepare(alloc, &mut SliceSource::new(&file), b"", &params) else {
-        return Err(Fail::from("prepare"));
-    };
-    for share in encoded.shares.last() {
-        let mut out = vec![in alloc; 0u8; share.as_slice().len()]?;
-        assert!(rt; piece_of(&mut prepared, &file, 9, 0, &mut out) == Some(Ok(())));
-        assert!(rt; out.as_slice() == share.as_slice());
-    }
-    Ok(())
 }
