@@ -7,6 +7,8 @@ use Rattle.file_encoding.specs.declared.error.EncodeError.{EncodeError}
 use Rattle.file_encoding.specs.declared.error.EncodeError.TheVariants as encodings
 use Rattle.file_encoding.specs.declared.reading.ReadError.{ReadError}
 use Rattle.file_encoding.specs.declared.reading.ReadError.TheVariants as readings
+use Rattle.file_streaming.specs.declared.error.PrepareError.{PrepareError}
+use Rattle.file_streaming.specs.declared.error.PrepareError.TheVariants as preparing
 use Rattle.file_upload.specs.declared.shares.SharesError.{SharesError}
 use Rattle.file_upload.specs.declared.shares.SharesError.TheVariants as uploads
 use Rattle.download_core.specs.declared.status.DownloadError.{DownloadError}
@@ -87,6 +89,14 @@ fault_of_encoding encodings.OutOfMemory = OutOfMemory
 fault_of_encoding encodings.BadParameters = BadParameters
 fault_of_encoding encodings.TooLarge = TooLarge
 fault_of_encoding encodings.TooManySegments = TooManySegments
+
+-- the fault that the refusal of a file that is read twice becomes
+abbrev pub fault_of_preparing : PrepareError → Fault
+fault_of_preparing preparing.OutOfMemory = OutOfMemory
+fault_of_preparing preparing.TooLarge = TooLarge
+fault_of_preparing preparing.TooManySegments = TooManySegments
+fault_of_preparing preparing.SourceChanged = SourceChanged
+fault_of_preparing preparing.SourceFault = SourceFault
 
 -- the fault that the refusal to read shares becomes
 abbrev pub fault_of_reading : ReadError → Fault

@@ -10,3 +10,4 @@ pub mod ScrubLines
 pub mod Servers
 pub mod ProgressLine
 pub mod ToldPath
+pub mod Turns

@@ -4,11 +4,13 @@ ghost use Rattle.std.specs.Prelude.{◌≡◌, ◌≢◌, ◌↔◌, IsTrue};
 ghost use Rattle.std.specs.IoError.{error_kind};
 ghost use Rattle.grid_rules.specs.Fault.{fault_number, fault_of_cap, fault_of_encoding};
 ghost use Rattle.grid_rules.specs.Fault.{fault_of_download, fault_of_loop, fault_of_piece};
-ghost use Rattle.grid_rules.specs.Fault.{fault_of_reading, fault_of_shares, fault_status};
+ghost use Rattle.grid_rules.specs.Fault.{fault_of_preparing, fault_of_reading, fault_of_shares};
+ghost use Rattle.grid_rules.specs.Fault.{fault_status};
 
 use cap_text::CapError;
 use download_core::status::DownloadError;
 use file_encoding::{EncodeError, ReadError};
+use file_streaming::PrepareError;
 use file_upload::shares::SharesError;
 use local_grid::error::LoopError;
 use std::alloc::{AllocError, AllocFailed};
@@ -184,6 +186,20 @@ impl From<EncodeError> for Fault {
             EncodeError::BadParameters => Fault::BadParameters,
             EncodeError::TooLarge => Fault::TooLarge,
             EncodeError::TooManySegments => Fault::TooManySegments,
+        }
+    }
+}
+
+impl From<PrepareError> for Fault {
+    ghost from_gives = { λ error fault. fault ≡ fault_of_preparing error };
+
+    fn from(error: PrepareError) -> Fault {
+        match error {
+            PrepareError::OutOfMemory => Fault::OutOfMemory,
+            PrepareError::TooLarge => Fault::TooLarge,
+            PrepareError::TooManySegments => Fault::TooManySegments,
+            PrepareError::SourceChanged => Fault::SourceChanged,
+            PrepareError::SourceFault => Fault::SourceFault,
         }
     }
 }

@@ -3,8 +3,8 @@
 //! Each fault has a number, an exit status and a text; a cap is told in lines, and so are a check
 //! and a scrub, which are told as JSON too; a grid's folders have names, by which its servers are
 //! ordered; an upload's end is its happiness or a fault, and that of a download nothing or a fault;
-//! a range is one of the file or refused, and so is each number; and how far a command is stands in
-//! one line.
+//! a range is one of the file or refused, and so is each number; how many turns of the loop a command
+//! may take is a number; and how far a command is stands in one line.
 #![tactic(auto)]
 
 mod checking;
@@ -18,6 +18,7 @@ mod progress;
 mod range;
 mod scrubbing;
 mod servers;
+mod turns;
 
 pub use checking::{report_lines, report_status};
 pub use checking_json::{missing_shares, report_json};
@@ -30,3 +31,4 @@ pub use progress::{Amount, Remark, Verb, encoding_line, progress_line, seconds_l
 pub use range::{ByteRange, range_of};
 pub use scrubbing::{Scrubbed, finding_json, finding_line};
 pub use servers::{first_servers, server_name, servers_of};
+pub use turns::turn_limit;
