@@ -1,7 +1,7 @@
 //! What is read of a file, or of the file that standard input is read from.
 
 use grid_rules::Fault;
-use grid_servers::read_input;
+use grid_servers::{Input, open_input};
 use std::alloc::{Allocator, Global};
 use std::fs::{Metadata, OpenOptions};
 use std::rt::Files;
@@ -80,18 +80,19 @@ impl<'a> Files for Fed<'a> {
     }
 }
 
-// What is read of a path: so many bytes, more than ten, or a fault of the path that is told.
+// What is read of a path: so many bytes, an open file of more than ten, or a fault of the path that
+// is told.
 #[derive(Clone, Copy, PartialEq, Eq)]
 enum Came {
     Bytes(usize),
-    TooMany,
+    Opened(u64),
     Fault(bool),
 }
 
 fn read_of(fed: &Fed<'_>, path: &str, told: &str) -> Came {
-    match read_input(fed, path, 10) {
-        Ok(Some(bytes)) => Came::Bytes(bytes.len()),
-        Ok(None) => Came::TooMany,
+    match open_input(fed, path, 10) {
+        Ok(Input::Held(bytes)) => Came::Bytes(bytes.len()),
+        Ok(Input::Opened(_, size)) => Came::Opened(size),
         Err(Fault::File(path, _)) => Came::Fault(path.as_str() == told),
         Err(_) => Came::Fault(false),
     }
@@ -108,7 +109,7 @@ fn files_and_standard_input(rt: HostRuntime) -> Result<(), Fail> {
         (0, Came::Bytes(0)),
         (1, Came::Bytes(1)),
         (10, Came::Bytes(10)),
-        (11, Came::TooMany),
+        (11, Came::Opened(11)),
     ] {
         fs::write(&rt, input, &all[..length])?;
         assert!(rt; read_of(&fed, "-", "") == wanted && read_of(&fed, input, "") == wanted);
@@ -127,5 +128,16 @@ fn standard_input_is_a_file(rt: HostRuntime) -> Result<(), Fail> {
         let fed = Fed { rt, input };
         assert!(rt; read_of(&fed, "-", told) == Came::Fault(true));
     }
+    Ok(())
+}
+
+// A folder cannot be read, and a device with more bytes than are held cannot be read twice.
+#[test]
+fn folders_and_devices(rt: HostRuntime) -> Result<(), Fail> {
+    let fed = Fed { rt, input: "" };
+    assert!(rt; read_of(&fed, "/tmp", "/tmp") == Came::Fault(true));
+    assert!(rt; read_of(&fed, "/dev/null", "") == Came::Bytes(0));
+    let told = "/dev/zero, which is no file and cannot be read twice";
+    assert!(rt; read_of(&fed, "/dev/zero", told) == Came::Fault(true));
     Ok(())
 }

@@ -9,7 +9,9 @@ use checker::Check;
 use checker::status::Report;
 use grid_clients::check::CheckClient;
 use grid_clients::watched::Watched;
-use grid_rules::{Fault, Verb, missing_shares, read_cap, report_json, report_lines, report_status};
+use grid_rules::{
+    Fault, Verb, missing_shares, read_cap, report_json, report_lines, report_status, turn_limit,
+};
 use grid_servers::{FIRST_SESSION, FolderGrid, Purpose, is_grid, open_servers, standing_servers};
 use grid_telling::{Counting, Failure, Progress, note_blame, note_servers, print};
 use grid_words::CheckWords;
@@ -19,6 +21,10 @@ use std::io::{IsTerminal, Write};
 use std::net::Net;
 use std::rt::{Clock, Files};
 use wire::message::NodeId;
+
+/// How many bytes of a share are no blocks, at most: those of three trees over 1,048,576 segments,
+/// and of its header, its share hashes and its extension block.
+const MOST_HASHES: u64 = 1 << 28;
 
 // What is told of a cap that holds its file, to programs.
 const LITERAL_JSON: &[u8] = b"{\"literal\":true}\n";
@@ -127,6 +133,12 @@ pub(crate) fn share_bytes(cap: &VerifyCap) -> u64 {
     cap.size().div_ceil(needed)
 }
 
+// How many turns a check at so many servers may take: each of them may offer all shares.
+fn check_limit(cap: &VerifyCap, servers: u64) -> u64 {
+    let shares = servers.saturating_mul(u64::from(cap.total()));
+    turn_limit(shares, share_bytes(cap).saturating_add(MOST_HASHES))
+}
+
 /// Carries a check of a cap's file to its end over these servers, which are distinct.
 pub(crate) fn carry_check<R, E>(
     alloc: Global,
@@ -141,8 +153,9 @@ where
     requires { IsDistinct nat_eq servers.now }
 {
     let now = nodes.clock();
+    let limit = check_limit(&cap, servers.len() as u64);
     let check = Check::start(alloc, cap, servers, FIRST_SESSION, now)?;
     let mut client = Watched::new(CheckClient::new(check), progress);
-    nodes.run(&mut client)?;
+    nodes.run_within(&mut client, limit)?;
     Ok(client.into_client())
 }

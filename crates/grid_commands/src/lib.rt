@@ -14,6 +14,7 @@ mod put;
 mod repair;
 mod script;
 mod scrub;
+mod streaming;
 
 use clap::error::ErrorKind;
 use grid_gets::get;

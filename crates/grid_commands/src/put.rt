@@ -1,26 +1,28 @@
 //! `grid put`: a file becomes shares on servers, and a cap.
 
-ghost use Rattle.std.specs.Prelude.{◌≤◌, ◌<◌, length, IfOk, nat_eq};
+ghost use Rattle.std.specs.Prelude.{◌≡◌, ◌≤◌, ◌<◌, ◌*◌, ◌/◌, length, max, IfOk, nat_eq};
 ghost use Rattle.std.specs.List.{IsDistinct};
+ghost use Rattle.ueb.specs.Limits.{min_file_size};
 
 use crate::mending::mend_servers;
-use crate::placing::{Placing, carry_upload, durability_of};
-use cap_text::{Cap, LitCap};
+use crate::placing::{Begun, Placing, carry_upload, durability_of};
+use crate::streaming::begin_stream;
+use cap_text::{Cap, LitCap, ReadCap};
 use file_encoding::Params;
 use file_upload::prepared::{FileUpload, PreparedUpload, prepare};
 use grid_rules::{Fault, Limit, Verb, first_servers, servers_of};
 use grid_servers::{
-    FIRST_SESSION, MAX_SERVERS, Purpose, at_path, can_be_grid, make_grid, open_servers,
-    read_at_most, read_input,
+    FIRST_SESSION, Input, MAX_SERVERS, Purpose, at_path, can_be_grid, make_grid, open_input,
+    open_servers, read_at_most,
 };
 use grid_telling::{Counting, Progress, note_limits};
 use grid_words::{PutWords, SecretWords};
+use sources::FileSource;
 use std::alloc::Global;
 use std::io::{IsTerminal, Write};
 use std::net::Net;
 use std::rt::{Clock, Files};
-use upload_core::Upload;
-use upload_core::pieces::WholeShares;
+use upload_core::pieces::{Pieces, WholeShares};
 use wire::message::NodeId;
 
 /// The greatest convergence secret, in bytes.
@@ -32,11 +34,22 @@ const MAX_SHARES: u64 = 256;
 /// The greatest segment that may be chosen, in bytes.
 const MAX_SEGMENT_SIZE: u64 = 1 << 20;
 
-/// The greatest file, in bytes.
-const MAX_FILE_SIZE: u64 = 1 << 40;
-
 /// The greatest file that its cap holds, in bytes.
 const MAX_LITERAL_SIZE: usize = 55;
+
+/// How many bytes of shares a `put` holds at most. A file whose shares are no more is read once and
+/// encoded whole, which is fast, and no change of the file can come between; with the file and what
+/// the encoding takes it holds some 100 MiB then. A greater file is never held.
+const HELD_SHARES: u64 = 64 << 20;
+
+/// What a `put` stores by: its words, the servers, the secret and the numbers.
+#[derive(Clone, Copy)]
+struct Putting<'a> {
+    words: &'a PutWords<'a>,
+    placing: Placing<'a>,
+    secret: &'a [u8],
+    params: &'a Params,
+}
 
 /// Stores a file, and gives the lines with its cap and its happiness. The cap of a small file holds
 /// it, and no server is needed.
@@ -53,10 +66,56 @@ where
     let params = Params::new(words.needed, words.happy, words.total, words.max_segment)?;
     let servers = server_count(words.servers)?;
     let secret = read_secret(rt, &words.secret)?;
-    match prepare_file(rt, words, secret.as_slice(), &params, progress)? {
-        FileUpload::Shares(upload) => place_file(rt, words, servers, upload, progress),
-        FileUpload::Literal(cap) => literal_line(rt.alloc(), cap),
+    let numbers = first_servers(rt.alloc(), servers)?;
+    let putting = Putting {
+        words,
+        placing: Placing {
+            grid: words.grid,
+            servers: numbers.as_slice(),
+            durability: durability_of(words.no_sync),
+        },
+        secret: secret.as_slice(),
+        params: &params,
+    };
+    put_file(rt, &putting, progress)
+}
+
+// Stores a file. A fault of the file comes first, then one of the grid's folder, which a small file
+// does not need.
+fn put_file<R, E>(
+    rt: &R,
+    putting: &Putting<'_>,
+    progress: &mut Progress<'_, R, E>,
+) -> Result<Vec<u8>, Fault>
+where
+    R: Files + Net + Clock + AllocGlobal + Clone + Drop,
+    E: Write + IsTerminal,
+    requires secret { length putting.now.secret.now ≤ 64 }
+    requires distinct { IsDistinct nat_eq putting.now.placing.servers.now }
+{
+    let words = putting.words;
+    match open_input(rt, words.file, most_held(putting.params))? {
+        Input::Held(file) => {
+            if file.len() > MAX_LITERAL_SIZE {
+                can_be_grid(rt, words.grid)?;
+            }
+            put_held(rt, putting, file, progress)
+        }
+        Input::Opened(file, size) => {
+            can_be_grid(rt, words.grid)?;
+            put_opened(rt, putting, file, size, progress)
+        }
     }
+}
+
+// The bytes of the greatest file that is held: its shares have `total / needed` times so many, and a
+// little more. One that its cap holds is always held.
+fn most_held(params: &Params) -> u64
+    ensures { result
+        ≡ max (HELD_SHARES * params.now.needed / params.now.total) MAX_LITERAL_SIZE }
+{
+    let most = HELD_SHARES * u64::from(params.needed()) / u64::from(params.total());
+    most.max(MAX_LITERAL_SIZE as u64)
 }
 
 // The numbers of a put, and their ranges.
@@ -129,105 +188,129 @@ where
     }
 }
 
-// Reads the file and encodes it. Its bytes are let go before the shares are placed. A fault of the
-// file comes first, then one of the grid's folder, which a small file does not need.
-fn prepare_file<R, E>(
+// Stores a file that is held.
+fn put_held<R, E>(
     rt: &R,
-    words: &PutWords<'_>,
-    secret: &[u8],
-    params: &Params,
-    progress: &mut Progress<'_, R, E>,
-) -> Result<FileUpload, Fault>
-where
-    R: Files + Clock + AllocGlobal + Clone + Drop,
-    E: Write + IsTerminal,
-    requires { length secret.now ≤ 64 }
-{
-    let file = read_input(rt, words.file, MAX_FILE_SIZE)?;
-    if !file
-        .as_ref()
-        .is_some_and(|bytes| bytes.len() <= MAX_LITERAL_SIZE)
-    {
-        can_be_grid(rt, words.grid)?;
-    }
-    let Some(file) = file else {
-        return Err(Fault::TooLarge);
-    };
-    progress.encode(Verb::Put, file.len() as u64);
-    Ok(prepare(rt.alloc(), &file, secret, params)?)
-}
-
-// Places the shares on the servers, and gives the lines with the cap and the happiness, where it is
-// as great as was wanted.
-fn place_file<R, E>(
-    rt: &R,
-    words: &PutWords<'_>,
-    servers: u16,
-    upload: PreparedUpload,
+    putting: &Putting<'_>,
+    file: Vec<u8>,
     progress: &mut Progress<'_, R, E>,
 ) -> Result<Vec<u8>, Fault>
 where
     R: Files + Net + Clock + AllocGlobal + Clone + Drop,
     E: Write + IsTerminal,
+    requires secret { length putting.now.secret.now ≤ 64 }
+    requires distinct { IsDistinct nat_eq putting.now.placing.servers.now }
 {
-    let alloc = rt.alloc();
-    let cap = *upload.cap();
-    let numbers = first_servers(alloc, servers)?;
-    let placing = Placing {
-        grid: words.grid,
-        servers: numbers.as_slice(),
-        durability: durability_of(words.no_sync),
-    };
-    make_grid(rt, words.grid, placing.durability)?;
-    if words.mend {
-        let index = *cap.to_verify().storage_index();
-        mend_servers(rt, words.grid, numbers.as_slice(), &index, progress)?;
+    progress.encode(Verb::Put, file.len() as u64);
+    match encode(rt.alloc(), file, putting)? {
+        FileUpload::Shares(upload) => {
+            let cap = *upload.cap();
+            let begun = begin_upload(rt.alloc(), putting.placing.servers, upload)?;
+            place(rt, putting, &cap, begun, progress)
+        }
+        FileUpload::Literal(cap) => literal_line(rt.alloc(), cap),
     }
-    let happiness = run_upload(rt, &placing, words.net, upload, progress)?;
-    progress.clear();
-    let line = if words.quiet {
-        format!(in alloc; "{cap}\n")
-    } else {
-        format!(in alloc; "{cap}\nhappiness {happiness}\n")
-    };
-    Ok(line?.into_bytes())
 }
 
-// Carries the upload to its end, and gives the happiness that it reached.
-fn run_upload<R, E>(
-    rt: &R,
-    placing: &Placing<'_>,
-    net: bool,
-    upload: PreparedUpload,
-    progress: &mut Progress<'_, R, E>,
-) -> Result<usize, Fault>
-where
-    R: Files + Net + Clock + AllocGlobal + Clone + Drop,
-    E: Write + IsTerminal,
-    requires { IsDistinct nat_eq placing.now.servers.now }
+// Encodes a file. Its bytes are let go before the shares are placed.
+fn encode(alloc: Global, file: Vec<u8>, putting: &Putting<'_>) -> Result<FileUpload, Fault>
+    requires { length putting.now.secret.now ≤ 64 }
 {
-    let wanted = upload.happy();
-    progress.begin(Verb::Put, Counting::Stored, share_bytes(&upload));
-    let upload = begin_upload(rt.alloc(), placing.servers, upload)?;
-    let purpose = Purpose::Writing(placing.durability);
-    let mut nodes = open_servers(rt, placing.grid, placing.servers, purpose, net)?;
-    carry_upload(rt, placing, &mut nodes, upload, wanted, progress)
+    Ok(prepare(alloc, &file, putting.secret, putting.params)?)
 }
 
-// The bytes of all shares together.
-fn share_bytes(upload: &PreparedUpload) -> u64 {
-    let total = u64::from(upload.cap().total());
-    upload.share_length().saturating_mul(total)
-}
-
-// The upload to these servers, which are distinct.
+// The upload of these shares to these servers, which are distinct.
 fn begin_upload(
     alloc: Global,
     servers: &[NodeId],
     upload: PreparedUpload,
-) -> Result<Upload<WholeShares>, Fault>
+) -> Result<Begun<WholeShares>, Fault>
     requires { IsDistinct nat_eq servers.now }
 {
     let infos = servers_of(alloc, servers)?;
-    Ok(upload.start(alloc, &infos, FIRST_SESSION, 0)?)
+    let (wanted, share_length) = (upload.happy(), upload.share_length());
+    let shares = upload.cap().total();
+    let upload = upload.start(alloc, &infos, FIRST_SESSION, 0)?;
+    Ok(Begun {
+        upload,
+        wanted,
+        shares,
+        share_length,
+    })
+}
+
+// Stores an open file of so many bytes, which is not held.
+fn put_opened<R, E>(
+    rt: &R,
+    putting: &Putting<'_>,
+    file: R::File,
+    size: u64,
+    progress: &mut Progress<'_, R, E>,
+) -> Result<Vec<u8>, Fault>
+where
+    R: Files + Net + Clock + AllocGlobal + Clone + Drop,
+    E: Write + IsTerminal,
+    requires secret { length putting.now.secret.now ≤ 64 }
+    requires distinct { IsDistinct nat_eq putting.now.placing.servers.now }
+    requires not_small { min_file_size ≤ size }
+{
+    progress.encode(Verb::Put, size);
+    let source = FileSource::new(file, size);
+    let (secret, servers) = (putting.secret, putting.placing.servers);
+    let (cap, begun) = begin_stream(rt.alloc(), source, secret, putting.params, servers)?;
+    place(rt, putting, &cap, begun, progress)
+}
+
+// Places the shares on the servers, and gives the lines with the cap and the happiness, where it is
+// as great as was wanted.
+fn place<R, P, E>(
+    rt: &R,
+    putting: &Putting<'_>,
+    cap: &ReadCap,
+    begun: Begun<P>,
+    progress: &mut Progress<'_, R, E>,
+) -> Result<Vec<u8>, Fault>
+where
+    R: Files + Net + Clock + AllocGlobal + Clone + Drop,
+    P: Pieces + Drop,
+    E: Write + IsTerminal,
+{
+    let (words, placing) = (putting.words, &putting.placing);
+    make_grid(rt, words.grid, placing.durability)?;
+    if words.mend {
+        let index = *cap.to_verify().storage_index();
+        mend_servers(rt, words.grid, placing.servers, &index, progress)?;
+    }
+    let happiness = run_upload(rt, placing, words.net, begun, progress)?;
+    progress.clear();
+    cap_text(rt.alloc(), cap, happiness, words.quiet)
+}
+
+// The lines with a file's cap and its happiness, or the cap alone.
+fn cap_text(alloc: Global, cap: &ReadCap, happiness: usize, quiet: bool) -> Result<Vec<u8>, Fault> {
+    let text = if quiet {
+        format!(in alloc; "{cap}\n")
+    } else {
+        format!(in alloc; "{cap}\nhappiness {happiness}\n")
+    };
+    Ok(text?.into_bytes())
+}
+
+// Carries the upload to its end, and gives the happiness that it reached.
+fn run_upload<R, P, E>(
+    rt: &R,
+    placing: &Placing<'_>,
+    net: bool,
+    begun: Begun<P>,
+    progress: &mut Progress<'_, R, E>,
+) -> Result<usize, Fault>
+where
+    R: Files + Net + Clock + AllocGlobal + Clone + Drop,
+    P: Pieces + Drop,
+    E: Write + IsTerminal,
+{
+    progress.begin(Verb::Put, Counting::Stored, begun.bytes());
+    let purpose = Purpose::Writing(placing.durability);
+    let mut nodes = open_servers(rt, placing.grid, placing.servers, purpose, net)?;
+    carry_upload(rt, placing, &mut nodes, begun, progress)
 }

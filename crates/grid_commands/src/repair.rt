@@ -9,7 +9,7 @@ ghost use Rattle.file_encoding.specs.RemadeLaws.{ArePassing};
 use crate::LITERAL;
 use crate::check::{carry_check, share_bytes, verify_cap};
 use crate::mending::mend_servers;
-use crate::placing::{Placing, carry_upload, durability_of};
+use crate::placing::{Begun, Placing, carry_upload, durability_of};
 use cap_text::VerifyCap;
 use file_encoding::{DecodedFile, Share, decode_shares, regenerated_pass};
 use file_upload::shares::{PreparedShares, prepare_shares};
@@ -111,10 +111,16 @@ where
     let good = find_good(alloc, placing.servers, cap, &mut nodes, progress)?;
     progress.encode(Verb::Repair, cap.size());
     let shares = make_shares(alloc, cap, happy, good)?;
-    let bytes = shares.share_length().saturating_mul(u64::from(cap.total()));
-    progress.begin(Verb::Repair, Counting::Stored, bytes);
+    let share_length = shares.share_length();
     let upload = begin_upload(alloc, placing.servers, shares, nodes.clock())?;
-    carry_upload(rt, placing, &mut nodes, upload, happy, progress)
+    let begun = Begun {
+        upload,
+        wanted: happy,
+        shares: cap.total(),
+        share_length,
+    };
+    progress.begin(Verb::Repair, Counting::Stored, begun.bytes());
+    carry_upload(rt, placing, &mut nodes, begun, progress)
 }
 
 // The good shares of a file, as many as are needed or as there are, each with its number.

@@ -7,7 +7,7 @@ mod files;
 mod folders;
 mod servers;
 
-pub use files::{at_path, read_at_most, read_input};
+pub use files::{Input, at_path, open_input, read_at_most};
 pub use folders::{MAX_SERVERS, can_be_grid, folder_fault, is_grid, make_grid, server_folder};
 pub use servers::{
     FIRST_SESSION, FolderGrid, is_silent, open_servers, servers_without, standing_servers,
