@@ -1,13 +1,16 @@
 #!/bin/bash
 # Measures what the built program holds and reads: the peak memory of put, get, check and repair by
-# the file's size, that of a get of a large file, and the time and the bytes read of a get of one byte. Its words: the program (that of
-# this repository if none, which is built first), and the MiB of the file of which one byte is got
-# (1,024 if none; a put of it holds 5.5 times as much).
+# the file's size, that of puts of large files at some numbers of shares, with their processor time
+# for each byte, that of a get of a large file, and the time and the bytes read of a get of one byte.
+# Its words: the program (that of this repository if none, which is built first), the MiB of the file
+# of which one byte is got (1,024 if none), and the MiB of the greatest file that is put (2,048 if
+# none). It takes some 25 GB of the disk.
 set -e
 here=$(cd "$(dirname "$0")" && pwd)
 root=$(cd "$here/../.." && pwd)
 program=${1:-}
 large=${2:-1024}
+greatest=${3:-2048}
 if [ -z "$program" ]; then
     program=$("$root/grid" --program)
 fi
@@ -23,6 +26,21 @@ import resource, subprocess, sys
 subprocess.run(sys.argv[1:], stdout=open("out", "wb"), check=True)
 print(resource.getrusage(resource.RUSAGE_CHILDREN).ru_maxrss * 1024)' "$@"
 }
+
+# The peak memory of a command in bytes, and its processor time in seconds.
+peak_and_time() {
+    python3 -c '
+import resource, subprocess, sys
+subprocess.run(sys.argv[1:], stdout=open("out", "wb"), check=True)
+used = resource.getrusage(resource.RUSAGE_CHILDREN)
+print(used.ru_maxrss * 1024, used.ru_utime + used.ru_stime)' "$@"
+}
+
+# Prints a put's peak beside 100 MiB and a fiftieth of the size in bytes, and its time for each byte.
+told_put() { awk -v name="$1" -v peak="$2" -v time="$3" -v size="$4" 'BEGIN {
+    most = 100 * 1048576 + size / 50
+    printf "%-28s %7.1f MiB, %5.2f of what is wanted, %6.2f s, %5.1f ns a byte\n",
+        name, peak / 1048576, peak / most, time, time / size * 1e9 }'; }
 
 # Prints a peak beside the size in bytes.
 told() { awk -v name="$1" -v peak="$2" -v size="$3" 'BEGIN {
@@ -40,6 +58,18 @@ for mib in 16 64; do
     rm grid/server-00[0-6]/*
     told "repair of $mib MiB" "$(peak "$program" repair "$cap" --grid grid)" $size
 done
+
+# Sparse files, which take no room on the disk: the shares of a file of zeros are no zeros.
+for shape in '3 10' '1 3' '25 100'; do
+    needed=${shape% *} total=${shape#* }
+    for mib in 16 256 $greatest; do
+        rm -rf grid sparse
+        truncate -s ${mib}M sparse
+        told_put "put of $mib MiB, $needed of $total" $(peak_and_time "$program" put sparse \
+            --grid grid --k "$needed" --n "$total" --happy 1 --no-sync) $((mib << 20))
+    done
+done
+rm -rf grid sparse
 
 head -c $((large << 20)) /dev/urandom > file
 rm -rf grid
