@@ -21,7 +21,7 @@ struct Asked {
 
 // A download, and what it did so far.
 #[derive(Drop)]
-pub(crate) struct Course {
+struct Course {
     alloc: Global,
     grid: Grid,
     download: Download,
@@ -32,7 +32,7 @@ pub(crate) struct Course {
     // How many bytes it handed out, all of them right.
     bytes: usize,
     // How many pieces it handed out each time that it handed some out.
-    pub(crate) pieces: Vec<usize>,
+    pieces: Vec<usize>,
     reads: Vec<Asked>,
 }
 
@@ -49,6 +49,7 @@ pub(crate) struct Wanted {
     pub(crate) parts: Option<usize>,
     pub(crate) blamed: Blamed,
     pub(crate) reads: Reads,
+    pub(crate) pieces: Pieces,
 }
 
 // What is blamed.
@@ -75,6 +76,18 @@ pub(crate) enum Reads {
     LastOf(u64, u64),
 }
 
+// How many pieces are handed out.
+#[derive(Clone, Copy)]
+pub(crate) enum Pieces {
+    Any,
+    // So many in all.
+    Count(usize),
+    // So many the first time that some are.
+    First(usize),
+    // So many each time that some are.
+    Each([usize; 6]),
+}
+
 // What a request reads.
 fn asked_of(node: NodeId, request: &Message) -> Option<Asked> {
     match &request.body {
@@ -97,19 +110,9 @@ fn is_silent(wrong: &Wrong, node: NodeId, answers: usize) -> bool {
 }
 
 impl Course {
-    // A download of a range, to its end.
-    pub(crate) fn of(
-        alloc: Global,
-        grid: Grid,
-        wrong: &Wrong,
-        range: (usize, usize),
-    ) -> Option<Course> {
-        let mut course = Course::begin(alloc, grid, range)?;
-        if course.go_on(wrong) {
-            Some(course)
-        } else {
-            None
-        }
+    // A download of a range from these servers, if there are any.
+    fn of(alloc: Global, grid: Option<Grid>, range: (usize, usize)) -> Option<Course> {
+        Course::begin(alloc, grid?, range)
     }
 
     fn begin(alloc: Global, grid: Grid, range: (usize, usize)) -> Option<Course> {
@@ -128,7 +131,12 @@ impl Course {
         })
     }
 
-    // Goes on to the end. `false` where a call found no memory, or a byte is not the file's.
+    // Makes this wrong, and goes on to the end. `false` where there is no such share or place, a
+    // call found no memory, or a byte is not the file's.
+    fn run(&mut self, wrong: &Wrong) -> bool {
+        self.grid.spoil(wrong) && self.go_on(wrong)
+    }
+
     fn go_on(&mut self, wrong: &Wrong) -> bool {
         for _ in 0..100_000 {
             if self.status() != DownloadStatus::Running {
@@ -201,13 +209,12 @@ impl Course {
     fn take(&mut self, piece: &Piece) -> bool {
         let from = self.from.saturating_add(self.bytes);
         let bytes = piece.bytes.as_slice();
-        let right = self.grid.file.get(from..from.saturating_add(bytes.len()));
         self.bytes = self.bytes.saturating_add(bytes.len());
-        piece.place == from as u64 && (self.grid.file.is_empty() || right == Some(bytes))
+        piece.place == from as u64 && stands_at(self.grid.file.as_slice(), from, bytes)
     }
 
     // How many pieces were handed out.
-    pub(crate) fn piece_count(&self) -> usize {
+    fn piece_count(&self) -> usize {
         let mut count: usize = 0;
         for pieces in &self.pieces {
             count = count.saturating_add(*pieces);
@@ -216,7 +223,7 @@ impl Course {
     }
 
     // What proves the segments, if there are so many of them.
-    pub(crate) fn proved(&self, parts: usize) -> Option<Evidence> {
+    fn proved(&self, parts: usize) -> Option<Evidence> {
         if self.parts() == Some(parts) {
             self.download.evidence(self.alloc).ok()?
         } else {
@@ -233,12 +240,23 @@ impl Course {
     }
 
     // Did it end so?
-    pub(crate) fn ended(&self, wanted: &Wanted) -> bool {
+    fn ended(&self, wanted: &Wanted) -> bool {
         self.status() == wanted.status
             && self.bytes == wanted.bytes
             && (wanted.parts.is_none() || self.parts() == wanted.parts)
             && self.blames(&wanted.blamed)
             && self.has_read(&wanted.reads)
+            && self.gave(&wanted.pieces)
+    }
+
+    fn gave(&self, wanted: &Pieces) -> bool {
+        let pieces = self.pieces.as_slice();
+        match wanted {
+            Pieces::Any => true,
+            Pieces::Count(count) => self.piece_count() == *count,
+            Pieces::First(first) => pieces.first().copied() == Some(*first),
+            Pieces::Each(each) => pieces == each.as_slice(),
+        }
     }
 
     fn blames(&self, wanted: &Blamed) -> bool {
@@ -316,12 +334,51 @@ fn is_only(blamed: &[Blame], share: u8, check: Check) -> bool {
     }
 }
 
-// Did a download that came to its end end so?
-pub(crate) fn ends(course: Option<Course>, wanted: &Wanted) -> bool {
-    match course {
-        Some(course) => course.ended(wanted),
+// Does a download of a range from these servers come to its end, and end so?
+pub(crate) fn ends(
+    alloc: Global,
+    grid: Option<Grid>,
+    wrong: &Wrong,
+    range: (usize, usize),
+    wanted: &Wanted,
+) -> bool {
+    match Course::of(alloc, grid, range) {
+        Some(course) => runs_to(course, wrong, wanted),
         None => false,
     }
+}
+
+// A course is alive in here alone: what is wanted of it comes in, and whether it is so goes out.
+fn runs_to(course: Course, wrong: &Wrong, wanted: &Wanted) -> bool {
+    let mut course = course;
+    course.run(wrong) && course.ended(wanted)
+}
+
+// What proves all of a file of so many segments, downloaded from these servers.
+pub(crate) fn evidence_from(
+    alloc: Global,
+    grid: Option<Grid>,
+    size: usize,
+    parts: usize,
+) -> Option<Evidence> {
+    match Course::of(alloc, grid, (0, size)) {
+        Some(course) => evidence_of(course, parts),
+        None => None,
+    }
+}
+
+fn evidence_of(course: Course, parts: usize) -> Option<Evidence> {
+    let mut course = course;
+    if course.go_on(&Wrong::Nothing) {
+        course.proved(parts)
+    } else {
+        None
+    }
+}
+
+// Do these bytes stand there in the file? Of one whose bytes are not known any do.
+fn stands_at(file: &[u8], from: usize, bytes: &[u8]) -> bool {
+    file.is_empty() || file.get(from..from.saturating_add(bytes.len())) == Some(bytes)
 }
 
 // How many segments are proved, if all of them are.

@@ -1,8 +1,8 @@
 //! Downloads from servers in memory, some of which do not do as they should.
 
-use crate::course::{Blamed, Reads, Wanted, ends};
-use crate::grid::{Fault, Place, Shape, Wrong};
-use crate::shapes::{SMALL, TWO, course_of};
+use crate::course::{Blamed, Pieces, Reads, Wanted, ends};
+use crate::grid::{Fault, Grid, Place, Shape, Wrong};
+use crate::shapes::{SMALL, TWO};
 use download_core::status::DownloadStatus;
 use std::alloc::Global;
 
@@ -72,7 +72,7 @@ fn ends_so(
     range: (usize, usize),
     wanted: &Wanted,
 ) -> bool {
-    ends(course_of(alloc, shape, wrong, range), wanted)
+    ends(alloc, Grid::whole(alloc, shape), wrong, range, wanted)
 }
 
 // Does a range come, of so many segments?
@@ -83,6 +83,7 @@ fn comes(alloc: Global, shape: &Shape, from: usize, to: usize, parts: usize) -> 
         parts: Some(parts),
         blamed: Blamed::Count(0),
         reads: Reads::Any,
+        pieces: Pieces::Any,
     };
     ends_so(alloc, shape, &Wrong::Nothing, (from, to), &wanted)
 }
@@ -95,6 +96,7 @@ fn comes_all_the_same(alloc: Global, wrong: &Wrong, blamed: usize) -> bool {
         parts: Some(8),
         blamed: Blamed::Count(blamed),
         reads: Reads::Any,
+        pieces: Pieces::Any,
     };
     ends_so(alloc, &SMALL, wrong, (0, 30_000), &wanted)
 }
@@ -107,6 +109,7 @@ fn lacks_shares(alloc: Global, shape: &Shape, wrong: &Wrong, bytes: usize, parts
         parts: Some(parts),
         blamed: Blamed::Count(0),
         reads: Reads::Any,
+        pieces: Pieces::Any,
     };
     ends_so(alloc, shape, wrong, (0, shape.size), &wanted)
 }
@@ -136,15 +139,21 @@ fn silence_leaves_too_few(rt: HostRuntime) {
     }
 }
 
-// The last byte of a segment and the first of the next: the pieces that are handed out.
-fn pieces_of_two_bytes(alloc: Global) -> usize {
-    match course_of(alloc, &TWO, &Wrong::Nothing, (131_072, 131_074)) {
-        Some(course) => course.piece_count(),
-        None => 0,
-    }
+// The last byte of a segment and the first of the next are handed out in two pieces.
+const TWO_PIECES: Wanted = Wanted {
+    status: DownloadStatus::Done,
+    bytes: 2,
+    parts: Some(2),
+    blamed: Blamed::Any,
+    reads: Reads::Any,
+    pieces: Pieces::Count(2),
+};
+
+fn two_bytes_end(alloc: Global, wanted: &Wanted) -> bool {
+    ends_so(alloc, &TWO, &Wrong::Nothing, (131_072, 131_074), wanted)
 }
 
 #[test]
 fn a_piece_is_of_one_segment(rt: HostRuntime) {
-    assert!(rt; pieces_of_two_bytes(rt.alloc()) == 2);
+    assert!(rt; two_bytes_end(rt.alloc(), &TWO_PIECES));
 }

@@ -1,12 +1,12 @@
 //! Downloads from servers that hold wrong bytes: each wrong share is blamed for its own fault, at
 //! its own server, and the others give the file.
 
-use crate::course::{Blamed, Course, Reads, Wanted, ends};
+use crate::course::{Blamed, Pieces, Reads, Wanted, ends, evidence_from};
 use crate::grid::{
     BLOCK_TREE, BLOCKS, CIPHERTEXT_TREE, EXTENSION_BLOCK, Fault, Grid, Place, Placed, SHARE_HASHES,
     Shape, Wrong,
 };
-use crate::shapes::{SMALL, SMALL_SIZE, TWO, course_from, course_of, small_but_one};
+use crate::shapes::{SMALL, SMALL_SIZE, TWO, small_but_one};
 use download_core::status::{Blame, DownloadStatus};
 use proved_parts::{Evidence, find_clash};
 use share_verify::Check;
@@ -39,10 +39,24 @@ const CUTS: [(usize, usize); 11] = [
     (EXTENSION_BLOCK, 300),
 ];
 
+// Does a download of all of the small file from these servers end so?
+fn small_ends(alloc: Global, grid: Option<Grid>, wrong: &Wrong, wanted: &Wanted) -> bool {
+    ends(alloc, grid, wrong, (0, SMALL_SIZE), wanted)
+}
+
+// Does it end so, each share being at its server?
+fn whole_small_ends(alloc: Global, wrong: &Wrong, wanted: &Wanted) -> bool {
+    small_ends(alloc, Grid::whole(alloc, &SMALL), wrong, wanted)
+}
+
+// Does it end so from these shares?
+fn small_from_ends(alloc: Global, placed: &[Placed], wrong: &Wrong, wanted: &Wanted) -> bool {
+    small_ends(alloc, Grid::new(alloc, &SMALL, placed), wrong, wanted)
+}
+
 // Is this share blamed alone, and no byte asked for twice?
 fn is_blamed(alloc: Global, wrong: &Wrong, share: u8, check: Check) -> bool {
-    let course = course_of(alloc, &SMALL, wrong, (0, SMALL_SIZE));
-    ends(course, &small_but_one(share, check))
+    whole_small_ends(alloc, wrong, &small_but_one(share, check))
 }
 
 // Is share 0 blamed for what is wrong in a section?
@@ -87,19 +101,22 @@ const OTHER: Shape = Shape {
 };
 
 // A server whose share is of another file of the same size, with an extension block of its own.
-fn with_share_of_other(alloc: Global) -> Option<Course> {
+fn with_share_of_other(alloc: Global) -> Option<Grid> {
     let mut grid = Grid::whole(alloc, &SMALL)?;
     if grid.take_share(2, Grid::new(alloc, &OTHER, &[(2, 2, 2)])) {
-        Course::of(alloc, grid, &Wrong::Nothing, (0, SMALL_SIZE))
+        Some(grid)
     } else {
         None
     }
 }
 
+fn is_other_file_blamed(alloc: Global, wanted: &Wanted) -> bool {
+    small_ends(alloc, with_share_of_other(alloc), &Wrong::Nothing, wanted)
+}
+
 #[test]
 fn a_share_of_another_file_is_blamed(rt: HostRuntime) {
-    let course = with_share_of_other(rt.alloc());
-    assert!(rt; ends(course, &small_but_one(2, Check::Ueb)));
+    assert!(rt; is_other_file_blamed(rt.alloc(), &small_but_one(2, Check::Ueb)));
 }
 
 // A share whose extension block has the length 4,294,967,295: no byte behind that is asked for.
@@ -111,12 +128,12 @@ const LONG_BLOCK_BLAMED: Wanted = Wanted {
     parts: Some(8),
     blamed: Blamed::Only(0, Check::Layout),
     reads: Reads::Before(0, Place::In(EXTENSION_BLOCK, 4)),
+    pieces: Pieces::Any,
 };
 
 #[test]
 fn no_byte_of_a_long_block_is_asked_for(rt: HostRuntime) {
-    let course = course_of(rt.alloc(), &SMALL, &LONG_BLOCK, (0, SMALL_SIZE));
-    assert!(rt; ends(course, &LONG_BLOCK_BLAMED));
+    assert!(rt; whole_small_ends(rt.alloc(), &LONG_BLOCK, &LONG_BLOCK_BLAMED));
 }
 
 // A server that offers share 3 as the numbers 0, 1 and 2 too.
@@ -159,12 +176,12 @@ const OTHER_NUMBERS_BLAMED: Wanted = Wanted {
     parts: None,
     blamed: Blamed::These(OTHER_NUMBERS),
     reads: Reads::Any,
+    pieces: Pieces::Any,
 };
 
 #[test]
 fn a_share_counts_under_its_own_number(rt: HostRuntime) {
-    let course = course_from(rt.alloc(), &SMALL, &NUMBERS, &Wrong::Nothing);
-    assert!(rt; ends(course, &OTHER_NUMBERS_BLAMED));
+    assert!(rt; small_from_ends(rt.alloc(), &NUMBERS, &Wrong::Nothing, &OTHER_NUMBERS_BLAMED));
 }
 
 // The least file that is not held by its cap.
@@ -183,6 +200,7 @@ const SMALLEST_BUT_ONE: Wanted = Wanted {
     parts: Some(1),
     blamed: Blamed::Only(0, Check::Layout),
     reads: Reads::Once,
+    pieces: Pieces::Any,
 };
 
 // How long its shares are.
@@ -193,10 +211,8 @@ fn smallest_length(alloc: Global) -> Option<usize> {
 // A share of it that ends here: the share is blamed, and the file comes.
 fn is_cut_blamed(alloc: Global, cut: usize) -> bool {
     let wrong = Wrong::Share(0, Fault::Cut, Place::At(cut));
-    ends(
-        course_of(alloc, &SMALLEST, &wrong, (0, 56)),
-        &SMALLEST_BUT_ONE,
-    )
+    let grid = Grid::whole(alloc, &SMALLEST);
+    ends(alloc, grid, &wrong, (0, 56), &SMALLEST_BUT_ONE)
 }
 
 #[test]
@@ -215,8 +231,8 @@ const WRONG_COPY: Wrong = Wrong::Share(0, Fault::Flipped, Place::In(SHARE_HASHES
 
 #[test]
 fn a_blamed_copy_costs_nothing_else(rt: HostRuntime) {
-    let course = course_from(rt.alloc(), &SMALL, &COPIES, &WRONG_COPY);
-    assert!(rt; ends(course, &small_but_one(0, Check::ShareHashes)));
+    let wanted = small_but_one(0, Check::ShareHashes);
+    assert!(rt; small_from_ends(rt.alloc(), &COPIES, &WRONG_COPY, &wanted));
 }
 
 const FIRST: [Placed; 3] = [(0, 0, 0), (1, 1, 1), (2, 2, 2)];
@@ -241,37 +257,49 @@ const BEFORE_SILENCE: Wanted = Wanted {
     parts: Some(23),
     blamed: Blamed::Count(0),
     reads: Reads::Any,
+    pieces: Pieces::Any,
 };
+
+// Does a download of all of the long file from the first shares end so?
+fn long_ends(alloc: Global, wrong: &Wrong, wanted: &Wanted) -> bool {
+    let grid = Grid::new(alloc, &LONG, &FIRST);
+    ends(alloc, grid, wrong, (0, LONG.size), wanted)
+}
 
 #[test]
 fn what_is_proved_is_handed_out_before_silence(rt: HostRuntime) {
-    let course = course_from(rt.alloc(), &LONG, &FIRST, &Wrong::Silent(2, 2, 7));
-    assert!(rt; ends(course, &BEFORE_SILENCE));
+    assert!(rt; long_ends(rt.alloc(), &Wrong::Silent(2, 2, 7), &BEFORE_SILENCE));
 }
 
 // What proves all of the small file, from these shares.
-fn evidence_from(alloc: Global, placed: &[Placed]) -> Option<Evidence> {
-    let course = course_from(alloc, &SMALL, placed, &Wrong::Nothing);
-    evidence_of(&course)
+fn evidence_of(alloc: Global, placed: &[Placed]) -> Option<Evidence> {
+    let grid = Grid::new(alloc, &SMALL, placed);
+    evidence_from(alloc, grid, SMALL_SIZE, 8)
 }
 
-fn evidence_of(course: &Option<Course>) -> Option<Evidence> {
-    match course {
-        Some(course) => course.proved(8),
-        None => None,
+// Is there evidence, and no clash?
+fn agree(alloc: Global, one: Option<Evidence>, other: Option<Evidence>) -> bool {
+    match (&one, &other) {
+        (Some(one), Some(other)) => have_no_clash(alloc, one, other),
+        _ => false,
+    }
+}
+
+fn have_no_clash(alloc: Global, one: &Evidence, other: &Evidence) -> bool {
+    match find_clash(alloc, one, other) {
+        Ok(clash) => clash.is_none(),
+        Err(_) => false,
     }
 }
 
 // Whether downloads of one file from other shares have one segment for each number.
-fn downloads_agree(alloc: Global) -> Option<bool> {
-    let one = evidence_from(alloc, &FIRST)?;
-    let other = evidence_from(alloc, &LAST)?;
-    Some(find_clash(alloc, &one, &other).ok()?.is_none())
+fn downloads_agree(alloc: Global) -> bool {
+    agree(alloc, evidence_of(alloc, &FIRST), evidence_of(alloc, &LAST))
 }
 
 #[test]
 fn downloads_from_other_shares_agree(rt: HostRuntime) {
-    assert!(rt; downloads_agree(rt.alloc()) == Some(true));
+    assert!(rt; downloads_agree(rt.alloc()));
 }
 
 // For one byte of a file of two segments, of 131,073 bytes and of one, no other byte of the data
@@ -282,12 +310,17 @@ const LAST_BYTE: Wanted = Wanted {
     parts: Some(1),
     blamed: Blamed::Count(0),
     reads: Reads::LastOf(36, 43_728),
+    pieces: Pieces::Any,
 };
+
+fn last_byte_ends(alloc: Global, wanted: &Wanted) -> bool {
+    let grid = Grid::whole(alloc, &TWO);
+    ends(alloc, grid, &Wrong::Nothing, (131_073, 131_074), wanted)
+}
 
 #[test]
 fn nothing_but_the_range_is_read(rt: HostRuntime) {
-    let course = course_of(rt.alloc(), &TWO, &Wrong::Nothing, (131_073, 131_074));
-    assert!(rt; ends(course, &LAST_BYTE));
+    assert!(rt; last_byte_ends(rt.alloc(), &LAST_BYTE));
 }
 
 // The byte of which the second segment is made, by the ciphertext tree, the two shares that are
@@ -302,10 +335,10 @@ const ENDS: [(u8, (u8, u8), bool); 7] = [
     (9, (2, 3), false),
 ];
 
-// A download of it from these shares.
-fn course_of_no_code_word(alloc: Global, told: u8, shares: (u8, u8)) -> Option<Course> {
-    let grid = Grid::no_code_word(alloc, told, shares)?;
-    Course::of(alloc, grid, &Wrong::Nothing, (0, SIZE))
+// Does a download of it from these shares end so?
+fn no_code_word_ends(alloc: Global, told: u8, shares: (u8, u8), wanted: &Wanted) -> bool {
+    let grid = Grid::no_code_word(alloc, told, shares);
+    ends(alloc, grid, &Wrong::Nothing, (0, SIZE), wanted)
 }
 
 // All of the file comes from right shares, and from others its first segment alone.
@@ -321,13 +354,13 @@ fn wanted_of(right: bool) -> Wanted {
         parts: None,
         blamed: Blamed::Any,
         reads: Reads::Any,
+        pieces: Pieces::Any,
     }
 }
 
 #[test]
 fn no_code_word_is_inconsistent(rt: HostRuntime) {
     for (told, shares, right) in &ENDS {
-        let course = course_of_no_code_word(rt.alloc(), *told, *shares);
-        assert!(rt; ends(course, &wanted_of(*right)));
+        assert!(rt; no_code_word_ends(rt.alloc(), *told, *shares, &wanted_of(*right)));
     }
 }
