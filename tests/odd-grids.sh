@@ -76,11 +76,8 @@ sees 'a file of 2^40 + 1 bytes' ends 3 'grid: 30 TooLarge' \
 sees 'a file in the place of the folder' ends 7 'grid: 90 FileFault file' \
     "$grid" put large --grid file
 truncate -s 1099511627776 large
-puts_in_little_memory() {
-    (ulimit -v 400000 &&
-        ends 7 'grid: 1 OutOfMemory' "$grid" put large --grid new --segment 1048576)
-}
-sees 'a file of 2^40 bytes in 400 MB of memory' puts_in_little_memory
+sees 'a file of 2^40 bytes in too small segments' ends 3 'grid: 31 TooManySegments' \
+    "$grid" put large --grid new --segment 1000
 sees 'no folder for what was not stored' [ ! -e new ]
 sees 'an empty name' ends 7 'grid: 90 FileFault ' "$grid" put file --grid ''
 head -c 70000 file > part && mkfifo pipe
