@@ -39,8 +39,8 @@ const MAX_LITERAL_SIZE: usize = 55;
 
 /// How many bytes of shares a `put` holds at most. A file whose shares are no more is read once and
 /// encoded whole, which is fast, and no change of the file can come between; with the file and what
-/// the encoding takes it holds some 100 MiB then. A greater file is never held.
-const HELD_SHARES: u64 = 64 << 20;
+/// the encoding takes it holds some 100 MB then. A greater file is never held.
+const HELD_SHARES: u64 = 63 << 20;
 
 /// What a `put` stores by: its words, the servers, the secret and the numbers.
 #[derive(Clone, Copy)]
