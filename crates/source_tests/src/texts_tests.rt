@@ -1,7 +1,7 @@
 //! Texts in memory, and one that takes another's place while it is read.
 
 use sources::{
-    ChangingSource, PartFault, SliceSource, Source, read_part, changes_are_brought, texts_stay,
+    ChangingSource, PartFault, SliceSource, Source, changes_are_brought, read_part, texts_stay,
     unlike_passes_differ,
 };
 use std::alloc::{AllocError, Global};
