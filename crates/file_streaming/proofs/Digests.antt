@@ -36,7 +36,7 @@ module _ (g : Geometry) (text : List ℕ) (s : Gathered) (is : IsGathered g text
       (λ k low.
       let within : k < length shares = omega (arith, low, count) in
       let share : ShareSoFar = (get_of shares k within).0 in
-      get_or-map leaves shares k share [] within ∙ (held k (get_or shares k share) (slice_get-get_or shares k share within)).leaves ∙ is.block_leaves k)
+      get_or-map leaves shares k share [] within ∙ held k (get_or shares k share) (slice_get-get_or shares k share within) ∙ is.block_leaves k)
 
   -- so their roots are the leaves of the share tree
   pub roots_are : (trees : List (List (List ℕ))) → trees ≡ map (λ i. block_hashes (blocks_of g.needed i segments)) (range_with_len 0 g.total)
@@ -58,12 +58,12 @@ module _ (g : Geometry) (text : List ℕ) (s : Gathered) (is : IsGathered g text
       λ p. replicate (tree_size g) 0 ++ joined (tree_nodes ((tree ∙ sym is.leaves) p)) ++ joined (tree_nodes (own p)) ++ carried p ++ ending g b.extension_block.items
 
   -- so the digests are those of the shares
-  pub digests_are : (b : Behind) (digests : List (List ℕ)) (n : ℕ) → n ≡ g.total → b.ciphertext_tree ≡ segment_hashes segments
+  pub digests_are : (b : Behind) (digests : List (List ℕ)) → b.ciphertext_tree ≡ segment_hashes segments
       → b.block_trees.items ≡ map (λ i. block_hashes (blocks_of g.needed i segments)) (range_with_len 0 g.total)
       → map (λ (h : _). h.items) b.share_hashes.items ≡ map (share_hashes (share_leaves g segments)) (range_with_len 0 g.total)
-      → digests ≡ map (λ i. tagged_hash WholeShare (s.written i ++ bytes_behind g b i)) (range_with_len 0 n)
+      → digests ≡ map (λ i. tagged_hash WholeShare (s.written i ++ bytes_behind g b i)) (range_with_len 0 g.total)
       → digests ≡ map (λ i. share_digest (share_of g segments b.extension_block.items i)) (range_with_len 0 g.total)
-  digests_are b digests n count tree trees hashes made =
-      made ∙ ap (λ n. map (λ i. tagged_hash WholeShare (s.written i ++ bytes_behind g b i)) (range_with_len 0 n)) count
+  digests_are b digests tree trees hashes made =
+      made
       ∙ same_below (λ i. tagged_hash WholeShare (s.written i ++ bytes_behind g b i)) (λ i. share_digest (share_of g segments b.extension_block.items i)) g.total
       (λ i low. ap (λ (l : List ℕ). tagged_hash WholeShare (s.written i ++ l)) (behind_is b i low tree trees hashes) ∙ sym (digest_in_order g text b.extension_block.items s i is))

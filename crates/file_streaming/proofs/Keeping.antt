@@ -73,15 +73,22 @@ module _ (g : Geometry) (file : List ℕ) (p : Passes) (pass : IsPassOf g file p
   segments_long : length (segments_of g text) ≡ segment_count g
   segments_long = length-pieces (segment_count g) g.segment_size text
 
+  leaves_long : length p.leaves.items ≡ segment_count g
+  leaves_long = ap length (pass.leaves ∙ gathered_is.leaves) ∙ length-map (segments_of g text) (tagged_hash CiphertextSegment) ∙ segments_long
+
+  share_long : (k : ℕ) (d : ShareSoFar) → k < length p.shares.items → length (slice_index_or p.shares.items k d).leaves.items ≡ segment_count g
+  share_long k d low =
+      ap length (pass.shares k (slice_index_or p.shares.items k d) (slice_get-get_or p.shares.items k d low) ∙ gathered_is.block_leaves k)
+      ∙ length-map (blocks_of g.needed k (segments_of g text)) (tagged_hash Block) ∙ length-map (segments_of g text) (block_of g.needed k) ∙ segments_long
+
   pub leaves_fit : HaveLeaves p.leaves.items
-  leaves_fit = have_leaves p.leaves.items (ap length (pass.leaves ∙ gathered_is.leaves) ∙ length-map (segments_of g text) (tagged_hash CiphertextSegment) ∙ segments_long)
+  leaves_fit = have_leaves p.leaves.items leaves_long
 
   pub all_fit : (k : ℕ) (d : ShareSoFar) → k < length p.shares.items → HaveLeaves (slice_index_or p.shares.items k d).leaves.items
-  all_fit k d low =
-      let share : ShareSoFar = slice_index_or p.shares.items k d in
-      have_leaves share.leaves.items
-      (ap length ((pass.shares k share (slice_get-get_or p.shares.items k d low)).leaves ∙ gathered_is.block_leaves k)
-      ∙ length-map (blocks_of g.needed k (segments_of g text)) (tagged_hash Block) ∙ length-map (segments_of g text) (block_of g.needed k) ∙ segments_long)
+  all_fit k d low = have_leaves (slice_index_or p.shares.items k d).leaves.items (share_long k d low)
+
+  pub all_alike : (k : ℕ) (d : ShareSoFar) → k < length p.shares.items → length (slice_index_or p.shares.items k d).leaves.items ≡ length p.leaves.items
+  all_alike k d low = share_long k d low ∙ sym leaves_long
 
   module _ (f : Finished) (is : IsFinished g text f) (ueb_hash : List ℕ) (cap : ReadCapValue) (hashed : ueb_hash ≡ tagged_hash ExtensionBlock f.behind.extension_block.items)
       (made : cap ≡ record { key = p.key; ueb_hash = ueb_hash; needed = g.needed; total = g.total; size = g.size }) where

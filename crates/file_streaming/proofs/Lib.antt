@@ -4,6 +4,7 @@ pub mod Given
 pub mod KeyReading
 pub mod Segments
 pub mod ShareBlocks
+pub mod GivenBytes
 pub mod SecondPass
 pub mod TwoPasses
 pub mod Digests

@@ -34,7 +34,8 @@ use Rattle.file_streaming.specs.declared.gathering.Gathering.{Gathering}
 use Rattle.block_making.proofs.ReadRuns.{is_read-append}
 use Rattle.file_streaming.proofs.Segments.{gathered-push}
 use Rattle.file_streaming.proofs.ShareBlocks.{shares_more}
-use Rattle.file_streaming.specs.Shares.{HasBlockMore, HaveBlocksMore}
+use Rattle.file_streaming.proofs.GivenBytes.{given-more}
+use Rattle.file_streaming.specs.Shares.{HaveBlocksMore, HaveWholesMore}
 
 -- the blocks that are made of a padded segment are those of the segment
 block-is : (k i size : ℕ) (segment padded : List ℕ) → 0 < k → padded ≡ padded_segment k segment → length padded ≡ k * size
@@ -99,20 +100,24 @@ pub gathered-segment : (g : Geometry) (k : ℕ) (s : Gathered) (secret file segm
     → HoldsFile y.key g.needed g.total g.segment_size secret (file ++ segment) → Holds y.ciphertext Ciphertext (s.ciphertext ++ encrypted)
     → y.leaves.items ≡ x.leaves.items ++ tagged_hash CiphertextSegment encrypted ∷ []
     → HaveBlocksMore (λ i. share_block k i size padded) x.shares.items y.shares.items
+    → HaveWholesMore (length x.shares.items) (λ i. share_block k i size padded) x.wholes.items y.wholes.items
     → HasGathered g (gathered_more g encrypted s) secret (file ++ segment) y
-gathered-segment g k s secret file segment encrypted padded size x y same some has is long key ciphertext leaves more =
+gathered-segment g k s secret file segment encrypted padded size x y same some has is long key ciphertext leaves more wholes =
     let whole : length padded ≡ k * size = ap length is ∙ length-padded k encrypted some ∙ long in
-    let blocks : HaveBlocksMore (λ i. block_of g.needed i encrypted) x.shares.items y.shares.items = record {
-      count = more.count;
-      each = λ i before after was now. subst (λ b. HasBlockMore b before after)
-          (block-is k i size encrypted padded some is whole ∙ ap (λ n. block_of n i encrypted) (sym same)) (more.each i before after was now);
-    } in
+    let own : (i : ℕ) → share_block k i size padded ≡ block_of g.needed i encrypted =
+    λ i. block-is k i size encrypted padded some is whole ∙ ap (λ n. block_of n i encrypted) (sym same) in
+    let blocks : HaveBlocksMore (λ i. block_of g.needed i encrypted) x.shares.items y.shares.items =
+    subst (λ (b : ℕ → List ℕ). HaveBlocksMore b x.shares.items y.shares.items) (λ p i. own i p) more in
     record {
       key = key;
       ciphertext = ciphertext;
       leaves = leaves ∙ ap (λ (l : List (List ℕ)). l ++ tagged_hash CiphertextSegment encrypted ∷ []) has.leaves;
       count = more.count ∙ has.count;
       shares = shares_more g s encrypted x.shares.items y.shares.items blocks has.shares;
+      groups = wholes.count ∙ has.groups;
+      wholes =
+          given-more g.total (length x.shares.items) s.written (λ i. block_of g.needed i encrypted) x.wholes.items y.wholes.items has.count
+          (subst (λ (b : ℕ → List ℕ). HaveWholesMore (length x.shares.items) b x.wholes.items y.wholes.items) (λ p i. own i p) wholes) has.wholes;
     }
 
 module _ {S : Type 0} (gives : S → ℕ → List ℕ → S → Type 0) (old : S) (g : Geometry) (key : List ℕ) (before : KeyHasher) where

@@ -12,29 +12,35 @@ use Rattle.tagged_hash.specs.declared.tag.Tag.TheVariants.{Block}
 use Rattle.share_layout.specs.Geometry.{Geometry}
 use Rattle.file_encoding.specs.Encoding.{block_of}
 use Rattle.file_streaming.specs.Gathered.{Gathered, gathered_more}
-use Rattle.file_streaming.specs.Shares.{HasBlockMore, HaveBlocksMore, HoldShares, HoldsShare}
+use Rattle.file_streaming.specs.Shares.{HasBlockMore, HaveBecome, HaveBlocksMore, HoldShares}
 use Rattle.file_streaming.specs.declared.shares.ShareSoFar.{ShareSoFar}
 
--- the first of these shares have one block more, and the others stand as they were
-pub record HaveSoFar (block : ℕ → List ℕ) (old now : List ShareSoFar) (done : ℕ) : Type 0 where
+-- the first of these have become what they are now, and the others stand as they were
+pub record HaveSoFar {X : Type 0} (By : ℕ → X → X → Type 0) (old now : List X) (done : ℕ) : Type 0 where
   pub count : length now ≡ length old
-  pub added : (i : ℕ) (before after : ShareSoFar) → i < done → slice_get old i ≡ Some before → slice_get now i ≡ Some after → HasBlockMore (block i) before after
+  pub added : (i : ℕ) (before after : X) → i < done → slice_get old i ≡ Some before → slice_get now i ≡ Some after → By i before after
   pub same : (i : ℕ) → done ≤ i → slice_get now i ≡ slice_get old i
 
-pub so_far-none : (block : ℕ → List ℕ) (old : List ShareSoFar) → HaveSoFar block old old 0
-so_far-none block old = record { count = refl; added = λ i before after low was is. absurd (omega (arith, low)); same = λ i high. refl }
+pub so_far-none : {X : Type 0} (By : ℕ → X → X → Type 0) (old : List X) → HaveSoFar By old old 0
+so_far-none By old = record { count = refl; added = λ i before after low was is. absurd (omega (arith, low)); same = λ i high. refl }
 
-pub so_far-more : (block : ℕ → List ℕ) (old now : List ShareSoFar) (done : ℕ) (share next : ShareSoFar) → HaveSoFar block old now done → done < length now
-    → slice_get now done ≡ Some share → HasBlockMore (block done) share next → HaveSoFar block old (set now done next) (done + 1)
-so_far-more block old now done share next far within here more = record {
+pub so_far-more : {X : Type 0} (By : ℕ → X → X → Type 0) (old now : List X) (done : ℕ) (x next : X) → HaveSoFar By old now done → done < length now
+    → slice_get now done ≡ Some x → By done x next → HaveSoFar By old (set now done next) (done + 1)
+so_far-more By old now done x next far within here more = record {
   count = length-set now done next ∙ far.count;
   added = λ i before after low was is. elim (cases_eq i done) [
-    | inl e ↦ (let b : share ≡ before = same_Some share before (sym here ∙ far.same done (omega arith) ∙ ap (slice_get old) (sym e) ∙ was) in
-        let a : next ≡ after = same_Some next after (sym (get_set now done next share here) ∙ ap (slice_get (set now done next)) (sym e) ∙ is) in
-        subst (λ n. HasBlockMore (block n) before after) (sym e) (subst (λ x. HasBlockMore (block done) x after) b (subst (HasBlockMore (block done) share) a more)))
+    | inl e ↦ (let b : x ≡ before = same_Some x before (sym here ∙ far.same done (omega arith) ∙ ap (slice_get old) (sym e) ∙ was) in
+        let a : next ≡ after = same_Some next after (sym (get_set now done next x here) ∙ ap (slice_get (set now done next)) (sym e) ∙ is) in
+        subst (λ n. By n before after) (sym e) (subst (λ y. By done y after) b (subst (By done x) a more)))
     | inr apart ↦ far.added i before after (omega (arith, low, apart)) was (sym (get_set_other now done i next apart) ∙ is)
   ];
   same = λ i high. let apart : i ≢ done = omega (arith, high) in get_set_other now done i next apart ∙ far.same i (omega (arith, high));
+}
+
+pub so_far-all : {X : Type 0} (By : ℕ → X → X → Type 0) (old now : List X) (done : ℕ) → HaveSoFar By old now done → length now ≤ done → HaveBecome By old now
+so_far-all By old now done far over = record {
+  count = far.count;
+  each = λ i before after was is. far.added i before after (omega (arith, over, slice_get_within now i after is)) was is;
 }
 
 -- ---- a group of shares
@@ -75,10 +81,10 @@ module _ (block : ℕ → List ℕ) (old now group : List ShareSoFar) (done coun
     count = more.count;
     each = λ i before after was is.
         let low : i < count = omega (arith, slice_get_within (take count (drop done now)) i before was, length-take-le count (drop done now) (omega (arith, within, length-drop done now))) in
-        subst (λ (b : List ℕ). HasBlockMore b before after) (are i low) (more.each i before after was is);
+        subst (λ (b : List ℕ). after.leaves.items ≡ before.leaves.items ++ tagged_hash Block b ∷ []) (are i low) (more.each i before after was is);
   }
 
-  pub so_far-group : HaveSoFar block old now done → HaveBlocksMore (λ i. block (done + i)) (take count (drop done now)) group → HaveSoFar block old next (done + count)
+  pub so_far-group : HaveSoFar (HasBlockMore block) old now done → HaveBlocksMore (λ i. block (done + i)) (take count (drop done now)) group → HaveSoFar (HasBlockMore block) old next (done + count)
   so_far-group far more =
       let front : List ShareSoFar = take done now in
       let behind : List ShareSoFar = drop count (drop done now) in
@@ -103,16 +109,10 @@ module _ (block : ℕ → List ℕ) (old now group : List ShareSoFar) (done coun
               let there : slice_get (take count (drop done now)) j ≡ Some before =
               get_take count (drop done now) j inside ∙ get_drop done now j ∙ ap (slice_get now) at ∙ far.same i later ∙ was in
               let here : slice_get group j ≡ Some after = sym (mid j inside) ∙ ap (slice_get next) at ∙ is in
-              subst (λ n. HasBlockMore (block n) before after) at (more.each j before after there here))
+              subst (λ n. HasBlockMore block n before after) at (more.each j before after there here))
         ];
         same = λ i above. high i (i - (done + count)) (omega (arith, above)) ∙ far.same i (omega (arith, above));
       }
-
-pub so_far-all : (block : ℕ → List ℕ) (old now : List ShareSoFar) (done : ℕ) → HaveSoFar block old now done → length now ≤ done → HaveBlocksMore block old now
-so_far-all block old now done far over = record {
-  count = far.count;
-  each = λ i before after was is. far.added i before after (omega (arith, over, slice_get_within now i after is)) was is;
-}
 
 -- so one segment more is gathered of each share
 pub shares_more : (g : Geometry) (s : Gathered) (segment : List ℕ) (old new : List ShareSoFar) → HaveBlocksMore (λ i. block_of g.needed i segment) old new
@@ -121,15 +121,10 @@ shares_more g s segment old new more holds i share is =
     let within : i < length old = omega (arith, slice_get_within new i share is, more.count) in
     let before : ShareSoFar = get_or old i share in
     let was : slice_get old i ≡ Some before = slice_get-get_or old i share within in
-    let added = more.each i before share was is in
-    let held = holds i before was in
-    record {
-      leaves = added.leaves ∙ ap (λ (l : List (List ℕ)). l ++ tagged_hash Block (block_of g.needed i segment) ∷ []) held.leaves;
-      whole = added.whole (s.written i) held.whole;
-    }
+    more.each i before share was is ∙ ap (λ (l : List (List ℕ)). l ++ tagged_hash Block (block_of g.needed i segment) ∷ []) (holds i before was)
 
 -- one share more
-pub held-push : (s : Gathered) (shares : List ShareSoFar) (share : ShareSoFar) → HoldShares s shares → ((i : ℕ) → HoldsShare s i share)
+pub held-push : (s : Gathered) (shares : List ShareSoFar) (share : ShareSoFar) → HoldShares s shares → ((i : ℕ) → share.leaves.items ≡ s.block_leaves i)
     → HoldShares s (shares ++ share ∷ [])
 held-push s shares share held new i other is =
-    elim (get_pushed shares share other i is) [ inl before ↦ held i other before | inr last ↦ subst (HoldsShare s i) last.1 (new i) ]
+    elim (get_pushed shares share other i is) [ inl before ↦ held i other before | inr last ↦ subst (λ (x : ShareSoFar). x.leaves.items ≡ s.block_leaves i) last.1 (new i) ]

@@ -1,8 +1,8 @@
 -- What follows from the leaves that a pass over a file gathered.
-use Rattle.std.specs.Prelude.{◌≡◌, ℕ, ◌<◌, ◌≤◌, ◌^◌, List, [], ◌++◌, length, map, replicate}
+use Rattle.std.specs.Prelude.{◌≡◌, ℕ, ◌+◌, ◌*◌, ◌<◌, ◌≤◌, ◌^◌, List, [], ◌++◌, length, map, replicate}
 use Rattle.std.specs.Prelude.{slice_index_or}
 use Rattle.std.specs.List.{range_with_len}
-use Rattle.merkle.specs.Tree.{tree_nodes}
+use Rattle.merkle.specs.Tree.{height, tree_nodes}
 use Rattle.tagged_hash.specs.TaggedHash.{share_digest}
 use Rattle.ueb.specs.Block.{ueb_text}
 use Rattle.share_layout.specs.Geometry.{Geometry, tree_size}
@@ -19,6 +19,10 @@ use Rattle.file_streaming.specs.declared.finishing.Finished.{Finished}
 pub record HaveLeaves (leaves : List (List ℕ)) : Type 0 where
   pub some : 0 < length leaves
   pub few : length leaves ≤ 2 ^ 20
+
+-- how many bytes each of so many shares carries of the share tree: 34 for each of its rows
+abbrev pub hashes_length : ℕ → ℕ
+hashes_length total = 34 * (height total + 1)
 
 -- what share i has behind its blocks, by what is kept
 abbrev pub bytes_behind : Geometry → Behind → ℕ → List ℕ

@@ -1,5 +1,6 @@
 -- What the second pass over a source holds.
 use Rattle.std.specs.Prelude.{◌≡◌, ℕ, ◌*◌, List, ◌++◌, length}
+use Rattle.std.specs.Int.{div_ceil}
 use Rattle.aes_ctr.specs.CounterMode.{xored_from}
 use Rattle.tagged_hash.specs.TaggedHasher.{Holds, HoldsFile}
 use Rattle.tagged_hash.specs.declared.tag.Tag.TheVariants.{Ciphertext}
@@ -8,6 +9,7 @@ use Rattle.share_layout.specs.Pieces.{segment_length, segments_of}
 use Rattle.sources.specs.Source.{IsPass, IsRead}
 use Rattle.file_streaming.specs.Gathered.{Gathered, gathered, gathered_more, gathered_none}
 use Rattle.file_streaming.specs.Shares.{HoldShares}
+use Rattle.file_streaming.specs.Wholes.{AreGiven}
 use Rattle.file_streaming.specs.declared.gathering.Buffers.{Buffers}
 use Rattle.file_streaming.specs.declared.gathering.Gathering.{Gathering}
 
@@ -19,6 +21,8 @@ pub record HasGathered (g : Geometry) (s : Gathered) (secret file : List ℕ) (x
   pub leaves : x.leaves.items ≡ s.leaves
   pub count : length x.shares.items ≡ g.total
   pub shares : HoldShares s x.shares.items
+  pub groups : length x.wholes.items ≡ div_ceil g.total 8
+  pub wholes : AreGiven g.total s.written x.wholes.items
 
 -- the segment of this number was read and gathered, encrypted at its place
 pub record IsSegmentGathered {S : Type 0} (gives : S → ℕ → List ℕ → S → Type 0) (old : S)

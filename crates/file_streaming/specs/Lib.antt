@@ -6,6 +6,7 @@ pub mod Piece
 pub mod Laws
 -- words of private clauses
 pub mod KeyReading
+pub mod Wholes
 pub mod Shares
 pub mod Gathering
 pub mod Finishing

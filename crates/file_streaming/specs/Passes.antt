@@ -1,5 +1,6 @@
 -- What two passes over a source leave.
 use Rattle.std.specs.Prelude.{◌≡◌, ◌≢◌, ◌⊎◌, ℕ, List, length}
+use Rattle.std.specs.Int.{div_ceil}
 use Rattle.tagged_hash.specs.ConvergentKey.{convergent_key_of}
 use Rattle.tagged_hash.specs.TaggedHasher.{Holds}
 use Rattle.tagged_hash.specs.declared.tag.Tag.TheVariants.{Ciphertext}
@@ -10,6 +11,7 @@ use Rattle.sources.specs.Source.{IsPass}
 use Rattle.file_streaming.specs.Gathered.{Gathered, gathered, gathered_none}
 use Rattle.file_streaming.specs.Gathering.{AreBuffers}
 use Rattle.file_streaming.specs.Shares.{HoldShares}
+use Rattle.file_streaming.specs.Wholes.{AreGiven}
 use Rattle.file_streaming.specs.declared.passes.Passes.{Passes}
 
 -- what is gathered of a whole file under a key
@@ -31,6 +33,8 @@ pub record IsPassOf (g : Geometry) (file : List ℕ) (p : Passes) : Type 0 where
   pub leaves : p.leaves.items ≡ (gathered_of g p.key file).leaves
   pub count : length p.shares.items ≡ g.total
   pub shares : HoldShares (gathered_of g p.key file) p.shares.items
+  pub groups : length p.wholes.items ≡ div_ceil g.total 8
+  pub wholes : AreGiven g.total (gathered_of g p.key file).written p.wholes.items
 
 -- the source was read once more, and brought a file with the key that it had before
 pub record IsSecondPass {S : Type 0} (gives : S → ℕ → List ℕ → S → Type 0) (old : S) (g : Geometry)

@@ -1,34 +1,32 @@
 -- What is held of each share while the segments of its file go by.
 use Rattle.std.specs.Prelude.{◌≡◌, ℕ, List, [], ◌∷◌, ◌++◌, length, slice_get, Some}
 use Rattle.tagged_hash.specs.TaggedHash.{tagged_hash}
-use Rattle.tagged_hash.specs.TaggedHasher.{Holds}
-use Rattle.tagged_hash.specs.declared.tag.Tag.TheVariants.{Block, WholeShare}
+use Rattle.tagged_hash.specs.declared.tag.Tag.TheVariants.{Block}
 use Rattle.file_streaming.specs.Gathered.{Gathered}
+use Rattle.file_streaming.specs.Wholes.{HavePieceMore}
 use Rattle.file_streaming.specs.declared.shares.ShareSoFar.{ShareSoFar}
+use Rattle.file_streaming.specs.declared.wholes.WholeHashers.{WholeHashers}
 
--- a share has one block more
-pub record HasBlockMore (block : List ℕ) (old new : ShareSoFar) : Type 0 where
-  pub leaves : new.leaves.items ≡ old.leaves.items ++ tagged_hash Block block ∷ []
-  pub whole : (given : List ℕ) → Holds old.whole WholeShare given
-      → Holds new.whole WholeShare (given ++ block)
-
--- each of these shares has one block more, by its number
-pub record HaveBlocksMore (block : ℕ → List ℕ) (old new : List ShareSoFar) : Type 0 where
+-- each of these has become what it is now, by its number
+pub record HaveBecome {X : Type 0} (By : ℕ → X → X → Type 0) (old new : List X) : Type 0 where
   pub count : length new ≡ length old
-  pub each : (i : ℕ) (before after : ShareSoFar) → slice_get old i ≡ Some before
-      → slice_get new i ≡ Some after → HasBlockMore (block i) before after
+  pub each : (i : ℕ) (before after : X) → slice_get old i ≡ Some before
+      → slice_get new i ≡ Some after → By i before after
 
--- what was gathered of share i
-pub record HoldsShare (s : Gathered) (i : ℕ) (share : ShareSoFar) : Type 0 where
-  pub leaves : share.leaves.items ≡ s.block_leaves i
-  pub whole : Holds share.whole WholeShare (s.written i)
+-- a share has the leaf of one block more
+abbrev pub HasBlockMore : (ℕ → List ℕ) → ℕ → ShareSoFar → ShareSoFar → Type 0
+HasBlockMore block i old new =
+    new.leaves.items ≡ old.leaves.items ++ tagged_hash Block (block i) ∷ []
 
--- what was gathered of each share, by number
+-- each of these shares has the leaf of one block more, by its number
+abbrev pub HaveBlocksMore : (ℕ → List ℕ) → List ShareSoFar → List ShareSoFar → Type 0
+HaveBlocksMore block old new = HaveBecome (HasBlockMore block) old new
+
+-- the hashers of so many shares were given one block more for each
+abbrev pub HaveWholesMore : ℕ → (ℕ → List ℕ) → List WholeHashers → List WholeHashers → Type 0
+HaveWholesMore total block old new = HaveBecome (HavePieceMore total block) old new
+
+-- what was gathered of each share alone, by number
 abbrev pub HoldShares : Gathered → List ShareSoFar → Type 0
 HoldShares s shares = (i : ℕ) (share : ShareSoFar) → slice_get shares i ≡ Some share
-    → HoldsShare s i share
-
--- the hasher of each share was given these bytes, by number
-abbrev pub AreGiven : (ℕ → List ℕ) → List ShareSoFar → Type 0
-AreGiven written shares = (i : ℕ) (share : ShareSoFar) → slice_get shares i ≡ Some share
-    → Holds share.whole WholeShare (written i)
+    → share.leaves.items ≡ s.block_leaves i

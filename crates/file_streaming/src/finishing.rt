@@ -2,9 +2,11 @@
 // digests of the shares.
 
 ghost use Rattle.std.specs.Prelude.{◌≡◌, ◌+◌, ◌*◌, ◌<◌, ◌≤◌, ◌^◌, ◌++◌, ℕ, List, length, map, All};
-ghost use Rattle.std.specs.Prelude.{replicate, take, IfOk};
+ghost use Rattle.std.specs.Prelude.{[], replicate, slice_index_or, take, IfOk};
+ghost use Rattle.std.specs.Int.{div_ceil};
 ghost use Rattle.std.specs.List.{range_with_len};
-ghost use Rattle.merkle.specs.Tree.{height, needed_numbers, tree_root};
+ghost use Rattle.sha2_lanes.specs.Lanes.{text};
+ghost use Rattle.merkle.specs.Tree.{height, needed_numbers, node_count, tree_nodes, tree_root};
 ghost use Rattle.tagged_hash.specs.TaggedHash.{tagged_hash};
 ghost use Rattle.tagged_hash.specs.TaggedHasher.{Holds};
 ghost use Rattle.tagged_hash.specs.declared.tag.Tag.TheVariants.{Ciphertext, WholeShare};
@@ -12,14 +14,18 @@ ghost use Rattle.ueb.specs.Block.{ueb_text};
 ghost use Rattle.ueb.specs.Limits.{max_length};
 ghost use Rattle.ueb.specs.Shape.{IsFile, IsSegmentSize};
 ghost use Rattle.share_layout.specs.Layout.{spelled};
+ghost use Rattle.share_verify.specs.Pieces.{joined};
 ghost use Rattle.file_encoding.specs.Blocks.{numbered};
 ghost use Rattle.file_encoding.specs.Encoding.{share_hashes};
 ghost use Rattle.file_streaming.specs.Finishing.{HaveLeaves, IsFinished, bytes_behind};
+ghost use Rattle.file_streaming.specs.Finishing.{hashes_length};
 ghost use Rattle.file_streaming.specs.Gathered.{Gathered, IsGathered};
-ghost use Rattle.file_streaming.specs.Shares.{AreGiven, HoldShares};
+ghost use Rattle.file_streaming.specs.Shares.{HoldShares};
+ghost use Rattle.file_streaming.specs.Wholes.{AreGiven, IsGivenAt};
 
 use crate::geometry::{build_tree, write_extension_block};
 use crate::shares::ShareSoFar;
+use crate::wholes::WholeHashers;
 use merkle::Tree;
 use share_layout::{Geometry, Layout};
 use std::alloc::{AllocError, Global};
@@ -118,7 +124,8 @@ fn needed_nodes(alloc: Global, tree: &Tree, leaf: u16) -> Result<Vec<u32>, Alloc
 fn write_numbered(alloc: Global, nodes: &[[u8; 32]], numbers: &[u32]) -> Result<Vec<u8>, AllocError>
     requires inside { All (λ n. n < length nodes.now) numbers.now }
     requires few { length nodes.now ≤ 2 ^ 16 }
-    ensures { IfOk result (λ bytes. bytes.items ≡ numbered nodes.now numbers.now) }
+    ensures value { IfOk result (λ bytes. bytes.items ≡ numbered nodes.now numbers.now) }
+    ensures long { IfOk result (λ bytes. length bytes.items ≡ 34 * length numbers.now) }
 {
     let mut bytes = Vec::new(alloc);
     for number in numbers {
@@ -132,7 +139,9 @@ fn write_numbered(alloc: Global, nodes: &[[u8; 32]], numbers: &[u32]) -> Result<
 fn write_share_hashes(alloc: Global, tree: &Tree, share: u16) -> Result<Vec<u8>, AllocError>
     requires there { share < length tree.now }
     requires few { length tree.now ≤ 256 }
-    ensures { IfOk result (λ hashes. hashes.items ≡ share_hashes tree.now share) }
+    ensures value { IfOk result (λ hashes. hashes.items ≡ share_hashes tree.now share) }
+    ensures long { IfOk result
+        (λ hashes. length hashes.items ≡ hashes_length (length tree.now)) }
 {
     let numbers = needed_nodes(alloc, tree, share)?;
     write_numbered(alloc, tree.nodes(), &numbers)
@@ -142,8 +151,10 @@ fn write_share_hashes(alloc: Global, tree: &Tree, share: u16) -> Result<Vec<u8>,
 fn write_all_hashes(alloc: Global, tree: &Tree, total: u16) -> Result<Vec<Vec<u8>>, AllocError>
     requires all { length tree.now ≡ total }
     requires few { total ≤ 256 }
-    ensures { IfOk result (λ hashes. map (λ h. h.items) hashes.items
+    ensures value { IfOk result (λ hashes. map (λ h. h.items) hashes.items
         ≡ map (share_hashes tree.now) (range_with_len 0 total)) }
+    ensures long { IfOk result
+        (λ hashes. All (λ h. length h.items ≡ hashes_length total) hashes.items) }
 {
     let mut hashes = Vec::with_capacity(alloc, usize::from(total))?;
     for number in 0..total {
@@ -167,6 +178,8 @@ fn write_behind(
     ensures blocks { IfOk result (λ behind. behind.block_trees.items ≡ trees.blocks.items) }
     ensures hashes { IfOk result (λ behind. map (λ h. h.items) behind.share_hashes.items
         ≡ map (share_hashes trees.shares) (range_with_len 0 geometry.now.total)) }
+    ensures long { IfOk result (λ behind. All (λ h. length h.items
+        ≡ hashes_length geometry.now.total) behind.share_hashes.items) }
     ensures extension_block { IfOk result (λ behind. behind.extension_block.items
         ≡ ueb_text (record {
           needed_shares = geometry.now.needed;
@@ -211,36 +224,105 @@ pub(crate) fn spelled_length(layout: Layout, len: usize) -> ([u8; 8], usize)
     }
 }
 
-// Adds so many rows of 32 zero bytes.
-fn add_zeros(whole: &mut TaggedHasher, rows: u32)
-    ensures { (given : List ℕ) → Holds whole.old WholeShare given
-        → Holds whole.new WholeShare (given ++ replicate (rows * 32) 0) }
+// Gives each share so many rows of 32 zero bytes.
+fn add_zeros(whole: &mut WholeHashers, rows: u32)
+    ensures { (j : ℕ) (given : List ℕ) → j < 8 → IsGivenAt whole.old j given
+        → IsGivenAt whole.new j (given ++ replicate (rows * 32) 0) }
 {
     for _row in 0..rows {
-        whole.update(&[0; 32]);
+        whole.update_all(&[0; 32]);
     }
 }
 
-// The digest of the share of a number, whose header and blocks the hasher was given.
-fn finish_digest(
+// The nodes of the tree of a number, and those of the last tree in place of one that is missing.
+fn tree_bytes(trees: &[Tree], number: usize) -> &[u8]
+    requires { 0 < length trees.now }
+    ensures value { number < length trees.now
+        → result.now ≡ joined (tree_nodes (slice_index_or trees.now number [])) }
+    ensures long { (n : ℕ) → All (λ tree. length tree ≡ n) trees.now
+        → length result.now ≡ node_count n * 32 }
+{
+    trees[number.min(trees.len() - 1)].nodes().as_flattened()
+}
+
+// The nodes of eight trees from a number on.
+fn eight_trees(trees: &[Tree], first: usize) -> [&[u8]; 8]
+    requires { first < length trees.now }
+    ensures values { (j : ℕ) → j < 8 → first + j < length trees.now
+        → text result j ≡ joined (tree_nodes (slice_index_or trees.now (first + j) [])) }
+    ensures long { (n : ℕ) → All (λ tree. length tree ≡ n) trees.now
+        → All (λ p. length p.now ≡ node_count n * 32) result }
+{
+    [
+        tree_bytes(trees, first),
+        tree_bytes(trees, first + 1),
+        tree_bytes(trees, first + 2),
+        tree_bytes(trees, first + 3),
+        tree_bytes(trees, first + 4),
+        tree_bytes(trees, first + 5),
+        tree_bytes(trees, first + 6),
+        tree_bytes(trees, first + 7),
+    ]
+}
+
+// The hashes of a number, and the last in place of those that are missing.
+fn hashes_at(hashes: &[Vec<u8>], number: usize) -> &[u8]
+    requires { 0 < length hashes.now }
+    ensures value { number < length hashes.now
+        → result.now ≡ slice_index_or (map (λ h. h.items) hashes.now) number [] }
+    ensures long { (n : ℕ) → All (λ h. length h.items ≡ n) hashes.now → length result.now ≡ n }
+{
+    &hashes[number.min(hashes.len() - 1)]
+}
+
+// Eight shares' hashes from a number on.
+fn eight_hashes(hashes: &[Vec<u8>], first: usize) -> [&[u8]; 8]
+    requires { first < length hashes.now }
+    ensures values { (j : ℕ) → j < 8 → first + j < length hashes.now
+        → text result j ≡ slice_index_or (map (λ h. h.items) hashes.now) (first + j) [] }
+    ensures long { (n : ℕ) → All (λ h. length h.items ≡ n) hashes.now
+        → All (λ p. length p.now ≡ n) result }
+{
+    [
+        hashes_at(hashes, first),
+        hashes_at(hashes, first + 1),
+        hashes_at(hashes, first + 2),
+        hashes_at(hashes, first + 3),
+        hashes_at(hashes, first + 4),
+        hashes_at(hashes, first + 5),
+        hashes_at(hashes, first + 6),
+        hashes_at(hashes, first + 7),
+    ]
+}
+
+// The digests of eight shares from a number on, whose headers and blocks the hashers were given.
+fn finish_eight(
     geometry: &Geometry,
-    mut whole: TaggedHasher,
+    mut whole: WholeHashers,
     behind: &Behind,
-    number: usize,
-) -> [u8; 32]
-    requires tree { number < length behind.now.block_trees.items }
-    requires hashes { number < length behind.now.share_hashes.items }
+    first: usize,
+) -> [[u8; 32]; 8]
+    requires trees { first < length behind.now.block_trees.items }
+    requires hashes { first < length behind.now.share_hashes.items }
+    requires alike { All (λ tree. length tree ≡ length behind.now.ciphertext_tree)
+        behind.now.block_trees.items }
+    requires long { All (λ h. length h.items ≡ hashes_length geometry.now.total)
+        behind.now.share_hashes.items }
     requires short { length behind.now.extension_block.items ≤ max_length }
-    ensures { (given : List ℕ) → Holds whole WholeShare given → result
-        ≡ tagged_hash WholeShare (given ++ bytes_behind geometry.now behind.now number) }
+    ensures { (j : ℕ) (given : List ℕ) → j < 8 → first + j < length behind.now.block_trees.items
+        → first + j < length behind.now.share_hashes.items → IsGivenAt whole j given
+        → slice_index_or result j []
+        ≡ tagged_hash WholeShare (given ++ bytes_behind geometry.now behind.now (first + j)) }
 {
     add_zeros(&mut whole, geometry.tree_size() / 32);
-    whole.update(behind.ciphertext_tree.nodes().as_flattened());
-    whole.update(behind.block_trees[number].nodes().as_flattened());
-    whole.update(&behind.share_hashes[number]);
+    let tree = behind.ciphertext_tree.nodes().as_flattened();
+    whole.update_all(tree);
+    whole.update(&eight_trees(&behind.block_trees, first), tree.len());
+    let len = behind.share_hashes[first].len();
+    whole.update(&eight_hashes(&behind.share_hashes, first), len);
     let (length, width) = spelled_length(geometry.layout(), behind.extension_block.len());
-    whole.update(&length[..width]);
-    whole.update(&behind.extension_block);
+    whole.update_all(&length[..width]);
+    whole.update_all(&behind.extension_block);
     whole.finish()
 }
 
@@ -249,21 +331,27 @@ fn finish_digests(
     alloc: Global,
     geometry: &Geometry,
     behind: &Behind,
-    shares: Vec<ShareSoFar>,
+    wholes: Vec<WholeHashers>,
 ) -> Result<Vec<[u8; 32]>, AllocError>
-    requires trees { length behind.now.block_trees.items ≡ length shares.items }
-    requires hashes { length behind.now.share_hashes.items ≡ length shares.items }
+    requires trees { length behind.now.block_trees.items ≡ geometry.now.total }
+    requires hashes { length behind.now.share_hashes.items ≡ geometry.now.total }
+    requires alike { All (λ tree. length tree ≡ length behind.now.ciphertext_tree)
+        behind.now.block_trees.items }
+    requires long { All (λ h. length h.items ≡ hashes_length geometry.now.total)
+        behind.now.share_hashes.items }
     requires short { length behind.now.extension_block.items ≤ max_length }
-    ensures { (written : ℕ → List ℕ) → AreGiven written shares.items
+    requires groups { length wholes.items ≡ div_ceil geometry.now.total 8 }
+    ensures { (written : ℕ → List ℕ) → AreGiven geometry.now.total written wholes.items
         → IfOk result (λ digests. digests.items ≡ map (λ i. tagged_hash WholeShare
         (written i ++ bytes_behind geometry.now behind.now i))
-        (range_with_len 0 (length shares.items))) }
+        (range_with_len 0 geometry.now.total)) }
 {
-    let mut digests = Vec::with_capacity(alloc, shares.len())?;
-    for share in shares {
-        let ShareSoFar { leaves: _, whole } = share;
-        let number = digests.len();
-        digests.push(finish_digest(geometry, whole, behind, number))?;
+    let total = usize::from(geometry.total());
+    let mut digests = Vec::with_capacity(alloc, total)?;
+    for whole in wholes {
+        let first = digests.len();
+        let eight = finish_eight(geometry, whole, behind, first);
+        digests.extend_from_slice(&eight[..(total - first).min(8)])?;
     }
     Ok(digests)
 }
@@ -274,20 +362,24 @@ pub(crate) fn finish(
     geometry: &Geometry,
     ciphertext: TaggedHasher,
     leaves: &[[u8; 32]],
-    shares: Vec<ShareSoFar>,
+    shares: &[ShareSoFar],
+    wholes: Vec<WholeHashers>,
 ) -> Result<Finished, AllocError>
     requires leaves { HaveLeaves leaves.now }
-    requires all { All (λ share. HaveLeaves share.leaves.items) shares.items }
-    requires count { length shares.items ≡ geometry.now.total }
+    requires all { All (λ share. HaveLeaves share.leaves.items) shares.now }
+    requires alike { All (λ share. length share.leaves.items ≡ length leaves.now) shares.now }
+    requires count { length shares.now ≡ geometry.now.total }
+    requires groups { length wholes.items ≡ div_ceil geometry.now.total 8 }
     requires file { IsFile geometry.now.needed geometry.now.total geometry.now.size }
     requires segments { IsSegmentSize geometry.now.needed geometry.now.size
         geometry.now.segment_size }
     ensures { (text : List ℕ) (s : Gathered) → IsGathered geometry.now text s
         → Holds ciphertext Ciphertext s.ciphertext → leaves.now ≡ s.leaves
-        → HoldShares s shares.items → IfOk result (IsFinished geometry.now text) }
+        → HoldShares s shares.now → AreGiven geometry.now.total s.written wholes.items
+        → IfOk result (IsFinished geometry.now text) }
 {
-    let trees = build_trees(alloc, leaves, &shares)?;
+    let trees = build_trees(alloc, leaves, shares)?;
     let behind = write_behind(alloc, geometry, ciphertext.finish(), trees)?;
-    let digests = finish_digests(alloc, geometry, &behind, shares)?;
+    let digests = finish_digests(alloc, geometry, &behind, wholes)?;
     Ok(Finished { behind, digests })
 }

@@ -3,6 +3,7 @@
 
 ghost use Rattle.std.specs.Prelude.{◌≡◌, ◌⊎◌, ◌+◌, ◌*◌, ◌/◌, ◌%◌, ◌<◌, ◌≤◌, ◌^◌, ◌++◌, ℕ, List, []};
 ghost use Rattle.std.specs.Prelude.{length, take, drop, IfErr, IfOk, IsErrOf, OnOk};
+ghost use Rattle.std.specs.Int.{div_ceil};
 ghost use Rattle.aes_ctr.specs.CounterMode.{xored_from};
 ghost use Rattle.tagged_hash.specs.TaggedHasher.{HoldsFile};
 ghost use Rattle.ueb.specs.Shape.{rounded_up};
@@ -16,6 +17,7 @@ ghost use Rattle.file_streaming.specs.Gathering.{IsSegmentGathered};
 use crate::error::PrepareError;
 use crate::geometry::file_code;
 use crate::shares::{ShareSoFar, add_blocks, begin_shares};
+use crate::wholes::{WholeHashers, begin_wholes};
 use aes_ctr::Aes128;
 use block_making::Encoder;
 use share_layout::Geometry;
@@ -24,13 +26,14 @@ use std::alloc::{AllocError, Global};
 use tagged_hash::{KeyHasher, Tag, TaggedHasher, tagged};
 
 /// What is gathered of a file: its key, the hash of its ciphertext, the leaves of the ciphertext
-/// tree, and its shares by number.
+/// tree, and its shares by number with the hashers of their bytes.
 #[derive(Drop)]
 pub(crate) struct Gathering {
     pub key: KeyHasher,
     pub ciphertext: TaggedHasher,
     pub leaves: Vec<[u8; 32]>,
     pub shares: Vec<ShareSoFar>,
+    pub wholes: Vec<WholeHashers>,
 }
 
 /// The encoder of a file with this key.
@@ -53,6 +56,8 @@ impl Gathering {
     // Nothing is gathered yet but the headers of all shares.
     fn begin(alloc: Global, geometry: &Geometry, key: KeyHasher) -> Result<Gathering, AllocError>
         ensures count { IfOk result (λ x. length x.shares.items ≡ geometry.now.total) }
+        ensures wholes { IfOk result
+            (λ x. length x.wholes.items ≡ div_ceil geometry.now.total 8) }
         ensures begun { (secret : List ℕ) → HoldsFile key geometry.now.needed geometry.now.total
             geometry.now.segment_size secret []
             → IfOk result (HasGathered geometry.now (gathered_none geometry.now) secret []) }
@@ -63,6 +68,7 @@ impl Gathering {
             ciphertext: TaggedHasher::new(Tag::Ciphertext),
             leaves,
             shares: begin_shares(alloc, geometry)?,
+            wholes: begin_wholes(alloc, geometry)?,
         })
     }
 
@@ -86,8 +92,12 @@ impl Gathering {
         requires room { 8 * size ≤ length lanes.old }
         requires total { length self.old.shares.items ≡ encoder.now.code.n }
         requires few { length self.old.shares.items ≤ 256 }
+        requires wholes { length self.old.wholes.items
+            ≡ div_ceil (length self.old.shares.items) 8 }
         ensures shares { OnOk result
             (length self.new.shares.items ≡ length self.old.shares.items) }
+        ensures wholes { OnOk result
+            (length self.new.wholes.items ≡ length self.old.wholes.items) }
         ensures gathered { (g : Geometry) (s : Gathered) (secret file : List ℕ)
             → g.needed ≡ encoder.now.code.k → HasGathered g s secret file self.old
             → OnOk result (HasGathered g
@@ -100,7 +110,15 @@ impl Gathering {
         self.ciphertext.update(segment);
         self.leaves.push(tagged(Tag::CiphertextSegment, segment))?;
         padded[len..].fill(0);
-        add_blocks(&encoder.code, padded, size, lanes, &mut self.shares)
+        add_blocks(
+            &encoder.code,
+            padded,
+            size,
+            lanes,
+            &mut self.shares,
+            &mut self.wholes,
+        )?;
+        Ok(())
     }
 }
 
@@ -139,7 +157,10 @@ fn gather_segment<S: Source>(
     requires segment { length segment.old ≡ geometry.now.segment_size }
     requires lanes { length lanes.old ≡ 8 * block_size geometry.now }
     requires shares { length gathering.old.shares.items ≡ geometry.now.total }
+    requires wholes { length gathering.old.wholes.items ≡ div_ceil geometry.now.total 8 }
     ensures shares { OnOk result (length gathering.new.shares.items ≡ geometry.now.total) }
+    ensures wholes { OnOk result
+        (length gathering.new.wholes.items ≡ div_ceil geometry.now.total 8) }
     ensures gathered { OnOk result (IsSegmentGathered S.gives source.old geometry.now
         encoder.now.cipher number gathering.old gathering.new source.new) }
     ensures ended { IsErrOf result PrepareError.SourceChanged

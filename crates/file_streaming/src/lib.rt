@@ -12,6 +12,7 @@ mod passes;
 mod pieces;
 mod prepared;
 mod shares;
+mod wholes;
 
 pub use block_making::PieceError;
 pub use error::PrepareError;

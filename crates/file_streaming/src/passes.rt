@@ -11,6 +11,7 @@ use crate::error::PrepareError;
 use crate::first_pass::read_key;
 use crate::gathering::{Buffers, Gathering, file_encoder, gather};
 use crate::shares::ShareSoFar;
+use crate::wholes::WholeHashers;
 use block_making::Encoder;
 use share_layout::Geometry;
 use sources::Source;
@@ -40,6 +41,7 @@ pub(crate) struct Passes {
     pub ciphertext: TaggedHasher,
     pub leaves: Vec<[u8; 32]>,
     pub shares: Vec<ShareSoFar>,
+    pub wholes: Vec<WholeHashers>,
 }
 
 // Reads a source a second time. It has to have the key of the first time.
@@ -80,6 +82,7 @@ fn read_again<S: Source>(
         ciphertext,
         leaves,
         shares,
+        wholes,
     } = gathering;
     if second.finish() != key {
         return Err(PrepareError::SourceChanged);
@@ -91,6 +94,7 @@ fn read_again<S: Source>(
         ciphertext,
         leaves,
         shares,
+        wholes,
     })
 }
 

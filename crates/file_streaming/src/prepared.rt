@@ -114,8 +114,10 @@ fn keep(alloc: Global, geometry: Geometry, passes: Passes) -> Result<Prepared, A
         ciphertext,
         leaves,
         shares,
+        wholes,
     } = passes;
-    let Finished { behind, digests } = finish(alloc, &geometry, ciphertext, &leaves, shares)?;
+    let finished = finish(alloc, &geometry, ciphertext, &leaves, &shares, wholes)?;
+    let Finished { behind, digests } = finished;
     let ueb_hash = tagged(Tag::ExtensionBlock, &behind.extension_block);
     Ok(Prepared {
         cap: file_cap(&geometry, key, ueb_hash),

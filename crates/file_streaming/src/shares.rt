@@ -1,55 +1,27 @@
 // What is gathered of each share while the segments of its file go by.
 
-ghost use Rattle.std.specs.Prelude.{◌≡◌, ◌+◌, ◌*◌, ◌<◌, ◌≤◌, ◌++◌, ℕ, List, [], IfOk, OnOk};
+ghost use Rattle.std.specs.Prelude.{◌≡◌, ◌+◌, ◌*◌, ◌<◌, ◌≤◌, ℕ, All, IfOk, OnOk};
 ghost use Rattle.std.specs.Prelude.{drop, length, take};
-ghost use Rattle.tagged_hash.specs.TaggedHash.{tagged_hash};
-ghost use Rattle.tagged_hash.specs.TaggedHasher.{Holds};
-ghost use Rattle.tagged_hash.specs.declared.tag.Tag.TheVariants.{Block, WholeShare};
+ghost use Rattle.std.specs.Int.{div_ceil};
+ghost use Rattle.sha2_lanes.specs.Lanes.{text};
 ghost use Rattle.zfec_code.specs.ShareValue.{share_block};
-ghost use Rattle.share_layout.specs.Layout.{header};
 ghost use Rattle.file_streaming.specs.Gathered.{gathered_none};
-ghost use Rattle.file_streaming.specs.Shares.{HasBlockMore, HaveBlocksMore, HoldShares};
+ghost use Rattle.file_streaming.specs.Shares.{HaveBlocksMore, HaveWholesMore, HoldShares};
 
+use crate::wholes::WholeHashers;
 use block_making::{encode_lane, lane_of};
 use share_layout::Geometry;
 use std::alloc::{AllocError, Global};
-use tagged_hash::{Tag, TaggedHasher, tagged_pieces};
+use tagged_hash::{Tag, tagged_pieces};
 use zfec_code::Code;
 
-/// What is gathered of a share: the leaves of its block tree, and the hash of its bytes so far.
+/// What is gathered of a share alone: the leaves of its block tree.
 #[derive(Drop)]
 pub(crate) struct ShareSoFar {
     pub leaves: Vec<[u8; 32]>,
-    pub whole: TaggedHasher,
 }
 
-impl ShareSoFar {
-    // A share of which the header is gathered, and no block yet.
-    fn begin(alloc: Global, geometry: &Geometry) -> Result<ShareSoFar, AllocError>
-        ensures leaves { IfOk result (λ share. share.leaves.items ≡ []) }
-        ensures whole { IfOk result
-            (λ share. Holds share.whole WholeShare (header geometry.now)) }
-    {
-        let mut header = [0; 68];
-        let length = geometry.header(&mut header);
-        let mut whole = TaggedHasher::new(Tag::WholeShare);
-        whole.update(&header[..length]);
-        let leaves = Vec::with_capacity(alloc, geometry.segment_count() as usize)?;
-        Ok(ShareSoFar { leaves, whole })
-    }
-
-    // Gathers the next block, which has this hash.
-    fn add(&mut self, block: &[u8], hash: &[u8; 32]) -> Result<(), AllocError>
-        requires { hash.now ≡ tagged_hash Block block.now }
-        ensures { OnOk result (HasBlockMore block.now self.old self.new) }
-    {
-        self.leaves.push(*hash)?;
-        self.whole.update(block);
-        Ok(())
-    }
-}
-
-/// All shares of a file, of which the headers are gathered.
+/// All shares of a file, of which no block is gathered.
 pub(crate) fn begin_shares(
     alloc: Global,
     geometry: &Geometry,
@@ -61,7 +33,8 @@ pub(crate) fn begin_shares(
     let total = geometry.total();
     let mut shares = Vec::with_capacity(alloc, usize::from(total))?;
     while shares.len() < usize::from(total) {
-        shares.push(ShareSoFar::begin(alloc, geometry)?)?;
+        let leaves = Vec::with_capacity(alloc, geometry.segment_count() as usize)?;
+        shares.push(ShareSoFar { leaves })?;
     }
     Ok(shares)
 }
@@ -74,6 +47,7 @@ pub(crate) fn add_blocks(
     size: usize,
     lanes: &mut [u8],
     shares: &mut [ShareSoFar],
+    wholes: &mut [WholeHashers],
 ) -> Result<(), AllocError>
     requires some { 0 < code.now.k }
     requires small { code.now.k ≤ 256 }
@@ -81,14 +55,18 @@ pub(crate) fn add_blocks(
     requires room { 8 * size ≤ length lanes.old }
     requires few { length shares.old ≤ 256 }
     requires in_range { length shares.old ≤ code.now.n }
-    ensures { OnOk result (HaveBlocksMore (λ i. share_block code.now.k i size padded.now)
+    requires wholes { length wholes.old ≡ div_ceil (length shares.old) 8 }
+    ensures shares { OnOk result (HaveBlocksMore (λ i. share_block code.now.k i size padded.now)
         shares.old shares.new) }
+    ensures wholes { OnOk result (HaveWholesMore (length shares.old)
+        (λ i. share_block code.now.k i size padded.now) wholes.old wholes.new) }
 {
     for group in 0..shares.len().div_ceil(8) {
         let first = 8 * group;
         let end = shares.len().min(first + 8);
         encode_group(code, padded, size, first, end - first, lanes);
         add_group(lanes, size, &mut shares[first..end])?;
+        wholes[group].update(&all_lanes(lanes, size), size);
     }
     Ok(())
 }
@@ -117,18 +95,35 @@ fn encode_group(
     }
 }
 
-// Gathers the next block of at most eight shares, each in its lane of `size` bytes. They are hashed
-// side by side.
+// Gathers the hash of the next block of at most eight shares, each in its lane of `size` bytes.
+// They are hashed side by side.
 fn add_group(lanes: &[u8], size: usize, group: &mut [ShareSoFar]) -> Result<(), AllocError>
-    requires few { length group.old ≤ 8 }
-    requires room { 8 * size ≤ length lanes.now }
+    requires { length group.old ≤ 8 }
     ensures { OnOk result
         (HaveBlocksMore (λ i. take size (drop (i * size) lanes.now)) group.old group.new) }
 {
     let mut leaves = [[0; 32]; 8];
     tagged_pieces(Tag::Block, lanes, size, &mut leaves[..group.len()]);
     for lane in 0..group.len() {
-        group[lane].add(lane_of(lanes, size, lane), &leaves[lane])?;
+        group[lane].leaves.push(leaves[lane])?;
     }
     Ok(())
+}
+
+// The blocks in eight lanes of `size` bytes.
+fn all_lanes(lanes: &[u8], size: usize) -> [&[u8]; 8]
+    requires { 8 * size ≤ length lanes.now }
+    ensures long { All (λ p. length p.now ≡ size) result }
+    ensures blocks { (j : ℕ) → j < 8 → text result j ≡ take size (drop (j * size) lanes.now) }
+{
+    [
+        lane_of(lanes, size, 0),
+        lane_of(lanes, size, 1),
+        lane_of(lanes, size, 2),
+        lane_of(lanes, size, 3),
+        lane_of(lanes, size, 4),
+        lane_of(lanes, size, 5),
+        lane_of(lanes, size, 6),
+        lane_of(lanes, size, 7),
+    ]
 }

@@ -125,6 +125,18 @@ fn any_geometry_is_prepared(rt: HostRuntime) -> Result<(), Fail> {
     Ok(())
 }
 
+// Eight shares are hashed side by side, and fewer one by one: groups that are full, and others.
+#[test]
+fn groups_of_shares_are_prepared(rt: HostRuntime) -> Result<(), Fail> {
+    let alloc = rt.alloc();
+    let file = counted(alloc, 130)?;
+    for total in [7, 8, 9, 15, 16, 17, 24] {
+        assert!(rt; becomes(alloc, &file, b"", (1, total, 64), "")?, "{total}");
+        assert!(rt; becomes(alloc, &file, b"s", (5, total, 50), "")?, "{total}");
+    }
+    Ok(())
+}
+
 // Sources that change: the key of the second pass has to be that of the first.
 #[test]
 fn sources_that_change(rt: HostRuntime) -> Result<(), Fail> {

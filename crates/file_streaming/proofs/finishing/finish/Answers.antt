@@ -1,7 +1,8 @@
-use Rattle.std.proofs.Common.{◌≡◌, ℕ, List, length, map, ap, sym, ◌∙◌}
+use Rattle.std.proofs.Common.{◌≡◌, ℕ, ◌<◌, List, get_or, length, map, ap, sym, ◌∙◌, arith}
 use Rattle.std.specs.List.{range_with_len}
-use Rattle.std.proofs.lemmas.List.{length-map}
+use Rattle.std.proofs.lemmas.List.{get_or-map, length-map}
 use Rattle.std.proofs.lemmas.List.FromFn.{length-map-range_with_len}
+use Rattle.lemmas.proofs.Places.{get_of}
 use Rattle.merkle.specs.Tree.{tree_root}
 use Rattle.tagged_hash.specs.TaggedHash.{tagged_hash}
 use Rattle.tagged_hash.specs.declared.tag.Tag.TheVariants.{Ciphertext}
@@ -13,6 +14,7 @@ use Rattle.proved_parts.specs.FileOf.{segment_hashes}
 use Rattle.file_encoding.specs.Encoding.{blocks_of, share_hashes, share_leaves}
 use Rattle.file_streaming.specs.declared.finishing.Behind.{Behind}
 use Rattle.file_streaming.specs.declared.finishing.Trees.{Trees}
+use Rattle.file_streaming.specs.declared.shares.ShareSoFar.{ShareSoFar}
 use Rattle.file_streaming.proofs.Digests.{block_leaves_are, digests_are, roots_are}
 use Rattle.file_streaming.proofs.finishing.finish.Goals as goal
 
@@ -20,17 +22,27 @@ pub finish_digests-requires-clause-hashes : goal.finish_digests-requires-clause-
 finish_digests-requires-clause-hashes c =
     let g : Geometry = c.args.geometry.now in
     sym (length-map c.in_ok-behind.behind.share_hashes.items (λ (h : _). h.items)) ∙ ap length c.in_ok-behind.ensures.hashes
-    ∙ length-map-range_with_len (share_hashes c.in_ok-trees.trees.shares) 0 g.total ∙ sym c.requires.count
+    ∙ length-map-range_with_len (share_hashes c.in_ok-trees.trees.shares) 0 g.total
+
+pub finish_digests-requires-clause-alike : goal.finish_digests-requires-clause-alike
+finish_digests-requires-clause-alike c = λ k d low.
+    let shares : List ShareSoFar = c.args.shares.now in
+    let leaves_of : ShareSoFar → List (List ℕ) = λ share. share.leaves.items in
+    let trees = c.in_ok-behind.ensures.blocks ∙ c.in_ok-trees.ensures.blocks in
+    let within : k < length shares = omega (arith, low, ap length trees, length-map shares leaves_of) in
+    let share : ShareSoFar = (get_of shares k within).0 in
+    ap (λ (l : List (List (List ℕ))). length (get_or l k d)) trees ∙ ap length (get_or-map leaves_of shares k share d within) ∙ c.requires.alike k share within
+    ∙ sym (ap length (c.in_ok-behind.ensures.ciphertext ∙ c.in_ok-trees.ensures.ciphertext))
 
 pub returns : goal.returns
-returns c = λ text s is whole leaves held.
+returns c = λ text s is whole leaves held given.
     let g : Geometry = c.args.geometry.now in
     let segments : List (List ℕ) = segments_of g text in
     let trees : Trees = c.in_ok-trees.trees in
     let b : Behind = c.in_ok-behind.behind in
     let tree : trees.ciphertext ≡ segment_hashes segments = c.in_ok-trees.ensures.ciphertext ∙ leaves ∙ is.leaves in
     let blocks : trees.blocks.items ≡ map (λ i. block_hashes (blocks_of g.needed i segments)) (range_with_len 0 g.total) =
-    c.in_ok-trees.ensures.blocks ∙ ap (map (λ (share : _). share.leaves.items)) c.deref.ensures.value ∙ block_leaves_are g text s is c.args.shares.items held c.requires.count in
+    c.in_ok-trees.ensures.blocks ∙ block_leaves_are g text s is c.args.shares.now held c.requires.count in
     let roots : trees.shares ≡ share_leaves g segments = c.in_ok-trees.ensures.shares ∙ roots_are g text s is trees.blocks.items blocks in
     let hash : c.finish.result ≡ tagged_hash Ciphertext text = c.finish.ensures Ciphertext s.ciphertext whole ∙ ap (tagged_hash Ciphertext) is.ciphertext_is in
     let own_tree = c.in_ok-behind.ensures.ciphertext ∙ tree in
@@ -52,6 +64,5 @@ returns c = λ text s is whole leaves held.
       block_leaves = own_trees;
       hashes = own_hashes;
       digests =
-          digests_are g text s is b c.in_ok-digests.digests.items (length c.args.shares.items) c.requires.count own_tree own_trees own_hashes
-          (c.in_ok-digests.ensures s.written (λ i share at. (held i share at).whole));
+          digests_are g text s is b c.in_ok-digests.digests.items own_tree own_trees own_hashes (c.in_ok-digests.ensures s.written given);
     }

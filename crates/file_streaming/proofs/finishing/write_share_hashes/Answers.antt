@@ -1,4 +1,5 @@
-use Rattle.std.proofs.Common.{◌≡◌, ℕ, ◌<◌, List, length, get_or, subst, sym, ap, ◌∙◌, arith}
+use Rattle.std.proofs.Common.{◌≡◌, ℕ, ◌*◌, ◌<◌, IfOk, List, length, get_or, subst, sym, ap, ◌∙◌, arith}
+use Rattle.merkle.proofs.NumberLemmas.{length-needed_numbers}
 use Rattle.merkle.specs.Tree.{height, needed_numbers, tree_nodes}
 use Rattle.file_encoding.proofs.Numbers.{needed-inside, nodes-few}
 use Rattle.file_streaming.proofs.finishing.write_share_hashes.Goals as goal
@@ -13,3 +14,9 @@ write_numbered-requires-clause-inside c = λ k d below.
 
 pub write_numbered-requires-clause-few : goal.write_numbered-requires-clause-few
 write_numbered-requires-clause-few c = omega (arith, nodes-few c.args.tree.now c.requires.few, ap length c.nodes.ensures)
+
+pub returns-clause-long : goal.returns-clause-long
+returns-clause-long c =
+    let leaves : List (List ℕ) = c.args.tree.now in
+    subst (λ (n : ℕ). IfOk c.write_numbered.result (λ hashes. length hashes.items ≡ n))
+    (ap (λ (n : ℕ). 34 * n) (ap length (c.deref.ensures.value ∙ c.in_ok-numbers.ensures.numbers) ∙ length-needed_numbers (height (length leaves)) c.args.share)) c.write_numbered.ensures.long

@@ -9,6 +9,7 @@ pub loop-number-init : goal.loop-number-init
 loop-number-init g c = record {
   to = gathered-begin g.S.Source.gives c.args.source.now c.args.geometry.now c.args.encoder.now.cipher c.args.hasher c.in_ok-gathering.gathering c.in_ok-gathering.ensures.begun;
   shares = c.in_ok-gathering.ensures.count;
+  wholes = c.in_ok-gathering.ensures.wholes;
   size = refl;
   failures = refl;
 }
@@ -31,6 +32,7 @@ loop-number-preserved g c =
           c.loop-number.source c.gather_segment.new.source (begins-before geometry number c.segment_count-number-end.ensures.valid within) c.loop-number.invariant.to
           c.in_ok-gather_segment.ensures.gathered;
       shares = c.in_ok-gather_segment.ensures.shares;
+      wholes = c.in_ok-gather_segment.ensures.wholes;
       size = c.in_ok-gather_segment.ensures.size ∙ c.loop-number.invariant.size;
       failures = c.in_ok-gather_segment.ensures.failures ∙ c.loop-number.invariant.failures;
     }

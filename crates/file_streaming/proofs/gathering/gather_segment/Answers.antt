@@ -1,5 +1,6 @@
-use Rattle.std.proofs.Common.{◌≡◌, ℕ, ◌+◌, ◌*◌, ◌≤◌, List, ◌++◌, length, drop, take, subst, sym, ◌∙◌, arith}
+use Rattle.std.proofs.Common.{◌≡◌, ℕ, ◌+◌, ◌*◌, ◌≤◌, List, ◌++◌, length, drop, take, ap, subst, sym, ◌∙◌, arith}
 use Rattle.std.proofs.lemmas.List.{length-take, take_at}
+use Rattle.std.specs.Int.{div_ceil}
 use Rattle.aes_ctr.specs.CounterMode.{xored_from}
 use Rattle.sources.specs.Source.{IsRead}
 use Rattle.file_streaming.specs.Gathered.{gathered_more}
@@ -35,8 +36,14 @@ add-requires-clause-block g c =
     c.block_length-size.ensures.value (c.from-3.ensures ∙ c.needed.ensures.value) c.requires.needed c.block_length-size.ensures.range.1 c.block_length-size.ensures.enough
     c.read_part.auto.out).blocks
 
+pub add-requires-clause-wholes : goal.add-requires-clause-wholes
+add-requires-clause-wholes g c = c.requires.wholes ∙ ap (λ n. div_ceil n 8) (sym c.requires.shares)
+
 pub returns-clause-shares : goal.returns-clause-shares
 returns-clause-shares g c = c.in_ok-add.ensures.shares ∙ c.requires.shares
+
+pub returns-clause-wholes : goal.returns-clause-wholes
+returns-clause-wholes g c = c.in_ok-add.ensures.wholes ∙ c.requires.wholes
 
 pub returns-clause-gathered : goal.returns-clause-gathered
 returns-clause-gathered g c =

@@ -1,4 +1,4 @@
-use Rattle.std.proofs.Common.{◌≡◌, ℕ, List, length, ap, sym, subst, ◌∙◌, arith, rules}
+use Rattle.std.proofs.Common.{◌≡◌, ℕ, List, inr, length, ap, sym, subst, ◌∙◌, arith, rules}
 use Rattle.std.specs.Vec.{with_items}
 use Rattle.std.proofs.lemmas.List.{with_items_is}
 use Rattle.share_layout.specs.Geometry.{Geometry}
@@ -40,5 +40,19 @@ returns-clause-passes g c =
         leaves = has.leaves;
         count = has.count;
         shares = has.shares;
+        groups = has.groups;
+        wholes = has.wholes;
       };
+    }
+
+pub returns-then-ne-clause-changed : goal.returns-then-ne-clause-changed
+returns-then-ne-clause-changed g c = λ e.
+    let geometry : Geometry = c.args.geometry.now in
+    let secret : List ℕ = c.args.secret.now in
+    let read = c.in_ok-gathering.ensures.gathered secret c.key_hasher-hasher.ensures in
+    let own = c.finish.ensures geometry.needed geometry.total geometry.segment_size secret read.file read.has.key in
+    inr record {
+      file = read.file;
+      pass = read.pass;
+      other = λ same. let again : c.finish.result ≡ c.args.key = own ∙ same in search rules;
     }

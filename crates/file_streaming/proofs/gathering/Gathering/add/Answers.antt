@@ -1,6 +1,5 @@
 use Rattle.std.proofs.Common.{◌≡◌, ◌-◌, ◌≤◌, replicate, ℕ, List, [], ◌∷◌, ◌++◌, length, take, drop, refl, ap, subst, sym, ◌∙◌, arith}
 use Rattle.std.proofs.lemmas.List.{length-append, length-drop, length-take, length-take-le}
-use Rattle.std.proofs.lemmas.Result.{on_ok_weaker}
 use Rattle.std.proofs.lemmas.List.{with_items_is}
 use Rattle.std.specs.Vec.{with_items}
 use borrow.Rule.Slice.PartMut.{put_mid}
@@ -13,7 +12,8 @@ use Rattle.zfec_code.specs.ShareValue.{share_block}
 use Rattle.file_encoding.proofs.Padding.{rounded_up-over}
 use Rattle.file_encoding.specs.Encoding.{padded_segment}
 use Rattle.file_streaming.specs.declared.shares.ShareSoFar.{ShareSoFar}
-use Rattle.file_streaming.specs.Shares.{HaveBlocksMore}
+use Rattle.file_streaming.specs.Shares.{HaveBlocksMore, HaveWholesMore}
+use Rattle.file_streaming.specs.declared.wholes.WholeHashers.{WholeHashers}
 use Rattle.aes_ctr.proofs.StreamLemmas.{length-xored_from}
 use Rattle.file_streaming.proofs.SecondPass.{cleared, gathered-segment}
 use Rattle.file_streaming.proofs.gathering.Gathering.add.Goals as goal
@@ -37,15 +37,20 @@ returns-clause-gathered c = λ g s secret file same has.
     let is : padded ≡ padded_segment k encrypted = cleared k len (length all - len) c.xor_at.new.text behind c.fill.new.self long refl zeros whole ∙ ap (padded_segment k) c.xor_at.ensures in
     let old : List ShareSoFar = c.args.self.now.shares.items in
     let new : List ShareSoFar = c.add_blocks.new.shares in
+    let old_wholes : List WholeHashers = c.args.self.now.wholes.items in
+    let new_wholes : List WholeHashers = c.add_blocks.new.wholes in
     let block : ℕ → List ℕ = λ i. share_block k i (c.args.size) padded in
     let own : c.deref_mut.result.now ≡ old = c.deref_mut.ensures.value in
-    on_ok_weaker c.add_blocks.result
-    (λ more.
-    let added : HaveBlocksMore block old new = subst (λ (shares : List ShareSoFar). HaveBlocksMore block shares new) own more in
+    let added : HaveBlocksMore block old new = subst (λ (shares : List ShareSoFar). HaveBlocksMore block shares new) own c.in_ok-add_blocks.ensures.shares in
     let written : (with_items c.args.self.now.shares new).items ≡ new = with_items_is c.args.self.now.shares new (omega (arith, added.count, c.args.self.now.shares.ok.0)) in
+    let given : HaveWholesMore (length old) block old_wholes new_wholes =
+    subst (λ (wholes : List WholeHashers). HaveWholesMore (length old) block wholes new_wholes) c.deref_mut-2.ensures.value
+    (subst (λ (shares : List ShareSoFar). HaveWholesMore (length shares) block c.deref_mut-2.result.now new_wholes) own c.in_ok-add_blocks.ensures.wholes) in
+    let written_too : (with_items c.args.self.now.wholes new_wholes).items ≡ new_wholes = with_items_is c.args.self.now.wholes new_wholes (omega (arith, given.count, c.args.self.now.wholes.ok.0)) in
     gathered-segment g k s secret file segment encrypted padded (c.args.size) c.args.self.now _ same c.requires.some has is
     (ap (λ n. rounded_up n k) (sym (ap length c.xor_at.ensures) ∙ long) ∙ sym c.requires.padded ∙ c.requires.block)
     (c.update.ensures g.needed g.total g.segment_size secret file has.key)
     (subst (λ (e : List ℕ). Holds c.update-2.new.self Ciphertext (s.ciphertext ++ e)) c.xor_at.ensures (c.update-2.ensures Ciphertext s.ciphertext has.ciphertext))
     (c.in_ok-push.ensures.items ∙ ap (λ (h : List ℕ). c.args.self.now.leaves.items ++ h ∷ []) (c.tagged.ensures ∙ ap (tagged_hash CiphertextSegment) c.xor_at.ensures))
-    (subst (HaveBlocksMore block old) (sym written) added)) c.add_blocks.ensures
+    (subst (HaveBlocksMore block old) (sym written) added)
+    (subst (HaveWholesMore (length old) block old_wholes) (sym written_too) given)
