@@ -21,7 +21,9 @@
 #           1, `get` may also end with status 5 and `grid: 71 NotEnoughShares` where the call was on
 #           a server's folder: what a server does not give counts as not there.
 # After each `put` a file under a closed name is, byte by byte, the share that stands there without
-# a fault.
+# a fault. A script of a world, an upload, a download and a check of 56 bytes at 3 of 10, is run in
+# the same way where memory is refused: it ends with `grid: 1 OutOfMemory` too, or with an operation
+# that failed, or exactly as without.
 #
 # Each test whose name begins with `refused_memory_` is run alone in the same way, with one
 # allocation after another refused. Such a test passes where the calls that it makes tell that
@@ -170,6 +172,31 @@ each() {
     count
 }
 
+# Whether a script of a world ended as it may where memory is refused: an operation may have failed.
+is_right_world() {
+    is_as_without || is_told 7 'grid: 1 OutOfMemory' ||
+        { [ $status = 0 ] && [ ! -s err ] && grep -q -x -e '[0-2] [a-z]* failed' out; }
+}
+
+# Makes each allocation of a script of a world fail in turn.
+each_of_world() {
+    at=1 told=0 wrong=0
+    while :; do
+        run memory $at "$program" world script
+        if ! is_right_world; then
+            wrong=$((wrong + 1))
+            echo "world: allocation $at ended with status $status: $(head -n 1 err)"
+        elif ! is_as_without; then
+            told=$((told + 1))
+        fi
+        [ -e mark ] || break
+        at=$((at + 1))
+    done
+    echo "world: $((at - 1)) allocations failed in turn; $told runs told it," \
+        "$((at - 1 - told - wrong)) ended as without, $wrong otherwise"
+    count
+}
+
 # Makes each allocation of the test $1 fail in turn.
 each_of_test() {
     at=1 wrong=0
@@ -234,6 +261,20 @@ for numbers in '1 1 56 131072' '3 10 56 131072' '3 10 3000 300'; do
     mv err plain.err
     each memory check "$needed" "$total"
 done
+
+zeros=$(printf %0112d 0)
+printf '%s\n' 'nodes 10' "upload 0 $zeros 3 7 10 131072" drain 'download 1 0' drain 'check 2 0' \
+    drain > script
+run none 0 "$program" world script
+printf '%s\n' '0 upload happy 10' '1 download done 56' > wanted
+if [ $status = 0 ] && head -n 2 out | cmp -s - wanted && grep -q -x 'agree yes' out; then
+    mv out plain.out
+    mv err plain.err
+    each_of_world
+else
+    echo "the script does not end well without a fault: status $status"
+    differed=$((differed + 1))
+fi
 
 for crate in $test_crates; do
     tests=$here/crates/$crate/out/${crate}_tests
