@@ -1,4 +1,4 @@
--- Without a clash one hash alone leads from a place to a root, and to the root of a tree leads the leaf that stands there.
+-- Without a clash one path alone leads from a place to a root, and to the root of a tree leads the leaf that stands there.
 use Rattle.std.proofs.Common.{◌≡◌, ℕ, zero, suc, ◌+◌, ◌-◌, ◌^◌, ◌<◌, ◌≤◌, List, [], ◌∷◌, ◌++◌, length, inl, inr, slice_index_or, Contains, ap, refl, sym, subst, ◌∙◌, arith}
 use Rattle.std.specs.Prelude.{decimal, take, drop}
 use Rattle.std.proofs.lemmas.Bool.{cases_lt}
@@ -12,7 +12,8 @@ use Rattle.tagged_hash.proofs.HashLemmas.{length-double_sha256}
 use Rattle.merkle.proofs.HeightLemmas.{lt_true}
 use Rattle.merkle.specs.Path.{path_root}
 use Rattle.merkle.specs.Tree.{root}
-use Rattle.merkle.specs.Inputs.{AreAmong, AreHashes, LeafAgrees, PathsAgree, path_inputs, root_inputs}
+use Rattle.tagged_hash.specs.Clash.{HasNoClashIn}
+use Rattle.merkle.specs.Inputs.{AreAmong, AreHashes, IsPathAmong, LeafAgrees, PathsAgree, path_inputs, root_inputs}
 
 -- members of lists
 pub member_here : (x : List ℕ) (xs : List (List ℕ)) → Contains (x ∷ xs) x
@@ -78,42 +79,82 @@ root_long (suc m) place h s long =
       | inr high ↦ ap length (root_right m place h s high) ∙ length-double_sha256 _
     ]
 
-head_of : (inputs : List (List ℕ)) (x : List ℕ) (xs : List (List ℕ)) → AreAmong inputs (x ∷ xs) → Contains inputs x
-head_of inputs x xs all = all x (member_here x xs)
+-- ---- one path
 
-tail_of : (inputs : List (List ℕ)) (x : List ℕ) (xs : List (List ℕ)) → AreAmong inputs (x ∷ xs) → AreAmong inputs xs
-tail_of inputs x xs all = λ y c. all y (member_there x y xs c)
+-- all of these are of a kind
+abbrev pub AreOf : (List ℕ → Type 0) → List (List ℕ) → Type 0
+AreOf IsOne these = (input : List ℕ) → Contains these input → IsOne input
 
-pub paths_agree : PathsAgree
-paths_agree inputs no_clash zero place first second these those p q e = e
-paths_agree inputs no_clash (suc m) place first second these those p q e =
+pub head_of : (IsOne : List ℕ → Type 0) (x : List ℕ) (xs : List (List ℕ)) → AreOf IsOne (x ∷ xs) → IsOne x
+head_of IsOne x xs all = all x (member_here x xs)
+
+pub tail_of : (IsOne : List ℕ → Type 0) (x : List ℕ) (xs : List (List ℕ)) → AreOf IsOne (x ∷ xs) → AreOf IsOne xs
+tail_of IsOne x xs all = λ y c. all y (member_there x y xs c)
+
+-- a path of hashes, all that is hashed on it of a kind
+pub record IsPathOf (IsOne : List ℕ → Type 0) (m place : ℕ) (hash : List ℕ) (siblings : List (List ℕ)) : Type 0 where
+  pub hash_length : length hash ≡ 32
+  pub sibling_lengths : (i : ℕ) → i < m → length (slice_index_or siblings i []) ≡ 32
+  pub among : AreOf IsOne (path_inputs m place hash siblings)
+
+-- two paths are one: their hashes, and their siblings
+pub record AreOnePath (m : ℕ) (first second : List ℕ) (these those : List (List ℕ)) : Type 0 where
+  pub hash : first ≡ second
+  pub siblings : (i : ℕ) → i < m → slice_index_or these i [] ≡ slice_index_or those i []
+
+one_more : (m : ℕ) (first second : List ℕ) (these those : List (List ℕ)) → AreOnePath m first second these those
+    → slice_index_or these m [] ≡ slice_index_or those m [] → AreOnePath (suc m) first second these those
+one_more m first second these those one e = record {
+  hash = one.hash;
+  siblings = λ i low. elim (cases_lt i m) [
+    | inl less ↦ one.siblings i less
+    | inr high ↦ let last : i ≡ m = omega (arith, low, high) in
+        ap (λ (n : ℕ). slice_index_or these n []) last ∙ e ∙ ap (λ (n : ℕ). slice_index_or those n []) (sym last)
+  ];
+}
+
+-- without a clash one path alone leads from a place to a root
+pub one_path : (IsOne : List ℕ → Type 0) → HasNoClashIn IsOne → (m place : ℕ) (first second : List ℕ) (these those : List (List ℕ))
+    → IsPathOf IsOne m place first these → IsPathOf IsOne m place second those
+    → path_root m place first these ≡ path_root m place second those → AreOnePath m first second these those
+one_path IsOne no_clash zero place first second these those p q e = record { hash = e; siblings = λ i low. absurd (omega (arith, low)) }
+one_path IsOne no_clash (suc m) place first second these those p q e =
     let fewer : (i : ℕ) → i < m → i < suc m = λ i low. omega (arith, low) in
     elim (cases_lt place (2 ^ m)) [
       | inl low ↦
-          let mine = subst (AreAmong inputs) (inputs_left m place first these low) p.among in
-          let yours = subst (AreAmong inputs) (inputs_left m place second those low) q.among in
+          let mine = subst (AreOf IsOne) (inputs_left m place first these low) p.among in
+          let yours = subst (AreOf IsOne) (inputs_left m place second those low) q.among in
           let hashes = sym (root_left m place first these low) ∙ e ∙ root_left m place second those low in
-          let one = no_clash _ _ (head_of inputs _ _ mine) (head_of inputs _ _ yours) hashes in
+          let one = no_clash _ _ (head_of IsOne _ _ mine) (head_of IsOne _ _ yours) hashes in
           let below = pair_same _ _ _ _ (root_long m place first these p.hash_length) (root_long m place second those q.hash_length)
           (p.sibling_lengths m (omega arith)) (q.sibling_lengths m (omega arith)) one in
-          paths_agree inputs no_clash m place first second these those
-          record { hash_length = p.hash_length; sibling_lengths = λ i l. p.sibling_lengths i (fewer i l); among = tail_of inputs _ _ mine }
-          record { hash_length = q.hash_length; sibling_lengths = λ i l. q.sibling_lengths i (fewer i l); among = tail_of inputs _ _ yours } below.0
+          one_more m first second these those (one_path IsOne no_clash m place first second these those
+          record { hash_length = p.hash_length; sibling_lengths = λ i l. p.sibling_lengths i (fewer i l); among = tail_of IsOne _ _ mine }
+          record { hash_length = q.hash_length; sibling_lengths = λ i l. q.sibling_lengths i (fewer i l); among = tail_of IsOne _ _ yours } below.0) below.1
       | inr high ↦
-          let mine = subst (AreAmong inputs) (inputs_right m place first these high) p.among in
-          let yours = subst (AreAmong inputs) (inputs_right m place second those high) q.among in
+          let mine = subst (AreOf IsOne) (inputs_right m place first these high) p.among in
+          let yours = subst (AreOf IsOne) (inputs_right m place second those high) q.among in
           let hashes = sym (root_right m place first these high) ∙ e ∙ root_right m place second those high in
-          let one = no_clash _ _ (head_of inputs _ _ mine) (head_of inputs _ _ yours) hashes in
+          let one = no_clash _ _ (head_of IsOne _ _ mine) (head_of IsOne _ _ yours) hashes in
           let below = pair_same _ _ _ _ (p.sibling_lengths m (omega arith)) (q.sibling_lengths m (omega arith))
           (root_long m (place - 2 ^ m) first these p.hash_length) (root_long m (place - 2 ^ m) second those q.hash_length) one in
-          paths_agree inputs no_clash m (place - 2 ^ m) first second these those
-          record { hash_length = p.hash_length; sibling_lengths = λ i l. p.sibling_lengths i (fewer i l); among = tail_of inputs _ _ mine }
-          record { hash_length = q.hash_length; sibling_lengths = λ i l. q.sibling_lengths i (fewer i l); among = tail_of inputs _ _ yours } below.1
+          one_more m first second these those (one_path IsOne no_clash m (place - 2 ^ m) first second these those
+          record { hash_length = p.hash_length; sibling_lengths = λ i l. p.sibling_lengths i (fewer i l); among = tail_of IsOne _ _ mine }
+          record { hash_length = q.hash_length; sibling_lengths = λ i l. q.sibling_lengths i (fewer i l); among = tail_of IsOne _ _ yours } below.1) below.0
     ]
+
+-- where the kind is that of a list
+pub path_of : (inputs : List (List ℕ)) (m place : ℕ) (hash : List ℕ) (siblings : List (List ℕ)) → IsPathAmong inputs m place hash siblings
+    → IsPathOf (Contains inputs) m place hash siblings
+path_of inputs m place hash siblings p = record { hash_length = p.hash_length; sibling_lengths = p.sibling_lengths; among = p.among }
+
+pub paths_agree : PathsAgree
+paths_agree inputs no_clash m place first second these those p q e =
+    (one_path (Contains inputs) no_clash m place first second these those (path_of inputs m place first these p) (path_of inputs m place second those q) e).hash
 
 -- ---- a tree's own leaf
 
-tree_long : (m : ℕ) (hashes : List (List ℕ)) → length hashes ≡ 2 ^ m → AreHashes hashes → length (root m hashes) ≡ 32
+pub tree_long : (m : ℕ) (hashes : List (List ℕ)) → length hashes ≡ 2 ^ m → AreHashes hashes → length (root m hashes) ≡ 32
 tree_long zero hashes full are = are 0 [] (omega (arith, full))
 tree_long (suc m) hashes full are = length-double_sha256 _
 
@@ -128,25 +169,25 @@ leaf_agrees inputs no_clash (suc m) place hashes hash siblings low full are amon
     let back : length (drop (2 ^ m) hashes) ≡ 2 ^ m = omega (arith, length-drop (2 ^ m) hashes, full, twice) in
     let are_front : AreHashes (take (2 ^ m) hashes) = All-take (λ (h : List ℕ). length h ≡ 32) (2 ^ m) hashes are in
     let are_back : AreHashes (drop (2 ^ m) hashes) = All-drop (λ (h : List ℕ). length h ≡ 32) (2 ^ m) hashes are in
-    let below : AreAmong inputs (root_inputs m (take (2 ^ m) hashes) ++ root_inputs m (drop (2 ^ m) hashes)) = tail_of inputs _ _ among in
+    let below : AreAmong inputs (root_inputs m (take (2 ^ m) hashes) ++ root_inputs m (drop (2 ^ m) hashes)) = tail_of (Contains inputs) _ _ among in
     elim (cases_lt place (2 ^ m)) [
       | inl left ↦
           let mine = subst (AreAmong inputs) (inputs_left m place hash siblings left) p.among in
-          let one = no_clash _ _ (head_of inputs _ _ among) (head_of inputs _ _ mine) (e ∙ root_left m place hash siblings left) in
+          let one = no_clash _ _ (head_of (Contains inputs) _ _ among) (head_of (Contains inputs) _ _ mine) (e ∙ root_left m place hash siblings left) in
           let same = pair_same _ _ _ _ (tree_long m (take (2 ^ m) hashes) front are_front) (root_long m place hash siblings p.hash_length)
           (tree_long m (drop (2 ^ m) hashes) back are_back) (p.sibling_lengths m (omega arith)) one in
           leaf_agrees inputs no_clash m place (take (2 ^ m) hashes) hash siblings left front are_front
           (λ x c. below x (Contains-append_left (root_inputs m (take (2 ^ m) hashes)) (root_inputs m (drop (2 ^ m) hashes)) x c))
-          record { hash_length = p.hash_length; sibling_lengths = λ i l. p.sibling_lengths i (fewer i l); among = tail_of inputs _ _ mine } same.0
+          record { hash_length = p.hash_length; sibling_lengths = λ i l. p.sibling_lengths i (fewer i l); among = tail_of (Contains inputs) _ _ mine } same.0
           ∙ get_or-take (2 ^ m) hashes place [] left
       | inr right ↦
           let mine = subst (AreAmong inputs) (inputs_right m place hash siblings right) p.among in
-          let one = no_clash _ _ (head_of inputs _ _ among) (head_of inputs _ _ mine) (e ∙ root_right m place hash siblings right) in
+          let one = no_clash _ _ (head_of (Contains inputs) _ _ among) (head_of (Contains inputs) _ _ mine) (e ∙ root_right m place hash siblings right) in
           let same = pair_same _ _ _ _ (tree_long m (take (2 ^ m) hashes) front are_front) (p.sibling_lengths m (omega arith))
           (tree_long m (drop (2 ^ m) hashes) back are_back) (root_long m (place - 2 ^ m) hash siblings p.hash_length) one in
           let again : 2 ^ m + (place - 2 ^ m) ≡ place = omega (arith, right) in
           leaf_agrees inputs no_clash m (place - 2 ^ m) (drop (2 ^ m) hashes) hash siblings (omega (arith, low, right, twice)) back are_back
           (λ x c. below x (Contains-append_right (root_inputs m (take (2 ^ m) hashes)) (root_inputs m (drop (2 ^ m) hashes)) x c))
-          record { hash_length = p.hash_length; sibling_lengths = λ i l. p.sibling_lengths i (fewer i l); among = tail_of inputs _ _ mine } same.1
+          record { hash_length = p.hash_length; sibling_lengths = λ i l. p.sibling_lengths i (fewer i l); among = tail_of (Contains inputs) _ _ mine } same.1
           ∙ get_or-drop (2 ^ m) hashes (place - 2 ^ m) [] ∙ ap (λ (n : ℕ). slice_index_or hashes n []) again
     ]

@@ -14,10 +14,10 @@ use Rattle.merkle.specs.Inputs.{AreHashes, node_input, path_inputs}
 use Rattle.merkle.specs.Known.{IsKnownInput, KnownPathsAreKnown, KnowsHashes}
 use Rattle.merkle.specs.Partial.{IsExtended, IsPartial, Known, PartialState, Takes, all_known, ancestor, is_padding, known_at, known_by, known_siblings, leaf_number, only_root, padding, padding_hash, parent, place_in_row, row_of, starting}
 use Rattle.merkle.specs.Path.{path_root}
-use Rattle.merkle.specs.Tree.{height, node, node_count, padded_to, root, sibling_number}
+use Rattle.merkle.specs.Tree.{height, node, node_count, node_number, padded_to, root, sibling_number}
 use Rattle.merkle.proofs.HeightLemmas.{height_below, height_room}
 use Rattle.merkle.proofs.InputLemmas.{inputs_left, inputs_right}
-use Rattle.merkle.proofs.PaddingLemmas.{place_inside, row_low}
+use Rattle.merkle.proofs.PaddingLemmas.{place_inside, row_begins, row_low}
 use Rattle.merkle.proofs.PartialLemmas.{known-untold, one_value}
 use Rattle.merkle.proofs.StateLemmas.{children_left, children_right, only_root-none, sibling_known}
 use Rattle.merkle.proofs.TreeLemmas.{node-leaf, padded_to-empty}
@@ -38,11 +38,14 @@ module _ (n number : ℕ) (inside : number < node_count n) where
   below : number + 1 < 2 ^ (height n + 1)
   below = let double = next_power (height n) in omega (arith, inside, double)
 
-  row_within : row_of number ≤ height n
+  pub row_within : row_of number ≤ height n
   row_within = row_low (height n) number (height (number + 2)) below (height_room (number + 2)) least
 
-  place_within : place_in_row number < 2 ^ row_of number
+  pub place_within : place_in_row number < 2 ^ row_of number
   place_within = place_inside (height n) number (height (number + 2)) below (height_room (number + 2)) least
+
+  pub number_is : number ≡ node_number (row_of number) (place_in_row number)
+  number_is = let begins = row_begins (height n) number (height (number + 2)) below (height_room (number + 2)) least in omega (arith, begins, pow_pos (row_of number))
 
   pub padding_long : length (padding_hash n number) ≡ 32
   padding_long = elim (cases_lt (row_of number) (height n)) [

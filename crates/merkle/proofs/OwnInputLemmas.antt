@@ -19,7 +19,7 @@ use Rattle.merkle.proofs.TreeLemmas.{length-padded_to, padded_to-leaf, tree_node
 -- ---- the nodes of the halves
 
 -- a node's part of the leaves ends within them
-part_within : (m row place : ℕ) → row ≤ m → place < 2 ^ row → place * 2 ^ (m - row) + 2 ^ (m - row) ≤ 2 ^ m
+pub part_within : (m row place : ℕ) → row ≤ m → place < 2 ^ row → place * 2 ^ (m - row) + 2 ^ (m - row) ≤ 2 ^ m
 part_within m row place low inside =
     let w : ℕ = 2 ^ (m - row) in
     let sum : row + (m - row) ≡ m = omega arith in
@@ -54,11 +54,11 @@ node_right m hashes row place low =
     ∙ ap (λ (l : List (List ℕ)). root q (take (2 ^ q) l)) (sym (drop-drop (place * 2 ^ q) (2 ^ m) hashes))
 
 -- the input of a node, from its two children
-abbrev children_input : ℕ → List (List ℕ) → ℕ → ℕ → List ℕ
+abbrev pub children_input : ℕ → List (List ℕ) → ℕ → ℕ → List ℕ
 children_input m hashes row place = node_input (node m hashes (row + 1) (2 * place)) (node m hashes (row + 1) (2 * place + 1))
 
 -- what is hashed for an inner node is hashed for the root
-children_among : (m : ℕ) (hashes : List (List ℕ)) (row place : ℕ) → length hashes ≡ 2 ^ m → row < m → place < 2 ^ row
+pub children_among : (m : ℕ) (hashes : List (List ℕ)) (row place : ℕ) → length hashes ≡ 2 ^ m → row < m → place < 2 ^ row
     → Contains (root_inputs m hashes) (children_input m hashes row place)
 children_among zero hashes row place full low inside = absurd (omega arith)
 children_among (suc m) hashes zero place full low inside =

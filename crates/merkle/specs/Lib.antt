@@ -6,6 +6,7 @@ pub mod Nodes
 pub mod Partial
 pub mod Known
 pub mod OneTree
+pub mod Offers
 pub mod Error
 pub mod OfferError
 -- words of private clauses

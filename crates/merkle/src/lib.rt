@@ -19,8 +19,11 @@ mod tree;
 pub use error::{OfferError, TreeError};
 pub use nodes::are_tree_nodes;
 pub use numbers::{height, needed_number, node_number, sibling, sibling_number};
-pub use one_tree::{siblings_agree, trees_agree};
+pub use one_tree::{known_nodes_are_own, siblings_agree, trees_agree};
 pub use padding::Padding;
-pub use partial::{Partial, known_leaves_give_the_root, known_leaves_lead, known_paths_are_known};
+pub use partial::{
+    Partial, known_leaves_give_the_root, known_leaves_lead, known_paths_are_known,
+    own_nodes_are_consistent,
+};
 pub use path::{check_path, leaf_agrees, own_paths_are_within, paths_agree, siblings_lead};
 pub use tree::Tree;

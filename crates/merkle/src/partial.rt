@@ -4,6 +4,7 @@ ghost use Rattle.std.specs.Prelude.{◌≡◌, ◌<◌, ◌≤◌, ◌^◌, ℕ,
 ghost use Rattle.std.specs.Prelude.{IfOk, IfSome, IsOkUnless, OnErr, OnOk};
 ghost use Rattle.merkle.specs.Path.{LeadsBy};
 ghost use Rattle.merkle.specs.Known.{KnownPathsAreKnown};
+ghost use Rattle.merkle.specs.Offers.{OwnNodesAreConsistent};
 ghost use Rattle.merkle.specs.Partial.{IsNotConsistent, IsPartial, KnownLeavesGiveTheRoot};
 ghost use Rattle.merkle.specs.Partial.{KnownLeavesLead, PartialState, Takes, known_at};
 ghost use Rattle.merkle.specs.Partial.{known_siblings, leaf_number, missing_numbers, starting};
@@ -168,4 +169,11 @@ pub fn known_leaves_give_the_root()
 /// input of a node whose two children are known. The law is the contract; the call does nothing.
 pub fn known_paths_are_known()
     ensures { KnownPathsAreKnown }
+{}
+
+/// A law of the definitions: nodes of a tree, each with its sibling, are not refused as not
+/// consistent where all that is known are nodes of that tree. The law is the contract; the call
+/// does nothing.
+pub fn own_nodes_are_consistent()
+    ensures { OwnNodesAreConsistent }
 {}
