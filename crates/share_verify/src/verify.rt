@@ -15,6 +15,10 @@ use cap_text::VerifyCap;
 /// share's own header; `OtherUeb` and `Ueb` (42), where it is not the cap's; `Layout` (40), where
 /// the string is no share of this number under the extension block's geometry; `Unused` (41),
 /// `CiphertextTree` (43), `BlockTree` (44), `ShareHashes` (45), `Data` (46).
+///
+/// A string that passes for the verify cap of a file's encoding is the encoding's share of that
+/// number, byte for byte, where no two different strings among the hash inputs of the encoding and
+/// of this share have one hash. So the law `file_shares_are_bound` of `file_encoding` says.
 pub fn verify_share(cap: &VerifyCap, num: u16, share: &[u8]) -> Result<(), ShareFault>
     ensures sound { IsOk result ↔ IsSoundShare cap.now num share.now }
     ensures refused { (fault : ShareFault) → (result ≡ Err fault)
