@@ -1,5 +1,5 @@
 -- Without a clash a share that passes for the cap of an encoding is the encoding's.
-use Rattle.std.proofs.Common.{◌≡◌, ℕ, ◌+◌, ◌*◌, ◌/◌, ◌^◌, ◌<◌, ◌≤◌, List, [], ◌∷◌, ◌++◌, Some, length, map, get_or, replicate, unwrap_or, ap, refl, subst, sym, ◌∙◌, arith, zero-add}
+use Rattle.std.proofs.Common.{◌≡◌, ℕ, ◌+◌, ◌*◌, ◌/◌, ◌^◌, ◌<◌, ◌≤◌, List, [], ◌++◌, Some, length, map, get_or, replicate, unwrap_or, Contains, ap, refl, subst, sym, ◌∙◌, arith, zero-add}
 use Rattle.std.specs.Prelude.{All}
 use Rattle.std.specs.Int.{w16, to_be_bytes}
 use Rattle.std.specs.List.{flat_map, range_with_len}
@@ -8,9 +8,9 @@ use Rattle.std.proofs.lemmas.List.FromFn.{get_or-map-range_with_len, length-map-
 use Rattle.aes_ctr.specs.CounterMode.{xored}
 use Rattle.aes_ctr.proofs.StreamLemmas.{length-xored_from}
 use Rattle.tagged_hash.specs.Clash.{HasNoClash}
-use Rattle.tagged_hash.specs.ConvergentKey.{convergent_key_of, key_input}
+use Rattle.tagged_hash.specs.ConvergentKey.{convergent_key_of}
 use Rattle.tagged_hash.specs.TaggedHash.{tagged_input}
-use Rattle.tagged_hash.specs.declared.tag.Tag.TheVariants.{Block, ExtensionBlock, StorageIndex, WholeShare}
+use Rattle.tagged_hash.specs.declared.tag.Tag.TheVariants.{Block, ExtensionBlock}
 use Rattle.merkle.proofs.HeightLemmas.{height_below, height_room}
 use Rattle.merkle.proofs.InputLemmas.{member_there, paths_agree}
 use Rattle.merkle.proofs.NumberLemmas.{length-needed_numbers}
@@ -42,9 +42,11 @@ use Rattle.file_encoding.specs.Encoding.{ciphertext_encoding, encoding_of, exten
 use Rattle.file_encoding.specs.Inputs.{ciphertext_inputs}
 use Rattle.file_encoding.proofs.OwnShares.{ciphertext_shares_pass, length-tree_root}
 use Rattle.merkle.proofs.OneTree.{siblings_agree, trees_agree}
-use Rattle.file_encoding.specs.Binding.{CiphertextSharesAreBound, FileSharesAreBound}
+use Rattle.file_encoding.specs.Binding.{CiphertextSharesAreBound, FileSharesAreBound, OwnSharesAreWithin}
 use Rattle.file_encoding.proofs.BoundBlocks.{joined_pieces, same_data}
 use Rattle.file_encoding.proofs.BoundEntries.{carried_long, section_is}
+use Rattle.file_encoding.proofs.OwnEvidence.{ciphertext_among}
+use Rattle.file_encoding.proofs.OwnShareInputs.{own_share_is_within, sections}
 use Rattle.file_encoding.proofs.RisingNumbers.{beside, needed_are_numbers, on_way, own}
 use Rattle.file_encoding.proofs.BoundOwn.{block_among, block_leaves, block_tree_among, blocks_among, blocks_fit, ciphertext_tree_among, leaf_is, leaves_of_shares, length-block_leaves, length-segment_leaves, length-share_leaves, own_blocks, said, segment_leaves, share_tree_among}
 
@@ -118,7 +120,7 @@ module _ (inputs : List (List ℕ)) (no_clash : HasNoClash inputs) (g : Geometry
         let same = trees_agree inputs no_clash tree.leaves (segment_hashes segments) tree.holds.hashes (segment_leaves g ciphertext)
         (tree.count ∙ sym (length-segment_leaves g ciphertext))
         (subst (λ (l : List (List ℕ)). AreAmong inputs (tree_inputs l)) held their_ciphertext_tree)
-        (ciphertext_tree_among g ciphertext inputs mine) tree.root in
+        (ciphertext_tree_among g ciphertext (Contains inputs) mine) tree.root in
         tree.holds.nodes ∙ ap (λ (l : List (List ℕ)). joined (tree_nodes l)) same
 
     -- the two ways to the root over all shares
@@ -166,7 +168,7 @@ module _ (inputs : List (List ℕ)) (no_clash : HasNoClash inputs) (g : Geometry
           (omega (arith, below, height_is, length-map-range_with_len (λ j. get_or (tree_nodes leaves) (sibling_number (height (length leaves)) num j) []) 0 (height (length leaves))));
       among =
           subst (λ (h : ℕ). AreAmong inputs (path_inputs h num (get_or leaves num []) (siblings_of leaves num))) height_is
-          (λ x c. share_tree_among g ciphertext inputs mine x (own_paths_are_within leaves num inside x c));
+          (λ x c. share_tree_among g ciphertext (Contains inputs) mine x (own_paths_are_within leaves num inside x c));
     }
 
     one_root : path_root m num (root_in s.block_tree) given ≡ path_root m num (get_or leaves num []) (siblings_of leaves num)
@@ -183,7 +185,7 @@ module _ (inputs : List (List ℕ)) (no_clash : HasNoClash inputs) (g : Geometry
         trees_agree inputs no_clash (block_hashes (blocks_in u s)) (block_hashes (own_blocks g ciphertext num)) sound.sections.blocks.hashes (block_leaves g ciphertext num)
         (length-block_hashes (segment_count g) (block_size g) s.blocks ∙ sym (length-block_leaves g ciphertext num))
         (subst (λ (l : List (List ℕ)). AreAmong inputs (tree_inputs l)) lead.blocks their_block_tree)
-        (block_tree_among g ciphertext inputs mine num low)
+        (block_tree_among g ciphertext (Contains inputs) mine num low)
         (root_is ∙ leaf_same ∙ leaf_is g ciphertext num low)
 
     block_tree_is : s.block_tree ≡ joined (tree_nodes (block_hashes (own_blocks g ciphertext num)))
@@ -191,7 +193,7 @@ module _ (inputs : List (List ℕ)) (no_clash : HasNoClash inputs) (g : Geometry
 
     blocks_are : s.blocks ≡ joined (own_blocks g ciphertext num)
     blocks_are =
-        let same = same_data inputs no_clash Block (blocks_in u s) (own_blocks g ciphertext num) their_blocks (blocks_among g ciphertext inputs mine num low) hashes_same in
+        let same = same_data inputs no_clash Block (blocks_in u s) (own_blocks g ciphertext num) their_blocks (blocks_among g ciphertext (Contains inputs) mine num low) hashes_same in
         sym (joined_pieces (segment_count g) (block_size g) s.blocks (omega (arith, sound.reads.layout.lengths.blocks, blocks_fit g shape)))
         ∙ ap joined same
 
@@ -254,7 +256,7 @@ shares_are_bound inputs no_clash g key ciphertext shape whole mine num share u s
     let own_ueb : IsUebFor cap (ueb_text v) v = (ciphertext_shares_pass g key ciphertext shape whole 0 low).reads.ueb in
     let ueb = among.sound.reads.ueb in
     let block : s.extension_block ≡ ueb_text v =
-    data_agrees inputs no_clash ExtensionBlock s.extension_block (ueb_text v) (among.among (tagged_input ExtensionBlock s.extension_block) (0, omega arith, refl)) (block_among g ciphertext inputs mine) (ueb.hash ∙ sym own_ueb.hash) in
+    data_agrees inputs no_clash ExtensionBlock s.extension_block (ueb_text v) (among.among (tagged_input ExtensionBlock s.extension_block) (0, omega arith, refl)) (block_among g ciphertext (Contains inputs) mine) (ueb.hash ∙ sym own_ueb.hash) in
     let same : u ≡ v = one_ueb cap (ueb_text v) u v (subst (λ (x : List ℕ). IsUebFor cap x u) block ueb) own_ueb in
     let sound : IsSound cap num share v s = subst (λ (w : Contents). IsSound cap num share w s) same among.sound in
     let theirs : AreAmong inputs (share_inputs v num s) = subst (λ (w : Contents). AreAmong inputs (share_inputs w num s)) same among.among in
@@ -272,9 +274,20 @@ unfolding encoding_of
 file_shares_are_bound inputs no_clash file secret p shape mine num share u s among =
     let g = geometry_of (length file) p.needed p.total p.max_segment in
     let key = convergent_key_of p.needed p.total g.segment_size secret file in
-    let ciphertext = xored key file in
-    (shares_are_bound inputs no_clash g key ciphertext shape (length-xored_from key 0 file)
-    (λ x c. mine x (Contains-append_left (key_input p.needed p.total g.segment_size secret file ∷ tagged_input StorageIndex key ∷ ciphertext_inputs g ciphertext)
-    (map (tagged_input WholeShare) (encoding_of file secret p).shares) x
-    (member_there (key_input p.needed p.total g.segment_size secret file) x (tagged_input StorageIndex key ∷ ciphertext_inputs g ciphertext)
-    (member_there (tagged_input StorageIndex key) x (ciphertext_inputs g ciphertext) c)))) num share u s among).bytes
+    (shares_are_bound inputs no_clash g key (xored key file) shape (length-xored_from key 0 file)
+    (λ x c. mine x (ciphertext_among file secret p x c)) num share u s among).bytes
+
+pub own_shares_are_within : OwnSharesAreWithin
+unfolding encoding_of
+own_shares_are_within file secret p shape num low =
+    let g = geometry_of (length file) p.needed p.total p.max_segment in
+    let key = convergent_key_of p.needed p.total g.segment_size secret file in
+    let ciphertext : List ℕ = xored key file in
+    let whole : length ciphertext ≡ g.size = length-xored_from key 0 file in (
+      said g ciphertext,
+      sections g ciphertext shape whole num low,
+      record {
+        sound = ciphertext_shares_pass g key ciphertext shape whole num low;
+        among = λ x c. ciphertext_among file secret p x (own_share_is_within g ciphertext shape whole num low x c);
+      },
+    )

@@ -9,8 +9,8 @@ use Rattle.std.proofs.lemmas.Nat.{div-add-mod'}
 use Rattle.tagged_hash.proofs.HashLemmas.{length-double_sha256}
 use Rattle.tagged_hash.specs.TaggedHash.{tagged_hash, tagged_input}
 use Rattle.tagged_hash.specs.declared.tag.Tag.TheVariants.{Block, Ciphertext, CiphertextSegment, ExtensionBlock}
-use Rattle.merkle.proofs.InputLemmas.{member_there}
-use Rattle.merkle.specs.Inputs.{AreAmong, AreHashes, tree_inputs}
+use Rattle.merkle.proofs.InputLemmas.{AreOf, member_there}
+use Rattle.merkle.specs.Inputs.{AreHashes, tree_inputs}
 use Rattle.merkle.specs.Tree.{tree_root}
 use Rattle.ueb.specs.Block.{ueb_text}
 use Rattle.ueb.specs.Shape.{Contents, IsShape}
@@ -63,7 +63,7 @@ module _ (g : Geometry) (ciphertext : List ℕ) where
   pub leaf_is : (i : ℕ) → i < g.total → get_or (share_leaves g segments) i [] ≡ own_leaf i
   leaf_is i low = get_or-map-range_with_len own_leaf 0 g.total i i [] low (zero-add i)
 
-  -- ---- among what the encoding hashes
+  -- ---- all of a kind where what the encoding hashes is
 
   abbrev first : List (List ℕ)
   first = tagged_input Ciphertext ciphertext ∷ tagged_input ExtensionBlock (ueb_text said) ∷ segments_inputs segments
@@ -71,38 +71,38 @@ module _ (g : Geometry) (ciphertext : List ℕ) where
   abbrev all_blocks : List (List ℕ)
   all_blocks = flat_map (λ i. blocks_inputs (own_blocks i)) (range_with_len 0 g.total)
 
-  module _ (inputs : List (List ℕ)) (mine : AreAmong inputs (ciphertext_inputs g ciphertext)) where
-    pub block_among : Contains inputs (tagged_input ExtensionBlock (ueb_text said))
+  module _ (IsOne : List ℕ → Type 0) (mine : AreOf IsOne (ciphertext_inputs g ciphertext)) where
+    pub block_among : IsOne (tagged_input ExtensionBlock (ueb_text said))
     block_among =
         mine (tagged_input ExtensionBlock (ueb_text said))
         (Contains-append_left (first ++ tree_inputs (share_leaves g segments)) all_blocks (tagged_input ExtensionBlock (ueb_text said))
         (Contains-append_left first (tree_inputs (share_leaves g segments)) (tagged_input ExtensionBlock (ueb_text said)) (1, omega arith, refl)))
 
-    pub segments_among : AreAmong inputs (segments_inputs segments)
+    pub segments_among : AreOf IsOne (segments_inputs segments)
     segments_among x c =
         mine x (Contains-append_left (first ++ tree_inputs (share_leaves g segments)) all_blocks x
         (Contains-append_left first (tree_inputs (share_leaves g segments)) x
         (member_there (tagged_input Ciphertext ciphertext) x (tagged_input ExtensionBlock (ueb_text said) ∷ segments_inputs segments)
         (member_there (tagged_input ExtensionBlock (ueb_text said)) x (segments_inputs segments) c))))
 
-    pub ciphertext_tree_among : AreAmong inputs (tree_inputs (segment_hashes segments))
+    pub ciphertext_tree_among : AreOf IsOne (tree_inputs (segment_hashes segments))
     ciphertext_tree_among x c = segments_among x (Contains-append_right (map (tagged_input CiphertextSegment) segments) (tree_inputs (segment_hashes segments)) x c)
 
-    pub share_tree_among : AreAmong inputs (tree_inputs (share_leaves g segments))
+    pub share_tree_among : AreOf IsOne (tree_inputs (share_leaves g segments))
     share_tree_among x c =
         mine x (Contains-append_left (first ++ tree_inputs (share_leaves g segments)) all_blocks x
         (Contains-append_right first (tree_inputs (share_leaves g segments)) x c))
 
-    all_of : (i : ℕ) → i < g.total → AreAmong inputs (blocks_inputs (own_blocks i))
+    all_of : (i : ℕ) → i < g.total → AreOf IsOne (blocks_inputs (own_blocks i))
     all_of i low x c =
         mine x (Contains-append_right (first ++ tree_inputs (share_leaves g segments)) all_blocks x
         (flat_map_has (λ j. blocks_inputs (own_blocks j)) (range_with_len 0 g.total) i x (omega (arith, length-range_with_len 0 g.total, low))
         (subst (λ (j : ℕ). Contains (blocks_inputs (own_blocks j)) x) (sym (get_or-range_with_len 0 g.total i 0 low ∙ zero-add i)) c)))
 
-    pub blocks_among : (i : ℕ) → i < g.total → AreAmong inputs (map (tagged_input Block) (own_blocks i))
+    pub blocks_among : (i : ℕ) → i < g.total → AreOf IsOne (map (tagged_input Block) (own_blocks i))
     blocks_among i low x c = all_of i low x (Contains-append_left (map (tagged_input Block) (own_blocks i)) (tree_inputs (block_hashes (own_blocks i))) x c)
 
-    pub block_tree_among : (i : ℕ) → i < g.total → AreAmong inputs (tree_inputs (block_hashes (own_blocks i)))
+    pub block_tree_among : (i : ℕ) → i < g.total → AreOf IsOne (tree_inputs (block_hashes (own_blocks i)))
     block_tree_among i low x c = all_of i low x (Contains-append_right (map (tagged_input Block) (own_blocks i)) (tree_inputs (block_hashes (own_blocks i))) x c)
 
 -- a share's blocks are no longer than so many whole ones

@@ -29,6 +29,8 @@ pub mod BoundEntries
 pub mod RisingNumbers
 pub mod BoundBlocks
 pub mod BoundOwn
+pub mod OwnShareInputs
+pub mod BoundSegments
 pub mod Binding
 pub mod RemadePassing
 pub mod RemadeOwn

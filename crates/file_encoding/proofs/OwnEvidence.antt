@@ -1,24 +1,24 @@
 -- What own evidence hashes is hashed for the encoding.
-use Rattle.std.proofs.Common.{◌≡◌, ℕ, suc, List, [], ◌∷◌, ◌++◌, length, map, inl, inr, subst, arith}
+use Rattle.std.proofs.Common.{◌≡◌, ℕ, suc, List, [], ◌∷◌, length, map, inl, inr, subst, arith}
 use Rattle.std.specs.Prelude.{All, Contains, slice_index_or}
-use Rattle.std.specs.List.{flat_map, range_with_len}
+use Rattle.std.specs.List.{flat_map}
 use Rattle.std.proofs.lemmas.List.Elements.{Contains-append_cases, Contains-append_left}
 use Rattle.lemmas.proofs.Members.{contains_cases}
 use Rattle.aes_ctr.specs.CounterMode.{xored}
-use Rattle.merkle.specs.Inputs.{AreAmong, tree_inputs}
+use Rattle.merkle.specs.Inputs.{AreAmong}
 use Rattle.tagged_hash.specs.ConvergentKey.{convergent_key_of, key_input}
 use Rattle.tagged_hash.specs.TaggedHash.{tagged_input}
-use Rattle.tagged_hash.specs.declared.tag.Tag.TheVariants.{Ciphertext, ExtensionBlock, StorageIndex, WholeShare}
-use Rattle.share_layout.specs.Geometry.{Geometry, geometry_of}
+use Rattle.tagged_hash.specs.declared.tag.Tag.TheVariants.{ExtensionBlock, StorageIndex, WholeShare}
+use Rattle.share_layout.specs.Geometry.{geometry_of}
 use Rattle.share_layout.specs.Pieces.{segments_of}
-use Rattle.merkle.proofs.InputLemmas.{member_here, member_there}
-use Rattle.proved_parts.specs.Evidence.{segment_inputs, segments_inputs}
+use Rattle.merkle.proofs.InputLemmas.{member_there}
+use Rattle.proved_parts.specs.Evidence.{segment_inputs}
 use Rattle.proved_parts.specs.declared.evidence.EvidencePart.{EvidencePart}
 use Rattle.proved_parts.proofs.OwnParts.{own_parts_are_within}
-use Rattle.file_encoding.specs.Inputs.{blocks_inputs, ciphertext_inputs, encoding_inputs}
-use Rattle.file_encoding.specs.Encoding.{Parameters, blocks_of, encoding_of, extension_block_contents, share_leaves}
-use Rattle.ueb.specs.Block.{ueb_text}
+use Rattle.file_encoding.specs.Inputs.{ciphertext_inputs, encoding_inputs}
+use Rattle.file_encoding.specs.Encoding.{Parameters, encoding_of}
 use Rattle.file_encoding.specs.Parts.{OwnEvidenceIsWithin, OwnTreesAreWithin}
+use Rattle.file_encoding.proofs.BoundOwn.{block_among, segments_among}
 
 -- what all parts hash is among some inputs where what each of them does is
 flat_among : (inputs : List (List ℕ)) (f : EvidencePart → List (List ℕ)) (ps : List EvidencePart)
@@ -30,35 +30,8 @@ flat_among inputs f (p ∷ ps) all input c =
       | inr rest ↦ flat_among inputs f ps (λ k d low. all (suc k) d (omega (arith, low))) input rest
     ]
 
--- the segments and their tree, and the extension block, are among what the encoding hashes
-module _ (g : Geometry) (ciphertext : List ℕ) where
-  own_block : List ℕ
-  own_block = ueb_text (extension_block_contents g ciphertext (segments_of g ciphertext))
-
-  first_among : (input : List ℕ) → Contains (tagged_input Ciphertext ciphertext ∷ tagged_input ExtensionBlock own_block ∷ segments_inputs (segments_of g ciphertext)) input
-      → Contains (ciphertext_inputs g ciphertext) input
-  unfolding own_block
-  first_among input c =
-      let first : List (List ℕ) = tagged_input Ciphertext ciphertext ∷ tagged_input ExtensionBlock own_block ∷ segments_inputs (segments_of g ciphertext) in
-      let trees : List (List ℕ) = tree_inputs (share_leaves g (segments_of g ciphertext)) in
-      let blocks : List (List ℕ) = flat_map (λ i. blocks_inputs (blocks_of g.needed i (segments_of g ciphertext))) (range_with_len 0 g.total) in
-      Contains-append_left (first ++ trees) blocks input (Contains-append_left first trees input c)
-
-  segments_among : AreAmong (ciphertext_inputs g ciphertext) (segments_inputs (segments_of g ciphertext))
-  segments_among input c =
-      first_among input
-      (member_there (tagged_input Ciphertext ciphertext) input (tagged_input ExtensionBlock own_block ∷ segments_inputs (segments_of g ciphertext))
-      (member_there (tagged_input ExtensionBlock own_block) input (segments_inputs (segments_of g ciphertext)) c))
-
-  block_among : Contains (ciphertext_inputs g ciphertext) (tagged_input ExtensionBlock (ueb_text (extension_block_contents g ciphertext (segments_of g ciphertext))))
-  unfolding own_block
-  block_among =
-      first_among (tagged_input ExtensionBlock own_block)
-      (member_there (tagged_input Ciphertext ciphertext) (tagged_input ExtensionBlock own_block) (tagged_input ExtensionBlock own_block ∷ segments_inputs (segments_of g ciphertext))
-      (member_here (tagged_input ExtensionBlock own_block) (segments_inputs (segments_of g ciphertext))))
-
 -- the ciphertext's own inputs are among those of its file's encoding
-ciphertext_among : (file secret : List ℕ) (p : Parameters) → let g = geometry_of (length file) p.needed p.total p.max_segment in
+pub ciphertext_among : (file secret : List ℕ) (p : Parameters) → let g = geometry_of (length file) p.needed p.total p.max_segment in
     AreAmong (encoding_inputs file secret p) (ciphertext_inputs g (xored (convergent_key_of p.needed p.total g.segment_size secret file) file))
 ciphertext_among file secret p input c =
     let g = geometry_of (length file) p.needed p.total p.max_segment in
@@ -73,7 +46,8 @@ pub own_trees_are_within : OwnTreesAreWithin
 own_trees_are_within file secret p =
     let g = geometry_of (length file) p.needed p.total p.max_segment in
     let ciphertext = xored (convergent_key_of p.needed p.total g.segment_size secret file) file in
-    (ciphertext_among file secret p _ (block_among g ciphertext), λ input c. ciphertext_among file secret p input (segments_among g ciphertext input c))
+    let all : List ℕ → Type 0 = Contains (encoding_inputs file secret p) in
+    (block_among g ciphertext all (ciphertext_among file secret p), segments_among g ciphertext all (ciphertext_among file secret p))
 
 pub own_evidence_is_within : OwnEvidenceIsWithin
 own_evidence_is_within file secret p e own =
@@ -85,15 +59,13 @@ own_evidence_is_within file secret p e own =
     let part : All (λ (q : EvidencePart). AreAmong (encoding_inputs file secret p) (segment_inputs q.number q.segment q.path)) e.parts =
     (λ k d low input c.
     let q : EvidencePart = slice_index_or e.parts k d in
-    up input
-    (segments_among g ciphertext input
+    segments_among g ciphertext (Contains (encoding_inputs file secret p)) up input
     (own_parts_are_within g ciphertext q.number (own.there k d low) input
-    (subst (λ (T : Type 0). T) (λ i. Contains (segment_inputs q.number (own.segments k d low i) (own.paths k d low i)) input) c)))) in
+    (subst (λ (T : Type 0). T) (λ i. Contains (segment_inputs q.number (own.segments k d low i) (own.paths k d low i)) input) c))) in
     λ input c.
     elim (contains_cases _ input _ c) [
       | inl is ↦
-          up input
-          (subst (Contains (ciphertext_inputs g ciphertext)) (subst (λ (b : List ℕ). tagged_input ExtensionBlock b ≡ input) own.block is)
-          (block_among g ciphertext))
+          subst (Contains (encoding_inputs file secret p)) (subst (λ (b : List ℕ). tagged_input ExtensionBlock b ≡ input) own.block is)
+          (block_among g ciphertext (Contains (encoding_inputs file secret p)) up)
       | inr rest ↦ flat_among (encoding_inputs file secret p) (λ (q : EvidencePart). segment_inputs q.number q.segment q.path) e.parts part input rest
     ]

@@ -178,24 +178,38 @@ module _ (leaves : List (List ℕ)) (leaf : ℕ) (hashes : AreHashes leaves) (in
       let nodes : length (tree_nodes leaves) + 1 ≡ 2 ^ m + 2 ^ m = length-tree_nodes leaves ∙ next_power m in
       tree_nodes_are_hashes leaves hashes (get_or (needed_numbers m leaf) k 0) (omega (arith, needed_below m leaf k within below, nodes))
 
-  -- The share hashes of a leaf, taken from its tree, lead to the root: each hash that the leaf needs is found by its number.
+  abbrev numbers : List ℕ
+  numbers = needed_numbers (height (length leaves)) leaf
+
+  within : leaf < 2 ^ height (length leaves)
+  within = omega (arith, inside, height_room (length leaves))
+
+  -- each hash that the leaf needs is found by its number
+  found : (n : ℕ) → Stands numbers n → carried_hash (entries_in (share_hashes leaves leaf)) n ≡ Some (get_or (tree_nodes leaves) n [])
+  found n stands =
+      let m : ℕ = height (length leaves) in
+      let f : ℕ → List ℕ = λ k. get_or (tree_nodes leaves) k [] in
+      let width = pow-le-pow_right {n = 2} (omega arith) {i = m} {j = 8} (height_below (length leaves) 8 few) in
+      let small : (k : ℕ) → k < length numbers → get_or numbers k 0 < 2 ^ 16 = λ k below. omega (arith, needed_below m leaf k within below, width) in
+      ap (λ (l : List (List ℕ)). carried_hash l n) (entries_are f numbers needed_hashes) ∙ carried_at f numbers stands.place n small stands.there stands.is
+
+  pub siblings_found : (i : ℕ) → i < height (length leaves)
+      → carried_hash (entries_in (share_hashes leaves leaf)) (sibling_number (height (length leaves)) leaf i) ≡ Some (get_or (siblings_of leaves leaf) i [])
+  siblings_found i below =
+      let m : ℕ = height (length leaves) in
+      let f : ℕ → List ℕ = λ k. get_or (tree_nodes leaves) k [] in
+      found (sibling_number m leaf i) (sibling_stands m leaf i below within)
+      ∙ ap (λ (h : List ℕ). Some h) (sym (get_or-map-range_with_len (λ j. f (sibling_number m leaf j)) 0 m i i [] below (zero-add i)))
+
+  -- so the share hashes of a leaf, taken from its tree, lead to the root
   pub own_hashes_lead : LeadsByEntries (length leaves) (tree_root leaves) leaf (get_or leaves leaf []) (entries_in (share_hashes leaves leaf))
   own_hashes_lead =
       let m : ℕ = height (length leaves) in
-      let numbers : List ℕ = needed_numbers m leaf in
-      let f : ℕ → List ℕ = λ n. get_or (tree_nodes leaves) n [] in
-      let width = pow-le-pow_right {n = 2} (omega arith) {i = m} {j = 8} (height_below (length leaves) 8 few) in
-      let within : leaf < 2 ^ m = omega (arith, height_room (length leaves)) in
-      let small : (k : ℕ) → k < length numbers → get_or numbers k 0 < 2 ^ 16 = λ k below. omega (arith, needed_below m leaf k within below, width) in
-      let found : (n : ℕ) → Stands numbers n → carried_hash (entries_in (share_hashes leaves leaf)) n ≡ Some (f n) =
-      λ n stands. ap (λ (l : List (List ℕ)). carried_hash l n) (entries_are f numbers needed_hashes) ∙ carried_at f numbers stands.place n small stands.there stands.is in
-      let own : f (node_number m leaf) ≡ get_or leaves leaf [] =
+      let own : get_or (tree_nodes leaves) (node_number m leaf) [] ≡ get_or leaves leaf [] =
       tree_nodes_node leaves m leaf (omega arith) within ∙ node-leaf m (padded leaves) leaf ∙ padded_to-leaf (2 ^ m) leaves leaf inside in
       record {
         siblings = siblings_of leaves leaf;
         own = found (node_number m leaf) (own_stands m leaf within) ∙ ap (λ (h : List ℕ). Some h) own;
-        carried = λ i below.
-            found (sibling_number m leaf i) (sibling_stands m leaf i below within)
-            ∙ ap (λ (h : List ℕ). Some h) (sym (get_or-map-range_with_len (λ j. f (sibling_number m leaf j)) 0 m i i [] below (zero-add i)));
+        carried = siblings_found;
         leads = siblings_of-lead leaves leaf inside;
       }

@@ -1,6 +1,7 @@
 //! Laws of the definitions. Each law is a contract; the calls do nothing.
 
 ghost use Rattle.file_encoding.specs.Binding.{CiphertextSharesAreBound, FileSharesAreBound};
+ghost use Rattle.file_encoding.specs.Binding.{OwnSharesAreWithin};
 ghost use Rattle.file_encoding.specs.Laws.{AcceptedSharesPass, CiphertextSharesPass};
 ghost use Rattle.file_encoding.specs.Laws.{FileSharesPass, SharesAreNotLong, SharesHaveOneLength};
 ghost use Rattle.file_encoding.specs.OwnFile.{OwnSharesGiveTheFile};
@@ -84,6 +85,11 @@ pub fn ciphertext_shares_are_bound()
 /// encoding is the encoding's share of that number, byte for byte, whatever the secret.
 pub fn file_shares_are_bound()
     ensures { FileSharesAreBound }
+{}
+
+/// A law: what is hashed where a share of a file's encoding is checked is hashed for the encoding.
+pub fn own_shares_are_within()
+    ensures { OwnSharesAreWithin }
 {}
 
 /// A law: shares that are made anew pass `verify_share`, each with its own number, and have one

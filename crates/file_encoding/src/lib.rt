@@ -22,7 +22,7 @@ pub use error::EncodeError;
 pub use laws::{
     accepted_shares_pass, ciphertext_shares_are_bound, ciphertext_shares_pass, encoding_has_parts,
     enough_pass, few_lack, file_has_parts, file_shares_are_bound, file_shares_pass,
-    files_are_of_their_caps, good_shares_give_own, own_evidence_is_within,
+    files_are_of_their_caps, good_shares_give_own, own_evidence_is_within, own_shares_are_within,
     own_shares_give_the_file, own_trees_are_within, regenerated_pass, shares_have_one_length,
 };
 pub use params::{MAX_CHOSEN_SEGMENT_SIZE, Params};
