@@ -283,7 +283,7 @@ has_answers entries r holds k low = let a = holds k low in (a.bytes, record { re
 pub holds_as : (entries : List Request) (a b c d : ℕ) (s : SourceState) → c ≡ a → d ≡ b → HoldsFor entries a b s → HoldsFor entries c d s
 holds_as entries a b c d s server share holds = subst (λ n. HoldsFor entries n d s) (sym server) (subst (λ n. HoldsFor entries a n s) (sym share) holds)
 
-same_block : (old new : List Request) (s : SourceState) (number : ℕ) → KeepsAnswers old new → HasAnswers old s
+pub same_block : (old new : List Request) (s : SourceState) (number : ℕ) → KeepsAnswers old new → HasAnswers old s
     → block_of new s number ≡ block_of old s number
 same_block old new s number keeps held =
     ap (joined_block s.geometry s.first number)

@@ -22,5 +22,6 @@ pub mod RowFileLemmas
 pub mod WholeRowLemmas
 pub mod NewLemmas
 pub mod GivenLemmas
+pub mod TestedLemmas
 pub mod TextLemmas
 pub mod WholeLemmas

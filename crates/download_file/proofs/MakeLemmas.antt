@@ -9,6 +9,9 @@ use Rattle.std.proofs.lemmas.Option.{get_or_from_slice_get, slice_get-get_or, sl
 use Rattle.proved_parts.proofs.Files.{length-pieces}
 use Rattle.lemmas.proofs.Members.{contains_at, contains_head, contains_tail}
 use Rattle.request_record.specs.declared.requests.Request.{Request}
+use Rattle.tagged_hash.specs.TaggedHash.{tagged_input}
+use Rattle.tagged_hash.specs.declared.tag.Tag.TheVariants.{Block}
+use Rattle.merkle.specs.Known.{IsKnownInput}
 use Rattle.merkle.specs.Partial.{PartialState}
 use Rattle.share_layout.specs.Geometry.{Geometry, segment_count}
 use Rattle.share_layout.specs.Pieces.{block_length}
@@ -20,9 +23,9 @@ use Rattle.download_source.specs.Blocks.{IsHeld, IsReady}
 use Rattle.download_source.specs.Taking.{IsProved}
 use Rattle.download_segments.specs.Decoding.{AreShareNumbers, blocks_in}
 use Rattle.download_segments.specs.Handout.{next_segment}
-use Rattle.download_segments.specs.NoCodeWord.{IsBlockBy, IsNoCodeWord}
+use Rattle.download_segments.specs.NoCodeWord.{IsAnyInput, IsBlockIn, IsNoCodeWord, IsNoCodeWordIn}
 use Rattle.download_segments.specs.State.{HandoutState, RefutesSegment}
-use Rattle.download_segments.proofs.LawLemmas.{blocks_lead, no_code_words}
+use Rattle.download_segments.proofs.LawLemmas.{blocks_lead_in, no_code_words_in}
 use Rattle.segment_groups.specs.Making.{nth_block}
 use Rattle.segment_groups.specs.State.{GroupState}
 use Rattle.download_file.specs.State.{FileState, IsLive, ReaderState, numbers_of, share_in}
@@ -146,46 +149,57 @@ module _ (entries : List Request) (f : FileState) (number size : ℕ) (is : IsFi
   -- ---- no code word
 
   module _ (joined : List ℕ) (joins : joined ≡ blocks_of entries f.readers number f.live) (proved : AreProved f.readers f.live number joined size (length f.live)) where
-    by_live : (i share : ℕ) (block : List ℕ) → slice_get (numbers_of f.readers f.live) i ≡ Some share → slice_get (blocks_in f.handout.geometry number joined) i ≡ Some block
-        → IsBlockBy f.handout.ueb share number block
-    by_live i share block at_number at_block =
-        let place = get_unmapped (λ (p : ℕ). share_in (slice_get f.readers p)) f.live i share at_number in
-        let live = contains_at f.live i place.0 place.1 in
-        let r = reader_at place.0 live in
-        let own = is.readers place.0 r.0 r.1 in
-        let g = f.handout.geometry in
-        let u = f.handout.ueb in
-        let low : i < g.needed = let l = slice_get_within (blocks_in g number joined) i block at_block in let count = length-pieces g.needed (block_length g number) joined in omega (arith, l, count) in
-        let block_is : nth_block joined size i ≡ block =
-        ap (λ (n : ℕ). nth_block joined n i) long ∙ sym (cut.piece_at g.needed (block_length g number) i joined low) ∙ get_or_from_slice_get (blocks_in g number joined) i block [] at_block in
-        let proves : IsProved r.0.source number block = subst (IsProved r.0.source number) block_is (proved i place.0 r.0 (slice_get_within f.live i place.0 place.1) place.1 r.1) in
-        let tree = known_tree r.0 (ready place.0 r.0 live r.1) in
-        let same : share ≡ r.0.share = sym place.2 ∙ ap share_in r.1 in
-        let by_u : g ≡ geometry_by u = is.handout.geometry in
-        let low_share = own.share in
-        let total = ap (λ (h : Geometry). h.total) by_u in
-        let h = is.handout in
-        let shares : LeadTo f.handout.trees.shares u.share_root_hash (share_places u.total_shares) = record {
-          sound = h.trees.shares.sound;
-          of_root = h.roots.shares;
-          leaves = h.trees.shares.leaves ∙ ap (λ (x : Geometry). share_places x.total) (h.roots.geometry ∙ by_u);
-        } in
-        let known : known_leaf f.handout.trees.shares share ≡ Some tree.0.root =
-        subst (λ (n : ℕ). known_leaf f.handout.trees.shares n ≡ Some tree.0.root) (sym same) (subst (TellsRoot f.handout.trees.shares r.0.share) tree.1 own.root) in
-        let leads : IsBlockTree tree.0 (segment_count (geometry_by u)) =
-        subst (λ (h : Geometry). IsBlockTree tree.0 (segment_count h)) (own.geometry ∙ by_u)
-        (subst (λ (o : Option PartialState). IfSome o (λ t. IsBlockTree t (segment_count r.0.source.geometry))) tree.1 own.source.leads) in
-        let size_is : length block ≡ block_length (geometry_by u) number =
-        sym (ap length block_is) ∙ ap length (ap (λ (l : List ℕ). nth_block l size i) joins ∙ nth_own i place.0 r.0 place.1 r.1)
-        ∙ sym (ap (λ (o : Option ReaderState). length (block_in entries number o)) r.1) ∙ its_length place.0 live ∙ long ∙ ap (λ (h : Geometry). block_length h number) by_u in
-        blocks_lead u f.handout.trees.shares tree.0 share number block (omega (arith, same, low_share, total)) (subst (λ (h : Geometry). number < segment_count h) by_u there) shares h.trees.share_hashes known leads
-        (sym (ap (option_and_then (λ t. known_leaf t number)) tree.1) ∙ proves) size_is
+    module _ (IsOne : List ℕ → Type 0) (in_shares : (input : List ℕ) → IsKnownInput f.handout.trees.shares input → IsOne input)
+        (in_block_tree : (place : ℕ) (r : ReaderState) (tree : PartialState) → IsLive f place → slice_get f.readers place ≡ Some r → r.source.tree ≡ Some tree → (input : List ℕ) → IsKnownInput tree input → IsOne input)
+        (of_block : (place : ℕ) (r : ReaderState) → IsLive f place → slice_get f.readers place ≡ Some r → IsOne (tagged_input Block (block_of entries r.source number))) where
+      by_live : (i share : ℕ) (block : List ℕ) → slice_get (numbers_of f.readers f.live) i ≡ Some share → slice_get (blocks_in f.handout.geometry number joined) i ≡ Some block
+          → IsBlockIn IsOne f.handout.ueb share number block
+      by_live i share block at_number at_block =
+          let place = get_unmapped (λ (p : ℕ). share_in (slice_get f.readers p)) f.live i share at_number in
+          let live = contains_at f.live i place.0 place.1 in
+          let r = reader_at place.0 live in
+          let own = is.readers place.0 r.0 r.1 in
+          let g = f.handout.geometry in
+          let u = f.handout.ueb in
+          let low : i < g.needed = let l = slice_get_within (blocks_in g number joined) i block at_block in let count = length-pieces g.needed (block_length g number) joined in omega (arith, l, count) in
+          let block_is : nth_block joined size i ≡ block =
+          ap (λ (n : ℕ). nth_block joined n i) long ∙ sym (cut.piece_at g.needed (block_length g number) i joined low) ∙ get_or_from_slice_get (blocks_in g number joined) i block [] at_block in
+          let proves : IsProved r.0.source number block = subst (IsProved r.0.source number) block_is (proved i place.0 r.0 (slice_get_within f.live i place.0 place.1) place.1 r.1) in
+          let tree = known_tree r.0 (ready place.0 r.0 live r.1) in
+          let same : share ≡ r.0.share = sym place.2 ∙ ap share_in r.1 in
+          let by_u : g ≡ geometry_by u = is.handout.geometry in
+          let low_share = own.share in
+          let total = ap (λ (h : Geometry). h.total) by_u in
+          let h = is.handout in
+          let shares : LeadTo f.handout.trees.shares u.share_root_hash (share_places u.total_shares) = record {
+            sound = h.trees.shares.sound;
+            of_root = h.roots.shares;
+            leaves = h.trees.shares.leaves ∙ ap (λ (x : Geometry). share_places x.total) (h.roots.geometry ∙ by_u);
+          } in
+          let known : known_leaf f.handout.trees.shares share ≡ Some tree.0.root =
+          subst (λ (n : ℕ). known_leaf f.handout.trees.shares n ≡ Some tree.0.root) (sym same) (subst (TellsRoot f.handout.trees.shares r.0.share) tree.1 own.root) in
+          let leads : IsBlockTree tree.0 (segment_count (geometry_by u)) =
+          subst (λ (h : Geometry). IsBlockTree tree.0 (segment_count h)) (own.geometry ∙ by_u)
+          (subst (λ (o : Option PartialState). IfSome o (λ t. IsBlockTree t (segment_count r.0.source.geometry))) tree.1 own.source.leads) in
+          let size_is : length block ≡ block_length (geometry_by u) number =
+          sym (ap length block_is) ∙ ap length (ap (λ (l : List ℕ). nth_block l size i) joins ∙ nth_own i place.0 r.0 place.1 r.1)
+          ∙ sym (ap (λ (o : Option ReaderState). length (block_in entries number o)) r.1) ∙ its_length place.0 live ∙ long ∙ ap (λ (h : Geometry). block_length h number) by_u in
+          let own_block : block_of entries r.0.source number ≡ block = sym (ap (λ (l : List ℕ). nth_block l size i) joins ∙ nth_own i place.0 r.0 place.1 r.1) ∙ block_is in
+          blocks_lead_in IsOne u f.handout.trees.shares tree.0 share number block (omega (arith, same, low_share, total)) (subst (λ (h : Geometry). number < segment_count h) by_u there) shares h.trees.share_hashes known leads
+          (sym (ap (option_and_then (λ t. known_leaf t number)) tree.1) ∙ proves) size_is
+          in_shares (in_block_tree place.0 r.0 tree.0 live r.1 tree.1) (subst (λ (b : List ℕ). IsOne (tagged_input Block b)) own_block (of_block place.0 r.0 live r.1))
+
+      pub no_code_word_in : (numbers segment : List ℕ) → numbers ≡ numbers_of f.readers f.live → AreShareNumbers f.handout.geometry numbers
+          → DecodesBlocks f.handout.geometry numbers (blocks_in f.handout.geometry number joined) number segment → RefutesSegment f.handout number segment
+          → ((input : List ℕ) → IsKnownInput f.handout.trees.ciphertext input → IsOne input) → IsNoCodeWordIn IsOne f.handout.ueb
+      no_code_word_in numbers segment same shares decodes refutes in_ciphertext =
+          no_code_words_in IsOne f.handout numbers number joined segment is.handout there shares decodes
+          (λ i share block at_number at_block. by_live i share block (ap (λ (l : List ℕ). slice_get l i) (sym same) ∙ at_number) at_block) refutes in_ciphertext
 
     pub is_no_code_word : (numbers segment : List ℕ) → numbers ≡ numbers_of f.readers f.live → AreShareNumbers f.handout.geometry numbers
         → DecodesBlocks f.handout.geometry numbers (blocks_in f.handout.geometry number joined) number segment → RefutesSegment f.handout number segment → IsNoCodeWord f.handout.ueb
     is_no_code_word numbers segment same shares decodes refutes =
-        no_code_words f.handout numbers number joined segment is.handout there shares decodes
-        (λ i share block at_number at_block. by_live i share block (ap (λ (l : List ℕ). slice_get l i) (sym same) ∙ at_number) at_block) refutes
+        no_code_word_in IsAnyInput (λ input known. tt) (λ place r tree live at is_tree input known. tt) (λ place r live at. tt) numbers segment same shares decodes refutes (λ input known. tt)
 
 -- ---- the numbers of the shares that are read
 

@@ -7,6 +7,7 @@ pub mod Taking
 pub mod Making
 pub mod Changes
 pub mod Hashed
+pub mod Tested
 pub mod Whole
 pub mod Laws
 -- words of private clauses

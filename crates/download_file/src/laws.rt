@@ -2,6 +2,7 @@
 
 ghost use Rattle.download_file.specs.Hashed.{GivenAreHashed, HashedStays};
 ghost use Rattle.download_file.specs.Laws.{GivenStays, ReadsStay};
+ghost use Rattle.download_file.specs.Tested.{InconsistentIsNoCodeWord, TestedStays};
 ghost use Rattle.download_file.specs.Whole.{SegmentsAreMadeOnce, WholeFiles};
 
 /// A law of the definitions: where answers stay, what the record says of the file stays true. The
@@ -27,6 +28,19 @@ pub fn given_are_hashed()
 /// so. The law is the contract; the call does nothing.
 pub fn hashed_stays()
     ensures { HashedStays }
+{}
+
+/// A law of the definitions: where answers stay and the file goes on, what was tested of it stays
+/// so. The law is the contract; the call does nothing.
+pub fn tested_stays()
+    ensures { TestedStays }
+{}
+
+/// A law of the definitions: where a file is inconsistent, what was tested of it tells that it is
+/// no code word: right blocks that its readers hold, and nodes whose children are known. The law is
+/// the contract; the call does nothing.
+pub fn inconsistent_is_no_code_word()
+    ensures { InconsistentIsNoCodeWord }
 {}
 
 /// A law of the definitions: what is made of the blocks of a segment is one thing, however often it
