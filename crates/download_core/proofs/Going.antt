@@ -27,7 +27,9 @@ use Rattle.share_opening.specs.declared.block.Opened.{Opened}
 use Rattle.download_file.specs.Answers as file
 use Rattle.download_file.specs.Answers.{AnsweredWith, IsRead}
 use Rattle.download_file.specs.Hashed.{IsHashedWith}
+use Rattle.download_file.specs.Tested.{IsTested}
 use Rattle.download_file.proofs.GivenLemmas.{hashed_stay}
+use Rattle.download_file.proofs.TestedLemmas.{tested_stay}
 use Rattle.download_file.specs.State.{FileState, new_file}
 use Rattle.download_file.proofs.GrowLemmas.{given_keep, same_itself, same_two}
 use Rattle.download_reading.specs.Reading.{AreReading}
@@ -326,6 +328,25 @@ hashed_grows from es ns (Some a) (Some b) cap to stays has more block input foun
       ];
     }
 
+-- so does what was tested
+pub record TestsStill (ns : List Request) (o : Option Found) (input : List ℕ) : Type 0 where
+  pub found : Found
+  pub there : o ≡ Some found
+  pub tested : IsTested ns found.file input
+
+tested_grows : (from : ℕ) (es ns : List Request) (f g : Option FoundFile) (cap : ReadCapValue) (to : ℕ) → StaysTo es ns → IsFileIfFound cap from to es (found_of f) → FoundGrows from f g
+    → (input : List ℕ) (found : Found) → found_of f ≡ Some found → IsTested es found.file input → TestsStill ns (found_of g) input
+tested_grows from es ns None g cap to stays has more input found there tested = absurd cc
+tested_grows from es ns (Some a) None cap to stays has more input found there tested = absurd more
+tested_grows from es ns (Some a) (Some b) cap to stays has more input found there tested =
+    let same : record { place = a.place; file = a.reading.file } ≡ found = cc in
+    let own : IsTested es a.reading.file input = subst (λ (x : Found). IsTested es x.file input) (sym same) tested in
+    record {
+      found = record { place = b.place; file = b.reading.file };
+      there = refl;
+      tested = tested_stay es ns a.reading.file b.reading.file input (keeps_answers es ns stays) has.answers more.same own;
+    }
+
 -- what a download is for stays, where its record went on before
 pub same_on : (m n : Machine) (t : BeginningsState) (status ended : DownloadStatus) → t.holdings.blamed ≡ m.beginnings.holdings.blamed → StaysTo (entries_of m) t.holdings.requests.entries
     → IsFileIfFound m.cap m.from m.to (entries_of m) (found_of m.found) → MovesOn (record m { beginnings = t }) n
@@ -350,6 +371,10 @@ same_on m n t status ended blamed stays file on servers =
           let k = hashed_grows m.from (entries_of m) (entries_of n) m.found n.found m.cap m.to (λ i r there quiet. stays_on t n.beginnings on.goes i r (stays i r there quiet) quiet)
           file on.found h.block input h.found h.there h.answer h.hashed in
           record { found = k.found; there = k.there; block = h.block; answer = k.answer; hashed = k.hashed };
+      tested = λ input was.
+          let k = tested_grows m.from (entries_of m) (entries_of n) m.found n.found m.cap m.to (λ i r there quiet. stays_on t n.beginnings on.goes i r (stays i r there quiet) quiet)
+          file on.found input was.found was.there was.tested in
+          record { found = k.found; there = k.there; tested = k.tested };
     }
 
 -- a download that runs goes on from a record

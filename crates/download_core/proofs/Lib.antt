@@ -3,6 +3,8 @@ mod Records
 mod FairLemmas
 mod Going
 pub mod HashedLemmas
+pub mod TestedLemmas
+pub mod RightBlocks
 mod ReadLemmas
 mod FewLemmas
 mod Sending

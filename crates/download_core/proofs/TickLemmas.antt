@@ -6,6 +6,7 @@ use Rattle.download_core.specs.Moves.{StaysAccepted, StopsAt}
 use Rattle.download_core.specs.State.{DownloadState, accepted, ready}
 use Rattle.download_core.proofs.Going.{plans_none}
 use Rattle.download_core.proofs.HashedLemmas.{hashed_itself, stays_itself}
+use Rattle.download_core.proofs.TestedLemmas.{tested_itself}
 
 accepted_itself : (o : Option ℕ) → StaysAccepted o o
 accepted_itself None = tt
@@ -26,6 +27,7 @@ stands now d ended = record {
     head = accepted_itself (accepted d);
     stays = stays_itself d d refl;
     hashed = hashed_itself d d refl;
+    tested = tested_itself d d refl;
   };
   requests = inl refl;
   later = plans_none d.found d.requests.entries d.requests.entries refl;

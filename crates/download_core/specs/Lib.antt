@@ -6,6 +6,7 @@ pub mod Causes
 pub mod Evidence
 pub mod Ends
 pub mod Hashed
+pub mod Tested
 pub mod Moves
 pub mod Prompt
 pub mod Sending

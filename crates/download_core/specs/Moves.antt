@@ -13,6 +13,7 @@ use Rattle.download_core.specs.declared.status.DownloadStatus.TheVariants.{NotEn
 use Rattle.download_core.specs.Hashed.{StaysGiven, StaysHashed}
 use Rattle.download_core.specs.Reads.{PlansMore}
 use Rattle.download_core.specs.State.{DownloadState, Found, accepted, handed, ready, with_record}
+use Rattle.download_core.specs.Tested.{StaysTested}
 
 -- the servers that are asked which shares they hold: none, where nothing is wanted
 abbrev pub asked_servers : ℕ → ℕ → List ℕ → List ℕ
@@ -37,7 +38,7 @@ StaysAccepted None new = Unit {0}
 StaysAccepted (Some place) new = new ≡ Some place
 
 -- What a download is for stays, and what it has stays in front. What it gave stays given, and what
--- it hashed stays hashed.
+-- it hashed stays hashed, also to test what it read.
 pub record IsSame (old new : DownloadState) : Type 0 where
   pub cap : new.cap ≡ old.cap
   pub range : (new.from ≡ old.from) × (new.to ≡ old.to)
@@ -50,6 +51,7 @@ pub record IsSame (old new : DownloadState) : Type 0 where
   pub head : StaysAccepted (accepted old) (accepted new)
   pub stays : StaysGiven old new
   pub hashed : StaysHashed old new
+  pub tested : StaysTested old new
 
 -- The record goes on from a message or a tick, and while the download runs more may be asked, made
 -- and blamed. Where an extension block is accepted then, what more is read is planned.

@@ -15,6 +15,7 @@ ghost use Rattle.download_core.specs.Right.{IsRight};
 ghost use Rattle.download_core.specs.Sections.{LaterReadsLieInSections, ReadsInPlace};
 ghost use Rattle.download_core.specs.Sections.{ReadsStayInPlace};
 ghost use Rattle.download_core.specs.Sending.{Takes, first_to_send};
+ghost use Rattle.download_core.specs.Tested.{InconsistentShowsNoCodeWord, RightBlocksLead};
 ghost use Rattle.download_core.specs.Whole.{TakenFollow, WholeFiles};
 ghost use Rattle.download_core.specs.declared.status.DownloadStatus.TheVariants.{Done, Failed};
 ghost use Rattle.download_core.specs.declared.status.DownloadStatus.TheVariants.{NotEnoughShares};
@@ -256,6 +257,20 @@ fn has_failed(status: DownloadStatus) -> bool
 /// The law is the contract; the call does nothing.
 pub fn given_are_shown()
     ensures { GivenAreShown }
+{}
+
+/// A law of the definitions: a download that is inconsistent accepted the cap's extension block,
+/// and its file is no code word by what the download tested. The law is the contract; the call does
+/// nothing.
+pub fn inconsistent_shows_no_code_word()
+    ensures { InconsistentShowsNoCodeWord }
+{}
+
+/// A law of the definitions: each right block that a reader of a download holds leads to the roots
+/// that the accepted extension block tells, by what the download tested. The law is the contract;
+/// the call does nothing.
+pub fn right_blocks_lead()
+    ensures { RightBlocksLead }
 {}
 
 /// A law of the definitions: before an extension block is accepted a download reads a share only in

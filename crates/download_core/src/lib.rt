@@ -11,5 +11,6 @@ mod machine;
 pub mod status;
 
 pub use download::{
-    Download, evidence_is_of_the_given, given_are_shown, taken_follow, whole_files,
+    Download, evidence_is_of_the_given, given_are_shown, inconsistent_shows_no_code_word,
+    right_blocks_lead, taken_follow, whole_files,
 };
