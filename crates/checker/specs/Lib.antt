@@ -6,6 +6,8 @@ pub mod Sending
 pub mod Report
 pub mod Good
 pub mod Right
+-- what else was hashed, for the layers above
+pub mod Tested
 -- words of private clauses
 pub mod Offers
 pub mod Book

@@ -1,7 +1,8 @@
 -- What operations handed out, and what was hashed for it, and to test what was read.
 use Rattle.std.specs.Prelude.{ℕ, List, Contains}
 use Rattle.download_core.specs.Hashed as download
-use Rattle.download_core.specs.Tested as tests
+use Rattle.download_core.specs.Tested as download_tests
+use Rattle.checker.specs.Tested as check_tests
 use Rattle.download_segments.specs.declared.piece.Piece.{Piece}
 use Rattle.world_operations.specs.declared.task.Task.{Task}
 use Rattle.world_operations.specs.declared.task.Task.TheVariants.{Uploading, Downloading}
@@ -25,9 +26,9 @@ IsHashedBy (Uploading u) input = ⊥
 IsHashedBy (Checking c) input = ⊥
 IsHashedBy (Gone number) input = ⊥
 
--- this was hashed by a download to test what it read
+-- this was hashed by a download or a check to test what it read
 abbrev pub IsTestedBy : Task → List ℕ → Type 0
-IsTestedBy (Downloading d) input = tests.IsTested d input
+IsTestedBy (Downloading d) input = download_tests.IsTested d input
+IsTestedBy (Checking c) input = check_tests.IsTested c input
 IsTestedBy (Uploading u) input = ⊥
-IsTestedBy (Checking c) input = ⊥
 IsTestedBy (Gone number) input = ⊥
