@@ -5,6 +5,8 @@ set -e
 here=$(cd "$(dirname "$0")" && pwd)
 . "$here/../prepare.sh"
 prepare "tagged_hash cap_text file_encoding sha2"
+echo "A whole file encoded (put) and read (get): the time, that of hashing as many bytes by sha2,"
+echo "and their ratio."
 export GLIBC_TUNABLES="glibc.malloc.hugetlb=1${GLIBC_TUNABLES:+:$GLIBC_TUNABLES}"
 echo "Each run takes fresh memory from the system:"
 rt run --cpu "$("$root/tools/processor")"

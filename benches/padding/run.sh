@@ -5,4 +5,6 @@ set -e
 here=$(cd "$(dirname "$0")" && pwd)
 . "$here/../prepare.sh"
 prepare "merkle"
+echo "The padding of a tree of so many segments, and what a download offers to four such trees: the"
+echo "times, and the ratio of both together to that of the first line."
 rt run "$@"

@@ -7,7 +7,8 @@ work=$(mktemp -d)
 trap 'rm -rf "$work"' EXIT
 bench=$work/crates/bench
 mkdir -p "$bench/src" "$work/crates/placement"
-(cd "$here/../../crates/placement" && tar cf - --exclude=./out .) | tar xf - -C "$work/crates/placement"
+(cd "$here/../../crates/placement" && tar cf - --exclude=./out .) |
+    tar xf - -C "$work/crates/placement"
 printf 'placement: sha1 indexmap smallvec\nbench: placement\n' > "$work/crates.txt"
 for name in main graphs; do cp "$here/$name.rt.txt" "$bench/src/$name.rt"; done
 for file in "$here"/proofs/*.txt; do
@@ -19,5 +20,7 @@ done
 (cd "$work" && git init -q .)
 cc -O2 -o "$work/twin" "$here/twin.c"
 cd "$bench"
+echo "The times of a placing, of the happiness of the pairs held and of its check. Ours:"
 rt run
+echo "The twin in C:"
 "$work/twin"

@@ -1,10 +1,10 @@
 #!/bin/bash
 # Measures what the built program holds and reads: the peak memory of put, get, check and repair by
 # the file's size, that of puts of large files at some numbers of shares, with their processor time
-# for each byte, that of a get of a large file, and the time and the bytes read of a get of one byte.
-# Its words: the program (that of this repository if none, which is built first), the MiB of the file
-# of which one byte is got (1,024 if none), and the MiB of the greatest file that is put (2,048 if
-# none). It takes some 25 GB of the disk.
+# for each byte, that of a get of a large file, and the time and the bytes read of a get of one
+# byte. Its words: the program (that of this repository if none, which is built first), the MiB of
+# the file of which one byte is got (1,024 if none), and the MiB of the greatest file that is put
+# (2,048 if none). It takes some 25 GB of the disk.
 set -e
 here=$(cd "$(dirname "$0")" && pwd)
 root=$(cd "$here/../.." && pwd)
@@ -36,7 +36,7 @@ used = resource.getrusage(resource.RUSAGE_CHILDREN)
 print(used.ru_maxrss * 1024, used.ru_utime + used.ru_stime)' "$@"
 }
 
-# Prints a put's peak beside 100 MiB and a fiftieth of the size in bytes, and its time for each byte.
+# Prints a put's peak beside 100 MiB and a fiftieth of the size in bytes, and its time a byte.
 told_put() { awk -v name="$1" -v peak="$2" -v time="$3" -v size="$4" 'BEGIN {
     most = 100 * 1048576 + size / 50
     printf "%-28s %7.1f MiB, %5.2f of what is wanted, %6.2f s, %5.1f ns a byte\n",
@@ -46,6 +46,8 @@ told_put() { awk -v name="$1" -v peak="$2" -v time="$3" -v size="$4" 'BEGIN {
 told() { awk -v name="$1" -v peak="$2" -v size="$3" 'BEGIN {
     printf "%-28s %7.1f MiB, %5.2f of its bytes\n", name, peak / 1048576, peak / size }'; }
 
+echo "The peak memory of a command, beside the file's bytes, or of a put of a large file beside"
+echo "what is wanted (100 MiB and 2 % of the file), with its processor time."
 for mib in 16 64; do
     size=$((mib << 20))
     head -c $size /dev/urandom > file

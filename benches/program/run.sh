@@ -75,8 +75,10 @@ for needed in 1 256; do
 "
 done
 
-ratio() { awk -v a="$2" -v b="$3" -v c="$4" -v name="$1" \
-    'BEGIN { printf "%-22s %6d ms, %5.2f of its hashing, %5.2f of sha256sum\n", name, a, a / b, a / c }'; }
+ratio() { awk -v a="$2" -v b="$3" -v c="$4" -v name="$1" 'BEGIN {
+    printf "%-22s %6d ms, %5.2f of its hashing, %5.2f of sha256sum\n", name, a, a / b, a / c }'; }
+echo "The processor time of a command, its ratio to hashing as many bytes as it has to by the kit's"
+echo "sha2, and to sha256sum of the file; the best of several runs in turn."
 echo "a file of $mib MiB at 3 of 10, $processor; sha256sum $sum ms"
 ratio put "$puts" "$base_put" "$sum"
 ratio get "$gets" "$base_get" "$sum"

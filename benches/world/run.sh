@@ -26,5 +26,6 @@ trap 'rm -f "$script" "$told"' EXIT
     echo drain
 } > "$script"
 export GLIBC_TUNABLES="glibc.malloc.hugetlb=1${GLIBC_TUNABLES:+:$GLIBC_TUNABLES}"
+echo "How many operations ended in each way, the events, and what the run took:"
 "$timed" -f '%U s user, %S s system, %M KiB at most' "$program" world "$script" > "$told"
 sed 's/^[0-9]* //' "$told" | sort | uniq -c
