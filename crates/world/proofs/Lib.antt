@@ -5,6 +5,7 @@ pub mod Hashed
 pub mod Keep
 pub mod Repaired
 pub mod Agree
+pub mod Binding
 pub mod Trusted
 pub mod Changes
 pub mod Later

@@ -6,12 +6,14 @@ use Rattle.world_operations.specs.declared.message.Sent.{Sent}
 use Rattle.world_operations.specs.declared.operation.Operation.{Operation}
 use Rattle.world.specs.declared.event.WorldError.{WorldError}
 use Rattle.world.specs.State.{WorldState, WorldValue, new_server, new_world}
+use Rattle.world.specs.Binding.{IsBound}
 use Rattle.world.specs.Consistent.{IsKept, Preserves}
 use Rattle.world.specs.Headline.{IsLater, IsTrusted}
 use Rattle.world.specs.Taking.{AreTaken, IsRun, StepGives}
 use Rattle.world.proofs.Later.{later_still, same_world}
 use Rattle.world.proofs.Preserving.{new_consistent}
 use Rattle.world.specs.Repairs.{AreTrustedRepairs}
+use Rattle.world.proofs.Binding.{bound}
 use Rattle.world.proofs.Trusted.{trusted}
 use Rattle.world.proofs.Repaired.{repairs_trusted}
 
@@ -25,6 +27,9 @@ kept_trusted w k = trusted w k.consistent
 
 pub kept_repairs : (w : WorldState) → IsKept w → AreTrustedRepairs w
 kept_repairs w k = repairs_trusted w k.consistent
+
+pub kept_bound : (w : WorldState) → IsKept w → IsBound w
+kept_bound w k = bound w k.consistent
 
 -- ---- a new world
 
@@ -60,20 +65,22 @@ pub record IsRunning (old now : WorldValue) (events : List Event) (taken : ℕ) 
   pub later : IsLater old.state now.state
   pub is_trusted : IsTrusted now.state
   pub repairs : AreTrustedRepairs now.state
+  pub is_bound : IsBound now.state
 
-pub running_begins : (w : WorldValue) (events : List Event) → IsTrusted w.state → AreTrustedRepairs w.state → IsRunning w w events 0
-running_begins w events t r = record { steps = refl; later = same_world w.state; is_trusted = t; repairs = r }
+pub running_begins : (w : WorldValue) (events : List Event) → IsTrusted w.state → AreTrustedRepairs w.state → IsBound w.state → IsRunning w w events 0
+running_begins w events t r b = record { steps = refl; later = same_world w.state; is_trusted = t; repairs = r; is_bound = b }
 
 pub running_on : (old now next : WorldValue) (events : List Event) (taken : ℕ) (event : Event) → IsRunning old now events taken → slice_get events taken ≡ Some event
     → StepGives now event (Ok tt) next → IsLater now.state next.state → IsTrusted next.state → AreTrustedRepairs next.state
-    → IsRunning old next events (taken + 1)
-running_on old now next events taken event r at gives later is_trusted repairs =
+    → IsBound next.state → IsRunning old next events (taken + 1)
+running_on old now next events taken event r at gives later is_trusted repairs is_bound =
     let e : taken + 1 ≡ suc taken = omega arith in record {
       steps = subst (λ (l : List Event). AreTaken old l next) (sym (ap (λ (n : ℕ). take n events) e ∙ take_next events taken event at))
           (taken_push (take taken events) old now next event r.steps gives);
       later = later_still old.state now.state next.state r.later later;
       is_trusted = is_trusted;
       repairs = repairs;
+      is_bound = is_bound;
     }
 
 -- the run stops at an event that is not taken

@@ -6,6 +6,7 @@ pub mod Taking
 pub mod Repaired
 pub mod Headline
 pub mod Repairs
+pub mod Binding
 -- what holds of every world, and carries the headline
 pub mod Consistent
 -- words of private clauses

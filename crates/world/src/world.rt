@@ -4,6 +4,7 @@ ghost use Rattle.std.specs.Prelude.{◌≡◌, ◌+◌, ◌<◌, ◌≤◌, [], 
 ghost use Rattle.std.specs.Prelude.{option_map, slice_get, vec_len};
 ghost use Rattle.world_operations.specs.Status.{status_of};
 ghost use Rattle.world_operations.specs.declared.operation.Operation.{Operation};
+ghost use Rattle.world.specs.Binding.{IsBound};
 ghost use Rattle.world.specs.Headline.{IsLater, IsTrusted};
 ghost use Rattle.world.specs.Repairs.{AreTrustedRepairs};
 ghost use Rattle.world.specs.State.{new_server, new_world};
@@ -23,8 +24,8 @@ use world_operations::status::Status;
 use world_operations::task::StartError;
 
 /// A world of honest nodes and of liars. Whatever its events are, and whatever its calls answered:
-/// the headline holds of it (`IsTrusted`), so does what is said of repairs (`AreTrustedRepairs`),
-/// and what was answered before stays (`IsLater`).
+/// the headline holds of it (`IsTrusted`), so does what is said of repairs (`AreTrustedRepairs`)
+/// and of what binds downloads (`IsBound`), and what was answered before stays (`IsLater`).
 #[derive(Drop)]
 pub struct World {
     scene: Scene,
@@ -82,6 +83,7 @@ impl World {
             ≡ record { state = new_world honest (vec_len liars); stopped = false }) }
         ensures trusted { IfOk result (λ world. IsTrusted world.state) }
         ensures repairs { IfOk result (λ world. AreTrustedRepairs world.state) }
+        ensures bound { IfOk result (λ world. IsBound world.state) }
     {
         let scene = Scene {
             alloc,
@@ -104,6 +106,7 @@ impl World {
         ensures later { IsLater self.old.state self.new.state }
         ensures trusted { IsTrusted self.new.state }
         ensures repairs { AreTrustedRepairs self.new.state }
+        ensures bound { IsBound self.new.state }
     {
         if self.stopped {
             return Err(WorldError::Stopped);
@@ -125,6 +128,7 @@ impl World {
         ensures later { IsLater self.old.state self.new.state }
         ensures trusted { IsTrusted self.new.state }
         ensures repairs { AreTrustedRepairs self.new.state }
+        ensures bound { IsBound self.new.state }
     {
         self.is_trusted();
         for taken in 0..events.len() {
@@ -136,10 +140,12 @@ impl World {
         (events.len(), Ok(()))
     }
 
-    /// A law: the headline holds of every world, and so does what is said of repairs.
+    /// A law: the headline holds of every world, and so does what is said of repairs and of what
+    /// binds downloads.
     pub fn is_trusted(&self)
         ensures trusted { IsTrusted self.now.state }
         ensures repairs { AreTrustedRepairs self.now.state }
+        ensures bound { IsBound self.now.state }
     {
         let _stopped = self.stopped;
     }

@@ -1,0 +1,105 @@
+-- Beside the headline: what binds downloads and checks of a cap to the file whose upload was started
+-- with it.
+use Rattle.std.specs.Prelude.{◌≡◌, ◌≢◌, ℕ, ◌<◌, List, [], length, Some, Contains}
+use Rattle.std.specs.Prelude.{slice_get, slice_index, slice_index_or}
+use Rattle.aes_ctr.specs.CounterMode.{xored}
+use Rattle.tagged_hash.specs.Clash.{HasNoClashIn}
+use Rattle.tagged_hash.specs.ConvergentKey.{convergent_key_of}
+use Rattle.cap_text.specs.Cap.{ReadCapValue, VerifyCapValue, verify_cap_of}
+use Rattle.share_layout.specs.Geometry.{geometry_of}
+use Rattle.share_layout.specs.Pieces.{segments_of}
+use Rattle.file_encoding.specs.Encoding.{blocks_of}
+use Rattle.file_encoding.specs.Params.{UploadParameters}
+use Rattle.file_upload.specs.Prepared.{prepared_of}
+use Rattle.download_file.specs.Answers.{HasRightBlock, block_of}
+use Rattle.download_file.specs.State.{IsReader, ReaderState}
+use Rattle.download_core.specs.State.{DownloadState, Found}
+use Rattle.download_core.specs.declared.status.DownloadStatus.TheVariants.{Inconsistent}
+use Rattle.share_reading.specs.Verdict.{IsGood}
+use Rattle.checker.specs.Shares.{settled_of}
+use Rattle.checker.specs.State.{CheckState}
+use Rattle.world_operations.specs.declared.operation.Operation.{Operation}
+use Rattle.world_operations.specs.declared.task.Task.TheVariants.{Checking, Downloading}
+use Rattle.world_operations.specs.Given.{IsTestedBy}
+use Rattle.world_operations.specs.Jobs.{HasOneKey, Uploads}
+use Rattle.world.specs.Headline.{IsHashed}
+use Rattle.world.specs.State.{WorldState}
+
+-- ---- what else was hashed
+
+-- What the headline speaks of, and what downloads and checks hashed to test what they read: blocks,
+-- nodes of the trees that tell of them, and the good shares of checks.
+pub data IsHashedOrTested (w : WorldState) (input : List ℕ) : Type 0 where
+  hashed : IsHashed w input → IsHashedOrTested w input
+  tested : (op : Operation) → Contains w.operations op → IsTestedBy op.task input
+      → IsHashedOrTested w input
+
+-- no two of these clash
+abbrev pub HasNoClashInTests : WorldState → Type 0
+HasNoClashInTests w = HasNoClashIn (IsHashedOrTested w)
+
+-- ---- a started upload, and downloads and checks of its cap
+
+-- The upload of this file was started, whatever became of it. Of a source that changes, both passes
+-- had one key.
+pub record IsStarted (w : WorldState) (file secret : List ℕ) (p : UploadParameters) : Type 0 where
+  pub number : ℕ
+  pub operation : Operation
+  pub at : slice_get w.operations number ≡ Some operation
+  pub uploads : Uploads operation.job file secret p
+  pub one_key : HasOneKey operation.job
+  pub bytes : (i : ℕ) → slice_index file i < 256
+
+-- a download of this cap, whatever became of it
+pub record IsDownloadOf (w : WorldState) (cap : ReadCapValue) (d : DownloadState) : Type 0 where
+  pub number : ℕ
+  pub operation : Operation
+  pub at : slice_get w.operations number ≡ Some operation
+  pub task : operation.task ≡ Downloading d
+  pub cap_is : d.cap ≡ cap
+
+-- a check of this verify cap, whatever became of it
+pub record IsCheckOf (w : WorldState) (cap : VerifyCapValue) (c : CheckState) : Type 0 where
+  pub number : ℕ
+  pub operation : Operation
+  pub at : slice_get w.operations number ≡ Some operation
+  pub task : operation.task ≡ Checking c
+  pub cap_is : c.cap ≡ cap
+
+-- ---- the claims
+
+-- No download of its cap finds the file inconsistent, whatever servers answer.
+abbrev pub NeverInconsistent : WorldState → Type 0
+NeverInconsistent w = (file secret : List ℕ) (p : UploadParameters) (d : DownloadState)
+    → IsStarted w file secret p → IsDownloadOf w (prepared_of file secret p).cap d
+    → d.status ≢ Inconsistent
+
+-- the block of a segment of the file that a share of its encoding has
+abbrev pub block_in : List ℕ → List ℕ → UploadParameters → ℕ → ℕ → List ℕ
+block_in file secret p share segment =
+    let g = geometry_of (length file) p.needed p.total p.max_segment in
+    let key = convergent_key_of p.needed p.total g.segment_size secret file in
+    slice_index_or (blocks_of p.needed share (segments_of g (xored key file))) segment []
+
+-- Each block that a download of its cap read and found right is the upload's.
+abbrev pub BlocksAreOwn : WorldState → Type 0
+BlocksAreOwn w = (file secret : List ℕ) (p : UploadParameters) (d : DownloadState) (f : Found)
+    (place segment : ℕ) (r : ReaderState)
+    → IsStarted w file secret p → IsDownloadOf w (prepared_of file secret p).cap d
+    → d.found ≡ Some f → IsReader f.file place r → HasRightBlock d.requests.entries r segment
+    → block_of d.requests.entries r.source segment ≡ block_in file secret p r.share segment
+
+-- Each share that a check of its verify cap read to its end and that is good is the upload's, byte
+-- for byte: what its server answered, joined by place.
+abbrev pub GoodSharesAreOwn : WorldState → Type 0
+GoodSharesAreOwn w = (file secret : List ℕ) (p : UploadParameters) (c : CheckState)
+    (server share : ℕ) → IsStarted w file secret p
+    → IsCheckOf w (verify_cap_of (prepared_of file secret p).cap) c
+    → (good : IsGood c.cap share (settled_of c.requests.entries server share))
+    → good.bytes ≡ slice_index_or (prepared_of file secret p).shares share []
+
+-- What binds downloads and checks, of one world. It holds of every world.
+pub record IsBound (w : WorldState) : Type 0 where
+  pub never_inconsistent : HasNoClashInTests w → NeverInconsistent w
+  pub blocks_are_own : HasNoClashInTests w → BlocksAreOwn w
+  pub good_shares_are_own : HasNoClashInTests w → GoodSharesAreOwn w
