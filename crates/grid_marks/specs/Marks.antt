@@ -1,0 +1,23 @@
+-- The marks of a grid that knows its servers.
+use Rattle.std.specs.Prelude.{ℕ, ◌≤◌, List, ◌++◌, codes, decimal}
+use Rattle.cap_text.specs.Base32.{IsBytes, base32}
+use Rattle.grid_marks.specs.declared.mark.Kind.{Kind}
+use Rattle.grid_marks.specs.declared.mark.Kind.TheVariants.{Grid, Server}
+use Rattle.grid_marks.specs.declared.mark.Mark.{Mark}
+
+-- what stands before the number
+abbrev pub kind_text : Kind → List ℕ
+kind_text Grid = codes " servers "
+kind_text Server = codes " server "
+
+-- one line: the grid's identity, and how many servers it has or the number of the server
+abbrev pub line : List ℕ → Kind → ℕ → List ℕ
+line identity kind number =
+    codes "grid " ++ (base32 identity ++ (kind_text kind ++ (decimal number ++ codes "\n")))
+
+abbrev pub mark_text : Mark → List ℕ
+mark_text m = line m.identity m.kind m.number
+
+-- an identity of 16 bytes, and no number above 256
+abbrev pub IsMark : Mark → Type 0
+IsMark m = IsBytes 16 m.identity × (m.number ≤ 256)
