@@ -24,6 +24,8 @@ use Rattle.grid_rules.specs.declared.fault.Fault.TheVariants.{NotEnoughShares, I
 use Rattle.grid_rules.specs.declared.fault.Fault.TheVariants.{BadRange, NeedsReadCap, Socket}
 use Rattle.grid_rules.specs.declared.fault.Fault.TheVariants.{TurnLimit, BadEvent, Stopped}
 use Rattle.grid_rules.specs.declared.fault.Fault.TheVariants.{BadScript, SourceChanged, SourceFault}
+use Rattle.grid_rules.specs.declared.fault.Fault.TheVariants.{AlreadyGrid, SameFolder, OtherMark}
+use Rattle.grid_rules.specs.declared.fault.Fault.TheVariants.{BadMark}
 
 -- the number of a fault
 abbrev pub fault_number : Fault → ℕ
@@ -45,6 +47,10 @@ fault_number Socket = 91
 fault_number TurnLimit = 92
 fault_number (BadScript _) = 93
 fault_number NeedsReadCap = 94
+fault_number AlreadyGrid = 95
+fault_number (SameFolder _ _) = 96
+fault_number (OtherMark _) = 97
+fault_number (BadMark _) = 98
 
 -- the exit status that it gives
 abbrev pub fault_status : Fault → ℕ
@@ -66,6 +72,10 @@ fault_status Socket = 7
 fault_status TurnLimit = 7
 fault_status (BadScript _) = 3
 fault_status NeedsReadCap = 3
+fault_status AlreadyGrid = 3
+fault_status (SameFolder _ _) = 3
+fault_status (OtherMark _) = 3
+fault_status (BadMark _) = 7
 
 -- the fault that a cap's error becomes
 abbrev pub fault_of_cap : CapError → Fault

@@ -76,6 +76,18 @@ pub enum Fault {
     /// The cap has no key, and the command needs one.
     #[error("NeedsReadCap")]
     NeedsReadCap,
+    /// The folder is a grid that knows its servers already.
+    #[error("AlreadyGrid")]
+    AlreadyGrid,
+    /// The folders of these two servers are one.
+    #[error("SameFolder {0} {1}")]
+    SameFolder(String, String),
+    /// The folder of this path has a mark already, of another grid or of another server.
+    #[error("OtherMark {0}")]
+    OtherMark(String),
+    /// The file of this path is not the mark of a grid that it should be.
+    #[error("BadMark {0}")]
+    BadMark(String),
 }
 
 impl Fault {
@@ -102,12 +114,16 @@ impl Fault {
             Fault::TurnLimit => 92,
             Fault::BadScript(_) => 93,
             Fault::NeedsReadCap => 94,
+            Fault::AlreadyGrid => 95,
+            Fault::SameFolder(..) => 96,
+            Fault::OtherMark(_) => 97,
+            Fault::BadMark(_) => 98,
         }
     }
 
     /// The exit status: 3 for refused input, 4 for an unhappy upload, 5 for too few shares, 6 for
-    /// inconsistent ones, and 7 for memory, a file that fails or changes, a folder or a socket, for
-    /// too many turns, and for a world that was stopped.
+    /// inconsistent ones, and 7 for memory, a file that fails or changes, a folder or a socket, a
+    /// grid's mark that is none, for too many turns, and for a world that was stopped.
     pub fn status(&self) -> u8
         ensures { result ≡ fault_status self.now }
     {
@@ -119,7 +135,10 @@ impl Fault {
             | Fault::BadRange
             | Fault::BadEvent
             | Fault::BadScript(_)
-            | Fault::NeedsReadCap => 3,
+            | Fault::NeedsReadCap
+            | Fault::AlreadyGrid
+            | Fault::SameFolder(..)
+            | Fault::OtherMark(_) => 3,
             Fault::Unhappy { .. } => 4,
             Fault::NotEnoughShares => 5,
             Fault::Inconsistent => 6,
@@ -129,7 +148,8 @@ impl Fault {
             | Fault::Stopped
             | Fault::File(..)
             | Fault::Socket
-            | Fault::TurnLimit => 7,
+            | Fault::TurnLimit
+            | Fault::BadMark(_) => 7,
         }
     }
 
