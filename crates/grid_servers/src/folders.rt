@@ -6,6 +6,7 @@ ghost use Rattle.share_store.specs.Names.{in_folder};
 ghost use Rattle.grid_rules.specs.ReportLines.{server_name};
 
 use crate::files::at_path;
+use crate::marks::try_mark;
 use grid_rules::{Fault, is_memory, server_name};
 use share_store::disk::{Durability, make_folder};
 use share_store::folder::Purpose;
@@ -77,8 +78,9 @@ pub fn server_folder(alloc: Global, grid: &str, server: NodeId) -> Result<String
 const PROBE: &str = ".probe";
 
 /// Why a server cannot serve, as the system tells it, found by trying: its folder is read, and for
-/// writing it is made where it is not there, and a file of one byte is written in it and removed.
-/// None where all of that went well.
+/// writing it is made where it is not there, and a file of one byte is written in it and removed. A
+/// grid that knows its servers wants its mark first, and none is made there. None where all of that
+/// went well.
 pub fn folder_fault<R>(
     rt: &R,
     grid: &str,
@@ -90,11 +92,26 @@ where
     ensures { IfErr result (λ fault. fault ≡ Fault.OutOfMemory) }
 {
     let folder = server_folder(rt.alloc(), grid, server)?;
-    match try_folder(rt, folder.as_str(), purpose) {
+    match try_server(rt, grid, server, folder.as_str(), purpose) {
         Ok(()) => Ok(None),
         Err(error) if is_memory(&error) => Err(Fault::OutOfMemory),
         Err(error) => Ok(Some(error)),
     }
+}
+
+// Tries a server's folder, with its mark.
+fn try_server<R>(
+    rt: &R,
+    grid: &str,
+    server: NodeId,
+    folder: &str,
+    purpose: Purpose,
+) -> io::Result<()>
+where
+    R: Files + AllocGlobal + Clone + Drop,
+{
+    try_mark(rt, grid, server)?;
+    try_folder(rt, folder, purpose)
 }
 
 // Tries a folder, for reading or for writing too.

@@ -6,7 +6,9 @@ ghost use Rattle.grid_servers.specs.Servers.{servers_without};
 
 use crate::files::if_there;
 use crate::folders::{MAX_SERVERS, server_folder};
-use grid_rules::{Fault, is_memory};
+use crate::marks::{grid_mark, try_known};
+use grid_marks::Mark;
+use grid_rules::{Fault, first_servers, is_memory};
 use local_grid::grid::LocalGrid;
 use local_grid::link::MemoryLink;
 use local_grid::node::Node;
@@ -32,8 +34,21 @@ type ServerNode<R> = Node<FolderStore<R>, ServerLink<R>>;
 /// The servers of a grid in this process.
 pub type FolderGrid<R> = LocalGrid<FolderStore<R>, ServerLink<R>>;
 
-/// The numbers of the servers whose folders stand in a grid, rising.
+/// The numbers of the servers of a grid, rising: all of those that it knows, or those whose folders
+/// stand there.
 pub fn standing_servers<R>(rt: &R, grid: &str) -> Result<Vec<NodeId>, Fault>
+where
+    R: Files + AllocGlobal,
+    ensures { IfOk result (λ servers. IsDistinct nat_eq servers.items) }
+{
+    match grid_mark(rt, grid)? {
+        Some(known) => Ok(first_servers(rt.alloc(), known.number)?),
+        None => found_servers(rt, grid),
+    }
+}
+
+// The numbers of the servers whose folders stand in a grid, rising.
+fn found_servers<R>(rt: &R, grid: &str) -> Result<Vec<NodeId>, Fault>
 where
     R: Files + AllocGlobal,
     ensures { IfOk result (λ servers. IsDistinct nat_eq servers.items) }
@@ -57,7 +72,8 @@ fn is_standing<R: Files + AllocGlobal>(rt: &R, grid: &str, server: NodeId) -> Re
 
 /// These servers over their folders of a grid, which are made where they are not there. They are
 /// asked in memory or over sockets; one to which no connection is made is silent. Those that are
-/// opened for reading take no further shares.
+/// opened for reading take no further shares. In a grid that knows its servers no folder is made,
+/// and one whose folder has not its mark is silent.
 pub fn open_servers<R>(
     rt: &R,
     grid: &str,
@@ -69,16 +85,29 @@ where
     R: Files + Net + AllocGlobal + Clone + Drop,
 {
     let links = open_links(rt, servers.len(), over_sockets)?;
-    let nodes = open_nodes(rt, grid, servers, purpose, links)?;
+    let opening = Opening {
+        grid,
+        known: grid_mark(rt, grid)?,
+        purpose,
+    };
+    let nodes = open_nodes(rt, &opening, servers, links)?;
     Ok(LocalGrid::new(rt.alloc(), nodes))
+}
+
+// How the servers of a grid are opened.
+#[derive(Clone, Copy)]
+struct Opening<'a> {
+    grid: &'a str,
+    /// The grid's mark, where it has one.
+    known: Option<Mark>,
+    purpose: Purpose,
 }
 
 // The servers with these links, each at its number.
 fn open_nodes<R>(
     rt: &R,
-    grid: &str,
+    opening: &Opening<'_>,
     servers: &[NodeId],
-    purpose: Purpose,
     links: Vec<ServerLink<R>>,
 ) -> Result<Vec<Option<ServerNode<R>>>, Fault>
 where
@@ -86,7 +115,7 @@ where
 {
     let mut nodes = Vec::new(rt.alloc());
     for (server, link) in servers.iter().zip(links) {
-        add_node(rt, grid, *server, purpose, link, &mut nodes)?;
+        add_node(rt, opening, *server, link, &mut nodes)?;
     }
     Ok(nodes)
 }
@@ -94,9 +123,8 @@ where
 // Puts a server with its link at its number. One whose folder cannot be made or read is silent.
 fn add_node<R>(
     rt: &R,
-    grid: &str,
+    opening: &Opening<'_>,
     server: NodeId,
-    purpose: Purpose,
     link: ServerLink<R>,
     nodes: &mut Vec<Option<ServerNode<R>>>,
 ) -> Result<(), Fault>
@@ -104,7 +132,7 @@ where
     R: Files + Net + AllocGlobal + Clone + Drop,
 {
     leave_out(nodes, server)?;
-    let node = match open_server(rt, grid, server, purpose)? {
+    let node = match open_server(rt, opening, server)? {
         Some(server) => Some(Node::new(server, link)),
         None => None,
     };
@@ -153,18 +181,23 @@ fn leave_out<N: Drop>(nodes: &mut Vec<Option<N>>, server: NodeId) -> Result<(), 
     Ok(())
 }
 
-// The server over its folder, if that can be made and read.
+// The server over its folder, if that can be made and read, and has its mark in a grid that knows
+// its servers.
 fn open_server<R>(
     rt: &R,
-    grid: &str,
+    opening: &Opening<'_>,
     server: NodeId,
-    purpose: Purpose,
 ) -> Result<Option<Server<FolderStore<R>>>, Fault>
 where
     R: Files + AllocGlobal + Clone + Drop,
 {
-    let folder = server_folder(rt.alloc(), grid, server)?;
-    match FolderStore::open(rt, folder.as_str(), purpose) {
+    if let Some(known) = &opening.known {
+        if if_there(try_known(rt, opening.grid, server, known))?.is_none() {
+            return Ok(None);
+        }
+    }
+    let folder = server_folder(rt.alloc(), opening.grid, server)?;
+    match FolderStore::open(rt, folder.as_str(), opening.purpose) {
         Ok(store) => Ok(Some(serving(rt.alloc(), store))),
         Err(StoreError::StoreFault) => Ok(None),
         Err(StoreError::OutOfMemory) => Err(Fault::OutOfMemory),

@@ -1,7 +1,7 @@
 use Rattle.std.proofs.Common.{◌+◌, ◌∙◌, ap, subst, sym}
 use Rattle.grid_servers.proofs.Rising.{AreBelow, more_below, none_below, still_below}
-use Rattle.grid_servers.proofs.servers.standing_servers.Goals as goal
-use Rattle.grid_servers.proofs.servers.standing_servers.Goals.{then-branch+in_ok-push, else-branch}
+use Rattle.grid_servers.proofs.servers.found_servers.Goals as goal
+use Rattle.grid_servers.proofs.servers.found_servers.Goals.{then-branch+in_ok-push, else-branch}
 
 pub loop-server-init : goal.loop-server-init
 loop-server-init g c = none_below c.new-servers.result.items c.new-servers.ensures.items
