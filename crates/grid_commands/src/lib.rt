@@ -1,13 +1,15 @@
 //! The commands of `grid`, which keeps files on a grid of servers that need not be trusted.
 //!
-//! `grid` takes the words of the command line and two writers, and gives the exit status. A `put`
-//! is an upload, a `get` one download or several in `grid_gets`, a `check` a check, and a `repair`
-//! a check and an upload, which `local_grid` carries on; a `scrub` reads the servers' folders;
-//! `world` is a script that `grid_scripts` runs. Which words there are stands in `grid_words`, and
-//! what is told in `grid_rules` and `grid_telling`.
+//! `grid` takes the words of the command line and two writers, and gives the exit status. An `init`
+//! marks the folders of a grid and of its servers. A `put` is an upload, a `get` one download or
+//! several in `grid_gets`, a `check` a check, and a `repair` a check and an upload, which
+//! `local_grid` carries on; a `scrub` reads the servers' folders; `world` is a script that
+//! `grid_scripts` runs. Which words there are stands in `grid_words`, and what is told in
+//! `grid_rules` and `grid_telling`.
 #![tactic(auto)]
 
 mod check;
+mod init;
 mod mending;
 mod placing;
 mod put;
@@ -126,6 +128,7 @@ where
     E: io::Write + IsTerminal,
 {
     match request {
+        Request::Init(words) => done(print(out, &init::init(rt, words, progress)?)),
         Request::Put(words) => done(print(out, &put::put(rt, words, progress)?)),
         Request::Get(words) => done(get(rt, words, out, progress)),
         Request::Check(words) => check::check(rt, words, out, progress),

@@ -1,7 +1,7 @@
 //! Damaged shares of one file, set aside before it is put or repaired.
 
-use grid_rules::{Fault, server_name};
-use grid_servers::server_folder;
+use grid_rules::{Fault, is_memory, server_name};
+use grid_servers::{server_folder, try_mark};
 use grid_telling::Progress;
 use share_scrub::mend;
 use share_store::error::StoreError;
@@ -10,7 +10,8 @@ use std::rt::{Clock, Files};
 use wire::message::{NodeId, StorageIndex};
 
 /// Looks at the closed shares of a storage index in the folders of these servers, and sets damaged
-/// ones aside. A folder that cannot be read is passed over: its server will be silent.
+/// ones aside. A folder that cannot be read is passed over, and so is one without its mark in a
+/// grid that knows its servers: its server will be silent.
 pub(crate) fn mend_servers<R, E>(
     rt: &R,
     grid: &str,
@@ -41,6 +42,11 @@ where
     E: Write + IsTerminal,
 {
     let alloc = rt.alloc();
+    match try_mark(rt, grid, server) {
+        Ok(()) => {}
+        Err(error) if is_memory(&error) => return Err(Fault::OutOfMemory),
+        Err(_) => return Ok(()),
+    }
     let folder = server_folder(alloc, grid, server)?;
     match mend(rt, folder.as_str(), index, progress) {
         Ok(mended) if mended.set_aside != 0 => {

@@ -4,7 +4,7 @@
 ghost use Rattle.std.specs.Prelude.{◌<◌, length, IfOk, IfSome};
 
 use grid_rules::{Fault, Scrubbed, Verb, finding_json, finding_line, is_memory, server_name};
-use grid_servers::{is_grid, server_folder, standing_servers};
+use grid_servers::{is_grid, server_folder, standing_servers, try_mark};
 use grid_telling::{Counting, Failure, Progress, print};
 use grid_words::ScrubWords;
 use share_scrub::{Action, Finding, Handling, Scrub, State};
@@ -87,8 +87,7 @@ where
     E: Write + IsTerminal,
 {
     let alloc = rt.alloc();
-    let folder = server_folder(alloc, words.grid, server)?;
-    match Scrub::begin(rt, folder.as_str(), None) {
+    match begin_scrub(rt, words.grid, server) {
         Ok(mut files) => {
             progress.expect(files.total());
             let telling = Telling {
@@ -104,6 +103,16 @@ where
             Ok(false)
         }
     }
+}
+
+// The files of a server, whose folder has its mark in a grid that knows its servers.
+fn begin_scrub<R>(rt: &R, grid: &str, server: NodeId) -> io::Result<Scrub<R>>
+where
+    R: Files + AllocGlobal + Clone + Drop,
+{
+    try_mark(rt, grid, server)?;
+    let folder = server_folder(rt.alloc(), grid, server)?;
+    Scrub::begin(rt, folder.as_str(), None)
 }
 
 // How the files of a server are told.

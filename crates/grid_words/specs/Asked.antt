@@ -9,6 +9,7 @@ use Rattle.clap.specs.Words.{Row, Text, first_of, found_of, one_of, rows_of}
 use Rattle.clap.specs.declared.parser.matches.ArgMatches.{ArgMatches}
 use Rattle.grid_words.specs.declared.words.CheckWords.{CheckWords}
 use Rattle.grid_words.specs.declared.words.GetWords.{GetWords}
+use Rattle.grid_words.specs.declared.words.InitWords.{InitWords}
 use Rattle.grid_words.specs.declared.words.PutWords.{PutWords}
 use Rattle.grid_words.specs.declared.words.RepairWords.{RepairWords}
 use Rattle.grid_words.specs.declared.words.Request.{Request}
@@ -45,6 +46,11 @@ abbrev pub IsSecret : List Row → SecretWords → Type 0
 IsSecret rows (secrets.Text text) = (first_of (codes "secret-file") rows ≡ None)
     × (text.now ≡ text_under (codes "secret") rows)
 IsSecret rows (secrets.File path) = first_of (codes "secret-file") rows ≡ Some path.now
+
+pub record AsksInit (rows : List Row) (words : InitWords) : Type 0 where
+  pub grid : words.grid.now ≡ text_under (codes "DIR") rows
+  pub servers : words.servers ≡ unwrap_or (number_under (codes "servers") rows) 0
+  pub verbose : IsFlag (one_of (codes "verbose") rows) words.verbose
 
 pub record AsksPut (rows : List Row) (words : PutWords) : Type 0 where
   pub file : words.file.now ≡ text_under (codes "FILE") rows
@@ -96,11 +102,12 @@ pub record AsksScrub (rows : List Row) (words : ScrubWords) : Type 0 where
 
 -- the names of the commands that are told apart from `cap`
 abbrev pub other_names : List Text
-other_names = codes "put" ∷ codes "get" ∷ codes "check" ∷ codes "repair" ∷ codes "scrub"
-    ∷ codes "world" ∷ []
+other_names = codes "init" ∷ codes "put" ∷ codes "get" ∷ codes "check" ∷ codes "repair"
+    ∷ codes "scrub" ∷ codes "world" ∷ []
 
 -- the command of this name, with these values of its arguments, asks for this
 abbrev pub Asks : Text → List Row → Request → Type 0
+Asks name rows (requests.Init words) = (name ≡ codes "init") × AsksInit rows words
 Asks name rows (requests.Put words) = (name ≡ codes "put") × AsksPut rows words
 Asks name rows (requests.Get words) = (name ≡ codes "get") × AsksGet rows words
 Asks name rows (requests.Check words) = (name ≡ codes "check") × AsksCheck rows words

@@ -48,6 +48,12 @@ secret = record (option (codes "secret")) { defaults = [] ∷ [] }
 abbrev pub secret_file : Rule
 secret_file = record (option (codes "secret-file")) { is_free = false }
 
+abbrev pub servers : Rule
+servers = number_or (codes "servers") (codes "10")
+
+abbrev pub init_rules : List Rule
+init_rules = operand (codes "DIR") ∷ servers ∷ verbose ∷ []
+
 abbrev pub put_rules : List Rule
 put_rules = operand (codes "FILE")
     ∷ grid_folder
@@ -55,7 +61,7 @@ put_rules = operand (codes "FILE")
     ∷ happy
     ∷ number_or (codes "n") (codes "10")
     ∷ number_or (codes "segment") (codes "131072")
-    ∷ number_or (codes "servers") (codes "10")
+    ∷ servers
     ∷ secret
     ∷ secret_file
     ∷ flag (codes "net")
@@ -106,6 +112,9 @@ scrub_rules = grid_folder
 abbrev pub shape : Text → List Rule → Shape
 shape name rules = record (new_shape name) { rules = rules }
 
+abbrev pub init_shape : Shape
+init_shape = shape (codes "init") init_rules
+
 abbrev pub put_shape : Shape
 put_shape = shape (codes "put") put_rules
 
@@ -142,6 +151,6 @@ bare_app = record { top = grid_shape; subs = [] }
 abbrev pub grid_app : App
 grid_app = record {
   top = record grid_shape { is_leaf = false };
-  subs = put_shape ∷ get_shape ∷ check_shape ∷ repair_shape ∷ scrub_shape ∷ world_shape
-      ∷ cap_shape ∷ [];
+  subs = init_shape ∷ put_shape ∷ get_shape ∷ check_shape ∷ repair_shape ∷ scrub_shape
+      ∷ world_shape ∷ cap_shape ∷ [];
 }

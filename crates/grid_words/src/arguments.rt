@@ -4,7 +4,7 @@ ghost use Rattle.std.specs.Prelude.{codes, IfOk};
 ghost use Rattle.grid_words.specs.Builds.{HasRule};
 ghost use Rattle.grid_words.specs.CommandLine.{flag, grid_folder, happy, number, number_or};
 ghost use Rattle.grid_words.specs.CommandLine.{operand, option, output, secret, secret_file};
-ghost use Rattle.grid_words.specs.CommandLine.{verbose};
+ghost use Rattle.grid_words.specs.CommandLine.{servers, verbose};
 
 use clap::{Arg, ArgAction, value_parser};
 use std::alloc::{AllocError, Global};
@@ -43,6 +43,17 @@ pub(crate) fn operand<'a>(alloc: Global, name: &'a str, help: &'a str) -> Arg<'a
     ensures { HasRule (operand name.entry.now) result }
 {
     Arg::new(alloc, name).required(true).help(help)
+}
+
+/// The folder that becomes a grid.
+pub(crate) fn new_grid<'a>(alloc: Global) -> Arg<'a>
+    ensures { HasRule (operand (codes "DIR")) result }
+{
+    operand(
+        alloc,
+        "DIR",
+        "The folder of the grid, which is made where it is not there",
+    )
 }
 
 /// The folder of the grid.
@@ -103,7 +114,7 @@ pub(crate) fn max_segment<'a>(alloc: Global) -> Arg<'a>
 
 /// How many servers a file is put to.
 pub(crate) fn servers<'a>(alloc: Global) -> Arg<'a>
-    ensures { HasRule (number_or (codes "servers") (codes "10")) result }
+    ensures { HasRule servers result }
 {
     number(
         alloc,

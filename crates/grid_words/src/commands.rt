@@ -4,13 +4,13 @@ ghost use Rattle.std.specs.Prelude.{IfOk, List};
 ghost use Rattle.clap.specs.Walk.{Rule};
 ghost use Rattle.grid_words.specs.Builds.{HasShape, HaveRules, IsApp, shape_named};
 ghost use Rattle.grid_words.specs.CommandLine.{bare_app, cap_shape, check_shape, get_shape};
-ghost use Rattle.grid_words.specs.CommandLine.{grid_app};
+ghost use Rattle.grid_words.specs.CommandLine.{grid_app, init_shape};
 ghost use Rattle.grid_words.specs.CommandLine.{put_rules, put_shape, repair_shape, scrub_shape};
 ghost use Rattle.grid_words.specs.CommandLine.{shape, world_shape};
 
 use crate::arguments::{
-    file, flag, grid_folder, happy, json, max_segment, mend, needed, net, no_sync, operand, output,
-    place, read_cap, secret, secret_file, servers, total, verbose, verify_cap,
+    file, flag, grid_folder, happy, json, max_segment, mend, needed, net, new_grid, no_sync,
+    operand, output, place, read_cap, secret, secret_file, servers, total, verbose, verify_cap,
 };
 use clap::{Arg, Command};
 use std::alloc::{AllocError, Global};
@@ -26,6 +26,7 @@ and name.";
 /// The commands of `grid`.
 #[derive(Clone, Copy)]
 enum Name {
+    Init,
     Put,
     Get,
     Check,
@@ -36,7 +37,8 @@ enum Name {
 }
 
 // In the order in which the help tells them.
-const NAMES: [Name; 7] = [
+const NAMES: [Name; 8] = [
+    Name::Init,
     Name::Put,
     Name::Get,
     Name::Check,
@@ -79,6 +81,7 @@ fn command_of<'a>(alloc: Global, name: Name) -> Result<Command<'a>, AllocError>
     ensures { IfOk result (HasShape (shape_named name)) }
 {
     match name {
+        Name::Init => init_command(alloc),
         Name::Put => put_command(alloc),
         Name::Get => get_command(alloc),
         Name::Check => check_command(alloc),
@@ -87,6 +90,20 @@ fn command_of<'a>(alloc: Global, name: Name) -> Result<Command<'a>, AllocError>
         Name::World => world_command(alloc),
         Name::Cap => cap_command(alloc),
     }
+}
+
+fn init_command<'a>(alloc: Global) -> Result<Command<'a>, AllocError>
+    ensures { IfOk result (HasShape init_shape) }
+{
+    let arguments = vec![in alloc; new_grid(alloc), servers(alloc), verbose(alloc)]?;
+    command(
+        alloc,
+        "init",
+        "Makes a grid that knows its servers: marks its folder and a folder for each server, and \
+keeps what is in them. No command makes a folder there, and a folder without its mark is a silent \
+server.",
+        arguments,
+    )
 }
 
 fn put_command<'a>(alloc: Global) -> Result<Command<'a>, AllocError>

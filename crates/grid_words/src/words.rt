@@ -2,8 +2,8 @@
 
 ghost use Rattle.std.specs.Prelude.{◌≡◌, IfErr, IfOk, map, option_map, true};
 ghost use Rattle.clap.specs.Words.{first_of, kind_of, one_of, subcommand_of, takes};
-ghost use Rattle.grid_words.specs.Asked.{Asks, AsksCheck, AsksGet, AsksPut, AsksRepair, AsksScrub};
-ghost use Rattle.grid_words.specs.Asked.{IsAsked, IsFlag, IsSecret, number_under, rows_in};
+ghost use Rattle.grid_words.specs.Asked.{Asks, AsksCheck, AsksGet, AsksInit, AsksPut, AsksRepair};
+ghost use Rattle.grid_words.specs.Asked.{AsksScrub, IsAsked, IsFlag, IsSecret, number_under, rows_in};
 ghost use Rattle.grid_words.specs.Asked.{text_under};
 ghost use Rattle.grid_words.specs.CommandLine.{grid_app};
 
@@ -16,6 +16,7 @@ use std::convert::AsStr;
 /// What the user asks for.
 #[derive(Drop)]
 pub enum Request<'a> {
+    Init(InitWords<'a>),
     Put(PutWords<'a>),
     Get(GetWords<'a>),
     Check(CheckWords<'a>),
@@ -31,6 +32,7 @@ impl<'a> Request<'a> {
     /// Whether notes are asked for, with `-v`.
     pub fn is_verbose(&self) -> bool {
         match self {
+            Request::Init(words) => words.verbose,
             Request::Put(words) => words.verbose,
             Request::Get(words) => words.verbose,
             Request::Check(words) => words.verbose,
@@ -48,6 +50,14 @@ pub enum SecretWords<'a> {
     Text(&'a str),
     /// `--secret-file FILE`, with the path of the file.
     File(&'a str),
+}
+
+/// `grid init DIR ..`: a number as the user wrote it, in no range yet.
+#[derive(Drop)]
+pub struct InitWords<'a> {
+    pub grid: &'a str,
+    pub servers: u64,
+    pub verbose: bool,
 }
 
 /// `grid put FILE --grid DIR ..`: numbers as the user wrote them, in no range yet.
@@ -137,6 +147,7 @@ fn request_of<'a>(name: &str, found: &ArgMatches<'a>) -> Request<'a>
     ensures { Asks name.now (rows_in found.now) result }
 {
     match name {
+        "init" => Request::Init(init_words(found)),
         "put" => Request::Put(put_words(found)),
         "get" => Request::Get(get_words(found)),
         "check" => Request::Check(check_words(found)),
@@ -145,6 +156,16 @@ fn request_of<'a>(name: &str, found: &ArgMatches<'a>) -> Request<'a>
         "world" => Request::World(text_of(found, "SCRIPT")),
         // There is no other.
         _ => Request::Describe(text_of(found, "CAP")),
+    }
+}
+
+fn init_words<'a>(found: &ArgMatches<'a>) -> InitWords<'a>
+    ensures { AsksInit (rows_in found.now) result }
+{
+    InitWords {
+        grid: text_of(found, "DIR"),
+        servers: number_of(found, "servers").unwrap_or(0),
+        verbose: is_set(found, "verbose"),
     }
 }
 
