@@ -96,7 +96,7 @@ sees 'CDPATH set' calls_with_cdpath
 for words in '--version version' '--help grid' 'put --help put' 'get --help get' \
     'check --help check' 'world --help world' 'cap --help cap'; do
     "$grid" ${words% *} > out 2> err
-    sees "the stored text of ${words% *}" cmp -s out "$here/docs/help/${words##* }"
+    sees "the stored text of ${words% *}" cmp -s out "$here/crates/grid_rows/data/help/${words##* }"
 done
 
 echo "$seen seen, $differed differed"
