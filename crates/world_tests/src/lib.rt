@@ -6,12 +6,12 @@ mod agreement_tests;
 #[cfg(test)]
 mod changing_tests;
 #[cfg(test)]
-mod honest;
+mod course;
 #[cfg(test)]
-mod keepers;
+mod ends;
 #[cfg(test)]
-mod run;
+mod liars;
 #[cfg(test)]
-mod turns_tests;
+mod steps;
 #[cfg(test)]
 mod world_runs_tests;

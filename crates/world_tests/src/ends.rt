@@ -1,0 +1,148 @@
+//! What came of worlds.
+
+use crate::steps::Kept;
+use download_core::Download;
+use download_core::status::Piece;
+use proved_parts::{Evidence, find_clash};
+use std::alloc::Global;
+use test_shares::no_code_word::{SEGMENT_SIZE, SIZE};
+use wire::message::NodeId;
+use world::World;
+use world_operations::operation::Operation;
+use world_operations::status::Status;
+use world_operations::task::Task;
+
+// Did an operation come to this, and hand out so many pieces of so many bytes, which are all this
+// one, if there is one?
+pub(crate) fn ends_so(
+    world: &World,
+    number: usize,
+    status: Status,
+    counts: (usize, usize),
+    byte: Option<u8>,
+) -> bool {
+    match world.given(number) {
+        Some(pieces) => {
+            world.status(number) == Some(status)
+                && counts == (pieces.len(), byte_count(pieces))
+                && are_all(pieces, byte)
+        }
+        None => false,
+    }
+}
+
+fn byte_count(pieces: &[Piece]) -> usize {
+    let mut count: usize = 0;
+    for piece in pieces {
+        count = count.saturating_add(piece.bytes.as_slice().len());
+    }
+    count
+}
+
+fn are_all(pieces: &[Piece], byte: Option<u8>) -> bool {
+    for piece in pieces {
+        for other in piece.bytes.as_slice() {
+            if byte.is_some() && byte != Some(*other) {
+                return false;
+            }
+        }
+    }
+    true
+}
+
+// Is the message at this place so, or is there none?
+pub(crate) fn is_said(world: &World, place: usize, said: Option<(NodeId, NodeId, u8)>) -> bool {
+    match (world.sent().get(place), said) {
+        (Some(sent), Some((from, to, byte))) => {
+            sent.from == from && sent.to == to && sent.body.as_slice() == [byte].as_slice()
+        }
+        (None, None) => true,
+        _ => false,
+    }
+}
+
+// Did the downloads of the file that is no code word end as they have to? From the right pair of
+// servers all of the file comes, and from any other its first segment, which is a code word, and no
+// more. No place has two bytes.
+pub(crate) fn kept_end(alloc: Global, world: &World, kept: &Kept) -> bool {
+    for (number, pair) in kept.pairs.iter().enumerate() {
+        let (status, counts) = if is_right(kept.told, *pair) {
+            (Status::Done, (2, SIZE))
+        } else {
+            (Status::Inconsistent, (1, SEGMENT_SIZE))
+        };
+        if !ends_so(world, number, status, counts, None) {
+            return false;
+        }
+    }
+    match world.operations().get(..kept.pairs.len()) {
+        Some(operations) => agree(alloc, operations),
+        None => false,
+    }
+}
+
+// Do the shares of this pair of servers give a second segment of these bytes? For byte 9 there are
+// none.
+fn is_right(told: u8, pair: (u8, u8)) -> bool {
+    (told, pair) == (7, (0, 1)) || (told, pair) == (8, (2, 3))
+}
+
+// Do all downloads of one file agree?
+fn agree(alloc: Global, operations: &[Operation]) -> bool {
+    let Ok(mut known) = vec![in alloc; None; SIZE] else {
+        return false;
+    };
+    for operation in operations {
+        for piece in operation.given.as_slice() {
+            if !agrees(known.as_mut_slice(), piece) {
+                return false;
+            }
+        }
+    }
+    true
+}
+
+// Has a piece the bytes that are known? Those that are not known yet are so from then on.
+fn agrees(known: &mut [Option<u8>], piece: &Piece) -> bool {
+    for (i, byte) in piece.bytes.as_slice().iter().enumerate() {
+        let Some(place) = known.get_mut((piece.place as usize).saturating_add(i)) else {
+            return false;
+        };
+        if place.is_some() && *place != Some(*byte) {
+            return false;
+        }
+        *place = Some(*byte);
+    }
+    true
+}
+
+// Has no evidence of the downloads a clash with another? Each of them has some.
+pub(crate) fn are_without_clash(alloc: Global, operations: &[Operation]) -> bool {
+    let mut kept = Vec::new(alloc);
+    for operation in operations {
+        if let Task::Downloading(download) = &operation.task {
+            if !keep(alloc, download, &mut kept) {
+                return false;
+            }
+        }
+    }
+    have_no_clash(alloc, kept.as_slice())
+}
+
+fn keep(alloc: Global, download: &Download, kept: &mut Vec<Evidence>) -> bool {
+    match download.evidence(alloc) {
+        Ok(Some(evidence)) => kept.push(evidence).is_ok(),
+        _ => false,
+    }
+}
+
+fn have_no_clash(alloc: Global, kept: &[Evidence]) -> bool {
+    for one in kept {
+        for other in kept {
+            if !matches!(find_clash(alloc, one, other), Ok(None)) {
+                return false;
+            }
+        }
+    }
+    true
+}
