@@ -108,8 +108,8 @@ where
     }
 }
 
-// The bytes of the greatest file that is held: its shares have `total / needed` times so many, and a
-// little more. One that its cap holds is always held.
+// The bytes of the greatest file that is held: its shares have `total / needed` times so many, and
+// a little more. One that its cap holds is always held.
 fn most_held(params: &Params) -> u64
     ensures { result
         ≡ max (HELD_SHARES * params.now.needed / params.now.total) MAX_LITERAL_SIZE }
