@@ -3,6 +3,8 @@
 #![tactic(auto)]
 
 #[cfg(test)]
+mod cases;
+#[cfg(test)]
 mod course;
 #[cfg(test)]
 mod download_core_tests;
@@ -14,3 +16,5 @@ mod lying_servers_tests;
 mod rows_tests;
 #[cfg(test)]
 mod shapes;
+#[cfg(test)]
+mod taken;

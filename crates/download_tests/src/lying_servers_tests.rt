@@ -1,98 +1,39 @@
 //! Downloads from servers that hold wrong bytes: each wrong share is blamed for its own fault, at
 //! its own server, and the others give the file.
 
-use crate::course::{Blamed, Pieces, Reads, Wanted, ends, evidence_from};
-use crate::grid::{
-    BLOCK_TREE, BLOCKS, CIPHERTEXT_TREE, EXTENSION_BLOCK, Fault, Grid, Place, Placed, SHARE_HASHES,
-    Shape, Wrong,
+use crate::cases::{Case, Fault, Placed, Reads, Section, Shape, Source, Wanted, Wrong};
+use crate::course::{agree, ends_so, right_ones};
+use crate::shapes::{
+    ALL_OF_SMALL, ALL_OF_TWO, BLOCK_TREE, BLOCKS, CIPHERTEXT_TREE, DATA_OF_1, EXTENSION_BLOCK,
+    HASHES_OF_0, LAYOUT_OF_0, SHARE_HASHES, SMALL, SMALL_COMES, TREE_OF_0, UEB_OF_0,
 };
-use crate::shapes::{SMALL, SMALL_SIZE, TWO, small_but_one};
 use download_core::status::{Blame, DownloadStatus};
-use proved_parts::{Evidence, find_clash};
 use share_verify::Check;
 use std::alloc::Global;
 use test_shares::no_code_word::{SEGMENT_SIZE, SIZE};
 
-// The sections of a share, how far behind its beginning a byte is changed, and the check that
-// fails. The numbers of the share hashes are of the layout.
-const DAMAGES: [(usize, usize, Check); 5] = [
-    (CIPHERTEXT_TREE, 32 * 8, Check::CiphertextTree),
-    (BLOCK_TREE, 32 * 8, Check::BlockTree),
-    (SHARE_HASHES, 0, Check::Layout),
-    (SHARE_HASHES, 2, Check::ShareHashes),
-    (EXTENSION_BLOCK, 20, Check::Ueb),
-];
+const CIPHERTEXT_TREE_OF_0: [Blame; 1] = [Blame {
+    server: 0,
+    share: 0,
+    check: Check::CiphertextTree,
+}];
 
-// Where a share is cut: in its blocks, in each of its trees, and in its extension block. What is
-// read there has another length than was asked.
-const CUTS: [(usize, usize); 11] = [
-    (BLOCKS, 0),
-    (BLOCKS, 1),
-    (BLOCKS, 9_999),
-    (CIPHERTEXT_TREE, 479),
-    (BLOCK_TREE, 300),
-    (SHARE_HASHES, 0),
-    (SHARE_HASHES, 100),
-    (EXTENSION_BLOCK, 0),
-    (EXTENSION_BLOCK, 3),
-    (EXTENSION_BLOCK, 4),
-    (EXTENSION_BLOCK, 300),
-];
+const UEB_OF_2: [Blame; 1] = [Blame {
+    server: 2,
+    share: 2,
+    check: Check::Ueb,
+}];
 
-// Does a download of all of the small file from these servers end so?
-fn small_ends(alloc: Global, grid: Option<Grid>, wrong: &Wrong, wanted: &Wanted) -> bool {
-    ends(alloc, grid, wrong, (0, SMALL_SIZE), wanted)
-}
-
-// Does it end so, each share being at its server?
-fn whole_small_ends(alloc: Global, wrong: &Wrong, wanted: &Wanted) -> bool {
-    small_ends(alloc, Grid::whole(alloc, &SMALL), wrong, wanted)
-}
-
-// Does it end so from these shares?
-fn small_from_ends(alloc: Global, placed: &[Placed], wrong: &Wrong, wanted: &Wanted) -> bool {
-    small_ends(alloc, Grid::new(alloc, &SMALL, placed), wrong, wanted)
-}
-
-// Is this share blamed alone, and no byte asked for twice?
-fn is_blamed(alloc: Global, wrong: &Wrong, share: u8, check: Check) -> bool {
-    whole_small_ends(alloc, wrong, &small_but_one(share, check))
-}
-
-// Is share 0 blamed for what is wrong in a section?
-fn is_blamed_for(alloc: Global, fault: Fault, place: (usize, usize), check: Check) -> bool {
-    let wrong = Wrong::Share(0, fault, Place::In(place.0, place.1));
-    is_blamed(alloc, &wrong, 0, check)
-}
-
-#[test]
-fn each_section_has_its_check(rt: HostRuntime) {
-    for (section, behind, check) in &DAMAGES {
-        let place = (*section, *behind);
-        let blamed = is_blamed_for(rt.alloc(), Fault::Flipped, place, *check);
-        assert!(rt; blamed, "section {section}, {behind}");
-    }
-}
-
-#[test]
-fn shares_that_end_early_are_blamed(rt: HostRuntime) {
-    for (section, behind) in &CUTS {
-        let place = (*section, *behind);
-        let blamed = is_blamed_for(rt.alloc(), Fault::Cut, place, Check::Layout);
-        assert!(rt; blamed, "section {section}, {behind}");
-    }
-}
-
-// A block that is changed: the first byte of the data is at place 36.
-#[test]
-fn a_wrong_block_is_blamed(rt: HostRuntime) {
-    let wrong = Wrong::Share(1, Fault::Flipped, Place::At(36));
-    assert!(rt; is_blamed(rt.alloc(), &wrong, 1, Check::Data));
-}
+// All of the small file comes, this share is blamed, and no byte is asked for twice.
+const SMALL_BUT_0: Wanted = Wanted {
+    blamed: &LAYOUT_OF_0,
+    reads: Reads::Once,
+    ..SMALL_COMES
+};
 
 // The small file with other bytes.
 const OTHER: Shape = Shape {
-    size: SMALL_SIZE,
+    size: 30_000,
     needed: 3,
     total: 10,
     segment: 4_096,
@@ -100,41 +41,163 @@ const OTHER: Shape = Shape {
     mark: 1,
 };
 
-// A server whose share is of another file of the same size, with an extension block of its own.
-fn with_share_of_other(alloc: Global) -> Option<Grid> {
-    let mut grid = Grid::whole(alloc, &SMALL)?;
-    if grid.take_share(2, Grid::new(alloc, &OTHER, &[(2, 2, 2)])) {
-        Some(grid)
-    } else {
-        None
-    }
-}
+// A byte is changed in each section: the check that fails.
+static DAMAGES: [Case; 7] = [
+    Case {
+        wrong: Wrong::Share(0, Fault::Flipped(CIPHERTEXT_TREE + 32 * 8)),
+        wanted: Wanted {
+            blamed: &CIPHERTEXT_TREE_OF_0,
+            ..SMALL_BUT_0
+        },
+        ..ALL_OF_SMALL
+    },
+    Case {
+        wrong: Wrong::Share(0, Fault::Flipped(BLOCK_TREE + 32 * 8)),
+        wanted: Wanted {
+            blamed: &TREE_OF_0,
+            ..SMALL_BUT_0
+        },
+        ..ALL_OF_SMALL
+    },
+    // The numbers of the share hashes are of the layout.
+    Case {
+        wrong: Wrong::Share(0, Fault::Flipped(SHARE_HASHES)),
+        wanted: Wanted {
+            blamed: &LAYOUT_OF_0,
+            ..SMALL_BUT_0
+        },
+        ..ALL_OF_SMALL
+    },
+    Case {
+        wrong: Wrong::Share(0, Fault::Flipped(SHARE_HASHES + 2)),
+        wanted: Wanted {
+            blamed: &HASHES_OF_0,
+            ..SMALL_BUT_0
+        },
+        ..ALL_OF_SMALL
+    },
+    Case {
+        wrong: Wrong::Share(0, Fault::Flipped(EXTENSION_BLOCK + 20)),
+        wanted: Wanted {
+            blamed: &UEB_OF_0,
+            ..SMALL_BUT_0
+        },
+        ..ALL_OF_SMALL
+    },
+    // The first byte of a block.
+    Case {
+        wrong: Wrong::Share(1, Fault::Flipped(BLOCKS)),
+        wanted: Wanted {
+            blamed: &DATA_OF_1,
+            ..SMALL_BUT_0
+        },
+        ..ALL_OF_SMALL
+    },
+    // A server whose share is of another file of the same size, with an extension block of its own.
+    Case {
+        wrong: Wrong::Share(2, Fault::Other(OTHER)),
+        wanted: Wanted {
+            blamed: &UEB_OF_2,
+            ..SMALL_BUT_0
+        },
+        ..ALL_OF_SMALL
+    },
+];
 
-fn is_other_file_blamed(alloc: Global, wanted: &Wanted) -> bool {
-    small_ends(alloc, with_share_of_other(alloc), &Wrong::Nothing, wanted)
-}
-
-#[test]
-fn a_share_of_another_file_is_blamed(rt: HostRuntime) {
-    assert!(rt; is_other_file_blamed(rt.alloc(), &small_but_one(2, Check::Ueb)));
-}
+// Where a share is cut: in its blocks, in each of its trees, and in its extension block. What is
+// read there has another length than was asked.
+static CUTS: [Case; 11] = [
+    Case {
+        wrong: Wrong::Share(0, Fault::Cut(BLOCKS)),
+        wanted: SMALL_BUT_0,
+        ..ALL_OF_SMALL
+    },
+    Case {
+        wrong: Wrong::Share(0, Fault::Cut(BLOCKS + 1)),
+        wanted: SMALL_BUT_0,
+        ..ALL_OF_SMALL
+    },
+    Case {
+        wrong: Wrong::Share(0, Fault::Cut(BLOCKS + 9_999)),
+        wanted: SMALL_BUT_0,
+        ..ALL_OF_SMALL
+    },
+    Case {
+        wrong: Wrong::Share(0, Fault::Cut(CIPHERTEXT_TREE + 479)),
+        wanted: SMALL_BUT_0,
+        ..ALL_OF_SMALL
+    },
+    Case {
+        wrong: Wrong::Share(0, Fault::Cut(BLOCK_TREE + 300)),
+        wanted: SMALL_BUT_0,
+        ..ALL_OF_SMALL
+    },
+    Case {
+        wrong: Wrong::Share(0, Fault::Cut(SHARE_HASHES)),
+        wanted: SMALL_BUT_0,
+        ..ALL_OF_SMALL
+    },
+    Case {
+        wrong: Wrong::Share(0, Fault::Cut(SHARE_HASHES + 100)),
+        wanted: SMALL_BUT_0,
+        ..ALL_OF_SMALL
+    },
+    Case {
+        wrong: Wrong::Share(0, Fault::Cut(EXTENSION_BLOCK)),
+        wanted: SMALL_BUT_0,
+        ..ALL_OF_SMALL
+    },
+    Case {
+        wrong: Wrong::Share(0, Fault::Cut(EXTENSION_BLOCK + 3)),
+        wanted: SMALL_BUT_0,
+        ..ALL_OF_SMALL
+    },
+    Case {
+        wrong: Wrong::Share(0, Fault::Cut(EXTENSION_BLOCK + 4)),
+        wanted: SMALL_BUT_0,
+        ..ALL_OF_SMALL
+    },
+    Case {
+        wrong: Wrong::Share(0, Fault::Cut(EXTENSION_BLOCK + 300)),
+        wanted: SMALL_BUT_0,
+        ..ALL_OF_SMALL
+    },
+];
 
 // A share whose extension block has the length 4,294,967,295: no byte behind that is asked for.
-const LONG_BLOCK: Wrong = Wrong::Share(0, Fault::Full, Place::In(EXTENSION_BLOCK, 0));
-
-const LONG_BLOCK_BLAMED: Wanted = Wanted {
-    status: DownloadStatus::Done,
-    bytes: SMALL_SIZE,
-    parts: Some(8),
-    blamed: Blamed::Only(0, Check::Layout),
-    reads: Reads::Before(0, Place::In(EXTENSION_BLOCK, 4)),
-    pieces: Pieces::Any,
+const LONG_BLOCK: Case = Case {
+    wrong: Wrong::Share(0, Fault::Full(EXTENSION_BLOCK)),
+    wanted: Wanted {
+        reads: Reads::Some(BEHIND_THE_LENGTH, 0),
+        ..SMALL_BUT_0
+    },
+    ..ALL_OF_SMALL
 };
 
-#[test]
-fn no_byte_of_a_long_block_is_asked_for(rt: HostRuntime) {
-    assert!(rt; whole_small_ends(rt.alloc(), &LONG_BLOCK, &LONG_BLOCK_BLAMED));
-}
+const BEHIND_THE_LENGTH: Section = Section {
+    last: 0,
+    from: EXTENSION_BLOCK as u64 + 4,
+    to: u64::MAX,
+};
+
+// For one byte of a file of two segments, of 131,073 bytes and of one, no other byte of the data
+// sections is read.
+const LAST_BYTE: Case = Case {
+    from: 131_073,
+    wanted: Wanted {
+        bytes: 1,
+        parts: 1,
+        reads: Reads::Some(DATA, 3),
+        ..SMALL_COMES
+    },
+    ..ALL_OF_TWO
+};
+
+const DATA: Section = Section {
+    last: 9,
+    from: 36,
+    to: 43_728,
+};
 
 // A server that offers share 3 as the numbers 0, 1 and 2 too.
 const NUMBERS: [Placed; 10] = [
@@ -170,70 +233,8 @@ const OTHER_NUMBERS: [Blame; 3] = [
     },
 ];
 
-const OTHER_NUMBERS_BLAMED: Wanted = Wanted {
-    status: DownloadStatus::Done,
-    bytes: SMALL_SIZE,
-    parts: None,
-    blamed: Blamed::These(OTHER_NUMBERS),
-    reads: Reads::Any,
-    pieces: Pieces::Any,
-};
-
-#[test]
-fn a_share_counts_under_its_own_number(rt: HostRuntime) {
-    assert!(rt; small_from_ends(rt.alloc(), &NUMBERS, &Wrong::Nothing, &OTHER_NUMBERS_BLAMED));
-}
-
-// The least file that is not held by its cap.
-const SMALLEST: Shape = Shape {
-    size: 56,
-    needed: 3,
-    total: 10,
-    segment: 4_096,
-    servers: 10,
-    mark: 0,
-};
-
-const SMALLEST_BUT_ONE: Wanted = Wanted {
-    status: DownloadStatus::Done,
-    bytes: 56,
-    parts: Some(1),
-    blamed: Blamed::Only(0, Check::Layout),
-    reads: Reads::Once,
-    pieces: Pieces::Any,
-};
-
-// How long its shares are.
-fn smallest_length(alloc: Global) -> Option<usize> {
-    Grid::whole(alloc, &SMALLEST)?.place(0, &Place::FromEnd(0))
-}
-
-// A share of it that ends here: the share is blamed, and the file comes.
-fn is_cut_blamed(alloc: Global, cut: usize) -> bool {
-    let wrong = Wrong::Share(0, Fault::Cut, Place::At(cut));
-    let grid = Grid::whole(alloc, &SMALLEST);
-    ends(alloc, grid, &wrong, (0, 56), &SMALLEST_BUT_ONE)
-}
-
-#[test]
-fn shares_that_end_anywhere_are_blamed(rt: HostRuntime) {
-    assert!(rt; smallest_length(rt.alloc()) == Some(633));
-    for cut in 0..633 {
-        assert!(rt; is_cut_blamed(rt.alloc(), cut), "{cut}");
-    }
-}
-
 // Of three numbers that are there, 0 is at the servers 0 and 5, and server 0 has 1 too.
 const COPIES: [Placed; 4] = [(0, 0, 0), (0, 1, 1), (5, 0, 0), (6, 2, 2)];
-
-// 0 is blamed at server 0 and good at server 5: neither the server nor the number is given up.
-const WRONG_COPY: Wrong = Wrong::Share(0, Fault::Flipped, Place::In(SHARE_HASHES, 2));
-
-#[test]
-fn a_blamed_copy_costs_nothing_else(rt: HostRuntime) {
-    let wanted = small_but_one(0, Check::ShareHashes);
-    assert!(rt; small_from_ends(rt.alloc(), &COPIES, &WRONG_COPY, &wanted));
-}
 
 const FIRST: [Placed; 3] = [(0, 0, 0), (1, 1, 1), (2, 2, 2)];
 
@@ -248,119 +249,181 @@ const LONG: Shape = Shape {
     mark: 0,
 };
 
-// Of three shares that are there, the server of the last is silent after so many answers: what was
-// proved is handed out, and it is not enough for more. It told what it holds, three reads of its
-// beginning, two of its trees, and one of its blocks: 23 of them.
-const BEFORE_SILENCE: Wanted = Wanted {
-    status: DownloadStatus::NotEnoughShares,
-    bytes: 94_254,
-    parts: Some(23),
-    blamed: Blamed::Count(0),
-    reads: Reads::Any,
-    pieces: Pieces::Any,
-};
-
-// Does a download of all of the long file from the first shares end so?
-fn long_ends(alloc: Global, wrong: &Wrong, wanted: &Wanted) -> bool {
-    let grid = Grid::new(alloc, &LONG, &FIRST);
-    ends(alloc, grid, wrong, (0, LONG.size), wanted)
-}
-
-#[test]
-fn what_is_proved_is_handed_out_before_silence(rt: HostRuntime) {
-    assert!(rt; long_ends(rt.alloc(), &Wrong::Silent(2, 2, 7), &BEFORE_SILENCE));
-}
-
-// What proves all of the small file, from these shares.
-fn evidence_of(alloc: Global, placed: &[Placed]) -> Option<Evidence> {
-    let grid = Grid::new(alloc, &SMALL, placed);
-    evidence_from(alloc, grid, SMALL_SIZE, 8)
-}
-
-// Is there evidence, and no clash?
-fn agree(alloc: Global, one: Option<Evidence>, other: Option<Evidence>) -> bool {
-    match (&one, &other) {
-        (Some(one), Some(other)) => have_no_clash(alloc, one, other),
-        _ => false,
-    }
-}
-
-fn have_no_clash(alloc: Global, one: &Evidence, other: &Evidence) -> bool {
-    match find_clash(alloc, one, other) {
-        Ok(clash) => clash.is_none(),
-        Err(_) => false,
-    }
-}
-
-// Whether downloads of one file from other shares have one segment for each number.
-fn downloads_agree(alloc: Global) -> bool {
-    agree(alloc, evidence_of(alloc, &FIRST), evidence_of(alloc, &LAST))
-}
-
-#[test]
-fn downloads_from_other_shares_agree(rt: HostRuntime) {
-    assert!(rt; downloads_agree(rt.alloc()));
-}
-
-// For one byte of a file of two segments, of 131,073 bytes and of one, no other byte of the data
-// section is read.
-const LAST_BYTE: Wanted = Wanted {
-    status: DownloadStatus::Done,
-    bytes: 1,
-    parts: Some(1),
-    blamed: Blamed::Count(0),
-    reads: Reads::LastOf(36, 43_728),
-    pieces: Pieces::Any,
-};
-
-fn last_byte_ends(alloc: Global, wanted: &Wanted) -> bool {
-    let grid = Grid::whole(alloc, &TWO);
-    ends(alloc, grid, &Wrong::Nothing, (131_073, 131_074), wanted)
-}
-
-#[test]
-fn nothing_but_the_range_is_read(rt: HostRuntime) {
-    assert!(rt; last_byte_ends(rt.alloc(), &LAST_BYTE));
-}
-
-// The byte of which the second segment is made, by the ciphertext tree, the two shares that are
-// read, and whether they give that segment.
-const ENDS: [(u8, (u8, u8), bool); 7] = [
-    (7, (0, 1), true),
-    (8, (2, 3), true),
-    (7, (2, 3), false),
-    (7, (0, 2), false),
-    (8, (0, 1), false),
-    (9, (0, 1), false),
-    (9, (2, 3), false),
+static OTHERS: [Case; 5] = [
+    LONG_BLOCK,
+    LAST_BYTE,
+    Case {
+        source: Source::Shares(SMALL, &NUMBERS),
+        wanted: Wanted {
+            blamed: &OTHER_NUMBERS,
+            ..SMALL_COMES
+        },
+        ..ALL_OF_SMALL
+    },
+    // 0 is blamed at server 0 and good at server 5: neither the server nor the number is given up.
+    Case {
+        source: Source::Shares(SMALL, &COPIES),
+        wrong: Wrong::Share(0, Fault::Flipped(SHARE_HASHES + 2)),
+        wanted: Wanted {
+            blamed: &HASHES_OF_0,
+            ..SMALL_BUT_0
+        },
+        ..ALL_OF_SMALL
+    },
+    // Of three shares that are there, the server of the last is silent after so many answers: what
+    // was proved is handed out, and it is not enough for more. It told what it holds, three reads
+    // of its beginning, two of its trees, and one of its blocks: 23 of them.
+    Case {
+        source: Source::Shares(LONG, &FIRST),
+        wrong: Wrong::Silent(2, 2, 7),
+        to: 300_000,
+        wanted: Wanted {
+            status: DownloadStatus::NotEnoughShares,
+            bytes: 94_254,
+            parts: 23,
+            ..SMALL_COMES
+        },
+        ..ALL_OF_SMALL
+    },
 ];
 
-// Does a download of it from these shares end so?
-fn no_code_word_ends(alloc: Global, told: u8, shares: (u8, u8), wanted: &Wanted) -> bool {
-    let grid = Grid::no_code_word(alloc, told, shares);
-    ends(alloc, grid, &Wrong::Nothing, (0, SIZE), wanted)
+static FROM_FIRST: Case = Case {
+    source: Source::Shares(SMALL, &FIRST),
+    ..ALL_OF_SMALL
+};
+
+static FROM_LAST: Case = Case {
+    source: Source::Shares(SMALL, &LAST),
+    ..ALL_OF_SMALL
+};
+
+// From the right shares of the file that is no code word all of it comes.
+const RIGHT: Case = Case {
+    source: Source::NoCodeWord(7, (0, 1)),
+    to: SIZE as u64,
+    wanted: Wanted {
+        bytes: SIZE,
+        parts: 2,
+        ..SMALL_COMES
+    },
+    ..ALL_OF_SMALL
+};
+
+// From others its first segment alone.
+const INCONSISTENT: Case = Case {
+    wanted: Wanted {
+        status: DownloadStatus::Inconsistent,
+        bytes: SEGMENT_SIZE,
+        parts: 1,
+        ..SMALL_COMES
+    },
+    ..RIGHT
+};
+
+static ENDS: [Case; 7] = [
+    RIGHT,
+    Case {
+        source: Source::NoCodeWord(8, (2, 3)),
+        ..RIGHT
+    },
+    Case {
+        source: Source::NoCodeWord(7, (2, 3)),
+        ..INCONSISTENT
+    },
+    Case {
+        source: Source::NoCodeWord(7, (0, 2)),
+        ..INCONSISTENT
+    },
+    Case {
+        source: Source::NoCodeWord(8, (0, 1)),
+        ..INCONSISTENT
+    },
+    Case {
+        source: Source::NoCodeWord(9, (0, 1)),
+        ..INCONSISTENT
+    },
+    Case {
+        source: Source::NoCodeWord(9, (2, 3)),
+        ..INCONSISTENT
+    },
+];
+
+// All of the least file comes that is not held by its cap, and a share is blamed.
+const SMALLEST_BUT_0: Wanted = Wanted {
+    bytes: 56,
+    parts: 1,
+    ..SMALL_BUT_0
+};
+
+// A share of it that ends at some place.
+const SMALLEST_CUT: Case = Case {
+    source: Source::Shares(SMALLEST, &[]),
+    to: 56,
+    wanted: SMALLEST_BUT_0,
+    ..ALL_OF_SMALL
+};
+
+const SMALLEST: Shape = Shape {
+    size: 56,
+    needed: 3,
+    total: 10,
+    segment: 4_096,
+    servers: 10,
+    mark: 0,
+};
+
+// The same, where nothing is cut.
+static SMALLEST_WHOLE: [Case; 1] = [Case {
+    wrong: Wrong::Share(0, Fault::Cut(633)),
+    wanted: Wanted {
+        blamed: &[],
+        ..SMALLEST_BUT_0
+    },
+    ..SMALLEST_CUT
+}];
+
+// How many shares that are cut are blamed, from place 0 on.
+fn blamed_cuts(alloc: Global) -> usize {
+    let mut kept = Vec::new(alloc);
+    for cut in 0..633 {
+        let case = Case {
+            wrong: Wrong::Share(0, Fault::Cut(cut)),
+            ..SMALLEST_CUT
+        };
+        if !ends_so(alloc, &case, &mut kept) {
+            return cut;
+        }
+    }
+    633
 }
 
-// All of the file comes from right shares, and from others its first segment alone.
-fn wanted_of(right: bool) -> Wanted {
-    let (status, bytes) = if right {
-        (DownloadStatus::Done, SIZE)
-    } else {
-        (DownloadStatus::Inconsistent, SEGMENT_SIZE)
-    };
-    Wanted {
-        status,
-        bytes,
-        parts: None,
-        blamed: Blamed::Any,
-        reads: Reads::Any,
-        pieces: Pieces::Any,
-    }
+#[test]
+fn each_section_has_its_check(rt: HostRuntime) {
+    assert_eq!(rt; right_ones(rt.alloc(), &DAMAGES), DAMAGES.len());
+}
+
+#[test]
+fn shares_that_end_early_are_blamed(rt: HostRuntime) {
+    assert_eq!(rt; right_ones(rt.alloc(), &CUTS), CUTS.len());
+}
+
+#[test]
+fn shares_that_end_anywhere_are_blamed(rt: HostRuntime) {
+    assert_eq!(rt; right_ones(rt.alloc(), &SMALLEST_WHOLE), 1);
+    assert_eq!(rt; blamed_cuts(rt.alloc()), 633);
+}
+
+#[test]
+fn other_shares_give_the_file(rt: HostRuntime) {
+    assert_eq!(rt; right_ones(rt.alloc(), &OTHERS), OTHERS.len());
 }
 
 #[test]
 fn no_code_word_is_inconsistent(rt: HostRuntime) {
-    for (told, shares, right) in &ENDS {
-        assert!(rt; no_code_word_ends(rt.alloc(), *told, *shares, &wanted_of(*right)));
-    }
+    assert_eq!(rt; right_ones(rt.alloc(), &ENDS), ENDS.len());
+}
+
+#[test]
+fn downloads_from_other_shares_agree(rt: HostRuntime) {
+    assert!(rt; agree(rt.alloc(), &FROM_FIRST, &FROM_LAST));
 }

@@ -1,17 +1,14 @@
 //! Downloads whose segments are made eight side by side.
 
-use crate::course::{Blamed, Pieces, Reads, Wanted, ends};
-use crate::grid::{BLOCKS, Fault, Grid, Place, Shape, Wrong};
-use download_core::status::DownloadStatus;
-use std::alloc::Global;
+use crate::cases::{Case, Fault, Pieces, Shape, Source, Wanted, Wrong};
+use crate::course::right_ones;
+use crate::shapes::{ALL_OF_SMALL, BLOCKS, SMALL_COMES};
+use download_core::status::Blame;
+use share_verify::Check;
 
 // 26 segments and 100 bytes, at three of five servers. Each block is as long as one read.
-const SIZE: usize = 26 * 98_304 + 100;
-
-const BLOCK: usize = 32_768;
-
 const ROWS: Shape = Shape {
-    size: SIZE,
+    size: 26 * 98_304 + 100,
     needed: 3,
     total: 5,
     segment: 98_304,
@@ -20,39 +17,42 @@ const ROWS: Shape = Shape {
 };
 
 // All of the file comes, eight segments at once as long as there are so many.
-const WHOLE: Wanted = Wanted {
-    status: DownloadStatus::Done,
-    bytes: SIZE,
-    parts: Some(27),
-    blamed: Blamed::Count(0),
-    reads: Reads::Any,
-    pieces: Pieces::Each([8, 8, 8, 1, 1, 1]),
+const ALL_COMES: Wanted = Wanted {
+    bytes: 26 * 98_304 + 100,
+    parts: 27,
+    pieces: Pieces::Each(&[8, 8, 8, 1, 1, 1]),
+    ..SMALL_COMES
 };
 
-// All of it comes, the first eight segments at once, and one share is blamed.
-const WHOLE_BUT_ONE: Wanted = Wanted {
-    status: DownloadStatus::Done,
-    bytes: SIZE,
-    parts: Some(27),
-    blamed: Blamed::Count(1),
-    reads: Reads::Any,
-    pieces: Pieces::First(8),
+const WHOLE: Case = Case {
+    source: Source::Shares(ROWS, &[]),
+    to: 26 * 98_304 + 100,
+    wanted: ALL_COMES,
+    ..ALL_OF_SMALL
 };
 
-// One block of the second row is wrong.
-const WRONG_BLOCK: Wrong = Wrong::Share(0, Fault::Flipped, Place::In(BLOCKS, 10 * BLOCK));
+// The first block of the share 0 of which the second row is made is wrong.
+const DATA_OF_0: [Blame; 1] = [Blame {
+    server: 0,
+    share: 0,
+    check: Check::Data,
+}];
 
-// Does a download of all of it end so?
-fn ends_so(alloc: Global, wrong: &Wrong, wanted: &Wanted) -> bool {
-    ends(alloc, Grid::whole(alloc, &ROWS), wrong, (0, SIZE), wanted)
-}
+static CASES: [Case; 2] = [
+    WHOLE,
+    // One block of the second row is wrong: it is blamed, and the first eight come at once.
+    Case {
+        wrong: Wrong::Share(0, Fault::Flipped(BLOCKS + 10 * 32_768)),
+        wanted: Wanted {
+            blamed: &DATA_OF_0,
+            pieces: Pieces::First(8),
+            ..ALL_COMES
+        },
+        ..WHOLE
+    },
+];
 
 #[test]
 fn eight_segments_are_made_at_once(rt: HostRuntime) {
-    assert!(rt; ends_so(rt.alloc(), &Wrong::Nothing, &WHOLE));
-}
-
-#[test]
-fn a_wrong_block_of_a_row_is_blamed(rt: HostRuntime) {
-    assert!(rt; ends_so(rt.alloc(), &WRONG_BLOCK, &WHOLE_BUT_ONE));
+    assert_eq!(rt; right_ones(rt.alloc(), &CASES), CASES.len());
 }
