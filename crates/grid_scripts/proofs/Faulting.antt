@@ -50,6 +50,10 @@ spelled_fault lines script faults.Socket spells is = is
 spelled_fault lines script faults.TurnLimit spells is = is
 spelled_fault lines script (faults.BadScript line) spells is = absurd is
 spelled_fault lines script faults.NeedsReadCap spells is = is
+spelled_fault lines script faults.AlreadyGrid spells is = is
+spelled_fault lines script (faults.SameFolder first second) spells is = is
+spelled_fault lines script (faults.OtherMark path) spells is = is
+spelled_fault lines script (faults.BadMark path) spells is = is
 
 -- a run of a script that lines spell is one of the lines
 pub spelled_refusal : (lines : List (List ℕ)) (script : Script) (r : Result Ending Fault)
