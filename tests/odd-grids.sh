@@ -68,6 +68,15 @@ rm -rf g && mkdir -p g/server-000 && mkfifo "g/server-000/$open"
 sees 'a pipe under the name of an open share' ends 0 '' "$grid" put file --grid g
 sees 'the shares put over it' gives_file
 
+rm -rf g && "$grid" init g > init.out || exit 2
+rm g/server-000/grid-mark && mkfifo g/server-000/grid-mark
+sees 'a pipe under the name of a mark' ends 0 '' "$grid" put file --grid g
+sees 'a grid beside it' gives_file
+rm g/grid-mark && mkfifo g/grid-mark
+sees "a pipe under the name of the grid's mark" ends 7 'grid: 98 BadMark g/grid-mark' \
+    "$grid" put file --grid g
+rm -rf g
+
 # ---- files and folders of `put`
 
 truncate -s 1099511627777 large
@@ -94,7 +103,7 @@ sees 'a link to the script' ends 0 '' ./link cap URI:LIT:
 calls_with_cdpath() { (CDPATH=/ && export CDPATH && cd "$here" && ends 0 '' ./grid cap URI:LIT:); }
 sees 'CDPATH set' calls_with_cdpath
 for words in '--version version' '--help grid' 'put --help put' 'get --help get' \
-    'check --help check' 'world --help world' 'cap --help cap'; do
+    'check --help check' 'world --help world' 'cap --help cap' 'init --help init'; do
     "$grid" ${words% *} > out 2> err
     sees "the stored text of ${words% *}" cmp -s out "$here/crates/grid_rows/data/help/${words##* }"
 done
