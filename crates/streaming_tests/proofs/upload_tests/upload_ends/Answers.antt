@@ -3,4 +3,4 @@ use Rattle.streaming_tests.proofs.upload_tests.upload_ends.Goals as goal
 
 pub start-requires : goal.start-requires
 unfolding IsDistinct
-start-requires g c = record { distinct = (tt, tt); }
+start-requires g c = record { distinct = (tt, tt) }
