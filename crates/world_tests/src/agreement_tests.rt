@@ -129,7 +129,7 @@ fn downloads_of_no_code_word_agree(rt: HostRuntime) {
     assert_eq!(rt; right_ones(rt.alloc(), &SEVERAL), SEVERAL.len());
 }
 
-const ZEROS: File = File::Filled(0, 3);
+const ZEROS: File = File::Filled(0, 1, 3);
 
 // Beside those downloads, which are begun, a node uploads a file of zeros, and two others download
 // it. So many seconds pass that what was not answered is lost.

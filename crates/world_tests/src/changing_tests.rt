@@ -5,9 +5,9 @@ use crate::course::{goes, right_ones};
 use crate::steps::{Case, File, Liars, Step};
 use world_operations::status::Status;
 
-const ZEROS: File = File::Filled(0, 1);
+const ZEROS: File = File::Filled(0, 1, 1);
 
-const OTHERS: File = File::Filled(255, 1);
+const OTHERS: File = File::Filled(255, 1, 1);
 
 static CHANGING: [Case; 5] = [
     // Both passes bring the other text: it is the file.

@@ -1,6 +1,6 @@
 //! Worlds, driven.
 
-use crate::ends::{are_without_clash, ends_so, is_said, kept_end};
+use crate::ends::{are_without_clash, blames, ends_so, finds, is_said, kept_end, reads_lie, says};
 use crate::liars::liars_of;
 use crate::steps::{Case, File, Kept, Liars, Step, event_of};
 use std::alloc::Global;
@@ -58,6 +58,7 @@ impl Course {
             Liars::None => (0, NO_KEEPERS),
             Liars::Counter(_) => (1, NO_KEEPERS),
             Liars::Keepers(kept) => (4, kept),
+            Liars::Tellers(tables) => ((tables.len() % 100) as NodeId, NO_KEEPERS),
         };
         Course {
             alloc,
@@ -81,6 +82,7 @@ impl Course {
         match step {
             Step::Drain => self.drain(world),
             Step::Settle => self.settle(world),
+            Step::LiarsFirst => self.hear_liars(world),
             Step::DownloadKept => self.download_kept(world),
             Step::Refused(_, _) => { self.take(world, step) == Some(Err(WorldError::BadEvent)) }
             Step::Run => run_upload(self.alloc, world) == Some(true) && stops(world),
@@ -88,6 +90,14 @@ impl Course {
                 ends_so(world, *number, *status, (*pieces, *bytes), Some(*byte))
             }
             Step::KeptEnd => kept_end(self.alloc, world, &self.kept),
+            Step::Blames(number, wanted) => blames(world.operations(), *number, wanted),
+            Step::Finds(number, good, wanted) => {
+                finds(self.alloc, world.operations(), *number, *good, wanted)
+            }
+            Step::Reads(node, share, parts) => {
+                reads_lie(self.alloc, world.sent(), *node, *share, parts)
+            }
+            Step::Says(node, count) => says(world.sent(), *node, *count),
             Step::NoClash => are_without_clash(self.alloc, world.operations()),
             Step::Said(place, said) => is_said(world, *place, *said),
             _ => self.take(world, step) == Some(Ok(())),
@@ -128,6 +138,39 @@ impl Course {
             }
         }
         false
+    }
+
+    // What is delivered here is so once more where all messages are.
+    fn hear_liars(&self, world: &mut World) -> bool {
+        let mut heard = self.delivered;
+        for _ in 0..100_000 {
+            let before = world.sent().len();
+            if !self.deliver_liars(world, heard, before) || !self.have_turns(world) {
+                return false;
+            }
+            if world.sent().len() == before {
+                return true;
+            }
+            heard = before;
+        }
+        false
+    }
+
+    // Delivers those of these messages that a liar sent or is to hear.
+    fn deliver_liars(&self, world: &mut World, from: usize, to: usize) -> bool {
+        for place in from..to {
+            if self.is_of_liar(world, place) && !deliver(world, place) {
+                return false;
+            }
+        }
+        true
+    }
+
+    fn is_of_liar(&self, world: &World, place: usize) -> bool {
+        match world.sent().get(place) {
+            Some(sent) => self.honest <= sent.from || self.honest <= sent.to,
+            None => false,
+        }
     }
 
     // Each liar has its turn.

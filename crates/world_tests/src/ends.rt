@@ -1,13 +1,19 @@
 //! What came of worlds.
 
 use crate::steps::Kept;
+use checker::Check;
+use checker::status::ShareVerdict;
 use download_core::Download;
-use download_core::status::Piece;
+use download_core::status::{Blame, Piece};
 use proved_parts::{Evidence, find_clash};
+use share_reading::Verdict;
+use share_verify::Check as Section;
 use std::alloc::Global;
 use test_shares::no_code_word::{SEGMENT_SIZE, SIZE};
-use wire::message::NodeId;
+use wire::decoding::decode;
+use wire::message::{Body, NodeId};
 use world::World;
+use world_operations::message::Sent;
 use world_operations::operation::Operation;
 use world_operations::status::Status;
 use world_operations::task::Task;
@@ -59,6 +65,123 @@ pub(crate) fn is_said(world: &World, place: usize, said: Option<(NodeId, NodeId,
         (None, None) => true,
         _ => false,
     }
+}
+
+// Does a download blame these shares at servers, in this order, and no others?
+pub(crate) fn blames(
+    operations: &[Operation],
+    number: usize,
+    wanted: &[(NodeId, u8, Section)],
+) -> bool {
+    match operations.get(number) {
+        Some(operation) => match &operation.task {
+            Task::Downloading(download) => are_these(download.blamed(), wanted),
+            _ => false,
+        },
+        None => false,
+    }
+}
+
+fn are_these(blamed: &[Blame], wanted: &[(NodeId, u8, Section)]) -> bool {
+    if blamed.len() != wanted.len() {
+        return false;
+    }
+    for (blame, want) in blamed.iter().zip(wanted) {
+        if (blame.server, blame.share, blame.check) != *want {
+            return false;
+        }
+    }
+    true
+}
+
+// Does a check find so many shares good, and this of each other?
+pub(crate) fn finds(
+    alloc: Global,
+    operations: &[Operation],
+    number: usize,
+    good: usize,
+    wanted: &[(NodeId, u8, Verdict)],
+) -> bool {
+    match operations.get(number) {
+        Some(operation) => match &operation.task {
+            Task::Checking(check) => tells(alloc, check, good, wanted),
+            _ => false,
+        },
+        None => false,
+    }
+}
+
+fn tells(alloc: Global, check: &Check, good: usize, wanted: &[(NodeId, u8, Verdict)]) -> bool {
+    match check.report(alloc) {
+        Ok(Some(report)) => are_found(report.verdicts.as_slice(), good, wanted),
+        _ => false,
+    }
+}
+
+// No share at a server has two verdicts.
+fn are_found(verdicts: &[ShareVerdict], good: usize, wanted: &[(NodeId, u8, Verdict)]) -> bool {
+    let mut count: usize = 0;
+    for found in verdicts {
+        if found.verdict == Verdict::Good {
+            count = count.saturating_add(1);
+        } else if !wanted.contains(&(found.server, found.share, found.verdict)) {
+            return false;
+        }
+    }
+    count == good && verdicts.len() == good.saturating_add(wanted.len())
+}
+
+// Does each Read of a share that was sent to a node lie in one of these parts?
+pub(crate) fn reads_lie(
+    alloc: Global,
+    all: &[Sent],
+    node: NodeId,
+    share: u8,
+    parts: &[(u64, u64)],
+) -> bool {
+    for sent in all {
+        if sent.to == node && !lies_in(alloc, sent, share, parts) {
+            return false;
+        }
+    }
+    true
+}
+
+// What is no Read of this share does.
+fn lies_in(alloc: Global, sent: &Sent, share: u8, parts: &[(u64, u64)]) -> bool {
+    let Ok(message) = decode(alloc, sent.body.as_slice()) else {
+        return true;
+    };
+    match &message.body {
+        Body::Read(id, offset, length) if id.share == share => {
+            is_within(
+                *offset,
+                offset.saturating_add(u64::from(length.get())),
+                parts,
+            )
+        }
+        _ => true,
+    }
+}
+
+fn is_within(from: u64, to: u64, parts: &[(u64, u64)]) -> bool {
+    for (start, end) in parts {
+        if *start <= from && to <= *end {
+            return true;
+        }
+    }
+    false
+}
+
+// Did a node say so many messages at least?
+pub(crate) fn says(all: &[Sent], node: NodeId, count: usize) -> bool {
+    let mut said: usize = 0;
+    for sent in all {
+        if sent.from == node {
+            said = said.saturating_add(1);
+        }
+    }
+    count <= said
 }
 
 // Did the downloads of the file that is no code word end as they have to? From the right pair of

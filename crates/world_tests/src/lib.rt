@@ -12,6 +12,8 @@ mod ends;
 #[cfg(test)]
 mod liars;
 #[cfg(test)]
+mod lies_tests;
+#[cfg(test)]
 mod steps;
 #[cfg(test)]
 mod world_runs_tests;

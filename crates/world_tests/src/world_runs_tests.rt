@@ -5,7 +5,7 @@ use crate::steps::{Case, File, Liars, Step};
 use world_operations::status::Status;
 
 // The read cap of 56 zeros with three shares, of which one is enough.
-const ZEROS: File = File::Filled(0, 3);
+const ZEROS: File = File::Filled(0, 1, 3);
 
 static RUNS: [Case; 2] = [
     // An upload to three honest nodes, in one run.
