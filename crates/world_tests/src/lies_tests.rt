@@ -17,6 +17,15 @@ const OTHER: File = File::Filled(255, 2, 3);
 // each, and from place 160 on three share hashes. At place 262 stands the length of the extension
 // block, and at place 266 its text.
 
+// What a check finds.
+const UEB: Verdict = Verdict::Corrupt(Check::Ueb);
+
+const SHARE_HASHES: Verdict = Verdict::Corrupt(Check::ShareHashes);
+
+const LAYOUT: Verdict = Verdict::Corrupt(Check::Layout);
+
+const DATA: Verdict = Verdict::Corrupt(Check::Data);
+
 // All operations are answered.
 const ALWAYS: u64 = u64::MAX;
 
@@ -45,14 +54,7 @@ static SHARES: [Case; 6] = [
             Step::Check(2, OWN),
             Step::Settle,
             Step::Ends(2, Status::Done, 0, 0, 0),
-            Step::Finds(
-                2,
-                3,
-                &[
-                    (3, 0, Verdict::Corrupt(Check::Ueb)),
-                    (3, 1, Verdict::Corrupt(Check::Ueb)),
-                ],
-            ),
+            Step::Finds(2, 3, &[(3, 0, UEB), (3, 1, UEB)]),
             Step::Download(2, OWN, 0, 56),
             Step::Settle,
             Step::Ends(3, Status::Done, 1, 56, 0),
@@ -87,14 +89,7 @@ static SHARES: [Case; 6] = [
             Step::Check(2, OWN),
             Step::Settle,
             Step::Ends(2, Status::Done, 0, 0, 0),
-            Step::Finds(
-                2,
-                3,
-                &[
-                    (3, 0, Verdict::Corrupt(Check::ShareHashes)),
-                    (4, 1, Verdict::Corrupt(Check::ShareHashes)),
-                ],
-            ),
+            Step::Finds(2, 3, &[(3, 0, SHARE_HASHES), (4, 1, SHARE_HASHES)]),
         ],
     },
     // One gives shares under the numbers of others: the share hashes of 0 and 1 are of the same
@@ -118,14 +113,7 @@ static SHARES: [Case; 6] = [
             Step::Check(2, OWN),
             Step::Settle,
             Step::Ends(2, Status::Done, 0, 0, 0),
-            Step::Finds(
-                2,
-                3,
-                &[
-                    (3, 0, Verdict::Corrupt(Check::ShareHashes)),
-                    (3, 1, Verdict::Corrupt(Check::Layout)),
-                ],
-            ),
+            Step::Finds(2, 3, &[(3, 0, SHARE_HASHES), (3, 1, LAYOUT)]),
         ],
     },
     // One swaps the data of two shares, and all else is theirs.
@@ -151,14 +139,7 @@ static SHARES: [Case; 6] = [
             Step::Check(2, OWN),
             Step::Settle,
             Step::Ends(2, Status::Done, 0, 0, 0),
-            Step::Finds(
-                2,
-                3,
-                &[
-                    (3, 0, Verdict::Corrupt(Check::Data)),
-                    (3, 1, Verdict::Corrupt(Check::Data)),
-                ],
-            ),
+            Step::Finds(2, 3, &[(3, 0, DATA), (3, 1, DATA)]),
             Step::Download(2, OWN, 0, 56),
             Step::Settle,
             Step::Ends(3, Status::Done, 1, 56, 0),
@@ -189,14 +170,7 @@ static SHARES: [Case; 6] = [
             Step::Check(2, OWN),
             Step::Settle,
             Step::Ends(2, Status::Done, 0, 0, 0),
-            Step::Finds(
-                2,
-                3,
-                &[
-                    (3, 0, Verdict::Corrupt(Check::Layout)),
-                    (3, 2, Verdict::Lost),
-                ],
-            ),
+            Step::Finds(2, 3, &[(3, 0, LAYOUT), (3, 2, Verdict::Lost)]),
             Step::Reads(3, 0, &[(0, 36), (262, 266)]),
         ],
     },
@@ -235,15 +209,7 @@ static SHARES: [Case; 6] = [
             Step::Check(0, OWN),
             Step::Settle,
             Step::Ends(2, Status::Done, 0, 0, 0),
-            Step::Finds(
-                2,
-                1,
-                &[
-                    (1, 0, Verdict::Corrupt(Check::Ueb)),
-                    (1, 1, Verdict::Corrupt(Check::Layout)),
-                    (2, 2, Verdict::Corrupt(Check::Data)),
-                ],
-            ),
+            Step::Finds(2, 1, &[(1, 0, UEB), (1, 1, LAYOUT), (2, 2, DATA)]),
         ],
     },
 ];
