@@ -1,0 +1,7 @@
+//! What binds downloads to the file of a cap: what a read brings of a share's own bytes is never
+//! refused.
+#![tactic(auto)]
+
+mod laws;
+
+pub use laws::{pieces_have_siblings, share_hashes_have_siblings};
