@@ -49,6 +49,16 @@ offered_where row place (first ∷ hashes) (suc k) number hash e =
     let same : place + suc k ≡ place + 1 + k = omega arith in
     (omega (arith, rest.0), ap (node_number row) same ∙ rest.1)
 
+same_hash : (offer : ℕ × List ℕ) (number : ℕ) (hash : List ℕ) → Some offer ≡ Some (number, hash) → hash ≡ offer.1
+same_hash offer number hash e = cc
+
+-- what is offered at a place
+pub offered_what : (row place : ℕ) (hashes : List (List ℕ)) (k number : ℕ) (hash : List ℕ) → slice_get (offered_nodes row place hashes) k ≡ Some (number, hash)
+    → (k < length hashes) × (node_number row (place + k) ≡ number) × (hash ≡ get_or hashes k [])
+offered_what row place hashes k number hash e =
+    let found = offered_where row place hashes k number hash e in
+    (found.0, found.1, same_hash (node_number row (place + k), get_or hashes k []) number hash (sym (offered_at row place hashes k found.0) ∙ e))
+
 -- ---- whole groups of a row, of which what is above is known
 
 module _ (p : PartialState) (r from count : ℕ) (hs : List (List ℕ)) (sound : IsPartial p) (low : r ≤ height p.leaf_count) (inside : from + count ≤ 2 ^ r)

@@ -1,2 +1,3 @@
 -- what public contracts rest on
 pub mod Siblings
+pub mod OwnParts

@@ -4,4 +4,7 @@
 
 mod laws;
 
-pub use laws::{pieces_have_siblings, share_hashes_have_siblings};
+pub use laws::{
+    own_parts_have_lengths, own_pieces_go_on, own_pieces_join, pieces_have_siblings,
+    share_hashes_have_siblings,
+};
