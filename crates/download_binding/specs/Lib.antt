@@ -1,3 +1,5 @@
 -- what public contracts rest on
 pub mod Siblings
 pub mod OwnParts
+pub mod Answers
+pub mod OwnReaders

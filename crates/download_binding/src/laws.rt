@@ -1,7 +1,9 @@
 //! Laws of what a read brings.
 
+ghost use Rattle.download_binding.specs.Answers.{OwnBeginningsGoOn, OwnOrOther};
 ghost use Rattle.download_binding.specs.OwnParts.{OwnPartsHaveLengths, OwnPiecesGoOn};
 ghost use Rattle.download_binding.specs.OwnParts.{OwnPiecesJoin};
+ghost use Rattle.download_binding.specs.OwnReaders.{OwnBlocksAreRight, OwnBytesAreTaken};
 ghost use Rattle.download_binding.specs.Siblings.{PiecesHaveSiblings, ShareHashesHaveSiblings};
 
 /// A law of the definitions: each node that the bytes of a piece of a tree offer comes with its
@@ -33,4 +35,29 @@ pub fn own_pieces_go_on()
 /// contract; the call does nothing.
 pub fn own_pieces_join()
     ensures { OwnPiecesJoin }
+{}
+
+/// A law of the definitions: each answer of a server to a read of a share has the share's own bytes,
+/// or one of them has others. The law is the contract; the call does nothing.
+pub fn own_or_other()
+    ensures { OwnOrOther }
+{}
+
+/// A law of the definitions: a share that passes is not blamed for its beginning where its server
+/// answered with its own bytes alone. The law is the contract; the call does nothing.
+pub fn own_beginnings_go_on()
+    ensures { OwnBeginningsGoOn }
+{}
+
+/// A law of the definitions: a share's own bytes of the first part that waits of a reader are not
+/// refused where all that is known are nodes of its trees, and what proves the part is known. The
+/// law is the contract; the call does nothing.
+pub fn own_bytes_are_taken()
+    ensures { OwnBytesAreTaken }
+{}
+
+/// A law of the definitions: a block of a share's own bytes is not refuted where all that is known
+/// are nodes of its block tree. The law is the contract; the call does nothing.
+pub fn own_blocks_are_right()
+    ensures { OwnBlocksAreRight }
 {}
