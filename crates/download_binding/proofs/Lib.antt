@@ -7,3 +7,4 @@ pub mod OpeningCopies
 pub mod OpeningLemmas
 pub mod AnswerLemmas
 pub mod OwnReaders
+pub mod FairBlame

@@ -49,7 +49,7 @@ use Rattle.download_binding.proofs.OwnPieces.{own_parts_have_lengths, own_pieces
 -- ---- own blocks
 
 -- a known leaf is the tree's
-known_leaf_is : (t : PartialState) (leaves : List (List ℕ)) (leaf : ℕ) (hash : List ℕ) → t.leaf_count ≡ length leaves → KnowsTree t leaves → leaf < length leaves
+pub known_leaf_is : (t : PartialState) (leaves : List (List ℕ)) (leaf : ℕ) (hash : List ℕ) → t.leaf_count ≡ length leaves → KnowsTree t leaves → leaf < length leaves
     → known_leaf t leaf ≡ Some hash → hash ≡ get_or leaves leaf []
 known_leaf_is t leaves leaf hash count knows inside is =
     let m : ℕ = height (length leaves) in

@@ -3,3 +3,4 @@ pub mod Siblings
 pub mod OwnParts
 pub mod Answers
 pub mod OwnReaders
+pub mod FairBlame

@@ -1,5 +1,6 @@
 -- What a read brings of a share's own bytes.
-use Rattle.std.specs.Prelude.{◌≡◌, ℕ, ◌+◌, ◌-◌, ◌<◌, ◌≤◌, List, [], drop, length, slice_index_or, take}
+use Rattle.std.specs.Prelude.{◌≡◌, ℕ, ◌+◌, ◌-◌, ◌<◌, ◌≤◌, List, []}
+use Rattle.std.specs.Prelude.{drop, length, slice_index_or, take}
 use Rattle.merkle.specs.Offers.{AreOfTree}
 use Rattle.merkle.specs.OneTree.{KnowsTree}
 use Rattle.merkle.specs.Partial.{IsNotConsistent, IsPartial, PartialState}

@@ -1,5 +1,6 @@
 -- The nodes that a read brings to a tree of which nodes are known: each comes with its sibling.
-use Rattle.std.specs.Prelude.{◌≡◌, ℕ, ◌+◌, ◌-◌, ◌*◌, ◌/◌, ◌^◌, ◌<◌, List, is_some, length, min, true}
+use Rattle.std.specs.Prelude.{◌≡◌, ℕ, ◌+◌, ◌-◌, ◌*◌, ◌/◌, ◌^◌, ◌<◌, List}
+use Rattle.std.specs.Prelude.{is_some, length, min, true}
 use Rattle.merkle.specs.Offers.{AreWithSiblings}
 use Rattle.merkle.specs.Partial.{IsPartial, PartialState, known_at}
 use Rattle.merkle.specs.Tree.{height, node_number}

@@ -1,6 +1,7 @@
 //! Laws of what a read brings.
 
 ghost use Rattle.download_binding.specs.Answers.{OwnBeginningsGoOn, OwnOrOther};
+ghost use Rattle.download_binding.specs.FairBlame.{BlocksAreBlamedFairly, PartsAreBlamedFairly};
 ghost use Rattle.download_binding.specs.OwnParts.{OwnPartsHaveLengths, OwnPiecesGoOn};
 ghost use Rattle.download_binding.specs.OwnParts.{OwnPiecesJoin};
 ghost use Rattle.download_binding.specs.OwnReaders.{OwnBlocksAreRight, OwnBytesAreTaken};
@@ -37,8 +38,8 @@ pub fn own_pieces_join()
     ensures { OwnPiecesJoin }
 {}
 
-/// A law of the definitions: each answer of a server to a read of a share has the share's own bytes,
-/// or one of them has others. The law is the contract; the call does nothing.
+/// A law of the definitions: each answer of a server to a read of a share has the share's own
+/// bytes, or one of them has others. The law is the contract; the call does nothing.
 pub fn own_or_other()
     ensures { OwnOrOther }
 {}
@@ -60,4 +61,16 @@ pub fn own_bytes_are_taken()
 /// are nodes of its block tree. The law is the contract; the call does nothing.
 pub fn own_blocks_are_right()
     ensures { OwnBlocksAreRight }
+{}
+
+/// A law of the definitions: without a clash, who is blamed for a part whose proof was known had
+/// sent other bytes than the share has. The law is the contract; the call does nothing.
+pub fn parts_are_blamed_fairly()
+    ensures { PartsAreBlamedFairly }
+{}
+
+/// A law of the definitions: without a clash, who is blamed for a block had sent other bytes than
+/// the share has. The law is the contract; the call does nothing.
+pub fn blocks_are_blamed_fairly()
+    ensures { BlocksAreBlamedFairly }
 {}

@@ -5,7 +5,7 @@
 mod laws;
 
 pub use laws::{
-    own_beginnings_go_on, own_blocks_are_right, own_bytes_are_taken, own_or_other,
-    own_parts_have_lengths, own_pieces_go_on, own_pieces_join, pieces_have_siblings,
-    share_hashes_have_siblings,
+    blocks_are_blamed_fairly, own_beginnings_go_on, own_blocks_are_right, own_bytes_are_taken,
+    own_or_other, own_parts_have_lengths, own_pieces_go_on, own_pieces_join,
+    parts_are_blamed_fairly, pieces_have_siblings, share_hashes_have_siblings,
 };
