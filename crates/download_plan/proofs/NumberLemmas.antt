@@ -1,7 +1,7 @@
 -- The rows of levels, and the nodes of a row that are read.
 use Rattle.std.proofs.Common.{◌≡◌, ℕ, ◌+◌, ◌-◌, ◌*◌, ◌/◌, ◌%◌, ◌^◌, ◌<◌, ◌≤◌, min, ◌⊎◌, inl, inr, ap, refl, sym, ◌∙◌, arith}
 use Rattle.std.specs.Int.{div_ceil}
-use Rattle.std.proofs.Math.Nat.{div-mul-le_self, lt_of_mul-lt-mul_left, mul-le-mul_right}
+use Rattle.std.proofs.Math.Nat.{div-div-eq-div-mul, div-mul-le_self, lt_of_mul-lt-mul_left, mul-le-mul_right}
 use Rattle.std.proofs.lemmas.Bool.{cases_lt}
 use Rattle.std.proofs.lemmas.Nat.{div-add-mod', div-mul-add, div_below, le-div, mod_below, pow_pos, pow-add}
 use Rattle.std.proofs.lemmas.Grind.{div_ceil_times}
@@ -127,23 +127,42 @@ group_ends k c x i whole low =
     omega (arith, size, mul-le-mul_right {m = x + 1} {n = (i + 1) * c} k (omega (arith, fewer)))
 
 -- the piece in which a group begins has all of it
-pub group_within : (m row a number node : ℕ) → a ≤ number → node / group_size row ≡ number / leaves_below m row / group_size row
-    → let i = (first_node m row number - first_node m row a) / 1024 in
-    (first_node m row a + 1024 * i ≤ node) × (node < first_node m row a + 1024 * i + 1024)
+pub group_within : (m row number node : ℕ) → node / group_size row ≡ number / leaves_below m row / group_size row
+    → let cut = first_node m row number / 1024 * 1024 in (cut ≤ node) × (node < cut + 1024)
 unfolding first_node
-group_within m row a number node from same =
-    let w = leaves_below m row in
+group_within m row number node same =
     let k = group_size row in
-    let k_some : 0 < k = pow_pos (min row 7) in
-    let low = a / w / k in
-    let high = number / w / k in
-    let order : low ≤ high = div_le (a / w) (number / w) k k_some (div_le a number w (pow_pos (m - row)) from) in
-    let x = high - low in
-    let sum : (low + x) * k ≡ high * k = let e : low + x ≡ high = omega arith in ap (λ n. n * k) e in
-    let i = (high * k - low * k) / 1024 in
-    let before : x * k < (i + 1) * 1024 = omega (arith, sum) in
-    let within = group_ends k (2 ^ (10 - min row 7)) x i (group_of row) before in
+    let high = number / leaves_below m row / k in
+    let i = high * k / 1024 in
+    let within = group_ends k (2 ^ (10 - min row 7)) high i (group_of row) (omega arith) in
     let place : node ≡ high * k + node % k = omega (arith, div-add-mod' node k, ap (λ n. n * k) same) in (
-      omega (arith, place, sum),
-      omega (arith, place, sum, within, mod_below node k k_some),
+      omega (arith, place),
+      omega (arith, place, within, mod_below node k (pow_pos (min row 7))),
     )
+
+-- the node 7 rows above one that is read is read, if the level above is 7 rows above
+pub reads_above : (m row above a b count place : ℕ) → row ≡ above + 7 → row ≤ m → first_node m row a ≤ place → place < end_node m row b count
+    → (first_node m above a ≤ place / 128) × (place / 128 < end_node m above b count)
+unfolding first_node end_node
+reads_above m row above a b count place rows high from before =
+    let w = leaves_below m row in
+    let w' = leaves_below m above in
+    let k = group_size above in
+    let w_some : 0 < w = pow_pos (m - row) in
+    let w'_some : 0 < w' = pow_pos (m - above) in
+    let group : group_size row ≡ 128 = let seven : min row 7 ≡ 7 = omega (arith, rows) in ap (λ n. 2 ^ n) seven in
+    let whole : w' ≡ w * 128 = let e : m - above ≡ m - row + 7 = omega (arith, rows, high) in ap (λ n. 2 ^ n) e ∙ pow-add 2 (m - row) 7 in
+    let first : a / w / 128 * 128 ≤ place = let e : a / w / group_size row * group_size row ≡ a / w / 128 * 128 = ap (λ n. a / w / n * n) group in omega (arith, e, from) in
+    let end : place < rounded_up (div_ceil b w) 128 = let e : rounded_up (div_ceil b w) (group_size row) ≡ rounded_up (div_ceil b w) 128 = ap (rounded_up (div_ceil b w)) group in omega (arith, e, before) in
+    let inside : place < div_ceil count w = omega (arith, before) in
+    let twice : a / w' ≡ a / w / 128 = ap (λ n. a / n) whole ∙ sym (div-div-eq-div-mul a w 128) in
+    let low : a / w' / k * k ≤ place / 128 = omega (arith, div-mul-le_self (a / w') k, twice, first) in
+    let in_count : place / 128 < div_ceil count w' =
+    let times : place / 128 * w' ≡ place / 128 * 128 * w = ap (λ n. place / 128 * n) whole ∙ omega arith in
+    pieces_below count w' (place / 128) w'_some (omega (arith, times, mul-le-mul_right {m = place / 128 * 128} {n = place} w (omega arith), piece_begins count w place w_some inside)) in
+    let in_end : place / 128 < div_ceil b w' =
+    let few : place / 128 * 128 < div_ceil b w = omega (arith, end) in
+    let times : place / 128 * w' ≡ place / 128 * 128 * w = ap (λ n. place / 128 * n) whole ∙ omega arith in
+    pieces_below b w' (place / 128) w'_some (omega (arith, times, piece_begins b w (place / 128 * 128) w_some few)) in
+    let k_some : 0 < k = pow_pos (min above 7) in
+    (low, omega (arith, in_count, in_end, (div_ceil_times (div_ceil b w') k k_some).0))

@@ -12,16 +12,16 @@ use Rattle.share_layout.specs.declared.layout.Layout.TheVariants.{One, Two}
 use Rattle.share_layout.specs.Layout.{header_size, layout_of, places_of}
 use Rattle.share_layout.specs.Pieces.{block_length}
 use Rattle.download_plan.specs.Level.{IsAbove, first_node, group_size, level_at, level_count, row_of, tree_height}
-use Rattle.download_plan.specs.Plan.{IsAmong, IsNodePiece, IsPart, block_place, data_end, data_pieces, data_place, length_of, max_nodes, max_read, nodes_at, nodes_of, nodes_place, offset_at, piece_at, pieces_of, place_of, run_reads, run_size}
+use Rattle.download_plan.specs.Plan.{IsAmong, IsNodePiece, IsPart, block_place, cut_at, data_end, data_pieces, data_place, length_of, max_nodes, max_read, nodes_at, nodes_of, nodes_place, offset_at, piece_at, pieces_of, place_of, run_reads, run_size}
 use Rattle.download_plan.specs.Range.{IsRange}
-use Rattle.download_plan.specs.Laws.{AreApart, IsInBlock, IsInPiece, LevelsHoldGroups, LiesIn, PartsAreApart, PartsHoldTheBlocks, PartsLieInside, PiecesAreGroups, section_end, section_start}
+use Rattle.download_plan.specs.Laws.{AreApart, IsInBlock, IsInPiece, LevelsHoldGroups, LiesIn, PartsAreApart, PartsHoldTheBlocks, PartsLieInside, PiecesAreGroups, PiecesAreUnderPieces, piece_over, section_end, section_start}
 use Rattle.download_plan.specs.declared.level.Level.{Level}
 use Rattle.download_plan.specs.declared.part.NodePiece.{NodePiece}
 use Rattle.download_plan.specs.declared.part.Nodes.{Nodes}
 use Rattle.download_plan.specs.declared.part.Part.{Part}
 use Rattle.download_plan.specs.declared.part.Part.TheVariants.{ShareHashes, BlockTree, CiphertextTree, Data}
 use Rattle.download_plan.proofs.RunLemmas.{piece_before, piece_begin, piece_from, piece_low, piece_of, piece_rest, piece_rises, piece_steps, pieces_few, reads_some, rise, rises, run_from, run_most, run_room, run_some, short}
-use Rattle.download_plan.proofs.NumberLemmas.{below_ceil, ceil_most, end_inside, end_multiple, first_below_end, first_multiple, group_begins, group_of, group_within, holds_group, piece_begins, pieces_below, row_high, rows_rise}
+use Rattle.download_plan.proofs.NumberLemmas.{below_ceil, ceil_most, div_le, end_inside, end_multiple, first_below_end, first_multiple, group_begins, group_of, group_within, holds_group, piece_begins, pieces_below, reads_above, row_high, rows_rise}
 
 -- headers and shares are not long
 header_short : (l : Layout) → header_size l ≤ 68
@@ -190,13 +190,14 @@ piece_lies g a b p r is =
     let m = tree_height g in
     let row = row_of m p.level in
     let l = level_at g a b p.level in
-    let begins : max_nodes * p.index < l.end - l.first = piece_begins (l.end - l.first) max_nodes p.index (omega arith) is.index in
+    let begins : cut_at l p.index < l.end = piece_begins l.end max_nodes (l.first / max_nodes + p.index) (omega arith) (let index = is.index in omega arith) in
+    let some = first_below_end m row a b (segment_count g) r.some r.within in
     let high = row_high m p.level is.level in
     let end = end_inside m row b (segment_count g) high.1 (height_room (segment_count g)) in
     record {
-      some = omega (arith, begins);
+      some = omega (arith, begins, some);
       few = omega arith;
-      inside = omega (arith, begins, end);
+      inside = omega (arith, begins, some, end);
       low = high.1;
     }
 
@@ -404,15 +405,21 @@ are_groups g a b p r is =
     let lie = piece_lies g a b p r is in
     let n = nodes_of g a b p in
     let begins = first_multiple m row a in
-    let whole : n.from ≡ (begins.0 + 2 ^ (10 - min row 7) * p.index) * k =
-    omega (arith, begins.1, ap (λ size. size * p.index) (group_of row)) in
-    let next : n.from + max_nodes ≡ (begins.0 + 2 ^ (10 - min row 7) * (p.index + 1)) * k =
-    omega (arith, whole, group_of row) in
+    let l = level_at g a b p.level in
+    let at : ℕ = l.first / max_nodes + p.index in
+    let groups : ℕ = 2 ^ (10 - min row 7) in
+    let cut : cut_at l p.index ≡ at * groups * k = ap (λ size. size * at) (group_of row) ∙ omega arith in
+    let next : cut_at l p.index + max_nodes ≡ (at + 1) * groups * k = omega (arith, cut, group_of row) in
+    let some = first_below_end m row a b (segment_count g) r.some r.within in
+    let begin : cut_at l p.index < l.end = piece_begins l.end max_nodes at (omega arith) (let index = is.index in omega arith) in
     record {
-      begin = ap (λ size. size % k) whole ∙ mul-mod_left (begins.0 + 2 ^ (10 - min row 7) * p.index) k;
-      end = elim (cases_lt ((level_at g a b p.level).end - n.from) max_nodes) [
-        | inr full ↦ inl (ap (λ size. size % k) (let e : n.from + n.count ≡ n.from + max_nodes = omega arith in e ∙ next) ∙ mul-mod_left _ k)
-        | inl short ↦ let e : n.from + n.count ≡ (level_at g a b p.level).end = (let some = lie.some in omega arith) in
+      begin = elim (cases_lt l.first (cut_at l p.index)) [
+        | inl inner ↦ ap (λ size. size % k) (let e : n.from ≡ cut_at l p.index = omega (arith, inner) in e ∙ cut) ∙ mul-mod_left (at * groups) k
+        | inr first ↦ ap (λ size. size % k) (let e : n.from ≡ l.first = omega (arith, first) in e ∙ begins.1) ∙ mul-mod_left begins.0 k
+      ];
+      end = elim (cases_lt l.end (cut_at l p.index + max_nodes)) [
+        | inr full ↦ inl (ap (λ size. size % k) (let e : n.from + n.count ≡ cut_at l p.index + max_nodes = omega (arith, full, some, begin) in e ∙ next) ∙ mul-mod_left ((at + 1) * groups) k)
+        | inl short ↦ let e : n.from + n.count ≡ l.end = omega (arith, short, some, begin) in
             elim (end_multiple m row b (segment_count g)) [
               | inl end ↦ inl (ap (λ size. size % k) (e ∙ end.1) ∙ mul-mod_left end.0 k)
               | inr last ↦ inr (e ∙ last)
@@ -422,20 +429,50 @@ are_groups g a b p r is =
 
 -- the piece with a group above a segment
 module _ (g : Geometry) (a b level number : ℕ) (r : IsRange g a b) (from : a ≤ number) (before : number < b) where
-  pub above_there : (index : ℕ) → index ≡ (first_node (tree_height g) (row_of (tree_height g) level) number - (level_at g a b level).first) / max_nodes
+  pub above_there : (index : ℕ) → index ≡ first_node (tree_height g) (row_of (tree_height g) level) number / max_nodes - (level_at g a b level).first / max_nodes
       → index < pieces_of (level_at g a b level)
   above_there index is =
       let l = level_at g a b level in
       let begins = group_begins (tree_height g) l.row a b (segment_count g) number from before r.within in
-      subst (λ i. i < pieces_of l) (sym is) (below_ceil (l.end - l.first) max_nodes (first_node (tree_height g) l.row number - l.first) (omega arith) (omega (arith, begins)))
+      let low = div_le l.first (first_node (tree_height g) l.row number) max_nodes (omega arith) begins.0 in
+      omega (arith, is, low, below_ceil l.end max_nodes (first_node (tree_height g) l.row number) (omega arith) begins.1)
 
-  pub above_holds : (index : ℕ) → index ≡ (first_node (tree_height g) (row_of (tree_height g) level) number - (level_at g a b level).first) / max_nodes
+  pub above_holds : (index : ℕ) → index ≡ first_node (tree_height g) (row_of (tree_height g) level) number / max_nodes - (level_at g a b level).first / max_nodes
       → (node : ℕ) → IsAbove g (row_of (tree_height g) level) number node → IsAmong (nodes_at (level_at g a b level) index) node
   above_holds index is node above =
       let l = level_at g a b level in
+      let begins = group_begins (tree_height g) l.row a b (segment_count g) number from before r.within in
+      let low = div_le l.first (first_node (tree_height g) l.row number) max_nodes (omega arith) begins.0 in
       let inside = holds_group (tree_height g) l.row a b (segment_count g) number node from before above.group above.some in
-      let within = group_within (tree_height g) l.row a number node from above.group in
-      subst (λ i. IsAmong (nodes_at l i) node) (sym is) (omega (arith, within), omega (arith, within, inside))
+      let within = group_within (tree_height g) l.row number node above.group in
+      (omega (arith, is, low, within, inside), omega (arith, is, low, within, inside))
+
+-- the piece that has the nodes above a piece
+pub under_pieces : PiecesAreUnderPieces
+under_pieces g a b p r some is =
+    let m = tree_height g in
+    let row = row_of m p.level in
+    let over = row_of m (p.level - 1) in
+    let l = level_at g a b p.level in
+    let above = level_at g a b (p.level - 1) in
+    let there = is.level in
+    let rows : row ≡ over + 7 = omega (arith, some, there) in
+    let high : row ≤ m = (row_high m p.level is.level).1 in
+    let begins : cut_at l p.index < l.end = piece_begins l.end max_nodes (l.first / max_nodes + p.index) (omega arith) (let index = is.index in omega arith) in
+    let wanted = first_below_end m row a b (segment_count g) r.some r.within in
+    let among : (place : ℕ) → IsAmong (nodes_of g a b p) place → IsAmong (nodes_of g a b (piece_over g a p)) (place / 128) =
+    λ place one.
+    let read = reads_above m row over a b (segment_count g) place rows high (omega (arith, one)) (omega (arith, one, begins, wanted)) in
+    let first = reads_above m row over a b (segment_count g) l.first rows high (omega arith) wanted in
+    let left = div_le (above.first) (l.first / 128) max_nodes (omega arith) first.0 in
+    (omega (arith, one, begins, wanted, read, left), omega (arith, one, begins, wanted, read, left)) in
+    let from : ℕ = (nodes_of g a b p).from in
+    let lie = piece_lies g a b p r is in
+    let one = among from (omega arith, omega (arith, lie.some)) in
+    record {
+      piece = record { level = omega (arith, there); index = (let low = below_ceil above.end max_nodes (from / 128) (omega arith) (omega (arith, one)) in omega (arith, one, low)) };
+      holds = among;
+    }
 
 -- the block of a wanted segment
 pub block_low : (g : Geometry) (number : ℕ) → IsGeometry g → number < segment_count g → block_place g number ≤ 2 ^ 40 + 68
@@ -467,4 +504,4 @@ pub some_piece : (g : Geometry) (a b level : ℕ) → IsRange g a b → level < 
 some_piece g a b level r there =
     let l = level_at g a b level in
     let some = first_below_end (tree_height g) l.row a b (segment_count g) r.some r.within in
-    record { level = there; index = pieces_below (l.end - l.first) max_nodes 0 (omega arith) (omega (arith, some)) }
+    record { level = there; index = omega (arith, below_ceil l.end max_nodes l.first (omega arith) some) }

@@ -1,14 +1,14 @@
 -- Laws of plans.
-use Rattle.std.specs.Prelude.{◌≡◌, ◌⊎◌, ℕ, ◌+◌, ◌%◌, ◌<◌, ◌≤◌}
+use Rattle.std.specs.Prelude.{◌≡◌, ◌⊎◌, ℕ, ◌+◌, ◌-◌, ◌/◌, ◌%◌, ◌<◌, ◌≤◌}
 use Rattle.std.specs.Int.{div_ceil}
 use Rattle.share_layout.specs.declared.places.Places.{Places}
 use Rattle.share_layout.specs.Geometry.{Geometry, segment_count}
 use Rattle.share_layout.specs.Layout.{header_size, places_of}
 use Rattle.share_layout.specs.Pieces.{block_length}
-use Rattle.download_plan.specs.Level.{IsAbove, group_size, leaves_below, level_at, level_count}
-use Rattle.download_plan.specs.Level.{tree_height}
-use Rattle.download_plan.specs.Plan.{EndsWithBlock, IsNodePiece, IsPart, block_place, length_of}
-use Rattle.download_plan.specs.Plan.{max_read, nodes_of, place_of}
+use Rattle.download_plan.specs.Level.{IsAbove, first_node, group_size, leaves_below}
+use Rattle.download_plan.specs.Level.{level_at, level_count, row_of, tree_height}
+use Rattle.download_plan.specs.Plan.{EndsWithBlock, IsAmong, IsNodePiece, IsPart, block_place}
+use Rattle.download_plan.specs.Plan.{length_of, max_nodes, max_read, nodes_of, place_of}
 use Rattle.download_plan.specs.Range.{IsRange}
 use Rattle.download_plan.specs.declared.part.NodePiece.{NodePiece}
 use Rattle.download_plan.specs.declared.part.Nodes.{Nodes}
@@ -96,3 +96,26 @@ pub record AreGroups (g : Geometry) (n : Nodes) : Type 0 where
 abbrev pub PiecesAreGroups : Type 0
 PiecesAreGroups = (g : Geometry) (a b : ℕ) (p : NodePiece) → IsRange g a b
     → IsNodePiece g a b p → AreGroups g (nodes_of g a b p)
+
+-- The piece of the level above that has the nodes above a piece, 7 rows above it: the row of the
+-- piece is cut at multiples of 1,024 nodes, and the nodes above are one for each 128.
+abbrev pub first_cut : Geometry → ℕ → ℕ → ℕ
+first_cut g a level = first_node (tree_height g) (row_of (tree_height g) level) a / max_nodes
+
+abbrev pub piece_over : Geometry → ℕ → NodePiece → NodePiece
+piece_over g a p = record {
+  level = p.level - 1;
+  index = (first_cut g a p.level + p.index) / 128 - first_cut g a (p.level - 1);
+}
+
+-- it is a piece of the plan, and has the node above each node of the piece
+pub record IsUnder (g : Geometry) (a b : ℕ) (p q : NodePiece) : Type 0 where
+  pub piece : IsNodePiece g a b q
+  pub holds : (place : ℕ) → IsAmong (nodes_of g a b p) place
+      → IsAmong (nodes_of g a b q) (place / 128)
+
+-- a law: what is above a piece that is not of the first level is one piece of the level above. Each
+-- plan that has the one has the other.
+abbrev pub PiecesAreUnderPieces : Type 0
+PiecesAreUnderPieces = (g : Geometry) (a b : ℕ) (p : NodePiece) → IsRange g a b → 0 < p.level
+    → IsNodePiece g a b p → IsUnder g a b p (piece_over g a p)

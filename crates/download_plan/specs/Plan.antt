@@ -21,15 +21,19 @@ max_read = 32768
 abbrev pub max_nodes : ℕ
 max_nodes = 1024
 
--- the pieces of a level, and the nodes of one
+-- The pieces of a level, and the nodes of one. Rows are cut at multiples of 1,024 nodes, wherever
+-- the level begins, so that the nodes above one piece are in one piece of the level above.
 abbrev pub pieces_of : Level → ℕ
-pieces_of l = div_ceil (l.end - l.first) max_nodes
+pieces_of l = div_ceil l.end max_nodes - l.first / max_nodes
+
+abbrev pub cut_at : Level → ℕ → ℕ
+cut_at l index = max_nodes * (l.first / max_nodes + index)
 
 abbrev pub nodes_at : Level → ℕ → Nodes
-nodes_at l index = let from = l.first + max_nodes * index in record {
+nodes_at l index = let from = max l.first (cut_at l index) in record {
   row = l.row;
   from = from;
-  count = min max_nodes (l.end - from);
+  count = min l.end (cut_at l index + max_nodes) - from;
 }
 
 abbrev pub nodes_of : Geometry → ℕ → ℕ → NodePiece → Nodes

@@ -1,7 +1,8 @@
 //! Laws of plans.
 
 ghost use Rattle.download_plan.specs.Laws.{LevelsHoldGroups, PartsAreApart, PartsHoldTheBlocks};
-ghost use Rattle.download_plan.specs.Laws.{PartsLieInside, PiecesAreGroups, PiecesEndWithBlocks};
+ghost use Rattle.download_plan.specs.Laws.{PartsLieInside, PiecesAreGroups};
+ghost use Rattle.download_plan.specs.Laws.{PiecesAreUnderPieces, PiecesEndWithBlocks};
 
 /// A law of the definitions: two parts of a plan are one, or they have no byte in common. The law
 /// is the contract; the call does nothing.
@@ -37,4 +38,10 @@ pub fn levels_hold_groups()
 /// themselves by the level above. The law is the contract; the call does nothing.
 pub fn pieces_are_groups()
     ensures { PiecesAreGroups }
+{}
+
+/// A law of the definitions: above a piece is one piece of the level above, in each plan that has
+/// the piece. The law is the contract; the call does nothing.
+pub fn pieces_are_under_pieces()
+    ensures { PiecesAreUnderPieces }
 {}

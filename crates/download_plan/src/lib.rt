@@ -14,7 +14,7 @@ mod plan;
 
 pub use laws::{
     levels_hold_groups, parts_are_apart, parts_hold_the_blocks, parts_lie_inside,
-    pieces_are_groups, pieces_end_with_blocks,
+    pieces_are_groups, pieces_are_under_pieces, pieces_end_with_blocks,
 };
 pub use level::Level;
 pub use part::{DataPieces, NodePiece, Nodes, Part, Read};

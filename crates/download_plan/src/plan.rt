@@ -106,7 +106,7 @@ impl Plan {
         ensures some { 0 < result }
     {
         let level = self.level(level);
-        (level.end - level.first).div_ceil(MAX_NODES)
+        level.end.div_ceil(MAX_NODES) - level.first / MAX_NODES
     }
 
     /// The first piece of each tree, where there is one: a file of one segment has none.
@@ -163,7 +163,7 @@ impl Plan {
         let node = first_node(self.height(), found.row, segment);
         NodePiece {
             level,
-            index: (node - found.first) / MAX_NODES,
+            index: node / MAX_NODES - found.first / MAX_NODES,
         }
     }
 
@@ -177,11 +177,12 @@ impl Plan {
         ensures low { result.row ≤ 20 }
     {
         let level = self.level(piece.level);
-        let from = level.first + MAX_NODES * piece.index;
+        let cut = MAX_NODES * (level.first / MAX_NODES + piece.index);
+        let from = level.first.max(cut);
         Nodes {
             row: level.row,
             from,
-            count: MAX_NODES.min(level.end - from),
+            count: level.end.min(cut + MAX_NODES) - from,
         }
     }
 

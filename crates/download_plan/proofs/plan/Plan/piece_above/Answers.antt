@@ -26,7 +26,7 @@ returns-clause-piece c =
     let first = ap (λ (l : Level). l.first) c.level-found.ensures.value in
     record {
       level = c.requires.there;
-      index = above_there p.geometry p.first p.end c.args.level c.args.segment p.range c.requires.from c.requires.before _ (λ i. (node i - first i) / 1024);
+      index = above_there p.geometry p.first p.end c.args.level c.args.segment p.range c.requires.from c.requires.before _ (λ i. node i / 1024 - first i / 1024);
     }
 
 pub returns-clause-holds : goal.returns-clause-holds
@@ -34,4 +34,4 @@ returns-clause-holds c =
     let p = c.args.self.now in
     let node = same_node p.geometry c.args.level c.args.segment _ _ _ c.height.ensures.value (ap (λ (l : Level). l.row) c.level-found.ensures.value) c.first_node-node.ensures in
     let first = ap (λ (l : Level). l.first) c.level-found.ensures.value in
-    above_holds p.geometry p.first p.end c.args.level c.args.segment p.range c.requires.from c.requires.before _ (λ i. (node i - first i) / 1024)
+    above_holds p.geometry p.first p.end c.args.level c.args.segment p.range c.requires.from c.requires.before _ (λ i. node i / 1024 - first i / 1024)
