@@ -106,7 +106,7 @@ leaf_known g a b segment tree r from before leads pieces =
           let level = level_count m - 1 in
           let there : level < level_count m = omega (arith, some) in
           let row : row_of m level ≡ m = omega (arith, some) in
-          let index = (first_node m (row_of m level) segment - (level_at g a b level).first) / max_nodes in
+          let index = first_node m (row_of m level) segment / max_nodes - (level_at g a b level).first / max_nodes in
           let p : NodePiece = record { level = level; index = index } in
           let short : IsRange g a (segment + 1) = record { valid = r.valid; some = omega (arith, from); within = omega (arith, inside) } in
           let is : IsNodePiece g a (segment + 1) p = record { level = there; index = above_there g a (segment + 1) level segment short from (omega arith) index refl } in

@@ -30,7 +30,8 @@ level_grows g a b c level le =
     let l = level_at g a b level in
     let o = level_at g a c level in
     let end : l.end ≤ o.end = end_grows (tree_height g) (row_of (tree_height g) level) b c (segment_count g) le in
-    div_ceil_le (l.end - l.first) (o.end - o.first) max_nodes (omega arith) (omega (arith, end))
+    let more = div_ceil_le l.end o.end max_nodes (omega arith) end in
+    omega (arith, more)
 
 pub data_grows : (g : Geometry) (a b c : ℕ) → b ≤ c → data_pieces g a b ≤ data_pieces g a c
 data_grows g a b c le =
