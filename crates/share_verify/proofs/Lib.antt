@@ -7,3 +7,4 @@ pub mod FirstFault
 pub mod Passing
 pub mod Leading
 pub mod Faults
+pub mod HashedLemmas

@@ -1,4 +1,4 @@
--- Words of the private clauses that compare blocks with leaves.
+-- Blocks and the leaves that are their hashes.
 use Rattle.std.specs.Prelude.{◌≡◌, ℕ, ◌*◌, ◌<◌, List, [], length, take, drop, slice_index_or}
 use Rattle.tagged_hash.specs.TaggedHash.{tagged_hash}
 use Rattle.tagged_hash.specs.declared.tag.Tag.TheVariants.{Block}

@@ -6,5 +6,5 @@ pub mod ShareHashes
 pub mod Verify
 pub mod Checks
 pub mod Inputs
--- words of private clauses
 pub mod Leaves
+pub mod Hashed

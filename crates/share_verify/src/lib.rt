@@ -5,6 +5,7 @@ mod blocks;
 mod chain;
 mod check;
 mod fault;
+mod hashed;
 mod reading;
 mod sections;
 mod tree;
@@ -12,6 +13,7 @@ mod verify;
 
 pub use check::{Check, first_faults_fail, sound_shares_lead, sound_shares_pass};
 pub use fault::ShareFault;
+pub use hashed::{HashSections, HashedBlocks, verify_hashed};
 pub use reading::{ReadShare, geometry_of, read_share, read_ueb};
 pub use tree::leaves_in;
 pub use verify::verify_share;

@@ -6,7 +6,7 @@ ghost use Rattle.share_verify.specs.declared.fault.ShareFault.{ShareFault};
 
 use crate::fault::ShareFault;
 use crate::reading::read_share;
-use crate::sections::check_sections;
+use crate::sections::check_view;
 use cap_text::VerifyCap;
 
 /// Whether a string is share `num` of the cap's file, as far as the cap tells.
@@ -25,7 +25,7 @@ pub fn verify_share(cap: &VerifyCap, num: u16, share: &[u8]) -> Result<(), Share
         ↔ IsFirstFault cap.now num share.now fault }
 {
     match read_share(cap, num, share) {
-        Ok(read) => check_sections(&read.ueb, &read.geometry, num, &read.view),
+        Ok(read) => check_view(&read.ueb, &read.geometry, num, &read.view),
         Err(fault) => Err(fault),
     }
 }

@@ -1,32 +1,20 @@
-use Rattle.std.proofs.Common.{rules, ◌≡◌, ◌+◌, ◌-◌, ◌*◌, ◌<◌, ◌≤◌, ℕ, List, [], length, take, drop, get_or, sym, ap, subst, ◌∙◌, arith, inl, inr, refl}
+use Rattle.std.proofs.Common.{rules, ◌≡◌, ◌+◌, ◌-◌, ◌*◌, ◌<◌, ◌≤◌, ℕ, List, [], length, take, drop, get_or, sym, ap, ◌∙◌, arith, inl, inr, refl}
 use Rattle.std.proofs.lemmas.Bool.{cases_lt}
-use Rattle.std.proofs.lemmas.List.{drop-drop}
 use Rattle.std.proofs.lemmas.Simd.{get_or-chunk, length-chunk}
 use Rattle.tagged_hash.specs.TaggedHash.{tagged_hash}
 use Rattle.tagged_hash.specs.declared.tag.Tag.TheVariants.{Block}
-use Rattle.tagged_hash.proofs.RowLemmas.{pieces_more}
 use Rattle.share_verify.specs.Leaves.{AreBlockHashes}
+use Rattle.share_verify.proofs.HashedLemmas.{hash_behind}
 use Rattle.share_verify.proofs.blocks.are_hashes_of.Goals as goal
 
 -- the leaves from one on, and the blocks from the same place on
 module _ (leaves : List (List ℕ)) (size : ℕ) (blocks rest : List ℕ) (first end : ℕ)
     (is : rest ≡ drop (first * size) blocks) (low : first ≤ end) (high : end ≤ length leaves) where
-  hash_in : (i : ℕ) → tagged_hash Block (take size (drop (i * size) rest))
-      ≡ tagged_hash Block (take size (drop ((first + i) * size) blocks))
-  hash_in i =
-      let after : first ≤ first + i = omega arith in
-      let more : first + i - first ≡ i = omega arith in
-      let place : first * size + i * size ≡ (first + i) * size =
-      ap (λ (n : ℕ). first * size + n * size) (sym more) ∙ pieces_more first (first + i) size after in
-      ap (λ (b : List ℕ). tagged_hash Block (take size (drop (i * size) b))) is
-      ∙ ap (λ (b : List ℕ). tagged_hash Block (take size b)) (drop-drop (i * size) (first * size) blocks)
-      ∙ ap (λ (n : ℕ). tagged_hash Block (take size (drop n blocks))) place
-
   -- where all leaves are hashes, so are those of the group
   inside : AreBlockHashes leaves size blocks → AreBlockHashes (take (end - first) (drop first leaves)) size rest
   inside all i below =
       let many : length (take (end - first) (drop first leaves)) ≡ end - first = length-chunk first (end - first) leaves (omega arith) in
-      get_or-chunk first (end - first) leaves i [] (omega arith) ∙ all (first + i) (omega arith) ∙ sym (hash_in i)
+      get_or-chunk first (end - first) leaves i [] (omega arith) ∙ all (first + i) (omega arith) ∙ sym (hash_behind size blocks rest first is i)
 
   -- where those of the group are, each of them is
   outside : AreBlockHashes (take (end - first) (drop first leaves)) size rest → (k : ℕ) → first ≤ k → k < end
@@ -35,7 +23,7 @@ module _ (leaves : List (List ℕ)) (size : ℕ) (blocks rest : List ℕ) (first
       let many : length (take (end - first) (drop first leaves)) ≡ end - first = length-chunk first (end - first) leaves (omega arith) in
       let at : first + (k - first) ≡ k = omega arith in
       ap (λ (j : ℕ). get_or leaves j []) (sym at) ∙ sym (get_or-chunk first (end - first) leaves (k - first) [] (omega arith))
-      ∙ are (k - first) (omega arith) ∙ hash_in (k - first)
+      ∙ are (k - first) (omega arith) ∙ hash_behind size blocks rest first is (k - first)
       ∙ ap (λ (j : ℕ). tagged_hash Block (take size (drop (j * size) blocks))) at
 
 pub returns-then-not-are_first_hashes : goal.returns-then-not-are_first_hashes

@@ -8,17 +8,17 @@ use Rattle.share_verify.proofs.verify.verify_share.Goals as goal
 
 pub returns-in-Ok-clause-sound : goal.returns-in-Ok-clause-sound
 returns-in-Ok-clause-sound c = (
-  λ is. (c.in-Ok.read.ueb, sections_in c.in-Ok.read.view, record { reads = c.in-Ok.ensures.accepted; sections = c.check_sections.ensures.sound.0 is }),
+  λ is. (c.in-Ok.read.ueb, sections_in c.in-Ok.read.view, record { reads = c.in-Ok.ensures.accepted; sections = c.check_view.ensures.sound.0 is }),
   λ held.
-      c.check_sections.ensures.sound.1
+      c.check_view.ensures.sound.1
       (sections_sound c.args.cap.now c.args.num c.args.share.now _ _ c.in-Ok.ensures.complete held.0 held.1 held.2),
 )
 
 pub returns-in-Ok-clause-refused : goal.returns-in-Ok-clause-refused
 returns-in-Ok-clause-refused c = λ fault. (
-  λ is. not_sound _ _ c.in-Ok.ensures.accepted ((c.check_sections.ensures.refused fault).0 is),
+  λ is. not_sound _ _ c.in-Ok.ensures.accepted ((c.check_view.ensures.refused fault).0 is),
   λ held.
-      (c.check_sections.ensures.refused fault).1
+      (c.check_view.ensures.refused fault).1
       (section_fault c.args.cap.now c.args.num c.args.share.now _ _ c.in-Ok.ensures.complete fault held
       (not_refused c.read_share.result _ c.read_share.ensures.refused _ c.in-Ok.is fault)),
 )
