@@ -8,3 +8,4 @@ pub mod Passing
 pub mod Leading
 pub mod Faults
 pub mod HashedLemmas
+pub mod JudgingLemmas

@@ -8,3 +8,6 @@ pub mod Checks
 pub mod Inputs
 pub mod Leaves
 pub mod Hashed
+pub mod Judging
+-- words of private clauses
+pub mod Hashing
