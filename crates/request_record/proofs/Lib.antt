@@ -2,3 +2,4 @@ pub mod StepLaws
 pub mod RecordLaws
 pub mod QueueLaws
 pub mod AskingLaws
+pub mod KeptLaws

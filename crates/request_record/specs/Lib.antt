@@ -2,3 +2,4 @@
 pub mod Limits
 pub mod Record
 pub mod Asking
+pub mod Kept

@@ -2,6 +2,8 @@
 //! answer counts, and what is lost.
 #![tactic(auto)]
 
+pub mod kept;
 pub mod laws;
+pub mod ledger;
 mod places;
 pub mod requests;

@@ -1,26 +1,19 @@
-//! The record of what one operation asked of servers, and what became of it.
+//! What one operation asks of servers, what becomes of it, and the record that keeps all answers.
 
-ghost use Rattle.std.specs.Prelude.{◌≡◌, ◌≤◌, ◌<◌, ◌^◌, ◌+◌, ◌++◌, ◌↔◌, [], List, length, map};
-ghost use Rattle.std.specs.Prelude.{take, drop, max, slice_get, slice_set, Some, vec_len, All};
+ghost use Rattle.std.specs.Prelude.{◌≡◌, ◌≤◌, ◌<◌, ◌↔◌, ℕ, List, length, slice_get};
 ghost use Rattle.std.specs.Prelude.{IfOk, IfSome, IfNone, IsTrue, OnOk, OnErr};
-ghost use Rattle.request_record.specs.Record.{is_outstanding, with_outcome, fits, first_request};
-ghost use Rattle.request_record.specs.Record.{awaits};
-ghost use Rattle.request_record.specs.Record.{counts_at, counted, at, asked_more, age_of, passed};
-ghost use Rattle.request_record.specs.Record.{is_lost_at};
-ghost use Rattle.request_record.specs.Record.{is_resent_at, is_lost_in, ticked_one, places_from};
-ghost use Rattle.request_record.specs.Record.{without};
-ghost use Rattle.request_record.specs.Record.{without_lost, ticked, TakesNext, IsSentFew, IsRecord};
-ghost use Rattle.request_record.specs.Record.{AreSettled, outstanding_count, was_sent_again};
+ghost use Rattle.request_record.specs.Record.{is_outstanding, fits, first_request, awaits, age_of};
+ghost use Rattle.request_record.specs.Record.{passed, is_lost_at, is_resent_at, ticked_one};
+ghost use Rattle.request_record.specs.Record.{was_sent_again, IsSentFew, IsRecord, TakesNext};
+ghost use Rattle.request_record.specs.Record.{counts_at, asked_more, outstanding_count};
 ghost use Rattle.request_record.specs.Asking.{fresh, begun, after_message, after_tick};
 ghost use Rattle.request_record.specs.Asking.{lost_by_tick, HasWork};
 ghost use Rattle.request_record.specs.Asking.{Spells, IsWriting, message_at};
-ghost use Rattle.request_record.specs.declared.requests.Request.{Request};
+ghost use Rattle.request_record.specs.Kept.{IsDataAt};
 
-use crate::places::{
-    drop_lost, find_lost, find_resent, first_waiting, sent_to, settle, tick_from, unqueue,
-};
+use crate::kept::Kept;
+use crate::ledger::{Counted, Ledger};
 use std::alloc::{AllocError, Global};
-use std::collections::VecDeque;
 use std::marker::Model;
 use wire::message::{Body, Message, NodeId, ReadLength, ShareId, ShareLength, StorageIndex};
 
@@ -59,7 +52,7 @@ pub enum Outcome {
     /// It waits for its answer.
     Outstanding,
     /// This is the answer that counted.
-    Answered(Body),
+    Answered(Kept),
     /// No answer came for 20 seconds.
     Lost,
 }
@@ -134,7 +127,7 @@ fn passed(age: u64) -> u8
 
 impl Request {
     /// A request that is sent first at this second.
-    fn new(server: NodeId, asked: Asked, now: u64) -> Request
+    pub(crate) fn new(server: NodeId, asked: Asked, now: u64) -> Request
         ensures { result ≡ first_request server asked now }
     {
         let outcome = match &asked {
@@ -206,46 +199,26 @@ impl Request {
     }
 }
 
-/// The record of one operation: what it asked in order, and which requests are still to be sent.
-///
-/// A message costs nothing more than its own request, but where its request was sent again or was
-/// not yet sent: then what is to send. A tick costs what was asked since the first request that
-/// still waits, and what is to send. Neither grows with all that was asked.
+/// The record of an operation that needs the bytes of its answers later: a ledger, and the bytes
+/// that came.
 #[derive(Drop)]
 pub struct Requests {
-    session: u64,
-    entries: Vec<Request>,
-    outgoing: VecDeque<usize>,
-    clock: u64,
-    /// How many requests wait for their answers.
-    outstanding: usize,
-    /// No request before this place waits for its answer.
-    settled: usize,
-    /// Before this place only requests that were sent again are to send.
-    sent: usize,
+    ledger: Ledger,
+    /// At each request's place the bytes of the `Data` that answered it.
+    bytes: Vec<Option<Vec<u8>>>,
 }
 
 impl Model for Requests {
-    ghost use Rattle.std.specs.Prelude.{◌≡◌};
-    ghost use Rattle.request_record.specs.Record.{RequestsState, IsRecord, IsIndexed};
+    ghost use Rattle.std.specs.Prelude.{◌≡◌, map, option_map};
+    ghost use Rattle.request_record.specs.Record.{RequestsState};
+    ghost use Rattle.request_record.specs.Kept.{data_of};
 
     ghost Value = { RequestsState };
 
-    ghost view = { λ r. record {
-      session = r.session;
-      entries = r.entries.items;
-      outgoing = r.outgoing.items;
-      clock = r.clock;
-    } };
+    ghost view = { λ r. r.ledger };
 
     ghost invariant = { λ r.
-        IsRecord (record {
-          session = r.session;
-          entries = r.entries.items;
-          outgoing = r.outgoing.items;
-          clock = r.clock;
-        })
-        × IsIndexed r.outstanding r.settled r.sent r.entries.items r.outgoing.items };
+        map (option_map (λ v. v.items)) r.bytes.items ≡ map data_of r.ledger.entries };
 }
 
 impl Requests {
@@ -254,13 +227,8 @@ impl Requests {
         ensures { result ≡ fresh session now }
     {
         Requests {
-            session,
-            entries: Vec::new(alloc),
-            outgoing: VecDeque::new(alloc),
-            clock: now,
-            outstanding: 0,
-            settled: 0,
-            sent: 0,
+            ledger: Ledger::new(alloc, session, now),
+            bytes: Vec::new(alloc),
         }
     }
 
@@ -280,18 +248,25 @@ impl Requests {
         Ok(requests)
     }
 
+    /// The record without the bytes.
+    pub fn ledger(&self) -> &Ledger
+        ensures { result.now ≡ self.now }
+    {
+        &self.ledger
+    }
+
     /// The operation's session.
     pub fn session(&self) -> u64
         ensures { result ≡ self.now.session }
     {
-        self.session
+        self.ledger.session()
     }
 
     /// The latest second that the operation was told.
     pub fn clock(&self) -> u64
         ensures { result ≡ self.now.clock }
     {
-        self.clock
+        self.ledger.clock()
     }
 
     /// The requests in order: request `n` is at place `n - 1`.
@@ -299,7 +274,19 @@ impl Requests {
         ensures value { result.now ≡ self.now.entries }
         ensures right { IsRecord self.now }
     {
-        self.entries.as_slice()
+        self.ledger.entries()
+    }
+
+    /// The bytes of the `Data` that answered the request at a place.
+    pub fn bytes_at(&self, place: usize) -> Option<&[u8]>
+        ensures some { IfSome result (λ bytes. IsDataAt self.now.entries place bytes.now) }
+        ensures none { IfNone result ((bytes : List ℕ)
+            → IsDataAt self.now.entries place bytes → ⊥) }
+    {
+        match self.bytes.get(place)? {
+            Some(bytes) => Some(bytes.as_slice()),
+            None => None,
+        }
     }
 
     /// Records a request, and puts it at the end of those to send.
@@ -307,13 +294,9 @@ impl Requests {
         ensures ok { OnOk result (self.new ≡ asked_more server asked self.old) }
         ensures err { OnErr result (self.new ≡ self.old) }
     {
-        let place = self.entries.len();
-        let request = Request::new(server, asked, self.clock);
-        let outstanding = self.outstanding + usize::from(request.is_outstanding());
-        self.entries.reserve(1)?;
-        self.outgoing.push_back(place)?;
-        self.entries.push_reserved(request);
-        self.outstanding = outstanding;
+        self.bytes.reserve(1)?;
+        self.ledger.ask(server, asked)?;
+        self.bytes.push_reserved(None);
         Ok(())
     }
 
@@ -322,21 +305,7 @@ impl Requests {
         ensures value { result ≡ counts_at from message.now self.now }
         ensures there { IfSome result (λ place. place < length self.now.entries) }
     {
-        if message.session != self.session || message.number == 0 {
-            return None;
-        }
-        let place = (message.number - 1) as usize;
-        match self.entries.get(place) {
-            Some(request) if request.awaits(from, &message.body) => Some(place),
-            _ => None,
-        }
-    }
-
-    /// Takes note of the time.
-    fn pass(&mut self, now: u64)
-        ensures { self.new ≡ at now self.old }
-    {
-        self.clock = self.clock.max(now);
+        self.ledger.counts_at(from, message)
     }
 
     /// Takes a message from a server over: keeps it where it answers a request and counts, with no
@@ -345,39 +314,9 @@ impl Requests {
         ensures place { result ≡ counts_at from message self.old }
         ensures record { self.new ≡ after_message from message now self.old }
     {
-        let Some(place) = self.counts_at(from, &message) else {
-            self.pass(now);
-            return None;
-        };
-        unqueue(
-            &mut self.outgoing,
-            self.entries.as_slice(),
-            self.sent,
-            place,
-        );
-        settle(&mut self.entries, place, Outcome::Answered(message.body));
-        self.outstanding -= 1;
-        self.clock = self.clock.max(now);
+        let Counted { place, bytes } = self.ledger.take_answer(from, message, now)?;
+        self.bytes[place] = bytes;
         Some(place)
-    }
-
-    /// As `take_answer`, of a copy of the message where it counts.
-    pub fn answer(
-        &mut self,
-        from: NodeId,
-        message: &Message,
-        now: u64,
-    ) -> Result<Option<usize>, AllocError>
-        ensures place { IfOk result (λ p. p ≡ counts_at from message.now self.old) }
-        ensures ok { OnOk result (self.new ≡ after_message from message.now now self.old) }
-        ensures err { OnErr result (self.new ≡ self.old) }
-    {
-        if self.counts_at(from, message).is_none() {
-            self.pass(now);
-            return Ok(None);
-        }
-        let message = message.clone()?;
-        Ok(self.take_answer(from, message, now))
     }
 
     /// Takes note of a tick: a request that is due is sent again, one that is 20 seconds old is
@@ -387,32 +326,21 @@ impl Requests {
         ensures ok { OnOk result (self.new ≡ after_tick now self.old) }
         ensures err { OnErr result (self.new ≡ self.old) }
     {
-        let now = self.clock.max(now);
-        let alloc = *self.entries.allocator();
-        let waiting = &self.entries.as_slice()[self.settled..];
-        let mut resent = find_resent(alloc, waiting, self.settled, now)?;
-        let lost = find_lost(alloc, waiting, self.settled, now)?;
-        self.outgoing.append(&mut resent)?;
-        drop_lost(&mut self.outgoing, self.entries.as_slice(), now);
-        tick_from(self.entries.as_mut_slice(), self.settled, now);
-        self.settled = first_waiting(self.entries.as_slice(), self.settled);
-        self.outstanding -= lost.len();
-        self.clock = now;
-        Ok(lost)
+        self.ledger.tick(now)
     }
 
     /// How many requests wait for their answers.
     pub fn outstanding(&self) -> usize
         ensures { result ≡ outstanding_count self.now.entries }
     {
-        self.outstanding
+        self.ledger.outstanding()
     }
 
     /// Does a request wait for its answer, or is one to be sent?
     pub fn has_work(&self) -> bool
         ensures { IsTrue result ↔ HasWork self.now }
     {
-        0 < self.outstanding || 0 < self.outgoing.len()
+        self.ledger.has_work()
     }
 
     /// The place of the first request to send.
@@ -420,23 +348,21 @@ impl Requests {
         ensures value { result ≡ slice_get self.now.outgoing 0 }
         ensures there { IfSome result (λ place. place < length self.now.entries) }
     {
-        self.outgoing.front().copied()
+        self.ledger.first()
     }
 
     /// Takes the first of the requests to send.
     pub fn take_next(&mut self) -> Option<usize>
         ensures { TakesNext self.old result self.new }
     {
-        let place = self.outgoing.pop_front()?;
-        self.sent = sent_to(self.entries.as_slice(), place, self.sent);
-        Some(place)
+        self.ledger.take_next()
     }
 
     /// How many requests are to send.
     pub fn outgoing_len(&self) -> usize
         ensures { result ≡ length self.now.outgoing }
     {
-        self.outgoing.len()
+        self.ledger.outgoing_len()
     }
 
     /// The message of the request at a place, which says this.
@@ -444,10 +370,6 @@ impl Requests {
         requires { place < length self.now.entries }
         ensures { result ≡ message_at place body self.now }
     {
-        Message {
-            session: self.session,
-            number: place as u64 + 1,
-            body,
-        }
+        self.ledger.message_at(place, body)
     }
 }

@@ -76,7 +76,7 @@ fn note_sent(sent: &mut Vec<u64>, requests: &mut Requests, now: u64) -> Option<(
 
 // Whether no request waits, and an answer that comes late does not count.
 fn is_ended(requests: &mut Requests) -> bool {
-    requests.outstanding() == 0 && matches!(requests.answer(9, &closed(7, 1), 30), Ok(None))
+    requests.outstanding() == 0 && requests.take_answer(9, closed(7, 1), 30) == None
 }
 
 #[test]
@@ -105,9 +105,7 @@ fn is_counted(alloc: Global, from: u16, session: u64, number: u64, counts: bool)
     let Some(mut requests) = asked(alloc) else {
         return false;
     };
-    let Ok(place) = requests.answer(from, &closed(session, number), 1) else {
-        return false;
-    };
+    let place = requests.take_answer(from, closed(session, number), 1);
     if counts {
         place == Some(1) && requests.outstanding() == 1
     } else {
@@ -145,10 +143,7 @@ fn answers_at(requests: &mut Requests, place: Option<usize>) -> bool {
     if requests.counts_at(9, &closed(7, 2)) != place {
         return false;
     }
-    match requests.answer(9, &closed(7, 2), 6) {
-        Ok(found) => found == place,
-        Err(_) => false,
-    }
+    requests.take_answer(9, closed(7, 2), 6) == place
 }
 
 #[test]
@@ -175,18 +170,12 @@ fn is_recorded_and_sent(alloc: Global) -> bool {
         && keeps_answer(alloc, &mut requests)
 }
 
-// Whether a Have with one share is kept as the answer to the first request, where a call that was
-// refused memory is made again.
+// Whether a Have with one share is kept as the answer to the first request.
 fn keeps_answer(alloc: Global, requests: &mut Requests) -> bool {
     let Some(message) = have(alloc) else {
         return true;
     };
-    for _ in 0..2 {
-        if let Ok(place) = requests.answer(9, &message, 6) {
-            return place == Some(0) && requests.outstanding() == 0;
-        }
-    }
-    false
+    requests.take_answer(9, message, 6) == Some(0) && requests.outstanding() == 0
 }
 
 fn have(alloc: Global) -> Option<Message> {
@@ -280,14 +269,27 @@ fn is_done(requests: &Requests) -> bool {
     requests.outstanding() == 0 && requests.outgoing_len() == 0 && !requests.has_work()
 }
 
+// Whether a request was answered by a Have of a server that takes no shares.
+fn tells_holdings(request: Option<&Request>) -> bool {
+    match told_of(request) {
+        Some(body) => matches!(body, Body::Have(true, _)),
+        None => false,
+    }
+}
+
+// The answer to a request, where it counted and is no Data.
+fn told_of(request: Option<&Request>) -> Option<&Body> {
+    match &request?.outcome {
+        Outcome::Answered(kept) => kept.told(),
+        _ => None,
+    }
+}
+
 // A second sending that was not taken yet falls away with the answer.
 fn is_done_once_answered(alloc: Global) -> Option<bool> {
     let mut requests = asked_again(alloc)?;
     let place = requests.take_answer(9, have(alloc)?, 6);
-    let is_kept = match requests.entries().get(0) {
-        Some(request) => matches!(request.outcome, Outcome::Answered(Body::Have(true, _))),
-        None => false,
-    };
+    let is_kept = tells_holdings(requests.entries().get(0));
     Some(place == Some(0) && is_kept && requests.clock() == 6 && is_done(&requests))
 }
 

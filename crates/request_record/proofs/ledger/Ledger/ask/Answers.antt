@@ -4,7 +4,7 @@ use Rattle.request_record.specs.declared.requests.Request.{Request}
 use Rattle.request_record.specs.Record.{RequestsState, first_request, is_outstanding}
 use Rattle.request_record.proofs.RecordLaws.{asked_right, asked_indexed}
 use Rattle.request_record.proofs.QueueLaws.{asked_order}
-use Rattle.request_record.proofs.requests.Requests.ask.Goals as goal
+use Rattle.request_record.proofs.ledger.Ledger.ask.Goals as goal
 
 -- a `bool` as a number
 byte_of : (b : Bool) → bool_byte b ≡ cond b 1 0

@@ -3,7 +3,7 @@ use Rattle.std.proofs.lemmas.List.Elements.{All-head}
 use Rattle.request_record.specs.declared.requests.Request.{Request}
 use Rattle.request_record.specs.Record.{IsRecord, IsIndexed, sent_to}
 use Rattle.request_record.proofs.QueueLaws.{taken_indexed, taken_right}
-use Rattle.request_record.proofs.requests.Requests.take_next.Goals as goal
+use Rattle.request_record.proofs.ledger.Ledger.take_next.Goals as goal
 
 pub invariant_of-self-2 : goal.invariant_of-self-2
 invariant_of-self-2 c =
