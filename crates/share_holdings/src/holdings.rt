@@ -287,7 +287,10 @@ fn held_by(outcome: &Outcome) -> &[HeldShare]
     ensures rising { AreRising result.now }
 {
     match outcome {
-        Outcome::Answered(body) => held_in(body),
+        Outcome::Answered(kept) => match kept.told() {
+            Some(body) => held_in(body),
+            None => &[],
+        },
         _ => &[],
     }
 }
