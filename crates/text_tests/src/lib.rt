@@ -7,6 +7,8 @@ mod cap_text_tests;
 #[cfg(test)]
 mod frames_tests;
 #[cfg(test)]
+mod ledger_tests;
+#[cfg(test)]
 mod requests_tests;
 #[cfg(test)]
 mod ueb_tests;

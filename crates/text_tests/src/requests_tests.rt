@@ -178,7 +178,8 @@ fn keeps_answer(alloc: Global, requests: &mut Requests) -> bool {
     requests.take_answer(9, message, 6) == Some(0) && requests.outstanding() == 0
 }
 
-fn have(alloc: Global) -> Option<Message> {
+// A Have with one share, of a server that takes none, as the answer to the first request.
+pub(crate) fn have(alloc: Global) -> Option<Message> {
     let share = HeldShare {
         share: 3,
         digest: [5; 32],
@@ -270,7 +271,7 @@ fn is_done(requests: &Requests) -> bool {
 }
 
 // Whether a request was answered by a Have of a server that takes no shares.
-fn tells_holdings(request: Option<&Request>) -> bool {
+pub(crate) fn tells_holdings(request: Option<&Request>) -> bool {
     match told_of(request) {
         Some(body) => matches!(body, Body::Have(true, _)),
         None => false,

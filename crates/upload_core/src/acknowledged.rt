@@ -33,7 +33,10 @@ fn push_request(
     ensures { OnOk result (pairs.new.items ≡ pairs.old.items ++ acked_by goal.now request.now) }
 {
     match &request.outcome {
-        Outcome::Answered(body) => { push_answer(goal, request.server, request.asked, body, pairs) }
+        Outcome::Answered(kept) => match kept.told() {
+            Some(body) => push_answer(goal, request.server, request.asked, body, pairs),
+            None => Ok(()),
+        },
         _ => Ok(()),
     }
 }

@@ -25,7 +25,8 @@ use crate::rounds::{has_failed_since, servers_of};
 use crate::status::{NodeList, PairList, ServerInfo, UploadGoal, UploadStatus};
 use crate::transfers::follow_up;
 use placement::{Matching, ServerId, happiness, order, place};
-use request_record::requests::{Asked, Requests};
+use request_record::ledger::Ledger;
+use request_record::requests::Asked;
 use std::alloc::{AllocError, Global};
 use std::marker::Model;
 use wire::message::{Body, Message, NodeId, ShareLength, StorageIndex};
@@ -36,7 +37,7 @@ pub(crate) struct Course {
     goal: UploadGoal,
     wanted: u16,
     servers: Vec<NodeId>,
-    requests: Requests,
+    requests: Ledger,
     // The place of the first transfer of the last placing, 0 before the first.
     round: usize,
     status: UploadStatus,
@@ -82,7 +83,7 @@ impl Course {
         ensures right { IfOk result IsCourse }
     {
         let servers = nodes_in_order(alloc, &goal, servers)?;
-        let requests = Requests::begin(alloc, servers.as_slice(), session, now)?;
+        let requests = Ledger::begin(alloc, servers.as_slice(), session, now)?;
         let mut course = Course {
             goal,
             wanted,
@@ -109,13 +110,13 @@ impl Course {
         ensures ended { self.old.status ≢ UploadStatus.Running → IsOk result }
         ensures goal { self.new.goal ≡ self.old.goal }
     {
-        let Some(place) = self.requests.take_answer(from, message, now) else {
+        let Some(counted) = self.requests.take_answer(from, message, now) else {
             return Ok(());
         };
         if !self.is_running() {
             return Ok(());
         }
-        self.follow(place)?;
+        self.follow(counted.place)?;
         self.go_on()
     }
 
@@ -369,7 +370,7 @@ impl Course {
 
 // Asks for room for each pair's share, or for the first of them where memory ends.
 fn allocate(
-    requests: &mut Requests,
+    requests: &mut Ledger,
     pairs: &[(NodeId, u16)],
     length: ShareLength,
 ) -> Result<(), AllocError>

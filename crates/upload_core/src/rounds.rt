@@ -137,7 +137,10 @@ fn has_answered_as(readonly: bool, request: &Request) -> bool
     ensures { result ≡ has_answered_as readonly request.now }
 {
     match (request.asked, &request.outcome) {
-        (Asked::Holdings, Outcome::Answered(Body::Have(told, _))) => *told == readonly,
+        (Asked::Holdings, Outcome::Answered(kept)) => match kept.told() {
+            Some(Body::Have(told, _)) => *told == readonly,
+            _ => false,
+        },
         _ => false,
     }
 }

@@ -23,7 +23,7 @@ pub(crate) fn follow_up(goal: &UploadGoal, request: &Request) -> Option<Asked>
         given_up(request.asked)
     } else {
         match &request.outcome {
-            Outcome::Answered(body) => carried(goal, request.asked, body),
+            Outcome::Answered(kept) => carried(goal, request.asked, kept.told()?),
             _ => None,
         }
     }
@@ -36,7 +36,10 @@ pub(crate) fn has_failed(goal: &UploadGoal, request: &Request) -> bool
 {
     match &request.outcome {
         Outcome::Lost => is_transfer(request.asked),
-        Outcome::Answered(body) => is_refusal(goal, request, body),
+        Outcome::Answered(kept) => match kept.told() {
+            Some(body) => is_refusal(goal, request, body),
+            None => is_transfer(request.asked),
+        },
         _ => false,
     }
 }
