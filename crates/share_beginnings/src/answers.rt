@@ -1,17 +1,14 @@
 //! What becomes of the answers to what was asked.
 
 ghost use Rattle.std.specs.Prelude.{◌≡◌, ◌↔◌, ℕ, List, IfNone, IfSome, IsTrue};
-ghost use Rattle.wire.specs.declared.message.Body.TheVariants.{Data};
-ghost use Rattle.request_record.specs.declared.requests.Outcome.TheVariants.{Answered};
 ghost use Rattle.share_beginnings.specs.Moves.{IsNewsOf, WaitsAt};
 ghost use Rattle.share_beginnings.specs.Reads.{IsAnsweredBy};
 ghost use Rattle.share_beginnings.specs.State.{BeginningsState};
 
 use crate::beginnings::News;
 use crate::begun::Begun;
-use request_record::requests::{Outcome, Requests};
+use request_record::requests::Requests;
 use share_holdings::holdings::Heard;
-use wire::message::Body;
 
 /// What is told of what was heard.
 pub(crate) fn news_of(begun: &[Begun], heard: Heard) -> News
@@ -47,19 +44,5 @@ pub fn bytes_at(requests: &Requests, place: usize) -> Option<&[u8]>
     ensures none { IfNone result ((bytes : List ℕ)
         → IsAnsweredBy requests.now.entries place bytes → ⊥) }
 {
-    match requests.entries().get(place) {
-        Some(request) => data_of(&request.outcome),
-        None => None,
-    }
-}
-
-// The bytes that answered a request.
-fn data_of(outcome: &Outcome) -> Option<&[u8]>
-    ensures some { IfSome result (λ bytes. outcome.now ≡ Answered (Data bytes.now)) }
-    ensures none { IfNone result ((bytes : List ℕ) → outcome.now ≡ Answered (Data bytes) → ⊥) }
-{
-    match outcome {
-        Outcome::Answered(Body::Data(bytes)) => Some(bytes.as_slice()),
-        _ => None,
-    }
+    requests.bytes_at(place)
 }
