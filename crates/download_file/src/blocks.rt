@@ -13,19 +13,15 @@ ghost use Rattle.download_file.specs.Steps.{IsWrong, LacksSome};
 use crate::reader::Reader;
 use download_segments::Handout;
 use download_source::Source;
-use request_record::requests::{Outcome, Requests};
+use request_record::requests::Requests;
 use std::alloc::{AllocError, Global};
-use wire::message::Body;
 
 // The bytes that are the answer to the request at a place, and none where they are not.
 fn answer_at(requests: &Requests, place: usize) -> &[u8]
     ensures { result.now ≡ answer_at requests.now.entries place }
 {
-    match requests.entries().get(place) {
-        Some(request) => match &request.outcome {
-            Outcome::Answered(Body::Data(bytes)) => bytes.as_slice(),
-            _ => &[],
-        },
+    match requests.bytes_at(place) {
+        Some(bytes) => bytes,
         None => &[],
     }
 }
