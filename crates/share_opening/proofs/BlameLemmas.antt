@@ -135,7 +135,7 @@ at_start : (share bytes : List ℕ) → HasAt share 0 bytes → bytes ≡ take (
 at_start share bytes is = is
 
 -- a header that was read is the share's
-text_begins : (l : Layout) (reads : List Brought) (share text : List ℕ) → length text ≡ header_size l → IsHeaderBy reads l text → HasReads reads share
+pub text_begins : (l : Layout) (reads : List Brought) (share text : List ℕ) → length text ≡ header_size l → IsHeaderBy reads l text → HasReads reads share
     → text ≡ take (length text) share
 text_begins One reads share text long led has = at_start share text (has _ led)
 text_begins Two reads share text long led has =

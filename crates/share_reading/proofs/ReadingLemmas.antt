@@ -39,7 +39,7 @@ use Rattle.share_reading.proofs.ConsecutiveLemmas.{append, inside, push, whole}
 -- ---- what is known of a header
 
 -- the extension block's geometry gives the places that the header tells
-places_are : (cap : VerifyCapValue) (h : ShareHeader) (bytes : List ℕ) (o : Opened) → IsOpened cap (text_of h) bytes o → h.places ≡ places_of (geometry_by o.ueb)
+pub places_are : (cap : VerifyCapValue) (h : ShareHeader) (bytes : List ℕ) (o : Opened) → IsOpened cap (text_of h) bytes o → h.places ≡ places_of (geometry_by o.ueb)
 places_are cap h bytes o is =
     let own : HasHeader (geometry_by o.ueb) (text_of h) = subst (λ (g : Geometry). HasHeader g (text_of h)) is.geometry is.header in
     h.right.places ∙ (tells_places (geometry_by o.ueb) (text_of h) (is_geometry o.ueb is.ueb.grammar.contents) own).2
@@ -250,14 +250,14 @@ go_on cap front back (Beginning (Block b)) (Beginning (Block d)) bytes is a = ab
 go_on cap front back (Beginning Start) (Remaining r) bytes is a = absurd a.1
 go_on cap front back (Beginning (Second s)) (Remaining r) bytes is a = absurd a.1
 go_on cap front back (Beginning (Header h)) (Remaining r) bytes is a = absurd a.1
-go_on cap front back (Beginning (Block b)) (Remaining r) bytes is a = rest_by cap front back b bytes a.0 r is a.1 a.2.0 a.2.1
+go_on cap front back (Beginning (Block b)) (Remaining r) bytes is a = rest_by cap front back b bytes a.0 r is a.1 a.2.1 a.2.2
 go_on cap front back (Remaining r) (Beginning o) bytes is a = absurd a
 go_on cap front back (Remaining r) (Remaining t) bytes is a = record {
   begun = opened_more cap (front ++ back) ((front ++ (r.next, bytes) ∷ []) ++ back) (front_grown front back (r.next, bytes)) is.begun;
-  places = a.1 ∙ is.places;
-  before = subst (AreConsecutive 0 (front ++ (r.next, bytes) ∷ [])) (ap (λ n. r.next + n) a.0 ∙ sym a.2) (push 0 r.next front bytes is.before);
+  places = a.2 ∙ is.places;
+  before = subst (AreConsecutive 0 (front ++ (r.next, bytes) ∷ [])) (ap (λ n. r.next + n) a.0 ∙ sym a.3) (push 0 r.next front bytes is.before);
   end = is.end;
-  behind = subst (λ (p : Places). AreConsecutive p.extension_block back is.end) (sym a.1) is.behind;
+  behind = subst (λ (p : Places). AreConsecutive p.extension_block back is.end) (sym a.2) is.behind;
 }
 
 -- ---- the end

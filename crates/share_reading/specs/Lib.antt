@@ -3,3 +3,4 @@ pub mod Reading
 pub mod Whole
 pub mod Reads
 pub mod Verdict
+pub mod Judged

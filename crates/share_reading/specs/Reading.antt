@@ -37,7 +37,8 @@ is_behind reading = false
 
 -- the rest of a share that is opened so begins behind its header
 abbrev pub BeginsRest : Opened → Progress → Type 0
-BeginsRest o (Next (Remaining r)) = (r.places ≡ o.places) × (r.next ≡ header_size o.places.layout)
+BeginsRest o (Next (Remaining r)) =
+    (r.ueb ≡ o.ueb) × (r.places ≡ o.places) × (r.next ≡ header_size o.places.layout)
 BeginsRest o (Next (Beginning next)) = ⊥
 BeginsRest o Whole = o.places.extension_block ≤ header_size o.places.layout
 
@@ -52,8 +53,9 @@ Advances cap (Beginning o) bytes Whole =
     (opened : Opened) × opening.Advances cap o bytes (progress.Done opened)
     × BeginsRest opened Whole
 Advances cap (Remaining r) bytes (Next (Beginning next)) = ⊥
-Advances cap (Remaining r) bytes (Next (Remaining s)) = (length bytes ≡ next_length (Remaining r))
-    × (s.places ≡ r.places) × (s.next ≡ r.next + next_length (Remaining r))
+Advances cap (Remaining r) bytes (Next (Remaining s)) =
+    (length bytes ≡ next_length (Remaining r))
+    × (s.ueb ≡ r.ueb) × (s.places ≡ r.places) × (s.next ≡ r.next + next_length (Remaining r))
 Advances cap (Remaining r) bytes Whole = (length bytes ≡ next_length (Remaining r))
     × (r.next + next_length (Remaining r) ≡ r.places.extension_block)
 

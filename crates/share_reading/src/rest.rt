@@ -9,12 +9,15 @@ ghost use Rattle.wire.specs.Limits.{most_data};
 use crate::reading::{Progress, Reading};
 use share_layout::Places;
 use share_opening::Opened;
-use share_verify::Check;
+use share_verify::{Check, geometry_of};
+use ueb::Ueb;
 use wire::message::MAX_PIECE;
 
 /// The bytes between the header and the extension block of a share whose beginning is read.
 #[derive(Clone, Copy, PartialEq, Eq)]
 pub struct Rest {
+    /// What the extension block says.
+    pub ueb: Ueb,
     /// The places of the share's sections.
     pub places: Places,
     /// The place of the first byte that is not read.
@@ -27,6 +30,16 @@ impl Rest {
     ghost use Rattle.share_reading.specs.Reading.{Advances, BeginsRest, IsStop, next_length};
     ghost use Rattle.share_reading.specs.declared.reading.Reading.TheVariants as readings;
 
+    /// How many bytes a `Judged` may keep of the share: a hash for each block, eight blocks, the
+    /// trees and the share hashes, all of it twice, since its lists may have room for as much more.
+    pub fn judging_size(&self) -> u64 {
+        let geometry = geometry_of(&self.ueb);
+        let hashes = 32 * u64::from(geometry.segment_count());
+        let blocks = 8 * u64::from(geometry.block_size());
+        let trees = 3 * u64::from(geometry.tree_size()) + u64::from(geometry.hashes_size());
+        2 * (hashes + blocks + trees)
+    }
+
     /// What is read next of a share whose beginning is opened.
     pub(crate) fn begin(opened: &Opened) -> Progress
         ensures { BeginsRest opened.now result }
@@ -34,7 +47,11 @@ impl Rest {
         let places = opened.places;
         let next = places.layout.header_size() as u64;
         if next < places.extension_block {
-            Progress::Next(Reading::Remaining(Rest { places, next }))
+            Progress::Next(Reading::Remaining(Rest {
+                ueb: opened.ueb,
+                places,
+                next,
+            }))
         } else {
             Progress::Whole
         }
@@ -64,6 +81,7 @@ impl Rest {
         let next = self.next + u64::from(length);
         if next < end {
             return Ok(Progress::Next(Reading::Remaining(Rest {
+                ueb: self.ueb,
                 places: self.places,
                 next,
             })));

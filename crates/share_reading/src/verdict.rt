@@ -1,11 +1,10 @@
 //! The verdict on a share.
 
-ghost use Rattle.std.specs.Prelude.{◌≡◌};
-ghost use Rattle.share_reading.specs.Verdict.{IsJudged};
-ghost use Rattle.share_reading.specs.declared.verdict.Verdict.{Verdict};
+ghost use Rattle.std.specs.Prelude.{◌≡◌, MatchResult};
+ghost use Rattle.share_verify.specs.Checks.{check_of};
+ghost use Rattle.share_reading.specs.declared.verdict.Verdict.TheVariants.{Corrupt, Good};
 
-use cap_text::VerifyCap;
-use share_verify::{Check, verify_share};
+use share_verify::{Check, ShareFault};
 
 /// What is found of a share at a server.
 #[derive(Clone, Copy, PartialEq, Eq)]
@@ -18,14 +17,11 @@ pub enum Verdict {
     Lost,
 }
 
-/// The verdict on these bytes as share `num` of the cap's file: `Good`, or `Corrupt` with the check
-/// of the first fault that `verify_share` tells. There is no other.
-pub fn judge(cap: &VerifyCap, num: u16, share: &[u8]) -> Verdict
-    ensures judged { IsJudged cap.now num share.now result }
-    ensures alone { (verdict : Verdict) → IsJudged cap.now num share.now verdict
-        → result ≡ verdict }
+/// The verdict by what `share_verify` says of a whole share.
+pub(crate) fn verdict_of(told: Result<(), ShareFault>) -> Verdict
+    ensures { MatchResult told (λ _. result ≡ Good) (λ fault. result ≡ Corrupt (check_of fault)) }
 {
-    match verify_share(cap, num, share) {
+    match told {
         Ok(()) => Verdict::Good,
         Err(fault) => Verdict::Corrupt(fault.check()),
     }
