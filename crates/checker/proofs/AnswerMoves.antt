@@ -14,6 +14,7 @@ use Rattle.request_record.specs.declared.requests.Asked.TheVariants.{Reading}
 use Rattle.request_record.specs.declared.requests.Outcome.{Outcome}
 use Rattle.request_record.specs.declared.requests.Outcome.TheVariants.{Unawaited, Outstanding, Answered, Lost}
 use Rattle.request_record.specs.declared.requests.Request.{Request}
+use Rattle.request_record.specs.Kept.{IsDataAt}
 use Rattle.request_record.specs.Record.{first_request, is_outstanding}
 use Rattle.share_verify.specs.declared.check.Check.{Check}
 use Rattle.share_opening.specs.Reads.{Brought}
@@ -28,11 +29,14 @@ use Rattle.share_reading.specs.declared.reading.Reading as readings
 use Rattle.share_reading.specs.declared.reading.Reading.TheVariants.{Beginning, Remaining}
 use Rattle.share_reading.specs.declared.verdict.Verdict.{Verdict}
 use Rattle.share_reading.specs.declared.verdict.Verdict.TheVariants as verdicts
+use Rattle.share_reading.specs.Judged.{IsJudgedBy}
+use Rattle.share_reading.proofs.JudgedLemmas.{joined_push}
 use Rattle.share_reading.proofs.ReadingLemmas.{ask, end_whole, go_on}
 use Rattle.share_reading.proofs.VerdictLemmas.{IsBroughtBy, brought_from, brought_has}
 use Rattle.checker.specs.Shares.{offered_pairs, settled_in, settled_of}
 use Rattle.checker.specs.Offers.{IsKeptBy, key_of}
-use Rattle.checker.specs.Book.{AreReadAt, HasBytes, IsAbout, IsEnded, IsReadAt, IsReadOnlyAt, IsReading, IsUnread}
+use Rattle.checker.specs.Pieces.{HasPieces}
+use Rattle.checker.specs.Book.{AreReadAt, IsAbout, IsEnded, IsReadAt, IsReadOnlyAt, IsReading, IsUnread}
 use Rattle.checker.specs.declared.offers.Offer.{Offer}
 use Rattle.checker.proofs.Entries.{about_by, IsSettledBy, settled_from, settled_has}
 use Rattle.checker.proofs.Joining.{joined_both}
@@ -149,6 +153,17 @@ pub more_new : {X : Type 0} (behind : Bool) (front back : List X) (new : X) → 
 more_new true front back new = Contains-append_right front (back ++ new ∷ []) new (Contains-push back new)
 more_new false front back new = Contains-append_left (front ++ new ∷ []) back new (Contains-push front new)
 
+-- the bytes of more reads
+more_joined : (behind : Bool) (text bytes : List ℕ) (front : List Brought) (place : ℕ) → text ≡ joined front
+    → cond behind text (text ++ bytes) ≡ joined (cond behind front (front ++ (place, bytes) ∷ []))
+more_joined true text bytes front place is = is
+more_joined false text bytes front place is = ap (λ (l : List ℕ). l ++ bytes) is ∙ sym (joined_push front (place, bytes))
+
+less_joined : (behind : Bool) (text bytes : List ℕ) (back : List Brought) (place : ℕ) → text ≡ joined back
+    → cond behind (text ++ bytes) text ≡ joined (cond behind (back ++ (place, bytes) ∷ []) back)
+less_joined true text bytes back place is = ap (λ (l : List ℕ). l ++ bytes) is ∙ sym (joined_push back (place, bytes))
+less_joined false text bytes back place is = is
+
 -- ---- the next request
 
 pub more_asked : (cap : VerifyCapValue) (reads more : List Brought) (place len : ℕ) → ((b : Brought) → Contains reads b → Contains more b) → IsAsked cap reads place len → IsAsked cap more place len
@@ -186,9 +201,10 @@ next_request server share r now = first_request server (Reading share (reading.n
 -- a share that is read so far, of which the next bytes are asked for now
 pub reads_on : (cap : VerifyCapValue) (es : List Request) (todo : List ℕ) (o : Offer) (r : readings.Reading) (now : ℕ) (key : Pair) → key_of o ≡ key
     → (front back : List Brought) → IsReadBy cap front back r → AreReadAt es key o.front.items front → AreReadAt es key o.back.items back
+    → IsJudgedBy cap front back r o.judged → HasPieces front back o.pieces
     → IsReadOnlyAt es key (o.front.items ++ o.back.items)
     → IsReading cap (es ++ next_request key.0 key.1 r now ∷ []) todo o r (length es)
-reads_on cap es todo o r now key same front back led front_at back_at only =
+reads_on cap es todo o r now key same front back led front_at back_at judged pieces only =
     let new = next_request key.0 key.1 r now in
     let places = o.front.items ++ o.back.items in
     subst (λ (k : Pair). (IsReadOnlyAt (es ++ new ∷ []) k (length es ∷ places)) → IsReading cap (es ++ new ∷ []) todo o r (length es)) same
@@ -198,6 +214,8 @@ reads_on cap es todo o r now key same front back led front_at back_at only =
       led = led;
       front_at = reads_push es new (key_of o) o.front.items front (subst (λ (k : Pair). AreReadAt es k o.front.items front) (sym same) front_at);
       back_at = reads_push es new (key_of o) o.back.items back (subst (λ (k : Pair). AreReadAt es k o.back.items back) (sym same) back_at);
+      judged = judged;
+      pieces = pieces;
       next = record {
         request = new;
         there = get_last es new;
@@ -214,12 +232,14 @@ reads_on cap es todo o r now key same front back led front_at back_at only =
 
 -- a share of which nothing was read, of which the first bytes are asked for now
 pub reads_first : (cap : VerifyCapValue) (es : List Request) (todo : List ℕ) (o m : Offer) (now : ℕ) → IsUnread es o → m.server ≡ o.server → m.share ≡ o.share
-    → m.front.items ≡ o.front.items → m.back.items ≡ o.back.items
+    → m.front.items ≡ o.front.items → m.back.items ≡ o.back.items → m.judged ≡ o.judged → m.pieces ≡ o.pieces
     → IsReading cap (es ++ next_request o.server o.share (Beginning Start) now ∷ []) todo m (Beginning Start) (length es)
-reads_first cap es todo o m now is server share front back =
+reads_first cap es todo o m now is server share front back judged pieces =
     reads_on cap es todo m (Beginning Start) now (o.server, o.share) (ap (λ k. (k, m.share)) server ∙ ap (λ k. (o.server, k)) share) [] [] (refl, refl)
     (subst (λ (l : List ℕ). AreReadAt es (key_of o) l []) (sym (front ∙ is.front)) tt)
     (subst (λ (l : List ℕ). AreReadAt es (key_of o) l []) (sym (back ∙ is.back)) tt)
+    (subst (IsJudgedBy cap [] [] (Beginning Start)) (sym judged) (is.judged cap))
+    (subst (HasPieces [] []) (sym pieces) is.pieces)
     (λ i x at about. absurd (contains_none i (is.none i x at about)))
 
 -- ---- the answer
@@ -230,7 +250,7 @@ module _ (cap : VerifyCapValue) (es : List Request) (todo : List ℕ) (o : Offer
   reads = settled_of es o.server o.share
 
   -- no bytes came: it is lost
-  pub is_lost : ((bytes : List ℕ) → HasBytes es place bytes → ⊥) → IsEnded cap es o verdicts.Lost
+  pub is_lost : ((bytes : List ℕ) → IsDataAt es place bytes → ⊥) → IsEnded cap es o verdicts.Lost
   is_lost none = record {
     verdict = (
       lost,
@@ -251,7 +271,7 @@ module _ (cap : VerifyCapValue) (es : List Request) (todo : List ℕ) (o : Offer
           ∙ tells_lost q.outcome o.share (reading.next_place r) (reading.next_length r) settled (λ bytes e. none bytes (record { request = q; there = there; answer = e }))
 
   -- these bytes came
-  module _ (bytes : List ℕ) (has : HasBytes es place bytes) where
+  module _ (bytes : List ℕ) (has : IsDataAt es place bytes) where
     answer_is : q.outcome ≡ Answered (Data bytes)
     answer_is = ap (λ (x : Request). x.outcome) (same_Some q has.request (sym there ∙ has.there)) ∙ has.answer
 
@@ -380,7 +400,7 @@ module _ (cap : VerifyCapValue) (es : List Request) (todo : List ℕ) (o : Offer
       judged text verdicts.Lost a whole held = absurd held
 
       -- the same share, with one more request that brought its bytes
-      module _ (n : Offer) (kept : IsKeptBy r place o n) where
+      module _ (n : Offer) (kept : IsKeptBy r place bytes o n) where
         key_is : key_of n ≡ key_of o
         key_is = ap (λ m. (m, n.share)) kept.server ∙ ap (λ m. (o.server, m)) kept.share
 
@@ -398,6 +418,14 @@ module _ (cap : VerifyCapValue) (es : List Request) (todo : List ℕ) (o : Offer
             by true = reads_snoc es (key_of o) o.back.items is.back place (reading.next_place r, bytes) is.back_at new_read
             by false = is.back_at
 
+        pub pieces_kept : HasPieces (more_front r bytes is.front) (more_back r bytes is.back) n.pieces
+        pieces_kept = record {
+          front_is = λ keeps. (let had = sym kept.pieces.keeps ∙ keeps in
+              kept.pieces.front had ∙ more_joined (reading.is_behind r) o.pieces.front.items bytes is.front (reading.next_place r) (is.pieces.front_is had));
+          back_is = λ keeps. (let had = sym kept.pieces.keeps ∙ keeps in
+              kept.pieces.back had ∙ less_joined (reading.is_behind r) o.pieces.back.items bytes is.back (reading.next_place r) (is.pieces.back_is had));
+        }
+
         -- its verdict is found
         pub is_judged : (text : List ℕ) (v : Verdict) → reading.Advances cap r bytes Whole → text ≡ joined more_reads → IsJudged cap o.share text v → IsEnded cap es n v
         is_judged text v a same found = record {
@@ -407,6 +435,7 @@ module _ (cap : VerifyCapValue) (es : List Request) (todo : List ℕ) (o : Offer
             back = more_back r bytes is.back;
             front_at = subst (λ (key : Pair). AreReadAt es key n.front.items (more_front r bytes is.front)) (sym key_is) front_kept;
             back_at = subst (λ (key : Pair). AreReadAt es key n.back.items (more_back r bytes is.back)) (sym key_is) back_kept;
+            pieces = pieces_kept;
             whole = subst (λ (key : Pair). IsWhole (brought_of (settled_of es key.0 key.1)) (joined (more_front r bytes is.front) ++ joined (more_back r bytes is.back))) (sym key_is)
                 (subst (IsWhole (brought_of reads)) (joined_both (more_front r bytes is.front) (more_back r bytes is.back)) (is_joined a));
           };
@@ -426,13 +455,16 @@ module _ (cap : VerifyCapValue) (es : List Request) (todo : List ℕ) (o : Offer
 
         -- it goes on, by what is asked of it now
         pub goes_on : (rest : List ℕ) (next : readings.Reading) (now : ℕ) → reading.Advances cap r bytes (Next next) → (m : Offer) → m.server ≡ o.server → m.share ≡ o.share
-            → m.front.items ≡ n.front.items → m.back.items ≡ n.back.items
+            → m.front.items ≡ n.front.items → m.back.items ≡ n.back.items → m.judged ≡ n.judged → m.pieces ≡ n.pieces
+            → IsJudgedBy cap (more_front r bytes is.front) (more_back r bytes is.back) next n.judged
             → IsReading cap (es ++ next_request o.server o.share next now ∷ []) rest m next (length es)
-        goes_on rest next now a m server share front back =
+        goes_on rest next now a m server share front back judged pieces judged_on =
             reads_on cap es rest m next now (o.server, o.share) (ap (λ k. (k, m.share)) server ∙ ap (λ k. (o.server, k)) share)
             (more_front r bytes is.front) (more_back r bytes is.back) (go_on cap is.front is.back r next bytes is.led a)
             (subst (λ (l : List ℕ). AreReadAt es (key_of o) l (more_front r bytes is.front)) (sym front) front_kept)
             (subst (λ (l : List ℕ). AreReadAt es (key_of o) l (more_back r bytes is.back)) (sym back) back_kept)
+            (subst (IsJudgedBy cap (more_front r bytes is.front) (more_back r bytes is.back) next) (sym judged) judged_on)
+            (subst (HasPieces (more_front r bytes is.front) (more_back r bytes is.back)) (sym pieces) pieces_kept)
             (subst (λ (l : List ℕ). IsReadOnlyAt es (key_of o) l) (ap (λ (l : List ℕ). l ++ n.back.items) (sym front) ∙ ap (λ (l : List ℕ). m.front.items ++ l) (sym back)) only_kept)
 
         -- and it is safe to ask it

@@ -1,5 +1,5 @@
 -- How what is kept of the shares goes on.
-use Rattle.std.proofs.Common.{◌≡◌, ◌≢◌, ℕ, zero, suc, ◌+◌, ◌<◌, ◌≤◌, true, false, List, [], ◌∷◌, ◌++◌, length, set, map, take, drop, Some, ap, refl, sym, subst, ◌∙◌, arith, inl, inr, ◌⊎◌, true≢false}
+use Rattle.std.proofs.Common.{◌≡◌, ◌≢◌, ℕ, zero, suc, ◌+◌, ◌<◌, ◌≤◌, Bool, true, false, List, [], ◌∷◌, ◌++◌, length, set, map, take, drop, Some, ap, refl, sym, subst, ◌∙◌, arith, inl, inr, ◌⊎◌, true≢false}
 use Rattle.std.specs.Prelude.{Contains, slice_get}
 use Rattle.std.proofs.lemmas.Bool.{cases_lt}
 use Rattle.std.proofs.lemmas.List.{length-append, length-set}
@@ -82,6 +82,14 @@ module _ (entries : List Request) (offers : List Offer) (k : ℕ) (o n : Offer) 
   keys_set : map key_of (set offers k n) ≡ map key_of offers
   keys_set = map_set key_of offers k o n at key
 
+-- its bytes are kept as those of the others
+alike_set : (keeps : Bool) (offers : List Offer) (k : ℕ) (o n : Offer) → slice_get offers k ≡ Some o → n.pieces.keeps ≡ o.pieces.keeps
+    → ((l : ℕ) (x : Offer) → slice_get offers l ≡ Some x → x.pieces.keeps ≡ keeps) → (l : ℕ) (x : Offer) → slice_get (set offers k n) l ≡ Some x → x.pieces.keeps ≡ keeps
+alike_set keeps offers k o n at same alike l x e = elim (get_changed offers k l o n x at e) [
+  | inl here ↦ ap (λ (y : Offer). y.pieces.keeps) here.1 ∙ same ∙ alike k o at
+  | inr other ↦ alike l x other.1
+]
+
 pub tail : (place i : ℕ) (todo : List ℕ) → Contains todo i → Contains (place ∷ todo) i
 tail place i todo h = (suc h.0, omega (arith, h.1), h.2)
 
@@ -119,8 +127,8 @@ told_push total n entries todo new o is = record {
 -- ---- one offer is another now
 
 -- what is to do gets less: what is left of it for the shares that were offered
-module _ (cap : VerifyCapValue) (entries : List Request) (told : List Told) (owners : List ℕ) (offers : List Offer) (begun : ℕ) (place : ℕ) (todo : List ℕ)
-    (b : IsBook cap entries told owners offers begun (place ∷ todo)) (after : length told ≤ place) where
+module _ (cap : VerifyCapValue) (keeps : Bool) (entries : List Request) (told : List Told) (owners : List ℕ) (offers : List Offer) (begun : ℕ) (place : ℕ) (todo : List ℕ)
+    (b : IsBook cap keeps entries told owners offers begun (place ∷ todo)) (after : length told ≤ place) where
   pub tells_less : (i : ℕ) (t : Told) (r : Request) → slice_get told i ≡ Some t → slice_get entries i ≡ Some r → HasTold cap.total todo offers i t r
   tells_less i t r e f = elim (b.tells i t r e f) [
     | inr are ↦ inr are
@@ -148,13 +156,14 @@ module _ (cap : VerifyCapValue) (entries : List Request) (told : List Told) (own
 
   -- nothing comes of it
   pub book_done : (k : ℕ) (o : Offer) (q : Request) → slice_get offers k ≡ Some o → slice_get entries place ≡ Some q → IsAbout (key_of o) q
-      → ((r : readings.Reading) → o.stage ≡ Read r place → ⊥) → IsBook cap entries told owners offers begun todo
+      → ((r : readings.Reading) → o.stage ≡ Read r place → ⊥) → IsBook cap keeps entries told owners offers begun todo
   book_done k o q at there about other = record {
     asks = b.asks;
     long = b.long;
     owned = b.owned;
     apart = b.apart;
     reading = less;
+    alike = b.alike;
     offered = told_less;
     tells = tells_less;
     quiet = quiet_less;
@@ -181,11 +190,11 @@ module _ (cap : VerifyCapValue) (entries : List Request) (told : List Told) (own
       offer_other cap entries todo place x q there (λ mine. other (b.apart l k x o e at (about_one (key_of x) (key_of o) q mine about))) (b.reading l x e)
 
 -- one offer is begun, or its verdict is found
-module _ (cap : VerifyCapValue) (entries : List Request) (told : List Told) (owners : List ℕ) (offers : List Offer) (begun : ℕ) (place : ℕ) (todo : List ℕ)
-    (b : IsBook cap entries told owners offers begun (place ∷ todo)) (after : length told ≤ place)
+module _ (cap : VerifyCapValue) (keeps : Bool) (entries : List Request) (told : List Told) (owners : List ℕ) (offers : List Offer) (begun : ℕ) (place : ℕ) (todo : List ℕ)
+    (b : IsBook cap keeps entries told owners offers begun (place ∷ todo)) (after : length told ≤ place)
     (k : ℕ) (o n : Offer) (q : Request) (at : slice_get offers k ≡ Some o) (there : slice_get entries place ≡ Some q) (about : IsAbout (key_of o) q)
-    (was_started : IsStarted o.stage) (key : key_of n ≡ key_of o) (is_started : IsStarted n.stage) where
-  pub book_ended : IsOffer cap entries todo n → IsBook cap entries told owners (set offers k n) begun todo
+    (was_started : IsStarted o.stage) (key : key_of n ≡ key_of o) (same_keeps : n.pieces.keeps ≡ o.pieces.keeps) (is_started : IsStarted n.stage) where
+  pub book_ended : IsOffer cap entries todo n → IsBook cap keeps entries told owners (set offers k n) begun todo
   book_ended is = record {
     asks = b.asks;
     long = b.long;
@@ -193,18 +202,19 @@ module _ (cap : VerifyCapValue) (entries : List Request) (told : List Told) (own
     apart = apart_set entries offers k o n at key b.apart;
     reading = λ l x e. elim (get_changed offers k l o n x at e) [
       | inl here ↦ subst (IsOffer cap entries todo) (sym here.1) is
-      | inr other ↦ others_less cap entries told owners offers begun place todo b after k o q at there about l x other.0 other.1
+      | inr other ↦ others_less cap keeps entries told owners offers begun place todo b after k o q at there about l x other.0 other.1
     ];
+    alike = alike_set keeps offers k o n at same_keeps b.alike;
     offered = λ l x e. elim (get_changed offers k l o n x at e) [
       | inl here ↦ told_as cap.total (length told) entries todo o x (sym key ∙ ap key_of (sym here.1))
-          (told_less cap entries told owners offers begun place todo b after k o at)
-      | inr other ↦ told_less cap entries told owners offers begun place todo b after l x other.1
+          (told_less cap keeps entries told owners offers begun place todo b after k o at)
+      | inr other ↦ told_less cap keeps entries told owners offers begun place todo b after l x other.1
     ];
-    tells = λ i t r e f. elim (tells_less cap entries told owners offers begun place todo b after i t r e f) [
+    tells = λ i t r e f. elim (tells_less cap keeps entries told owners offers begun place todo b after i t r e f) [
       | inl waits ↦ inl (waits.0, keys_kept offers k o n t [] at key waits.1)
       | inr are ↦ inr (keys_kept offers k o n t (offered_in cap.total r.server r.outcome) at key are)
     ];
-    quiet = quiet_less cap entries told owners offers begun place todo b after;
+    quiet = quiet_less cap keeps entries told owners offers begun place todo b after;
     inside = λ i h. b.inside i (tail place i todo h);
     started = λ l x e lt. elim (get_changed offers k l o n x at e) [
       | inl here ↦ subst (λ (y : Offer). IsStarted y.stage) (sym here.1) is_started
@@ -228,22 +238,22 @@ pub record BeginsTo (begun k more : ℕ) (len : ℕ) : Type 0 where
   pub from : (l : ℕ) → more ≤ l → (begun ≤ l) × (l ≢ k)
   pub few : more ≤ len
 
-module _ (cap : VerifyCapValue) (entries : List Request) (told : List Told) (owners : List ℕ) (offers : List Offer) (begun more : ℕ) (todo : List ℕ)
-    (k : ℕ) (o n : Offer) (r : readings.Reading) (now : ℕ) (at : slice_get offers k ≡ Some o) (key : key_of n ≡ key_of o) where
+module _ (cap : VerifyCapValue) (keeps : Bool) (entries : List Request) (told : List Told) (owners : List ℕ) (offers : List Offer) (begun more : ℕ) (todo : List ℕ)
+    (k : ℕ) (o n : Offer) (r : readings.Reading) (now : ℕ) (at : slice_get offers k ≡ Some o) (key : key_of n ≡ key_of o) (same_keeps : n.pieces.keeps ≡ o.pieces.keeps) where
   abbrev new : Request
   new = next_request o.server o.share r now
 
   new_about : IsAbout (key_of o) new
   new_about = about_by (key_of o) new (reading.next_place r) (reading.next_length r) refl refl
 
-  pub book_asked : (old : List ℕ) → IsBook cap entries told owners offers begun old
+  pub book_asked : (old : List ℕ) → IsBook cap keeps entries told owners offers begun old
       → ((l : ℕ) (x : Offer) → l ≢ k → slice_get offers l ≡ Some x → IsOffer cap entries todo x)
       → ((l : ℕ) (x : Offer) → slice_get offers l ≡ Some x → IsTold cap.total (length told) entries todo x)
       → ((i : ℕ) (t : Told) (q : Request) → slice_get told i ≡ Some t → slice_get entries i ≡ Some q → HasTold cap.total todo offers i t q)
       → ((i : ℕ) (q : Request) → Contains todo i → slice_get entries i ≡ Some q → is_outstanding q.outcome ≡ false)
       → ((i : ℕ) → Contains todo i → i < length entries)
       → BeginsTo begun k more (length offers) → IsStarted n.stage → IsOffer cap (entries ++ new ∷ []) todo n
-      → IsBook cap (entries ++ new ∷ []) told (owners ++ k ∷ []) (set offers k n) more todo
+      → IsBook cap keeps (entries ++ new ∷ []) told (owners ++ k ∷ []) (set offers k n) more todo
   book_asked old b others offered tells quiet inside begins is_started is = record {
     asks = λ i q lt e. elim (get_pushed entries new q i e) [
       | inl before ↦ b.asks i q lt before
@@ -270,6 +280,7 @@ module _ (cap : VerifyCapValue) (entries : List Request) (told : List Told) (own
           (λ mine. other.0 (b.apart l k x o other.1 at (about_one (key_of x) (key_of o) new mine new_about)))
           (others l x other.0 other.1)
     ];
+    alike = alike_set keeps offers k o n at same_keeps b.alike;
     offered = λ l x e. elim (get_changed offers k l o n x at e) [
       | inl here ↦ told_push cap.total (length told) entries todo new x (told_as cap.total (length told) entries todo o x (sym key ∙ ap key_of (sym here.1)) (offered k o at))
       | inr other ↦ told_push cap.total (length told) entries todo new x (offered l x other.1)
@@ -302,12 +313,12 @@ module _ (cap : VerifyCapValue) (entries : List Request) (told : List Told) (own
 
 -- ---- the record goes on
 
-pub book_goes : (cap : VerifyCapValue) (es ns : List Request) (told : List Told) (owners : List ℕ) (offers : List Offer) (begun : ℕ) (todo : List ℕ)
+pub book_goes : (cap : VerifyCapValue) (keeps : Bool) (es ns : List Request) (told : List Told) (owners : List ℕ) (offers : List Offer) (begun : ℕ) (todo : List ℕ)
     → GoesTo es ns todo → ((i : ℕ) (r : Request) → Contains todo i → slice_get es i ≡ Some r → is_outstanding r.outcome ≡ true)
     → ((i : ℕ) (r : Request) → Contains todo i → slice_get ns i ≡ Some r → is_outstanding r.outcome ≡ false)
     → ((i : ℕ) → Contains todo i → i < length ns)
-    → IsBook cap es told owners offers begun [] → IsBook cap ns told owners offers begun todo
-book_goes cap es ns told owners offers begun todo goes waited quiet inside b = record {
+    → IsBook cap keeps es told owners offers begun [] → IsBook cap keeps ns told owners offers begun todo
+book_goes cap keeps es ns told owners offers begun todo goes waited quiet inside b = record {
   asks = λ i r lt e. (let was = was_at es ns todo goes i r e in was.asked ∙ b.asks i was.request lt was.there);
   long = goes.long ∙ b.long;
   owned = λ p l e. (
@@ -322,6 +333,7 @@ book_goes cap es ns told owners offers begun todo goes waited quiet inside b = r
       });
   apart = b.apart;
   reading = λ l x e. offer_goes cap es ns todo x goes (b.reading l x e);
+  alike = b.alike;
   offered = λ l x e. (
       let is = b.offered l x e in
       let becomes = goes.each is.place is.request is.there in

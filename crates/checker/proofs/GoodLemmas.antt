@@ -1,5 +1,5 @@
 -- The good shares that a check hands out.
-use Rattle.std.proofs.Common.{◌≡◌, ℕ, ◌+◌, ◌<◌, ◌≤◌, ltb, List, [], ◌∷◌, ◌++◌, length, get_or, map, filter, All, Some, ap, refl, sym, subst, ◌∙◌, arith, inl, inr, ◌⊎◌}
+use Rattle.std.proofs.Common.{◌≡◌, ℕ, ◌+◌, ◌<◌, ◌≤◌, ltb, true, List, [], ◌∷◌, ◌++◌, length, get_or, map, filter, All, Some, ap, refl, sym, subst, ◌∙◌, arith, inl, inr, ◌⊎◌}
 use Rattle.std.specs.Prelude.{Contains, slice_get}
 use Rattle.std.specs.List.{flat_map}
 use Rattle.std.proofs.lemmas.Bool.{cases_lt, ltb-true}
@@ -22,10 +22,9 @@ use Rattle.share_reading.specs.Verdict.{IsVerdict, brought_of}
 use Rattle.share_reading.specs.Whole.{joined}
 use Rattle.share_reading.specs.declared.verdict.Verdict.TheVariants as verdicts
 use Rattle.share_reading.proofs.ConsecutiveLemmas.{are_one}
-use Rattle.checker.specs.Book.{AreReadAt, IsAt, IsEnded}
+use Rattle.checker.specs.Book.{IsAt, IsEnded}
 use Rattle.checker.specs.Found.{IsDone, IsOver, found_among, found_of, verdict_in}
 use Rattle.checker.specs.Good.{AreGoodShares, AreRising, HasGood, IsFound}
-use Rattle.checker.specs.Offers.{key_of}
 use Rattle.checker.specs.Report.{AreVerdicts, pair_of}
 use Rattle.checker.specs.Shares.{offered_in, offered_to, settled_of}
 use Rattle.checker.specs.declared.machine.Machine.{Machine}
@@ -89,18 +88,19 @@ good_below cap entries num has =
 abbrev reads_of : Machine → Offer → List Brought
 reads_of m o = brought_of (settled_of m.requests.entries o.server o.share)
 
--- a good share has the bytes that are joined of it
-pub found_at : (m : Machine) → IsDone m → (k : ℕ) (o : Offer) → slice_get m.offers.items k ≡ Some o → o.stage ≡ Ended verdicts.Good → (bytes : List ℕ)
-    → ((front back : List Brought) → AreReadAt m.requests.entries (key_of o) o.front.items front → AreReadAt m.requests.entries (key_of o) o.back.items back → bytes ≡ joined front ++ joined back)
-    → IsFound m.cap m.requests.entries o.share bytes
-found_at m done k o at good bytes joins =
+-- a good share has the bytes that are kept of it
+pub found_at : (m : Machine) → IsDone m → m.keeps ≡ true → (k : ℕ) (o : Offer) → slice_get m.offers.items k ≡ Some o → o.stage ≡ Ended verdicts.Good → (bytes : List ℕ)
+    → bytes ≡ o.pieces.front.items ++ o.pieces.back.items → IsFound m.cap m.requests.entries o.share bytes
+found_at m done keeps k o at good bytes is_kept =
     let is : IsEnded m.cap m.requests.entries o verdicts.Good = subst (IsAt m.cap m.requests.entries [] o) good (done.book.reading k o at) in
-    let held = is.held refl in (
+    let held = is.held refl in
+    let kept : o.pieces.keeps ≡ true = done.book.alike k o at ∙ keeps in
+    let joins : bytes ≡ joined held.front ++ joined held.back = is_kept ∙ (λ i. held.pieces.front_is kept i ++ held.pieces.back_is kept i) in (
       o.server,
       (
         listed_at m [] done.book k o at,
         is.verdict,
-        are_one (reads_of m o) is.verdict.bytes (joined held.front ++ joined held.back) is.verdict.whole held.whole ∙ sym (joins held.front held.back held.front_at held.back_at),
+        are_one (reads_of m o) is.verdict.bytes (joined held.front ++ joined held.back) is.verdict.whole held.whole ∙ sym joins,
       ),
     )
 

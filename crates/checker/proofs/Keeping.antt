@@ -45,7 +45,7 @@ kept_same m r status same k = record {
     reads = subst (AreOfShares m.cap) (sym same) k.safe.reads;
     asked = subst (AllAskOrRead m.cap) (sym same) k.safe.asked;
   };
-  book = λ ok. subst (λ (l : List Request). IsBook m.cap l m.told.items m.owners.items m.offers.items m.begun []) (sym same) (k.book ok);
+  book = λ ok. subst (λ (l : List Request). IsBook m.cap m.keeps l m.told.items m.owners.items m.offers.items m.begun []) (sym same) (k.book ok);
   works = λ e. subst (λ (l : List Request). 0 < outstanding_count l) (sym same) (k.works e);
   idle = λ e. ap outstanding_count same ∙ k.idle e;
   begun = k.begun;
@@ -60,11 +60,12 @@ abbrev IsReadAsk : ℕ × Asked → Type 0
 IsReadAsk ask = is_read ask.1 ≡ true
 
 pub asks_none : (m : Machine) → AsksMore m m
-asks_none m = record { cap = refl; asks = []; reads = All-nil IsReadAsk; requests = refl }
+asks_none m = record { cap = refl; keeps = refl; asks = []; reads = All-nil IsReadAsk; requests = refl }
 
 pub asks_trans : (a b c : Machine) → AsksMore a b → AsksMore b c → AsksMore a c
 asks_trans a b c one two = record {
   cap = two.cap ∙ one.cap;
+  keeps = two.keeps ∙ one.keeps;
   asks = one.asks ++ two.asks;
   reads = All-append IsReadAsk one.asks two.asks one.reads two.reads;
   requests = two.requests ∙ ap (asked_all two.asks) one.requests ∙ sym (asked_joined one.asks two.asks a.requests);
@@ -175,11 +176,11 @@ safe_goes m r todo goes once safe = record {
 
 pub book_counted : (m : Machine) (r : RequestsState) (place : ℕ) → IsCounted m.requests.entries r.entries place → HasBook m [] → HasBook (with_requests m r) (place ∷ [])
 book_counted m r place c b =
-    book_goes m.cap m.requests.entries r.entries m.told.items m.owners.items m.offers.items m.begun (place ∷ []) c.goes c.waited c.quiet c.inside b
+    book_goes m.cap m.keeps m.requests.entries r.entries m.told.items m.owners.items m.offers.items m.begun (place ∷ []) c.goes c.waited c.quiet c.inside b
 
 pub book_ticked : (m : Machine) (r : RequestsState) (lost : List ℕ) → IsTicked m.requests.entries r.entries lost → HasBook m [] → HasBook (with_requests m r) lost
 book_ticked m r lost t b =
-    book_goes m.cap m.requests.entries r.entries m.told.items m.owners.items m.offers.items m.begun lost t.goes t.waited (λ i q h e. ap is_outstanding (t.quiet i q h e)) t.inside b
+    book_goes m.cap m.keeps m.requests.entries r.entries m.told.items m.owners.items m.offers.items m.begun lost t.goes t.waited (λ i q h e. ap is_outstanding (t.quiet i q h e)) t.inside b
 
 failed_kept : (m : Machine) → IsSafe m → IsKept m Failed
 failed_kept m safe = record { safe = safe; book = λ no. absurd (no refl); works = λ e. absurd cc; idle = λ e. absurd cc; begun = λ e. absurd cc }
@@ -218,12 +219,13 @@ kept_ticked m r lost Failed ended t once k = failed_kept (with_requests m r) (sa
 -- ---- what the calls do
 
 pub goes_on_ended : (m : Machine) (r : RequestsState) (servers : List ℕ) (status : CheckStatus) → GoesOn r (state_of m servers status) (state_of (with_requests m r) servers status)
-goes_on_ended m r servers status = record { cap = refl; servers = refl; asks = []; reads = All-nil IsReadAsk; requests = refl; ended = λ _. refl; fails = λ ok. ok }
+goes_on_ended m r servers status = record { cap = refl; servers = refl; keeps = refl; asks = []; reads = All-nil IsReadAsk; requests = refl; ended = λ _. refl; fails = λ ok. ok }
 
 pub goes_on_running : (m new : Machine) (r : RequestsState) (servers : List ℕ) (status ended : CheckStatus) → status ≡ Running → ended ≢ Failed → AsksMore (with_requests m r) new → GoesOn r (state_of m servers status) (state_of new servers ended)
 goes_on_running m new r servers status ended runs stands more = record {
   cap = more.cap;
   servers = refl;
+  keeps = more.keeps;
   asks = more.asks;
   reads = more.reads;
   requests = more.requests;
@@ -232,7 +234,7 @@ goes_on_running m new r servers status ended runs stands more = record {
 }
 
 pub stops_with : (m new : Machine) (r : RequestsState) (servers : List ℕ) (status : CheckStatus) → AsksMore (with_requests m r) new → Stops r (state_of m servers status) (state_of new servers Failed)
-stops_with m new r servers status more = record { cap = more.cap; servers = refl; asks = more.asks; reads = more.reads; requests = more.requests }
+stops_with m new r servers status more = record { cap = more.cap; servers = refl; keeps = more.keeps; asks = more.asks; reads = more.reads; requests = more.requests }
 
 -- whatever a call gives
 pub on_err_all : {A E : Type 0} (r : Result A E) (R : Type 0) → R → OnErr r R
@@ -285,7 +287,7 @@ get_replicate zero i x y e = absurd cc
 get_replicate (suc n) zero x y e = sym (same_Some x y e)
 get_replicate (suc n) (suc i) x y e = get_replicate n i x y e
 
-module _ (cap : VerifyCapValue) (servers : List ℕ) (session now : ℕ) (m : Machine) (is : IsFresh cap servers session now m) (distinct : IsDistinct eqb servers) where
+module _ (cap : VerifyCapValue) (servers : List ℕ) (session now : ℕ) (keeps : Bool) (m : Machine) (is : IsFresh cap servers session now keeps m) (distinct : IsDistinct eqb servers) where
   abbrev asked_first : List Request
   asked_first = map (λ s. first_request s Holdings now) servers
 
@@ -307,13 +309,14 @@ module _ (cap : VerifyCapValue) (servers : List ℕ) (session now : ℕ) (m : Ma
 
   fresh_book : HasBook m []
   fresh_book =
-      book_as cap m.cap asked_first m.requests.entries told_first m.told.items [] m.owners.items [] m.offers.items 0 m.begun [] is.of_cap entries_are is.told is.owners is.offers is.begun_none
+      book_as cap m.cap keeps m.keeps asked_first m.requests.entries told_first m.told.items [] m.owners.items [] m.offers.items 0 m.begun [] is.of_cap is.of_keeps entries_are is.told is.owners is.offers is.begun_none
       (record {
         asks = λ i r lt e. all_holdings i r e;
         long = omega (arith, length-map servers (λ s. first_request s Holdings now), length-replicate {A = Told} (length servers) (record { first = 0; count = 0 }));
         owned = λ p k e. absurd (none-some k e);
         apart = λ k l a b e f same. absurd (none-some a e);
         reading = λ k o e. absurd (none-some o e);
+        alike = λ k o e. absurd (none-some o e);
         offered = λ k o e. absurd (none-some o e);
         tells = λ i t r e f. inr (told_none t r (get_replicate (length servers) i (record { first = 0; count = 0 }) t e) (begun_at servers now i r f));
         quiet = λ i r h e. absurd (contains_none i h);

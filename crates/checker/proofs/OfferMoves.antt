@@ -90,17 +90,20 @@ held_goes es ns todo o goes same h = record {
   back = h.back;
   front_at = reads_go es ns todo (key_of o) o.front.items h.front goes h.front_at;
   back_at = reads_go es ns todo (key_of o) o.back.items h.back goes h.back_at;
+  pieces = h.pieces;
   whole = subst (λ (l : List Settled). IsWhole (brought_of l) (joined h.front ++ joined h.back)) (sym same) h.whole;
 }
 
 at_goes : (cap : VerifyCapValue) (es ns : List Request) (todo : List ℕ) (o : Offer) (s : Stage) → GoesTo es ns todo → IsAt cap es [] o s → IsAt cap ns todo o s
-at_goes cap es ns todo o Waiting goes is = record { front = is.front; back = is.back; none = only_goes es ns todo (key_of o) [] goes is.none }
+at_goes cap es ns todo o Waiting goes is = record { front = is.front; back = is.back; judged = is.judged; pieces = is.pieces; none = only_goes es ns todo (key_of o) [] goes is.none }
 at_goes cap es ns todo o (Read r place) goes is = record {
   front = is.front;
   back = is.back;
   led = is.led;
   front_at = reads_go es ns todo (key_of o) o.front.items is.front goes is.front_at;
   back_at = reads_go es ns todo (key_of o) o.back.items is.back goes is.back_at;
+  judged = is.judged;
+  pieces = is.pieces;
   next = next_goes es ns todo (key_of o) place r goes is.next;
   only = only_goes es ns todo (key_of o) (place ∷ (o.front.items ++ o.back.items)) goes is.only;
 }
@@ -137,18 +140,21 @@ held_push es new o same h = record {
   back = h.back;
   front_at = reads_push es new (key_of o) o.front.items h.front h.front_at;
   back_at = reads_push es new (key_of o) o.back.items h.back h.back_at;
+  pieces = h.pieces;
   whole = subst (λ (l : List Settled). IsWhole (brought_of l) (joined h.front ++ joined h.back)) (sym same) h.whole;
 }
 
 at_push : (cap : VerifyCapValue) (es : List Request) (new : Request) (todo : List ℕ) (o : Offer) (s : Stage) → is_outstanding new.outcome ≡ true → (IsAbout (key_of o) new → ⊥)
     → IsAt cap es todo o s → IsAt cap (es ++ new ∷ []) todo o s
-at_push cap es new todo o Waiting waits other is = record { front = is.front; back = is.back; none = only_push es new (key_of o) [] other is.none }
+at_push cap es new todo o Waiting waits other is = record { front = is.front; back = is.back; judged = is.judged; pieces = is.pieces; none = only_push es new (key_of o) [] other is.none }
 at_push cap es new todo o (Read r place) waits other is = record {
   front = is.front;
   back = is.back;
   led = is.led;
   front_at = reads_push es new (key_of o) o.front.items is.front is.front_at;
   back_at = reads_push es new (key_of o) o.back.items is.back is.back_at;
+  judged = is.judged;
+  pieces = is.pieces;
   next = record {
     request = is.next.request;
     there = get_kept es new is.next.request place is.next.there;
@@ -182,6 +188,8 @@ at_done cap es todo done o (Read r place) other is = record {
   led = is.led;
   front_at = is.front_at;
   back_at = is.back_at;
+  judged = is.judged;
+  pieces = is.pieces;
   next = record {
     request = is.next.request;
     there = is.next.there;

@@ -5,7 +5,7 @@ use Rattle.std.proofs.lemmas.Bool.{cases_lt}
 use Rattle.std.proofs.lemmas.List.{length-map, length-set}
 use Rattle.std.proofs.lemmas.List.Concat.{flat_map-append}
 use Rattle.std.proofs.lemmas.List.Elements.{Contains-append_left}
-use Rattle.std.proofs.lemmas.Option.{slice_get_within, same_Some}
+use Rattle.std.proofs.lemmas.Option.{none-some, slice_get_within, same_Some}
 use Rattle.request_record.proofs.StepLaws.{quiet_ticked}
 use Rattle.lemmas.proofs.Bools.{both, bool_cases}
 use Rattle.lemmas.proofs.Members.{flat_map_has, flat_map_from, contains_cases, contains_head, contains_none, contains_tail}
@@ -13,12 +13,14 @@ use Rattle.lemmas.proofs.Places.{get_set_other, get_pushed, get_map}
 use Rattle.cap_text.specs.Cap.{VerifyCapValue}
 use Rattle.placement.specs.Matching.{Pair}
 use Rattle.wire.specs.declared.message.Body.{Body}
+use Rattle.wire.specs.declared.message.Body.TheVariants.{Data}
 use Rattle.wire.specs.declared.message.Message.{Message}
 use Rattle.request_record.specs.declared.requests.Asked.{Asked}
 use Rattle.request_record.specs.declared.requests.Asked.TheVariants.{Holdings, Allocation, Writing, Closing, Reading, Aborting}
 use Rattle.request_record.specs.declared.requests.Outcome.{Outcome}
 use Rattle.request_record.specs.declared.requests.Outcome.TheVariants.{Answered, Lost}
 use Rattle.request_record.specs.declared.requests.Request.{Request}
+use Rattle.request_record.specs.Kept.{data_as, data_in}
 use Rattle.request_record.specs.Record.{RequestsState, age_of, answered_in, at, counted_at, counts_at, is_lost_at, is_outstanding, is_resent_at, lost_places, places_from, resent_one, ticked_one, with_outcome}
 use Rattle.request_record.specs.Asking.{AreApart, AsksOnce, after_message, after_tick, lost_by_tick}
 use Rattle.request_record.proofs.RecordLaws.{counts_is}
@@ -29,7 +31,7 @@ use Rattle.share_reading.specs.Reads.{IsAsked}
 use Rattle.share_reading.specs.Verdict.{Settled, brought_of}
 use Rattle.share_reading.specs.declared.reading.Reading as readings
 use Rattle.share_reading.proofs.VerdictLemmas.{brought_from, brought_has}
-use Rattle.checker.specs.Book.{AsksOrReads}
+use Rattle.checker.specs.Book.{AsksOrReads, IsBrought}
 use Rattle.checker.specs.Right.{AreOfShares}
 use Rattle.checker.specs.Shares.{offered_in, offered_pairs, offered_to, settled_of}
 use Rattle.checker.proofs.Entries.{BecomesAt, GoesTo, IsSettledBy, about_by, get_set_same, is_waiting, settled_from, settled_has, settled_push, unsettled, was_at}
@@ -107,6 +109,32 @@ counted_by from now m s place counts =
 -- the same with the place that the call told
 pub counted_at_place : (from now : ℕ) (m : Message) (s : RequestsState) (place : ℕ) → Some place ≡ counts_at from m s → IsCounted s.entries (after_message from m now s).entries place
 counted_at_place from now m s place counts = counted_by from now m s place (sym counts)
+
+-- it is there with its answer
+answered_at : (from now : ℕ) (m : Message) (s : RequestsState) (place : ℕ) → Some place ≡ counts_at from m s
+    → (q : Request) × (slice_get (after_message from m now s).entries place ≡ Some (with_outcome q (Answered m.body)))
+answered_at from now m s place counts =
+    let is = counts_is from m (at now s) place (sym counts) in
+    let x = with_outcome is.request (Answered m.body) in
+    let result : (after_message from m now s).entries ≡ set s.entries place x =
+    ap (λ (o : Option ℕ). (counted_at m (at now s) o).entries) (sym counts) ∙ ap (λ (o : Option Request). answered_in s.entries place o m.body) is.there in
+    (is.request, ap (λ (l : List Request). slice_get l place) result ∙ get_set_same s.entries place is.request x is.there)
+
+data_is : (body : Body) (bytes : List ℕ) → data_in body ≡ Some bytes → body ≡ Data bytes
+data_is (Data others) bytes e = ap Data (same_Some others bytes e)
+data_is body bytes e = absurd cc
+
+answer_brought : (es : List Request) (place : ℕ) (x : Request) (body : Body) (o : Option (List ℕ)) → slice_get es place ≡ Some x → x.outcome ≡ Answered body → o ≡ data_in body → IsBrought es place o
+answer_brought es place x body (Some bytes) there answer e = record { request = x; there = there; answer = answer ∙ ap Answered (data_is body bytes (sym e)) }
+answer_brought es place x body None there answer e = λ bytes has.
+    none-some bytes (e ∙ ap data_as (sym answer ∙ ap (λ (r : Request). r.outcome) (same_Some x has.request (sym there ∙ has.there)) ∙ has.answer))
+
+-- the bytes that the answer brought
+pub message_brought : (from now : ℕ) (m : Message) (s r : RequestsState) (place : ℕ) (o : Option (List ℕ)) → Some place ≡ counts_at from m s → r ≡ after_message from m now s → o ≡ data_in m.body → IsBrought r.entries place o
+message_brought from now m s r place o counts is of =
+    let found = answered_at from now m s place counts in
+    subst (λ (x : RequestsState). IsBrought x.entries place o) (sym is)
+    (answer_brought (after_message from m now s).entries place (with_outcome found.0 (Answered m.body)) m.body o found.1 refl of)
 
 pub uncounted : (from : ℕ) (m : Message) (now : ℕ) (s : RequestsState) → None ≡ counts_at from m s → (after_message from m now s).entries ≡ s.entries
 uncounted from m now s e = ap (λ (o : Option ℕ). (counted_at m (at now s) o).entries) (sym e)

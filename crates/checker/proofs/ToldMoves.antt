@@ -18,9 +18,11 @@ use Rattle.request_record.specs.declared.requests.Asked.TheVariants.{Holdings, R
 use Rattle.request_record.specs.declared.requests.Request.{Request}
 use Rattle.request_record.specs.Record.{is_outstanding}
 use Rattle.request_record.specs.Asking.{AreApart, AsksOnce}
-use Rattle.checker.specs.Offers.{key_of}
+use Rattle.checker.specs.Offers.{IsNew, key_of}
+use Rattle.checker.specs.Pieces.{HasPieces, IsEmpty}
+use Rattle.checker.specs.declared.pieces.Pieces.{Pieces}
 use Rattle.checker.specs.Shares.{offered_in}
-use Rattle.checker.specs.Book.{AreKeys, ArePushed, HasTold, IsAbout, IsAt, IsBook, IsNew, IsOffer, IsOwner, IsReadOnlyAt, IsTakenOnce, IsTold}
+use Rattle.checker.specs.Book.{AreKeys, ArePushed, HasTold, IsAbout, IsAt, IsBook, IsOffer, IsOwner, IsReadOnlyAt, IsTakenOnce, IsTold}
 use Rattle.checker.specs.declared.machine.Told.{Told}
 use Rattle.checker.specs.declared.offers.Offer.{Offer}
 use Rattle.checker.proofs.Entries.{about_one, about_read, get_set_same}
@@ -105,13 +107,17 @@ not_read e f = clash (sym e ∙ f)
     clash : {share offset len : ℕ} → Holdings ≡ Reading share offset len → ⊥
     clash g = cc
 
+-- none are there of a share of which nothing was read
+no_pieces : (keeps : Bool) (p : Pieces) → IsEmpty keeps p → HasPieces [] [] p
+no_pieces keeps p is = record { front_is = λ _. is.front; back_is = λ _. is.back }
+
 -- ---- the shares of one server are added
 
-module _ (cap : VerifyCapValue) (es : List Request) (told : List Told) (owners : List ℕ) (offers more : List Offer) (begun place : ℕ) (todo : List ℕ) (q : Request) (held : List HeldShare)
-    (b : IsBook cap es told owners offers begun (place ∷ todo)) (once : AsksOnce es) (low : place < length told) (there : slice_get es place ≡ Some q)
+module _ (cap : VerifyCapValue) (keeps : Bool) (es : List Request) (told : List Told) (owners : List ℕ) (offers more : List Offer) (begun place : ℕ) (todo : List ℕ) (q : Request) (held : List HeldShare)
+    (b : IsBook cap keeps es told owners offers begun (place ∷ todo)) (once : AsksOnce es) (low : place < length told) (there : slice_get es place ≡ Some q)
     (listed : map key_of more ≡ map (pair_at q.server) (filter (λ (h : HeldShare). ltb h.share cap.total) held)) (rising : rises_from 0 held ≡ true)
     (offered : offered_in cap.total q.server q.outcome ≡ map (pair_at q.server) (filter (λ (h : HeldShare). ltb h.share cap.total) held))
-    (fresh : All IsNew more) (taken : IsTakenOnce es place todo) where
+    (fresh : All (IsNew keeps) more) (taken : IsTakenOnce es place todo) where
   abbrev kept : List HeldShare
   kept = filter (λ (h : HeldShare). ltb h.share cap.total) held
 
@@ -208,8 +214,8 @@ module _ (cap : VerifyCapValue) (es : List Request) (told : List Told) (owners :
         ∙ are.1,
   )
 
-  fresh_at : (j : ℕ) (y : Offer) → slice_get more j ≡ Some y → IsNew y
-  fresh_at j y e = subst IsNew (get_or_from_slice_get more j y y e) (All-get_or IsNew more j y (slice_get_within more j y e) fresh)
+  fresh_at : (j : ℕ) (y : Offer) → slice_get more j ≡ Some y → IsNew keeps y
+  fresh_at j y e = subst (IsNew keeps) (get_or_from_slice_get more j y y e) (All-get_or (IsNew keeps) more j y (slice_get_within more j y e) fresh)
 
   not_again : (j : ℕ) (y : Offer) → slice_get more j ≡ Some y → Contains todo place → ⊥
   not_again j y e at = elim taken [
@@ -237,7 +243,7 @@ module _ (cap : VerifyCapValue) (es : List Request) (told : List Told) (owners :
     | inl old ↦ offer_other cap es todo place x q there (λ about. not_read is_asking (about_read (key_of x) q about).is) (b.reading l x old)
     | inr new ↦ (
         let is = fresh_at new.index x new.there in
-        subst (IsAt cap es todo x) (sym is.stage) (record { front = is.front; back = is.back; none = new_unread new.index x new.there }))
+        subst (IsAt cap es todo x) (sym is.stage) (record { front = is.front; back = is.back; judged = is.judged; pieces = no_pieces keeps x.pieces is.pieces; none = new_unread new.index x new.there }))
   ]
 
   told_more : (l : ℕ) (x : Offer) → slice_get (offers ++ more) l ≡ Some x → IsTold cap.total (length told) es todo x
@@ -290,7 +296,7 @@ module _ (cap : VerifyCapValue) (es : List Request) (told : List Told) (owners :
         ]
       ]
 
-  pub book_told : IsBook cap es (set told place here) owners (offers ++ more) begun todo
+  pub book_told : IsBook cap keeps es (set told place here) owners (offers ++ more) begun todo
   book_told =
       let same_length : length (set told place here) ≡ length told = length-set told place here in
       record {
@@ -299,6 +305,10 @@ module _ (cap : VerifyCapValue) (es : List Request) (told : List Told) (owners :
         owned = λ p l e. subst (λ n. IsOwner es (offers ++ more) (n + p) l) (sym same_length) (owner_left (length told + p) l (b.owned p l e));
         apart = apart_more;
         reading = reading_more;
+        alike = λ l x e. elim (get_either offers more l x e) [
+          | inl old ↦ b.alike l x old
+          | inr new ↦ (fresh_at new.index x new.there).pieces.keeps_is
+        ];
         offered = λ l x e. subst (λ n. IsTold cap.total n es todo x) (sym same_length) (told_more l x e);
         tells = tells_more;
         quiet = λ i r h e. b.quiet i r (tail place i todo h) e;
@@ -318,15 +328,15 @@ told_is : (t : Told) (first count : ℕ) → t.first ≡ first → t.count ≡ c
 told_is t first count e f = λ i. record { first = e i; count = f i }
 
 -- the shares that an answer lists are taken in
-pub told_pushed : (cap : VerifyCapValue) (es : List Request) (told : List Told) (owners : List ℕ) (offers new : List Offer) (begun place : ℕ) (todo : List ℕ) (q : Request) (held : List HeldShare) (total : ℕ) (t : Told)
-    → IsBook cap es told owners offers begun (place ∷ todo) → AsksOnce es → place < length told → slice_get es place ≡ Some q
-    → ArePushed total q.server held offers new → total ≡ cap.total → rises_from 0 held ≡ true
+pub told_pushed : (cap : VerifyCapValue) (keeps : Bool) (es : List Request) (told : List Told) (owners : List ℕ) (offers new : List Offer) (begun place : ℕ) (todo : List ℕ) (q : Request) (held : List HeldShare) (total : ℕ) (t : Told)
+    → IsBook cap keeps es told owners offers begun (place ∷ todo) → AsksOnce es → place < length told → slice_get es place ≡ Some q
+    → ArePushed keeps total q.server held offers new → total ≡ cap.total → rises_from 0 held ≡ true
     → ((n server : ℕ) → offered_in n server q.outcome ≡ map (pair_at server) (filter (λ (h : HeldShare). ltb h.share n) held))
-    → t.first ≡ length offers → t.count ≡ length new - length offers → IsTakenOnce es place todo → IsBook cap es (set told place t) owners new begun todo
-told_pushed cap es told owners offers new begun place todo q held total t b once low there pushed total_is rising offered first count taken =
+    → t.first ≡ length offers → t.count ≡ length new - length offers → IsTakenOnce es place todo → IsBook cap keeps es (set told place t) owners new begun todo
+told_pushed cap keeps es told owners offers new begun place todo q held total t b once low there pushed total_is rising offered first count taken =
     let many : t.count ≡ length pushed.more = omega (arith, count, ap length pushed.offers, length-append offers pushed.more) in
-    subst (λ (x : Told). IsBook cap es (set told place x) owners new begun todo) (sym (told_is t (length offers) (length pushed.more) first many))
-    (subst (λ (l : List Offer). IsBook cap es (set told place (record { first = length offers; count = length pushed.more })) owners l begun todo) (sym pushed.offers)
-    (book_told cap es told owners offers pushed.more begun place todo q held b once low there
+    subst (λ (x : Told). IsBook cap keeps es (set told place x) owners new begun todo) (sym (told_is t (length offers) (length pushed.more) first many))
+    (subst (λ (l : List Offer). IsBook cap keeps es (set told place (record { first = length offers; count = length pushed.more })) owners l begun todo) (sym pushed.offers)
+    (book_told cap keeps es told owners offers pushed.more begun place todo q held b once low there
     (pushed.keys ∙ ap (λ n. map (pair_at q.server) (filter (λ (h : HeldShare). ltb h.share n) held)) total_is)
     rising (offered cap.total q.server) pushed.unread taken))

@@ -1,12 +1,13 @@
 -- How a check keeps the shares that were offered, beside its record.
 use Rattle.std.specs.Prelude.{◌≡◌, ◌≢◌, ◌⊎◌, ℕ, ◌+◌, ◌<◌, ◌≤◌, List, [], ◌∷◌, ◌++◌, length, map}
-use Rattle.std.specs.Prelude.{take, drop, Some, slice_get, true, false, Contains, Result}
-use Rattle.std.specs.Prelude.{Ok, Err, replicate, slice_set, filter, nat_lt, All}
+use Rattle.std.specs.Prelude.{take, drop, Option, Some, None, slice_get, Bool, true, false}
+use Rattle.std.specs.Prelude.{Contains, replicate, slice_set, filter, nat_lt, All}
 use Rattle.cap_text.specs.Cap.{VerifyCapValue}
 use Rattle.placement.specs.Matching.{Pair}
 use Rattle.wire.specs.declared.message.Body.TheVariants.{Data}
 use Rattle.wire.specs.declared.message.HeldShare.{HeldShare}
 use Rattle.request_record.specs.Asking.{AsksOnce, begun}
+use Rattle.request_record.specs.Kept.{IsDataAt}
 use Rattle.request_record.specs.Record.{asked_all, asked_more, is_outstanding}
 use Rattle.request_record.specs.Record.{outstanding_count}
 use Rattle.request_record.specs.declared.requests.Asked.{Asked}
@@ -16,13 +17,14 @@ use Rattle.request_record.specs.declared.requests.Request.{Request}
 use Rattle.share_opening.specs.Reads.{Brought}
 use Rattle.share_reading.specs.Reading as reading
 use Rattle.share_reading.specs.declared.reading.Reading as readings
+use Rattle.share_reading.specs.Judged.{IsJudgedBy}
 use Rattle.share_reading.specs.Reads.{IsReadBy}
 use Rattle.share_reading.specs.Verdict.{IsVerdict, brought_of}
 use Rattle.share_reading.specs.Whole.{IsWhole, joined}
-use Rattle.share_reading.specs.declared.reading.Progress.{Progress}
 use Rattle.share_reading.specs.declared.verdict.Verdict.{Verdict}
 use Rattle.share_reading.specs.declared.verdict.Verdict.TheVariants as verdicts
-use Rattle.checker.specs.Offers.{key_of, with_stage}
+use Rattle.checker.specs.Offers.{IsEndedBy, IsNew, IsUnjudged, key_of, with_stage}
+use Rattle.checker.specs.Pieces.{HasPieces}
 use Rattle.checker.specs.Moves.{is_read}
 use Rattle.checker.specs.Right.{AreOfShares}
 use Rattle.checker.specs.Shares.{is_about, offered_in, offered_pairs, settled_of}
@@ -72,7 +74,8 @@ pub record IsNext (entries : List Request) (todo : List ℕ) (key : Pair) (place
   pub asked : request.asked ≡ Reading key.1 (reading.next_place r) (reading.next_length r)
   pub waits : (request.outcome ≡ Outstanding) ⊎ Contains todo place
 
--- it is read so far, by requests that brought these bytes
+-- it is read so far, by requests that brought these bytes, which are judged, and kept where bytes
+-- are kept
 pub record IsReading (cap : VerifyCapValue) (entries : List Request) (todo : List ℕ) (o : Offer)
     (r : readings.Reading) (place : ℕ) : Type 0 where
   pub front : List Brought
@@ -80,15 +83,18 @@ pub record IsReading (cap : VerifyCapValue) (entries : List Request) (todo : Lis
   pub led : IsReadBy cap front back r
   pub front_at : AreReadAt entries (key_of o) o.front.items front
   pub back_at : AreReadAt entries (key_of o) o.back.items back
+  pub judged : IsJudgedBy cap front back r o.judged
+  pub pieces : HasPieces front back o.pieces
   pub next : IsNext entries todo (key_of o) place r
   pub only : IsReadOnlyAt entries (key_of o) (place ∷ (o.front.items ++ o.back.items))
 
--- the requests at its places brought all bytes of it
+-- the requests at its places brought all bytes of it, and they are kept where bytes are kept
 pub record IsHeld (entries : List Request) (o : Offer) : Type 0 where
   pub front : List Brought
   pub back : List Brought
   pub front_at : AreReadAt entries (key_of o) o.front.items front
   pub back_at : AreReadAt entries (key_of o) o.back.items back
+  pub pieces : HasPieces front back o.pieces
   pub whole : IsWhole (brought_of (settled_of entries o.server o.share))
       (joined front ++ joined back)
 
@@ -104,6 +110,8 @@ pub record IsEnded (cap : VerifyCapValue) (entries : List Request) (o : Offer) (
 pub record IsUnread (entries : List Request) (o : Offer) : Type 0 where
   pub front : o.front.items ≡ []
   pub back : o.back.items ≡ []
+  pub judged : IsUnjudged o.judged
+  pub pieces : HasPieces [] [] o.pieces
   pub none : IsReadOnlyAt entries (key_of o) []
 
 abbrev pub IsAt : VerifyCapValue → List Request → List ℕ → Offer → Stage → Type 0
@@ -150,10 +158,11 @@ HasTold total todo offers place t r =
 abbrev pub IsStarted : Stage → Type 0
 IsStarted stage = stage ≢ Waiting
 
--- What is kept of the shares is as the record says. `todo`: the places of requests that wait no
--- more, of which this is not taken in yet.
-pub record IsBook (cap : VerifyCapValue) (entries : List Request) (told : List Told)
-    (owners : List ℕ) (offers : List Offer) (begun : ℕ) (todo : List ℕ) : Type 0 where
+-- What is kept of the shares is as the record says, and their bytes are kept as the check keeps
+-- them. `todo`: the places of requests that wait no more, of which this is not taken in yet.
+pub record IsBook (cap : VerifyCapValue) (keeps : Bool) (entries : List Request)
+    (told : List Told) (owners : List ℕ) (offers : List Offer) (begun : ℕ) (todo : List ℕ)
+    : Type 0 where
   -- the first requests ask which shares the servers hold, and each other one reads a share
   pub asks : (i : ℕ) (r : Request) → i < length told → slice_get entries i ≡ Some r
       → r.asked ≡ Holdings
@@ -164,6 +173,7 @@ pub record IsBook (cap : VerifyCapValue) (entries : List Request) (told : List T
   pub apart : (k l : ℕ) (a b : Offer) → slice_get offers k ≡ Some a
       → slice_get offers l ≡ Some b → key_of a ≡ key_of b → k ≡ l
   pub reading : (k : ℕ) (o : Offer) → slice_get offers k ≡ Some o → IsOffer cap entries todo o
+  pub alike : (k : ℕ) (o : Offer) → slice_get offers k ≡ Some o → o.pieces.keeps ≡ keeps
   pub offered : (k : ℕ) (o : Offer) → slice_get offers k ≡ Some o
       → IsTold cap.total (length told) entries todo o
   pub tells : (i : ℕ) (t : Told) (r : Request) → slice_get told i ≡ Some t
@@ -179,8 +189,8 @@ pub record IsBook (cap : VerifyCapValue) (entries : List Request) (told : List T
   pub few : begun ≤ length offers
 
 abbrev pub HasBook : Machine → List ℕ → Type 0
-HasBook m todo =
-    IsBook m.cap m.requests.entries m.told.items m.owners.items m.offers.items m.begun todo
+HasBook m todo = IsBook m.cap m.keeps m.requests.entries m.told.items m.owners.items
+    m.offers.items m.begun todo
 
 -- it asks which shares a server holds, or for bytes of a share that this server offered
 abbrev pub AsksOrReads : VerifyCapValue → List Request → ℕ → Asked → Type 0
@@ -214,39 +224,47 @@ pub record IsKept (m : Machine) (status : CheckStatus) : Type 0 where
 
 -- what contracts see of it
 abbrev pub state_of : Machine → List ℕ → CheckStatus → CheckState
-state_of m servers status =
-    record { cap = m.cap; servers = servers; requests = m.requests; status = status }
+state_of m servers status = record {
+  cap = m.cap;
+  servers = servers;
+  keeps = m.keeps;
+  requests = m.requests;
+  status = status;
+}
 
 -- more reads are asked
 pub record AsksMore (old new : Machine) : Type 0 where
   pub cap : new.cap ≡ old.cap
+  pub keeps : new.keeps ≡ old.keeps
   pub asks : List (ℕ × Asked)
   pub reads : All (λ (ask : ℕ × Asked). is_read ask.1 ≡ true) asks
   pub requests : new.requests ≡ asked_all asks old.requests
 
 -- ---- what a request brought
 
--- bytes answered the request at a place
-pub record HasBytes (entries : List Request) (place : ℕ) (bytes : List ℕ) : Type 0 where
-  pub request : Request
-  pub there : slice_get entries place ≡ Some request
-  pub answer : request.outcome ≡ Answered (Data bytes)
+-- these bytes answered the request at a place, or none did
+abbrev pub IsBrought : List Request → ℕ → Option (List ℕ) → Type 0
+IsBrought entries place (Some bytes) = IsDataAt entries place bytes
+IsBrought entries place None = (bytes : List ℕ) → IsDataAt entries place bytes → ⊥
 
--- what comes of what the request for the next bytes brought
-abbrev pub IsReadOn : VerifyCapValue → List Request → readings.Reading → ℕ → Result Progress Verdict
-    → Type 0
-IsReadOn cap entries r place (Ok progress) =
-    (bytes : List ℕ) × HasBytes entries place bytes × reading.Advances cap r bytes progress
-IsReadOn cap entries r place (Err verdicts.Good) = ⊥
-IsReadOn cap entries r place (Err (verdicts.Corrupt check)) =
-    (bytes : List ℕ) × HasBytes entries place bytes × reading.IsStop cap r bytes check
-IsReadOn cap entries r place (Err verdicts.Lost) =
-    (bytes : List ℕ) → HasBytes entries place bytes → ⊥
+-- the verdict on a share is found
+pub record HasEnded (old : Machine) (k : ℕ) (v : Verdict) (o : Offer) (new : Machine)
+    : Type 0 where
+  pub cap : new.cap ≡ old.cap
+  pub keeps : new.keeps ≡ old.keeps
+  pub requests : new.requests ≡ old.requests
+  pub told : new.told.items ≡ old.told.items
+  pub owners : new.owners.items ≡ old.owners.items
+  pub begun : new.begun ≡ old.begun
+  pub offer : Offer
+  pub offers : new.offers.items ≡ slice_set old.offers.items k offer
+  pub ended : IsEndedBy v o offer
 
 -- the next bytes of a share are asked for
 pub record HasAsked (old : Machine) (k : ℕ) (r : readings.Reading) (o : Offer) (new : Machine)
     : Type 0 where
   pub cap : new.cap ≡ old.cap
+  pub keeps : new.keeps ≡ old.keeps
   pub told : new.told.items ≡ old.told.items
   pub begun : new.begun ≡ old.begun
   pub requests : new.requests
@@ -259,6 +277,7 @@ pub record HasAsked (old : Machine) (k : ℕ) (r : readings.Reading) (o : Offer)
 -- nothing is asked
 pub record AsksNothing (old new : Machine) : Type 0 where
   pub cap : new.cap ≡ old.cap
+  pub keeps : new.keeps ≡ old.keeps
   pub requests : new.requests ≡ old.requests
 
 -- the share waits for the answer to the request at a place
@@ -268,9 +287,10 @@ pub record AwaitsAt (m : Machine) (k place : ℕ) (r : readings.Reading) : Type 
   pub stage : offer.stage ≡ Read r place
 
 -- a check that has just begun
-pub record IsFresh (cap : VerifyCapValue) (servers : List ℕ) (session now : ℕ) (m : Machine)
-    : Type 0 where
+pub record IsFresh (cap : VerifyCapValue) (servers : List ℕ) (session now : ℕ) (keeps : Bool)
+    (m : Machine) : Type 0 where
   pub of_cap : m.cap ≡ cap
+  pub of_keeps : m.keeps ≡ keeps
   pub requests : m.requests ≡ begun servers session now
   pub told : m.told.items ≡ replicate (length servers) (record { first = 0; count = 0 })
   pub owners : m.owners.items ≡ []
@@ -293,21 +313,15 @@ IsTakenOnce entries place todo =
     (Contains todo place → ⊥)
     ⊎ ((r : Request) → slice_get entries place ≡ Some r → r.outcome ≡ Lost)
 
--- an offer of a share that is not read yet
-pub record IsNew (o : Offer) : Type 0 where
-  pub front : o.front.items ≡ []
-  pub back : o.back.items ≡ []
-  pub stage : o.stage ≡ Waiting
-
 -- the shares of these that have a number below the file's are added
-pub record ArePushed (total server : ℕ) (held : List HeldShare) (old new : List Offer)
-    : Type 0 where
+pub record ArePushed (keeps : Bool) (total server : ℕ) (held : List HeldShare)
+    (old new : List Offer) : Type 0 where
   pub more : List Offer
   pub offers : new ≡ old ++ more
   pub keys : map key_of more
       ≡ map (λ (h : HeldShare). (server, h.share))
       (filter (λ (h : HeldShare). nat_lt h.share total) held)
-  pub unread : All IsNew more
+  pub unread : All (IsNew keeps) more
 
 -- a check with this record may stand so
 pub record IsStanding (entries : List Request) (status : CheckStatus) : Type 0 where

@@ -9,6 +9,7 @@ pub mod Right
 -- what else was hashed, for the layers above
 pub mod Tested
 -- words of private clauses
+pub mod Pieces
 pub mod Offers
 pub mod Book
 pub mod Found

@@ -34,6 +34,7 @@ is_read (Aborting share) = false
 pub record GoesOn (r : RequestsState) (old new : CheckState) : Type 0 where
   pub cap : new.cap ≡ old.cap
   pub servers : new.servers ≡ old.servers
+  pub keeps : new.keeps ≡ old.keeps
   pub asks : List (ℕ × Asked)
   pub reads : All (λ (ask : ℕ × Asked). is_read ask.1 ≡ true) asks
   pub requests : new.requests ≡ asked_all asks r
@@ -50,6 +51,7 @@ TicksOn now old new = GoesOn (after_tick now old.requests) old new
 pub record Stops (r : RequestsState) (old new : CheckState) : Type 0 where
   pub cap : new.cap ≡ old.cap
   pub servers : new.servers ≡ old.servers
+  pub keeps : new.keeps ≡ old.keeps
   pub asks : List (ℕ × Asked)
   pub reads : All (λ (ask : ℕ × Asked). is_read ask.1 ≡ true) asks
   pub requests : new.requests ≡ asked_all asks r

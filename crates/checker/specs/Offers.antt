@@ -1,10 +1,22 @@
 -- The shares that servers offered.
-use Rattle.std.specs.Prelude.{◌≡◌, ℕ, [], ◌∷◌, ◌++◌, if◌then◌else◌}
+use Rattle.std.specs.Prelude.{◌≡◌, ℕ, Bool, List, [], ◌∷◌, ◌++◌, if◌then◌else◌}
+use Rattle.cap_text.specs.Cap.{VerifyCapValue}
 use Rattle.placement.specs.Matching.{Pair}
+use Rattle.share_opening.specs.Reads.{Brought}
+use Rattle.share_opening.specs.declared.opening.Opening.TheVariants.{Start}
+use Rattle.share_reading.specs.Judged.{Comes, IsJudgedBy, IsJudgedOn}
 use Rattle.share_reading.specs.Reading.{is_behind}
+use Rattle.share_reading.specs.Reads.{IsReadBy}
+use Rattle.share_reading.specs.declared.judged.Found.{Found}
+use Rattle.share_reading.specs.declared.judged.Judged.{Judged}
 use Rattle.share_reading.specs.declared.reading.Reading.{Reading}
+use Rattle.share_reading.specs.declared.reading.Reading.TheVariants.{Beginning}
+use Rattle.share_reading.specs.declared.verdict.Verdict.{Verdict}
+use Rattle.share_reading.specs.declared.verdict.Verdict.TheVariants as verdicts
+use Rattle.checker.specs.Pieces.{HasAdded, IsEmpty}
 use Rattle.checker.specs.declared.offers.Offer.{Offer}
 use Rattle.checker.specs.declared.offers.Stage.{Stage}
+use Rattle.checker.specs.declared.offers.Stage.TheVariants.{Waiting, Ended}
 
 abbrev pub key_of : Offer → Pair
 key_of o = (o.server, o.share)
@@ -12,11 +24,44 @@ key_of o = (o.server, o.share)
 abbrev pub with_stage : Stage → Offer → Offer
 with_stage stage o = record o { stage = stage }
 
+-- nothing is judged of a share of which nothing was read
+abbrev pub IsUnjudged : Judged → Type 0
+IsUnjudged j = (cap : VerifyCapValue) → IsJudgedBy cap [] [] (Beginning Start) j
+
+-- an offer of a share that is not read yet
+pub record IsNew (keeps : Bool) (o : Offer) : Type 0 where
+  pub front : o.front.items ≡ []
+  pub back : o.back.items ≡ []
+  pub judged : IsUnjudged o.judged
+  pub pieces : IsEmpty keeps o.pieces
+  pub stage : o.stage ≡ Waiting
+
 -- the same offer, with one more request that brought its bytes
-pub record IsKeptBy (reading : Reading) (place : ℕ) (old new : Offer) : Type 0 where
+pub record IsKeptBy (reading : Reading) (place : ℕ) (bytes : List ℕ) (old new : Offer)
+    : Type 0 where
   pub server : new.server ≡ old.server
   pub share : new.share ≡ old.share
   pub front : new.front.items
       ≡ (if is_behind reading then old.front.items else old.front.items ++ place ∷ [])
   pub back : new.back.items
       ≡ (if is_behind reading then old.back.items ++ place ∷ [] else old.back.items)
+  pub pieces : HasAdded (is_behind reading) bytes old.pieces new.pieces
+
+-- what comes of the bytes that the request at a place brought, which the reading asked for next
+pub record IsTaken (cap : VerifyCapValue) (reading : Reading) (place : ℕ) (bytes : List ℕ)
+    (found : Found) (old new : Offer) : Type 0 where
+  pub kept : IsKeptBy reading place bytes old new
+  pub comes : Comes cap reading bytes found
+  pub judged : (front back : List Brought) → IsReadBy cap front back reading
+      → IsJudgedBy cap front back reading old.judged
+      → IsJudgedOn cap old.share front back reading bytes found new.judged
+
+-- the same offer once its verdict is found: of a good share the bytes stay
+pub record IsEndedBy (verdict : Verdict) (old new : Offer) : Type 0 where
+  pub server : new.server ≡ old.server
+  pub share : new.share ≡ old.share
+  pub front : new.front ≡ old.front
+  pub back : new.back ≡ old.back
+  pub keeps : new.pieces.keeps ≡ old.pieces.keeps
+  pub pieces : verdict ≡ verdicts.Good → new.pieces ≡ old.pieces
+  pub stage : new.stage ≡ Ended verdict

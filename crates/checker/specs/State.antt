@@ -1,5 +1,6 @@
--- A check: of what it is, its servers, its record, and where it stands.
-use Rattle.std.specs.Prelude.{ℕ, List}
+-- A check: of what it is, its servers, whether it keeps the bytes of shares, its record, and where
+-- it stands.
+use Rattle.std.specs.Prelude.{ℕ, Bool, List}
 use Rattle.cap_text.specs.Cap.{VerifyCapValue}
 use Rattle.request_record.specs.Record.{RequestsState}
 use Rattle.checker.specs.declared.status.CheckStatus.{CheckStatus}
@@ -7,6 +8,7 @@ use Rattle.checker.specs.declared.status.CheckStatus.{CheckStatus}
 pub record CheckState : Type 0 where
   pub cap : VerifyCapValue
   pub servers : List ℕ
+  pub keeps : Bool
   pub requests : RequestsState
   pub status : CheckStatus
 

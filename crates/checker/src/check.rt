@@ -1,7 +1,7 @@
 //! A check of a file's shares by its verify cap.
 
-ghost use Rattle.std.specs.Prelude.{◌≡◌, ◌≢◌, ◌↔◌, [], None, IfOk, IfSome, IsOk, OnErr, OnOk};
-ghost use Rattle.std.specs.Prelude.{is_some, map, nat_eq};
+ghost use Rattle.std.specs.Prelude.{◌≡◌, ◌≢◌, ◌↔◌, ◌⊎◌, [], None, IfOk, IfSome, IsOk, OnErr, OnOk};
+ghost use Rattle.std.specs.Prelude.{false, is_some, map, nat_eq, true};
 ghost use Rattle.std.specs.List.{IsDistinct};
 ghost use Rattle.request_record.specs.Asking.{after_message};
 ghost use Rattle.checker.specs.Good.{AreGoodShares};
@@ -21,6 +21,9 @@ use std::marker::Model;
 use wire::message::{Message, NodeId};
 
 /// A check of the shares that servers offer of one file.
+///
+/// Its record keeps each answer but for the bytes of shares: these are judged as they come. A check
+/// that is begun by `start_keeping` keeps those of the shares too.
 #[derive(Drop)]
 pub struct Check {
     servers: Vec<NodeId>,
@@ -42,7 +45,7 @@ impl Model for Check {
 
 impl Check {
     /// Asks each of the servers which shares it holds. Without servers the check is done at once.
-    /// The servers are of distinct nodes.
+    /// The servers are of distinct nodes. It keeps no bytes of shares.
     pub fn start(
         alloc: Global,
         cap: VerifyCap,
@@ -52,8 +55,41 @@ impl Check {
     ) -> Result<Check, AllocError>
         requires distinct { IsDistinct nat_eq servers.now }
         ensures begins { IfOk result (Begins cap servers.now session now) }
+        ensures keeps { IfOk result (λ check. check.keeps ≡ false) }
     {
-        let machine = Machine::begin(alloc, cap, servers, session, now)?;
+        Check::begin(alloc, cap, servers, session, now, false)
+    }
+
+    /// As `start`, and it keeps the bytes of the shares that it reads, but for those of a share
+    /// that it finds not to be good: `good_shares` hands them out.
+    pub fn start_keeping(
+        alloc: Global,
+        cap: VerifyCap,
+        servers: &[NodeId],
+        session: u64,
+        now: u64,
+    ) -> Result<Check, AllocError>
+        requires distinct { IsDistinct nat_eq servers.now }
+        ensures begins { IfOk result (Begins cap servers.now session now) }
+        ensures keeps { IfOk result (λ check. check.keeps ≡ true) }
+    {
+        Check::begin(alloc, cap, servers, session, now, true)
+    }
+
+    // As `start`, of a check that keeps the bytes of shares or not.
+    fn begin(
+        alloc: Global,
+        cap: VerifyCap,
+        servers: &[NodeId],
+        session: u64,
+        now: u64,
+        keeps: bool,
+    ) -> Result<Check, AllocError>
+        requires distinct { IsDistinct nat_eq servers.now }
+        ensures begins { IfOk result (Begins cap servers.now session now) }
+        ensures keeps { IfOk result (λ check. check.keeps ≡ keeps) }
+    {
+        let machine = Machine::begin(alloc, cap, servers, session, now, keeps)?;
         Ok(Check {
             servers: Vec::from_slice(alloc, servers)?,
             machine,
@@ -154,8 +190,12 @@ impl Check {
         ensures good { IfOk result (λ told. IfSome told (λ l. AreGoodShares self.now.cap
             self.now.requests.entries (map (λ s. s.0) l.items)
             (map (λ s. s.1.items) l.items))) }
-        ensures none { IfOk result (λ told. (told ≡ None) ↔ (self.now.status ≢ Done)) }
+        ensures none { IfOk result (λ told. (told ≡ None)
+            ↔ ((self.now.status ≢ Done) ⊎ (self.now.keeps ≡ false))) }
     {
+        if !self.machine.keeps {
+            return Ok(None);
+        }
         match self.status {
             CheckStatus::Done => Ok(Some(good_shares_of(alloc, &self.machine)?)),
             CheckStatus::Running | CheckStatus::Failed => Ok(None),

@@ -1,7 +1,7 @@
 //! The good shares that a check hands out.
 
 ghost use Rattle.std.specs.Prelude.{◌≡◌, ◌↔◌, ℕ, Some, IfNone, IfOk, IfSome, IsTrue, map};
-ghost use Rattle.std.specs.Prelude.{slice_get};
+ghost use Rattle.std.specs.Prelude.{slice_get, true};
 ghost use Rattle.share_reading.specs.declared.verdict.Verdict.TheVariants.{Good};
 ghost use Rattle.checker.specs.Found.{IsDone};
 ghost use Rattle.checker.specs.Good.{AreGoodShares, HasGood, IsFound};
@@ -14,12 +14,13 @@ use share_reading::Verdict;
 use std::alloc::{AllocError, Global};
 
 /// The good shares of a check in which no share is read any more: of the lowest numbers that have
-/// one, as many as are needed or as there are.
+/// one, as many as are needed or as there are. It kept their bytes.
 pub(crate) fn good_shares_of(
     alloc: Global,
     machine: &Machine,
 ) -> Result<Vec<(u16, Vec<u8>)>, AllocError>
     requires done { IsDone machine.now }
+    requires keeps { machine.now.keeps ≡ true }
     ensures { IfOk result (λ l. AreGoodShares machine.now.cap machine.now.requests.entries
         (map (λ s. s.0) l.items) (map (λ s. s.1.items) l.items)) }
 {
@@ -37,13 +38,14 @@ pub(crate) fn good_shares_of(
 // The bytes of the first good share of this number.
 fn good_share(alloc: Global, machine: &Machine, number: u16) -> Result<Option<Vec<u8>>, AllocError>
     requires done { IsDone machine.now }
+    requires keeps { machine.now.keeps ≡ true }
     ensures some { IfOk result (λ found. IfSome found (λ bytes. IsFound machine.now.cap
         machine.now.requests.entries number bytes.items)) }
     ensures none { IfOk result (λ found. IfNone found
         (HasGood machine.now.cap machine.now.requests.entries number → ⊥)) }
 {
     match good_offer(&machine.offers, number) {
-        Some(offer) => Ok(Some(machine.bytes_of(alloc, offer)?)),
+        Some(offer) => Ok(Some(offer.pieces.joined(alloc)?)),
         None => Ok(None),
     }
 }

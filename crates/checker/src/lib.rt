@@ -2,18 +2,24 @@
 //! share that they offer.
 //!
 //! A check asks every server once what it holds, and reads each share offered to its end, one piece
-//! of at most 32,768 bytes after another. It begins to read a share while fewer requests wait than
-//! there are servers and 64 more, so servers that never answer do not hold the others up. Servers
-//! that offer many shares and then say nothing do: their reads may take all of those places until
-//! they are lost, 20 seconds later. Its record keeps every answer that counted, so a check holds
-//! the shares that it read; beside it at most one share is joined at a time, when its last bytes
-//! came. The good shares that it hands out are joined anew, as many as are needed at most.
+//! of at most 32,768 bytes after another. A share is judged as its bytes come (`share_reading`): of
+//! one that is read a check has a hash for each block and the trees, and of one that was read 8
+//! bytes for each read, beside the record, which keeps no bytes of shares. A check begun by
+//! `start_keeping` keeps the bytes of the shares too, but for those of one that is not good, for
+//! the good shares that it hands out.
+//!
+//! It begins to read a share while fewer requests wait than there are servers and 64 more, and no
+//! more shares at once than may be judged in 64 MiB, by the first extension block that was read;
+//! before that one at a time. So a server that offers shares and then says nothing holds the others
+//! up: until its reads are lost, 20 seconds later, and one after another where no extension block
+//! is read yet.
 #![tactic(auto)]
 
 mod check;
 mod good;
 mod machine;
 mod offers;
+mod pieces;
 mod report;
 pub mod status;
 

@@ -1,39 +1,37 @@
 //! How a check takes what comes, and what it asks.
 
 ghost use Rattle.std.specs.Prelude.{◌≡◌, ◌≢◌, ◌↔◌, ◌<◌, ◌≤◌, ◌+◌, ◌++◌, ◌∷◌, List, ℕ, []};
-ghost use Rattle.std.specs.Prelude.{None, Some, IfNone, IfOk, IfSome, IsOk, IsTrue, OnErr, OnOk};
-ghost use Rattle.std.specs.Prelude.{filter, length, map, nat_lt, slice_get};
-ghost use Rattle.placement.specs.Matching.{Pair};
+ghost use Rattle.std.specs.Prelude.{None, Some, IfOk, IsOk, IsTrue, OnErr, OnOk, false};
+ghost use Rattle.std.specs.Prelude.{filter, length, map, nat_lt, option_map, slice_get};
 ghost use Rattle.wire.specs.Held.{AreRising};
-ghost use Rattle.wire.specs.declared.message.Body.TheVariants.{Data};
 ghost use Rattle.wire.specs.declared.message.HeldShare.{HeldShare};
 ghost use Rattle.request_record.specs.Asking.{after_message};
-ghost use Rattle.request_record.specs.declared.requests.Outcome.TheVariants.{Answered};
-ghost use Rattle.share_opening.specs.Reads.{Brought};
-ghost use Rattle.share_reading.specs.Verdict.{IsJudged};
-ghost use Rattle.share_reading.specs.Whole.{joined};
-ghost use Rattle.checker.specs.Book.{AreReadAt, AsksMore, AsksNothing, AwaitsAt, HasAsked, HasBook};
-ghost use Rattle.checker.specs.Book.{HasBytes, IsFresh, IsKept, IsReadOn, IsSafe, IsSettledAt};
+ghost use Rattle.request_record.specs.Record.{outstanding_count};
+ghost use Rattle.checker.specs.Book.{AsksMore, AsksNothing, AwaitsAt, HasAsked, HasBook};
+ghost use Rattle.checker.specs.Book.{HasEnded, IsBrought, IsFresh, IsKept, IsSafe, IsSettledAt};
 ghost use Rattle.checker.specs.Book.{AreLost, ArePushed, IsStanding, IsTakenOnce};
 ghost use Rattle.checker.specs.Book.{state_of};
 ghost use Rattle.checker.specs.Moves.{Advances, FailsAt, Stops, TicksOn};
-ghost use Rattle.checker.specs.Offers.{key_of};
 ghost use Rattle.checker.specs.Sending.{Takes};
 ghost use Rattle.checker.specs.Shares.{offered_in};
 ghost use Rattle.checker.specs.declared.offers.Offer.{Offer};
 ghost use Rattle.checker.specs.declared.status.CheckStatus.{CheckStatus};
 ghost use Rattle.checker.specs.declared.status.CheckStatus.TheVariants.{Failed, Running};
 
-use crate::offers::{Offer, Stage, end, keep, reading_at, wait};
+use crate::offers::{Offer, end, reading_at, wait};
 use crate::status::CheckStatus;
 use cap_text::VerifyCap;
-use request_record::requests::{Asked, Outcome, Requests};
-use share_reading::{Progress, Reading, Verdict, judge};
+use request_record::ledger::Ledger;
+use request_record::requests::{Asked, Outcome};
+use share_reading::{Found, Reading, Verdict};
 use std::alloc::{AllocError, Global};
 use wire::message::{Body, HeldShare, Message, NodeId, ReadLength};
 
 /// How many requests may wait at once beside one for each server.
 const MORE_AT_ONCE: usize = 64;
+
+/// How many bytes the shares that are read at once may need to be judged.
+const JUDGED_AT_ONCE: u64 = 64 << 20;
 
 /// Which of the offers are those of one server.
 #[derive(Clone, Copy)]
@@ -49,7 +47,9 @@ pub(crate) struct Told {
 pub(crate) struct Machine {
     alloc: Global,
     pub(crate) cap: VerifyCap,
-    pub(crate) requests: Requests,
+    /// Whether it keeps the bytes of shares.
+    pub(crate) keeps: bool,
+    pub(crate) requests: Ledger,
     /// The shares that each server offered: none before it answered. The first requests, as many,
     /// ask for them.
     pub(crate) told: Vec<Told>,
@@ -59,6 +59,10 @@ pub(crate) struct Machine {
     pub(crate) offers: Vec<Offer>,
     /// The place of the first that is not begun.
     pub(crate) begun: usize,
+    /// How many are read.
+    reading: usize,
+    /// How many may be read at once.
+    room: usize,
 }
 
 impl Machine {
@@ -69,17 +73,21 @@ impl Machine {
         servers: &[NodeId],
         session: u64,
         now: u64,
+        keeps: bool,
     ) -> Result<Machine, AllocError>
-        ensures { IfOk result (IsFresh cap servers.now session now) }
+        ensures { IfOk result (IsFresh cap servers.now session now keeps) }
     {
         Ok(Machine {
             alloc,
             cap,
-            requests: Requests::begin(alloc, servers, session, now)?,
+            keeps,
+            requests: Ledger::begin(alloc, servers, session, now)?,
             told: vec![in alloc; Told { first: 0, count: 0 }; servers.len()]?,
             owners: Vec::new(alloc),
             offers: Vec::new(alloc),
             begun: 0,
+            reading: 0,
+            room: 1,
         })
     }
 
@@ -102,13 +110,13 @@ impl Machine {
         ensures failed { IsKept self.new Failed }
         ensures ended { status ≢ Running → IsOk result }
     {
-        let Some(place) = self.requests.take_answer(from, message, now) else {
+        let Some(counted) = self.requests.take_answer(from, message, now) else {
             return Ok(status);
         };
         if !is_running(status) {
             return Ok(status);
         }
-        self.take_in(place)?;
+        self.take_in(counted.place, counted.bytes)?;
         self.settle()
     }
 
@@ -165,15 +173,17 @@ impl Machine {
         ensures safe { IsSafe self.new }
     {
         for place in places {
-            self.take_in(*place)?;
+            self.take_in(*place, None)?;
         }
         Ok(())
     }
 
-    // Takes in what became of the request at a place.
-    fn take_in(&mut self, place: usize) -> Result<(), AllocError>
+    // Takes in what became of the request at a place, and the bytes that answered it.
+    fn take_in(&mut self, place: usize, bytes: Option<Vec<u8>>) -> Result<(), AllocError>
         requires safe { IsSafe self.old }
         requires settled { IsSettledAt self.old.requests.entries place }
+        requires brought { IsBrought self.old.requests.entries place
+            (option_map (λ v. v.items) bytes) }
         requires book { (todo : List ℕ) × HasBook self.old (place ∷ todo) }
         ensures book { (todo : List ℕ) → HasBook self.old (place ∷ todo)
             → IsTakenOnce self.old.requests.entries place todo
@@ -186,7 +196,7 @@ impl Machine {
         }
         let offer = self.owners[place - self.told.len()];
         match reading_at(&self.offers[offer].stage, place) {
-            Some(reading) => self.take_answer(offer, &reading, place),
+            Some(reading) => self.take_answer(offer, &reading, place, bytes),
             None => Ok(()),
         }
     }
@@ -207,6 +217,7 @@ impl Machine {
         let held = held_by(&request.outcome);
         push_offers(
             self.alloc,
+            self.keeps,
             &mut self.offers,
             self.cap.total(),
             request.server,
@@ -225,10 +236,13 @@ impl Machine {
         offer: usize,
         reading: &Reading,
         place: usize,
+        bytes: Option<Vec<u8>>,
     ) -> Result<(), AllocError>
         requires safe { IsSafe self.old }
         requires behind { length self.old.told.items ≤ place }
         requires settled { IsSettledAt self.old.requests.entries place }
+        requires brought { IsBrought self.old.requests.entries place
+            (option_map (λ v. v.items) bytes) }
         requires waits { AwaitsAt self.old offer place reading.now }
         requires book { (todo : List ℕ) × HasBook self.old (place ∷ todo) }
         ensures book { (todo : List ℕ) → HasBook self.old (place ∷ todo)
@@ -236,32 +250,34 @@ impl Machine {
         ensures asks { AsksMore self.old self.new }
         ensures safe { IsSafe self.new }
     {
-        let progress = match self.read_on(reading, place) {
-            Ok(progress) => progress,
-            Err(verdict) => {
-                end(&mut self.offers, offer, verdict);
-                return Ok(());
-            }
+        let Some(bytes) = bytes else {
+            self.end(offer, Verdict::Lost);
+            return Ok(());
         };
-        keep(&mut self.offers, offer, reading, place)?;
-        match progress {
-            Progress::Next(next) => self.ask(offer, &next),
-            Progress::Whole => {
-                let verdict = self.judge(offer)?;
-                end(&mut self.offers, offer, verdict);
+        match self.offers[offer].take(&self.cap, reading, place, &bytes)? {
+            Found::Next(next) => {
+                self.room = room_after(self.room, &next);
+                self.ask(offer, &next)
+            }
+            Found::Whole(verdict) => {
+                self.end(offer, verdict);
+                Ok(())
+            }
+            Found::Stopped(check) => {
+                self.end(offer, Verdict::Corrupt(check));
                 Ok(())
             }
         }
     }
 
-    // What comes of what the request for the next bytes of a share brought, or the verdict on it.
-    fn read_on(&self, reading: &Reading, place: usize) -> Result<Progress, Verdict>
-        ensures { IsReadOn self.now.cap self.now.requests.entries reading.now place result }
+    // This is the verdict on a share.
+    fn end(&mut self, offer: usize, verdict: Verdict)
+        requires { offer < length self.old.offers.items }
+        ensures { (o : Offer) → slice_get self.old.offers.items offer ≡ Some o
+            → HasEnded self.old offer verdict o self.new }
     {
-        let Some(bytes) = bytes_at(&self.requests, place) else {
-            return Err(Verdict::Lost);
-        };
-        reading.take(&self.cap, bytes).map_err(Verdict::Corrupt)
+        end(&mut self.offers, offer, verdict);
+        self.reading = self.reading.saturating_sub(1);
     }
 
     // Asks for the next bytes of a share.
@@ -281,36 +297,7 @@ impl Machine {
         Ok(())
     }
 
-    // The verdict on a share that is read whole.
-    fn judge(&self, offer: usize) -> Result<Verdict, AllocError>
-        requires { offer < length self.now.offers.items }
-        ensures { IfOk result (λ verdict. (o : Offer) (front back : List Brought)
-            → slice_get self.now.offers.items offer ≡ Some o
-            → AreReadAt self.now.requests.entries (key_of o) o.front.items front
-            → AreReadAt self.now.requests.entries (key_of o) o.back.items back
-            → IsJudged self.now.cap o.share (joined front ++ joined back) verdict) }
-    {
-        let found = &self.offers[offer];
-        let bytes = self.bytes_of(self.alloc, found)?;
-        Ok(judge(&self.cap, u16::from(found.share), &bytes))
-    }
-
-    /// The bytes that were read of a share: joined by place where it was read whole.
-    pub(crate) fn bytes_of(&self, alloc: Global, offer: &Offer) -> Result<Vec<u8>, AllocError>
-        ensures { IfOk result (λ bytes. (front back : List Brought)
-            → AreReadAt self.now.requests.entries (key_of offer.now) offer.now.front.items front
-            → AreReadAt self.now.requests.entries (key_of offer.now) offer.now.back.items back
-            → bytes.items ≡ joined front ++ joined back) }
-    {
-        let front = size_at(&self.requests, &offer.front);
-        let back = size_at(&self.requests, &offer.back);
-        let mut bytes = Vec::with_capacity(alloc, front.saturating_add(back))?;
-        join(&mut bytes, &self.requests, &offer.front)?;
-        join(&mut bytes, &self.requests, &offer.back)?;
-        Ok(bytes)
-    }
-
-    // Begins to read more shares, while fewer requests wait than may, and tells where it stands.
+    // Begins to read more shares, as many as may be read at once, and tells where it stands.
     fn settle(&mut self) -> Result<CheckStatus, AllocError>
         requires safe { IsSafe self.old }
         requires book { HasBook self.old [] }
@@ -319,11 +306,23 @@ impl Machine {
         ensures stands { IfOk result (λ status. status ≢ Failed) }
         ensures failed { IsSafe self.new }
     {
-        let most = self.told.len().saturating_add(MORE_AT_ONCE);
-        while self.begun < self.offers.len() && self.requests.outstanding() < most {
+        while self.begins_more() {
             self.begin_next()?;
         }
         Ok(self.standing())
+    }
+
+    // Whether one more share is begun: one is where no request waits. Else no more are begun than
+    // there is room for, and no more than so many requests may wait.
+    fn begins_more(&self) -> bool
+        ensures more { IsTrue result → self.now.begun < length self.now.offers.items }
+        ensures all { result ≡ false → outstanding_count self.now.requests.entries ≡ 0
+            → length self.now.offers.items ≤ self.now.begun }
+    {
+        let waiting = self.requests.outstanding();
+        let most = self.told.len().saturating_add(MORE_AT_ONCE);
+        let has_room = waiting < most && self.reading < self.room;
+        self.begun < self.offers.len() && (waiting == 0 || has_room)
     }
 
     // Begins to read the next share.
@@ -339,6 +338,7 @@ impl Machine {
     {
         self.ask(self.begun, &Reading::start())?;
         self.begun += 1;
+        self.reading = self.reading.saturating_add(1);
         Ok(())
     }
 
@@ -361,6 +361,15 @@ pub(crate) fn is_running(status: CheckStatus) -> bool
     matches!(status, CheckStatus::Running)
 }
 
+// How many shares may be read at once, where the reading of one goes on so: one at least, and as
+// many as can be judged at once, once an extension block was read, which is that of each.
+fn room_after(room: usize, next: &Reading) -> usize {
+    match next {
+        Reading::Beginning(_) => room,
+        Reading::Remaining(rest) => (JUDGED_AT_ONCE / rest.judging_size().max(1)).max(1) as usize,
+    }
+}
+
 // The shares that an answer lists.
 fn held_by(outcome: &Outcome) -> &[HeldShare]
     ensures offered { (total server : ℕ) → offered_in total server outcome.now
@@ -368,8 +377,11 @@ fn held_by(outcome: &Outcome) -> &[HeldShare]
         (filter (λ (h : HeldShare). nat_lt h.share total) result.now) }
     ensures held { AreRising result.now }
 {
-    match outcome {
-        Outcome::Answered(Body::Have(_, held)) => held.as_slice(),
+    let Outcome::Answered(kept) = outcome else {
+        return &[];
+    };
+    match kept.told() {
+        Some(Body::Have(_, held)) => held.as_slice(),
         _ => &[],
     }
 }
@@ -377,72 +389,19 @@ fn held_by(outcome: &Outcome) -> &[HeldShare]
 // Adds the shares of these that have a number below the file's.
 fn push_offers(
     alloc: Global,
+    keeps: bool,
     offers: &mut Vec<Offer>,
     total: u16,
     server: NodeId,
     held: &[HeldShare],
 ) -> Result<(), AllocError>
     ensures { OnOk result
-        (ArePushed total server held.now offers.old.items offers.new.items) }
+        (ArePushed keeps total server held.now offers.old.items offers.new.items) }
 {
     for share in held {
         if u16::from(share.share) < total {
-            offers.push(Offer {
-                server,
-                share: share.share,
-                front: Vec::new(alloc),
-                back: Vec::new(alloc),
-                stage: Stage::Waiting,
-            })?;
+            offers.push(Offer::new(alloc, keeps, server, share.share))?;
         }
     }
     Ok(())
-}
-
-// How many bytes the requests at these places brought.
-fn size_at(requests: &Requests, places: &[usize]) -> usize {
-    let mut size: usize = 0;
-    for place in places {
-        if let Some(found) = bytes_at(requests, *place) {
-            size = size.saturating_add(found.len());
-        }
-    }
-    size
-}
-
-// Adds the bytes that the requests at these places brought.
-fn join(bytes: &mut Vec<u8>, requests: &Requests, places: &[usize]) -> Result<(), AllocError>
-    ensures { OnOk result ((key : Pair) (reads : List Brought)
-        → AreReadAt requests.now.entries key places.now reads
-        → bytes.new.items ≡ bytes.old.items ++ joined reads) }
-{
-    for place in places {
-        if let Some(found) = bytes_at(requests, *place) {
-            bytes.extend_from_slice(found)?;
-        }
-    }
-    Ok(())
-}
-
-// The bytes that answered the request at a place.
-fn bytes_at(requests: &Requests, place: usize) -> Option<&[u8]>
-    ensures some { IfSome result (λ bytes. HasBytes requests.now.entries place bytes.now) }
-    ensures none { IfNone result ((bytes : List ℕ) → HasBytes requests.now.entries place bytes
-        → ⊥) }
-{
-    match requests.entries().get(place) {
-        Some(request) => data_of(&request.outcome),
-        None => None,
-    }
-}
-
-// The bytes that answered a request.
-fn data_of(outcome: &Outcome) -> Option<&[u8]>
-    ensures some { IfSome result (λ bytes. outcome.now ≡ Answered (Data bytes.now)) }
-    ensures none { IfNone result ((bytes : List ℕ) → outcome.now ≡ Answered (Data bytes) → ⊥) }
-{
-    match outcome {
-        Outcome::Answered(Body::Data(bytes)) => Some(bytes.as_slice()),
-        _ => None,
-    }
 }

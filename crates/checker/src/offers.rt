@@ -1,13 +1,17 @@
 //! The shares that servers offered, and how far each is read.
 
-ghost use Rattle.std.specs.Prelude.{◌≡◌, ◌<◌, Some, slice_get, slice_set, vec_len, OnOk};
-ghost use Rattle.std.specs.Prelude.{IfNone, IfSome};
+ghost use Rattle.std.specs.Prelude.{◌≡◌, ◌<◌, ◌∷◌, ◌++◌, [], Some, slice_get, slice_set, vec_len};
+ghost use Rattle.std.specs.Prelude.{IfNone, IfOk, IfSome, OnOk, if◌then◌else◌};
+ghost use Rattle.share_reading.specs.Judged.{IsUnderway};
+ghost use Rattle.share_reading.specs.Reading.{is_behind};
 ghost use Rattle.share_reading.specs.declared.reading.Reading.{Reading};
-ghost use Rattle.checker.specs.Offers.{IsKeptBy, with_stage};
+ghost use Rattle.checker.specs.Offers.{IsEndedBy, IsNew, IsTaken, with_stage};
 ghost use Rattle.checker.specs.declared.offers.Offer.{Offer};
 
-use share_reading::{Reading, Verdict};
-use std::alloc::AllocError;
+use crate::pieces::Pieces;
+use cap_text::VerifyCap;
+use share_reading::{Found, Judged, Reading, Verdict};
+use std::alloc::{AllocError, Global};
 use wire::message::NodeId;
 
 /// How far the reading of a share at a server is.
@@ -32,8 +36,81 @@ pub(crate) struct Offer {
     pub(crate) front: Vec<usize>,
     /// The places of those that brought its extension block's length and its extension block.
     pub(crate) back: Vec<usize>,
+    /// What is judged of it.
+    pub(crate) judged: Judged,
+    /// Its bytes, where the check keeps them.
+    pub(crate) pieces: Pieces,
     /// How far it is read.
     pub(crate) stage: Stage,
+}
+
+impl Offer {
+    /// A share of which nothing is read.
+    pub(crate) fn new(alloc: Global, keeps: bool, server: NodeId, share: u8) -> Offer
+        ensures server { result.server ≡ server }
+        ensures share { result.share ≡ share }
+        ensures new { IsNew keeps result }
+    {
+        Offer {
+            server,
+            share,
+            front: Vec::new(alloc),
+            back: Vec::new(alloc),
+            judged: Judged::begin(alloc),
+            pieces: Pieces::new(alloc, keeps),
+            stage: Stage::Waiting,
+        }
+    }
+
+    /// What comes of the bytes that the request at a place brought, which the reading asked for
+    /// next.
+    pub(crate) fn take(
+        &mut self,
+        cap: &VerifyCap,
+        reading: &Reading,
+        place: usize,
+        bytes: &[u8],
+    ) -> Result<Found, AllocError>
+        requires underway { IsUnderway cap.now reading.now self.old.judged }
+        ensures { IfOk result (λ found. IsTaken cap.now reading.now place bytes.now found self.old
+            self.new) }
+    {
+        let found = self
+            .judged
+            .take(cap, u16::from(self.share), reading, bytes)?;
+        self.pieces.add(reading.is_behind(), bytes)?;
+        self.note(reading, place)?;
+        Ok(found)
+    }
+
+    // Takes note of the request that brought the bytes that the reading asked for.
+    fn note(&mut self, reading: &Reading, place: usize) -> Result<(), AllocError>
+        ensures front { OnOk result (self.new.front.items ≡ (if is_behind reading.now
+            then self.old.front.items else self.old.front.items ++ place ∷ [])) }
+        ensures back { OnOk result (self.new.back.items ≡ (if is_behind reading.now
+            then self.old.back.items ++ place ∷ [] else self.old.back.items)) }
+        ensures same { self.new
+            ≡ record self.old { front = self.new.front; back = self.new.back } }
+    {
+        if reading.is_behind() {
+            self.back.push(place)?;
+        } else {
+            self.front.push(place)?;
+        }
+        Ok(())
+    }
+
+    // This is the verdict on it.
+    fn end(&mut self, verdict: Verdict)
+        ensures { IsEndedBy verdict self.old self.new }
+    {
+        let alloc = *self.front.allocator();
+        self.judged = Judged::begin(alloc);
+        if !matches!(verdict, Verdict::Good) {
+            self.pieces = Pieces::new(alloc, self.pieces.keeps);
+        }
+        self.stage = Stage::Ended(verdict);
+    }
 }
 
 /// How far a share is read whose next bytes the request at this place asks for.
@@ -63,31 +140,13 @@ pub(crate) fn wait(offers: &mut Vec<Offer>, offer: usize, reading: &Reading, pla
     offers[offer].stage = Stage::Read(*reading, place);
 }
 
-/// This is the verdict on a share.
+/// This is the verdict on a share. What was judged of it is let go, and the bytes of one that is not
+/// good.
 pub(crate) fn end(offers: &mut Vec<Offer>, offer: usize, verdict: Verdict)
     requires { offer < vec_len offers.old }
-    ensures { (o : Offer) → slice_get offers.old.items offer ≡ Some o → offers.new.items
-        ≡ slice_set offers.old.items offer (with_stage (Stage.Ended verdict) o) }
-{
-    offers[offer].stage = Stage::Ended(verdict);
-}
-
-/// The request at this place brought the bytes of a share that its reading asked for next.
-pub(crate) fn keep(
-    offers: &mut Vec<Offer>,
-    offer: usize,
-    reading: &Reading,
-    place: usize,
-) -> Result<(), AllocError>
-    requires { offer < vec_len offers.old }
-    ensures { OnOk result ((o : Offer) → slice_get offers.old.items offer ≡ Some o
+    ensures { (o : Offer) → slice_get offers.old.items offer ≡ Some o
         → (n : Offer) × (offers.new.items ≡ slice_set offers.old.items offer n)
-        × IsKeptBy reading.now place o n) }
+        × IsEndedBy verdict o n }
 {
-    if reading.is_behind() {
-        offers[offer].back.push(place)?;
-    } else {
-        offers[offer].front.push(place)?;
-    }
-    Ok(())
+    offers[offer].end(verdict);
 }

@@ -5,13 +5,13 @@ use Rattle.checker.specs.declared.offers.Offer.{Offer}
 use Rattle.checker.proofs.GoodLemmas.{found_at, good_offered}
 use Rattle.checker.proofs.good.good_share.Goals as goal
 
-pub returns-in_ok-bytes_of-in-Some-clause-some : goal.returns-in_ok-bytes_of-in-Some-clause-some
-returns-in_ok-bytes_of-in-Some-clause-some c =
+pub returns-in_ok-joined-in-Some-clause-some : goal.returns-in_ok-joined-in-Some-clause-some
+returns-in_ok-joined-in-Some-clause-some c =
     let m = c.args.machine.now in
-    let bytes = c.in_ok-bytes_of-in-Some.field-0.items in
+    let bytes = c.in_ok-joined-in-Some.field-0.items in
     let some = c.in-Some.ensures.some in
     subst (λ n. IsFound m.cap m.requests.entries n bytes) some.2
-    (found_at m c.requires.done some.0 c.in-Some.offer.now (ap (λ (l : List Offer). slice_get l some.0) (sym c.deref.ensures.value) ∙ some.1) some.3 bytes c.in_ok-bytes_of-in-Some.ensures)
+    (found_at m c.requires.done c.requires.keeps some.0 c.in-Some.offer.now (ap (λ (l : List Offer). slice_get l some.0) (sym c.deref.ensures.value) ∙ some.1) some.3 bytes c.in_ok-joined-in-Some.ensures)
 
 pub returns-in-None-clause-none : goal.returns-in-None-clause-none
 returns-in-None-clause-none c has =

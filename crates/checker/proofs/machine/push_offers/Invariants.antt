@@ -4,4 +4,4 @@ use Rattle.checker.proofs.machine.push_offers.Given as goal
 
 -- those before this one are added
 abbrev pub invariant-loop-share : goal.invariant-loop-share
-invariant-loop-share l = ArePushed l.total l.server (take l.share-index l.held) l.initial.offers.items l.offers.items
+invariant-loop-share l = ArePushed l.keeps l.total l.server (take l.share-index l.held) l.initial.offers.items l.offers.items

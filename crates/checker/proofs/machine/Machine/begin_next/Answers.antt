@@ -28,7 +28,7 @@ returns-clause-asks c =
     let m = c.args.self.now in
     let o = get_of m.offers.items m.begun c.requires.more in
     let more = asks_asked m c.ask.new.self m.begun c.start.result o.0 (c.in_ok-ask.ensures.ok o.0 o.1) in
-    record { cap = more.cap; asks = more.asks; reads = more.reads; requests = more.requests }
+    record { cap = more.cap; keeps = more.keeps; asks = more.asks; reads = more.reads; requests = more.requests }
 
 pub returns-in_err-ask-clause-asks : goal.returns-in_err-ask-clause-asks
 returns-in_err-ask-clause-asks c = asks_nothing c.args.self.now c.ask.new.self c.in_err-ask.ensures.err

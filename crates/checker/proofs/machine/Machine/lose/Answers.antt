@@ -1,4 +1,7 @@
-use Rattle.std.proofs.Common.{◌+◌, drop, inr, ap}
+use Rattle.std.proofs.Common.{◌≡◌, ◌+◌, ◌∙◌, drop, inr, ap, sym}
+use Rattle.wire.specs.declared.message.Body.{Body}
+use Rattle.wire.specs.declared.message.Body.TheVariants.{Data}
+use Rattle.request_record.specs.declared.requests.Outcome.TheVariants.{Answered, Lost}
 use Rattle.request_record.specs.Record.{is_outstanding}
 use Rattle.checker.proofs.Keeping.{asks_trans, losing_first, losing_more, losing_none, losing_settled}
 use Rattle.checker.proofs.machine.Machine.lose.Goals as goal
@@ -8,6 +11,14 @@ loop-place-init c = losing_none c.args.self.now c.args.places.now c.requires.boo
 
 pub take_in-requires-clause-settled : goal.take_in-requires-clause-settled
 take_in-requires-clause-settled c r e = ap is_outstanding (losing_settled c.args.self.now c.loop-place.self c.args.places.now c.loop-place.place-index c.loop-place.invariant c.loop-place-test.true r e)
+
+not_lost : (body : Body) → Lost ≡ Answered body → ⊥
+not_lost body e = cc
+
+pub take_in-requires-clause-brought : goal.take_in-requires-clause-brought
+take_in-requires-clause-brought c bytes has =
+    not_lost (Data bytes)
+    (sym (losing_settled c.args.self.now c.loop-place.self c.args.places.now c.loop-place.place-index c.loop-place.invariant c.loop-place-test.true has.request has.there) ∙ has.answer)
 
 pub loop-place-preserved : goal.loop-place-preserved
 loop-place-preserved c =

@@ -13,8 +13,8 @@ returns c =
     let there = slice_get_read es (length es) c.args.place q refl (c.requires.book.1.inside c.args.place (0, omega arith, refl)) is in
     record {
       book = λ todo b once.
-          told_pushed m.cap es m.told.items m.owners.items m.offers.items c.push_offers.new.offers.items m.begun c.args.place todo q c.held_by-held.result.now c.total.result _
+          told_pushed m.cap m.keeps es m.told.items m.owners.items m.offers.items c.push_offers.new.offers.items m.begun c.args.place todo q c.held_by-held.result.now c.total.result _
           b c.requires.safe.once c.requires.asks there c.in_ok-push_offers.ensures c.total.ensures.value c.held_by-held.ensures.held c.held_by-held.ensures.offered
           (c.len-first.ensures ∙ m.offers.ok.0) (omega (arith, c.len.ensures, c.len-first.ensures, m.offers.ok.0, c.push_offers.new.offers.ok.0)) once;
-      same = record { cap = refl; requests = refl };
+      same = record { cap = refl; keeps = refl; requests = refl };
     }
