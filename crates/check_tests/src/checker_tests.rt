@@ -225,22 +225,25 @@ fn found_of(verdict: Verdict) -> Found {
     }
 }
 
-// A check to its end. `None` where more requests wait at once than servers and 64 more.
-fn ended(alloc: Global, encoded: &Encoded, wrong: Wrong) -> Option<Check> {
+// A check that begins, and keeps the bytes of shares or not.
+fn begun(alloc: Global, encoded: &Encoded, keeps: bool) -> Option<Check> {
     let cap = verify_cap(encoded)?;
-    let mut check = Check::start(alloc, cap, &NODES, 5, 0).ok()?;
+    if keeps {
+        Check::start_keeping(alloc, cap, &NODES, 5, 0).ok()
+    } else {
+        Check::start(alloc, cap, &NODES, 5, 0).ok()
+    }
+}
+
+// A check to its end. `None` where more requests wait at once than servers and 64 more.
+fn ended(alloc: Global, encoded: &Encoded, wrong: Wrong, keeps: bool) -> Option<Check> {
+    let mut check = begun(alloc, encoded, keeps)?;
     let mut now: u64 = 0;
     for _ in 0..1_000 {
         if check.status() != CheckStatus::Running {
             break;
         }
-        let mut sent: Vec<(NodeId, Message)> = Vec::new(alloc);
-        for _ in 0..1_000 {
-            match check.take_outgoing() {
-                Some(request) => sent.push(request).ok()?,
-                None => break,
-            }
-        }
+        let sent = taken(alloc, &mut check)?;
         if 74 < sent.len() {
             return None;
         }
@@ -259,7 +262,7 @@ fn ended(alloc: Global, encoded: &Encoded, wrong: Wrong) -> Option<Check> {
 
 // What a check told at its end.
 fn end_of(alloc: Global, encoded: &Encoded, wrong: Wrong) -> Option<Ending> {
-    let report = ended(alloc, encoded, wrong)?.report(alloc).ok()??;
+    let report = ended(alloc, encoded, wrong, false)?.report(alloc).ok()??;
     let mut found = Found::Nothing;
     let mut good: usize = 0;
     for verdict in report.verdicts.as_slice() {
@@ -283,7 +286,9 @@ fn end_of(alloc: Global, encoded: &Encoded, wrong: Wrong) -> Option<Ending> {
 // The numbers of the good shares that a check hands out. `None` where the bytes of one are not
 // those of the file's share.
 fn handed_out(alloc: Global, encoded: &Encoded, wrong: Wrong) -> Option<Vec<u16>> {
-    let shares = ended(alloc, encoded, wrong)?.good_shares(alloc).ok()??;
+    let shares = ended(alloc, encoded, wrong, true)?
+        .good_shares(alloc)
+        .ok()??;
     let mut numbers = Vec::new(alloc);
     for (number, bytes) in &shares {
         let share = encoded.shares.get(usize::from(*number))?;
@@ -412,14 +417,57 @@ fn good_shares_are_handed_out(rt: HostRuntime) {
             };
             assert!(rt; is_expected, "check {i}");
         }
-        assert!(rt; hands_nothing_out_yet(rt.alloc(), encoded) == Some(true));
+        assert!(rt; hands_nothing_out(rt.alloc(), encoded) == Some(true));
     }
 }
 
-// Whether a check that runs hands nothing out.
-fn hands_nothing_out_yet(alloc: Global, encoded: &Encoded) -> Option<bool> {
-    let check = Check::start(alloc, verify_cap(encoded)?, &NODES, 5, 0).ok()?;
-    Some(check.good_shares(alloc).ok()?.is_none())
+// Whether a check that runs hands nothing out, nor one that is done and keeps no bytes of shares.
+fn hands_nothing_out(alloc: Global, encoded: &Encoded) -> Option<bool> {
+    let running = begun(alloc, encoded, true)?;
+    let done = ended(alloc, encoded, Wrong::Nothing, false)?;
+    Some(
+        running.good_shares(alloc).ok()?.is_none()
+            && done.status() == CheckStatus::Done
+            && done.good_shares(alloc).ok()?.is_none(),
+    )
+}
+
+// How many shares are read at once, at first and once the extension block of one is read.
+#[test]
+fn shares_are_read_at_once(rt: HostRuntime) {
+    let shares = encoded(rt.alloc());
+    assert!(rt; shares.is_some());
+    if let Some(encoded) = &shares {
+        let counts = [10, 1, 1, 1, 10];
+        for (i, expected) in counts.iter().enumerate() {
+            let sent = sent_in_round(rt.alloc(), encoded, i);
+            assert!(rt; sent == Some(*expected), "round {i}: {sent:?}");
+        }
+    }
+}
+
+// How many requests a check sends at once, after so many rounds in which each is answered.
+fn sent_in_round(alloc: Global, encoded: &Encoded, rounds: usize) -> Option<usize> {
+    let mut check = begun(alloc, encoded, false)?;
+    for _ in 0..rounds {
+        for (node, request) in &taken(alloc, &mut check)? {
+            let message = answer(alloc, encoded, Wrong::Nothing, *node, request)??;
+            check.on_message(*node, message, 0).ok()?;
+        }
+    }
+    Some(taken(alloc, &mut check)?.len())
+}
+
+// All requests that a check has to send.
+fn taken(alloc: Global, check: &mut Check) -> Option<Vec<(NodeId, Message)>> {
+    let mut sent = Vec::new(alloc);
+    for _ in 0..1_000 {
+        match check.take_outgoing() {
+            Some(request) => sent.push(request).ok()?,
+            None => break,
+        }
+    }
+    Some(sent)
 }
 
 #[test]
@@ -433,7 +481,7 @@ fn a_check_without_servers_is_done(rt: HostRuntime) {
 
 fn without_servers(alloc: Global) -> Option<bool> {
     let cap = verify_cap(&encoded(alloc)?)?;
-    let check = Check::start(alloc, cap, &[], 5, 0).ok()?;
+    let check = Check::start_keeping(alloc, cap, &[], 5, 0).ok()?;
     let report = check.report(alloc).ok()??;
     let shares = check.good_shares(alloc).ok()??;
     Some(

@@ -11,3 +11,4 @@ mod Own
 mod ApartLemmas
 mod FoundLemmas
 mod GoodLemmas
+mod KeepingCheckLemmas

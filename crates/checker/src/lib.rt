@@ -17,6 +17,7 @@
 
 mod check;
 mod good;
+mod keeping_check;
 mod machine;
 mod offers;
 mod pieces;
@@ -24,3 +25,4 @@ mod report;
 pub mod status;
 
 pub use check::Check;
+pub use keeping_check::KeepingCheck;

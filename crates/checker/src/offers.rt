@@ -140,8 +140,8 @@ pub(crate) fn wait(offers: &mut Vec<Offer>, offer: usize, reading: &Reading, pla
     offers[offer].stage = Stage::Read(*reading, place);
 }
 
-/// This is the verdict on a share. What was judged of it is let go, and the bytes of one that is not
-/// good.
+/// This is the verdict on a share. What was judged of it is let go, and the bytes of one that is
+/// not good.
 pub(crate) fn end(offers: &mut Vec<Offer>, offer: usize, verdict: Verdict)
     requires { offer < vec_len offers.old }
     ensures { (o : Offer) → slice_get offers.old.items offer ≡ Some o
