@@ -1,6 +1,6 @@
 //! A check as a client.
 
-ghost use Rattle.std.specs.Prelude.{◌≡◌, ◌↔◌, ◌≢◌, None, IfOk, IfSome, map};
+ghost use Rattle.std.specs.Prelude.{◌≡◌, ◌↔◌, ◌≢◌, ◌⊎◌, None, IfOk, IfSome, false, map};
 ghost use Rattle.checker.specs.Good.{AreGoodShares};
 ghost use Rattle.checker.specs.Report.{IsReport};
 ghost use Rattle.checker.specs.declared.status.CheckStatus.TheVariants.{Done};
@@ -45,12 +45,14 @@ impl CheckClient {
     }
 
     /// The good shares that the check found, once it is done: of the lowest numbers that have one,
-    /// as many as are needed or as there are. `None` before, and where it failed.
+    /// as many as are needed or as there are. `None` before, where it failed, and where it keeps no
+    /// bytes of shares.
     pub fn good_shares(&self, alloc: Global) -> Result<Option<Vec<(u16, Vec<u8>)>>, AllocError>
         ensures good { IfOk result (λ told. IfSome told (λ l. AreGoodShares self.now.cap
             self.now.requests.entries (map (λ s. s.0) l.items)
             (map (λ s. s.1.items) l.items))) }
-        ensures none { IfOk result (λ told. (told ≡ None) ↔ (self.now.status ≢ Done)) }
+        ensures none { IfOk result (λ told. (told ≡ None)
+            ↔ ((self.now.status ≢ Done) ⊎ (self.now.keeps ≡ false))) }
     {
         self.check.good_shares(alloc)
     }

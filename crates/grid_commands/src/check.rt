@@ -1,8 +1,5 @@
 //! `grid check`: a verdict on each share of a cap's file that the servers of a grid offer.
 
-ghost use Rattle.std.specs.Prelude.{nat_eq};
-ghost use Rattle.std.specs.List.{IsDistinct};
-
 use crate::{DONE, LITERAL};
 use cap_text::{Cap, VerifyCap};
 use checker::Check;
@@ -20,7 +17,6 @@ use std::alloc::Global;
 use std::io::{IsTerminal, Write};
 use std::net::Net;
 use std::rt::{Clock, Files};
-use wire::message::NodeId;
 
 /// How many bytes of a share are no blocks, at most: those of three trees over 1,048,576 segments,
 /// and of its header, its share hashes and its extension block.
@@ -121,7 +117,8 @@ where
     let servers = standing.as_slice();
     let mut nodes = open_servers(rt, words.grid, servers, Purpose::Reading, words.net)?;
     progress.begin(Verb::Check, Counting::Answered(share_bytes(&cap)), 0);
-    let client = carry_check(rt.alloc(), cap, servers, &mut nodes, progress)?;
+    let check = Check::start(rt.alloc(), cap, servers, FIRST_SESSION, nodes.clock())?;
+    let client = carry_check(check, servers.len(), &mut nodes, progress)?;
     note_servers(rt, words.grid, servers, &nodes, Purpose::Reading, progress)?;
     // One without a report found no memory.
     client.report(rt.alloc())?.ok_or(Fault::OutOfMemory)
@@ -139,22 +136,18 @@ fn check_limit(cap: &VerifyCap, servers: u64) -> u64 {
     turn_limit(shares, share_bytes(cap).saturating_add(MOST_HASHES))
 }
 
-/// Carries a check of a cap's file to its end over these servers, which are distinct.
+/// Carries a check at so many servers to its end.
 pub(crate) fn carry_check<R, E>(
-    alloc: Global,
-    cap: VerifyCap,
-    servers: &[NodeId],
+    check: Check,
+    servers: usize,
     nodes: &mut FolderGrid<R>,
     progress: &mut Progress<'_, R, E>,
 ) -> Result<CheckClient, Fault>
 where
     R: Files + Net + Clock + AllocGlobal + Clone + Drop,
     E: Write + IsTerminal,
-    requires { IsDistinct nat_eq servers.now }
 {
-    let now = nodes.clock();
-    let limit = check_limit(&cap, servers.len() as u64);
-    let check = Check::start(alloc, cap, servers, FIRST_SESSION, now)?;
+    let limit = check_limit(check.cap(), servers as u64);
     let mut client = Watched::new(CheckClient::new(check), progress);
     nodes.run_within(&mut client, limit)?;
     Ok(client.into_client())

@@ -11,6 +11,7 @@ use crate::check::{carry_check, share_bytes, verify_cap};
 use crate::mending::mend_servers;
 use crate::placing::{Begun, Placing, carry_upload, durability_of};
 use cap_text::VerifyCap;
+use checker::Check;
 use file_encoding::{DecodedFile, Share, decode_shares, regenerated_pass};
 use file_upload::shares::{PreparedShares, prepare_shares};
 use grid_rules::{Fault, Limit, Verb, read_cap, servers_of};
@@ -137,7 +138,8 @@ where
     requires { IsDistinct nat_eq servers.now }
 {
     progress.begin(Verb::Repair, Counting::Answered(share_bytes(cap)), 0);
-    let client = carry_check(alloc, *cap, servers, nodes, progress)?;
+    let check = Check::start_keeping(alloc, *cap, servers, FIRST_SESSION, nodes.clock())?;
+    let client = carry_check(check, servers.len(), nodes, progress)?;
     // A check that is not done found no memory.
     client.good_shares(alloc)?.ok_or(Fault::OutOfMemory)
 }

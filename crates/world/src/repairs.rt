@@ -16,7 +16,7 @@ ghost use Rattle.world.specs.Step.{IsDoneCheck, RepairBegins, RepairStarts};
 use crate::nodes::{nodes_up_to, servers_at};
 use crate::parts::done_check;
 use crate::scene::Scene;
-use checker::Check;
+use checker::KeepingCheck;
 use std::alloc::AllocError;
 use upload_core::status::ServerInfo;
 use wire::message::NodeId;
@@ -25,7 +25,7 @@ use world_operations::task::{StartError, Task};
 
 impl Scene {
     // The check of this number, if it is one of this node that is done.
-    fn done_check_at(&self, node: NodeId, number: usize) -> Option<&Check>
+    fn done_check_at(&self, node: NodeId, number: usize) -> Option<&KeepingCheck>
         ensures some { IfSome result
             (λ check. IsDoneCheck (state_of self.now) node number check.now) }
         ensures none { IfNone result ((check : CheckState)
@@ -74,7 +74,7 @@ impl Scene {
         node: NodeId,
         number: usize,
         happy: u16,
-        check: &Check,
+        check: &KeepingCheck,
     ) -> Result<(Job, Task), AllocError>
         requires few { length self.now.servers.items + length self.now.heard.items ≤ 256 }
         requires done { IsDoneCheck (state_of self.now) node number check.now }

@@ -23,7 +23,7 @@ ghost use Rattle.world_operations.specs.Tasks.{runs, upload_runs};
 use crate::job::Job;
 use crate::upload_pieces::UploadPieces;
 use cap_text::{ReadCap, VerifyCap};
-use checker::Check;
+use checker::KeepingCheck;
 use checker::status::CheckStatus;
 use download_core::Download;
 use download_core::status::{DownloadError, DownloadStatus, Piece};
@@ -60,7 +60,7 @@ impl From<AllocError> for StartError {
 pub enum Task {
     Uploading(Upload<UploadPieces>),
     Downloading(Download),
-    Checking(Check),
+    Checking(KeepingCheck),
     /// There is no machine, only the operation's number: a repair made no shares, the source of an
     /// upload changed while it was read, or a call of an upload or of a check found no memory,
     /// which leaves nothing to be said of the machine.
@@ -350,7 +350,7 @@ fn begin_check(
         (Begins (jobs.Check cap) servers nodes.now session now) }
     ensures refused { IsErrOf result StartError.Refused → ⊥ }
 {
-    match Check::start(alloc, cap, nodes, session, now) {
+    match KeepingCheck::start(alloc, cap, nodes, session, now) {
         Ok(check) => Ok(Task::Checking(check)),
         Err(_) => Err(StartError::OutOfMemory),
     }
@@ -392,7 +392,7 @@ fn tick_upload(upload: &mut Upload<UploadPieces>, now: u64) -> Result<(), AllocE
 }
 
 // A check takes note of a second while it runs.
-fn tick_check(check: &mut Check, now: u64) -> Result<(), AllocError>
+fn tick_check(check: &mut KeepingCheck, now: u64) -> Result<(), AllocError>
     ensures ok { OnOk result (CheckTicks now check.old check.new) }
     ensures err { OnErr result (check.old.status ≡ checks.Running) }
 {

@@ -1,7 +1,7 @@
 //! What came of worlds.
 
 use crate::steps::Kept;
-use checker::Check;
+use checker::KeepingCheck;
 use checker::status::ShareVerdict;
 use download_core::Download;
 use download_core::status::{Blame, Piece};
@@ -111,7 +111,12 @@ pub(crate) fn finds(
     }
 }
 
-fn tells(alloc: Global, check: &Check, good: usize, wanted: &[(NodeId, u8, Verdict)]) -> bool {
+fn tells(
+    alloc: Global,
+    check: &KeepingCheck,
+    good: usize,
+    wanted: &[(NodeId, u8, Verdict)],
+) -> bool {
     match check.report(alloc) {
         Ok(Some(report)) => are_found(report.verdicts.as_slice(), good, wanted),
         _ => false,

@@ -1,6 +1,6 @@
 use Rattle.std.specs.List.{IsDistinct}
 use Rattle.check_tests.proofs.checker_tests.without_servers.Goals as goal
 
-pub start-requires : goal.start-requires
+pub start_keeping-requires : goal.start_keeping-requires
 unfolding IsDistinct
-start-requires c = record { distinct = tt }
+start_keeping-requires c = record { distinct = tt }
