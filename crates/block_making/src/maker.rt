@@ -90,7 +90,8 @@ impl BlockMaker<'_> {
     /// on. A block that no slot holds is made of its segment, and with it those of other shares
     /// that want it next.
     ///
-    /// The two buffers are for a segment with its padding and for eight blocks side by side.
+    /// The two buffers are for a segment with its padding, or more, and for eight blocks side by
+    /// side.
     pub fn put_blocks<S: Source>(
         &self,
         source: &mut S,
@@ -100,7 +101,7 @@ impl BlockMaker<'_> {
         offset: u64,
         out: &mut [u8],
     ) -> Result<(), PieceError>
-        requires segment { length segment.old ≡ self.now.geometry.segment_size }
+        requires segment { self.now.geometry.segment_size ≤ length segment.old }
         requires lanes { length lanes.old ≡ 8 * block_size self.now.geometry }
         requires slots { AreSlots self.now.geometry self.now.leaves slots.old }
         requires inside { offset + length out.old < 2 ^ 63 }
@@ -142,7 +143,7 @@ impl BlockMaker<'_> {
         out: &mut [u8],
     ) -> Result<(), PieceError>
         requires number { number < segment_count self.now.geometry }
-        requires segment { length segment.old ≡ self.now.geometry.segment_size }
+        requires segment { self.now.geometry.segment_size ≤ length segment.old }
         requires lanes { length lanes.old ≡ 8 * block_size self.now.geometry }
         requires slots { AreSlots self.now.geometry self.now.leaves slots.old }
         requires inside { offset + length out.old < 2 ^ 63 }

@@ -2,7 +2,7 @@ pub mod OneByOne
 pub mod Blocks
 pub mod Given
 pub mod KeyReading
-pub mod Segments
+pub mod GroupSteps
 pub mod ShareBlocks
 pub mod GivenBytes
 pub mod SecondPass

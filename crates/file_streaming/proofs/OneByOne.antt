@@ -15,7 +15,7 @@ use Rattle.share_verify.specs.Pieces.{block_hashes, joined}
 use Rattle.proved_parts.specs.FileOf.{segment_hashes}
 use Rattle.file_encoding.specs.Encoding.{block_of, blocks_of, share_hashes, share_leaves, share_of}
 use Rattle.block_making.proofs.Streams.{drop-xored, take-xored}
-use Rattle.file_streaming.specs.Gathered.{Gathered, IsGathered, behind_blocks, gathered, gathered_more, gathered_none}
+use Rattle.file_streaming.specs.Gathered.{Gathered, IsGathered, behind_blocks, gathered, gathered_more, gathered_none, gathered_segments}
 
 -- ---- encryption segment by segment
 
@@ -26,13 +26,9 @@ xored-nothing key p q (b ∷ bs) none = absurd (omega arith)
 
 -- ---- what is gathered of a ciphertext's segments
 
-abbrev pub all_of : Geometry → List (List ℕ) → Gathered → Gathered
-all_of g [] s = s
-all_of g (c ∷ cs) s = all_of g cs (gathered_more g c s)
-
 -- encrypted at their places, the pieces of a text are the pieces of its ciphertext
 pub gathered-encrypted : (g : Geometry) (key : List ℕ) (n size place : ℕ) (text : List ℕ) (s : Gathered)
-    → gathered g key place (pieces n size text) s ≡ all_of g (pieces n size (xored_from key place text)) s
+    → gathered g key place (pieces n size text) s ≡ gathered_segments g (pieces n size (xored_from key place text)) s
 gathered-encrypted g key zero size place text s = refl
 gathered-encrypted g key (suc n) size place text s =
     let front : List ℕ = take size text in
@@ -44,34 +40,34 @@ gathered-encrypted g key (suc n) size place text s =
       | inr whole ↦ (let same : place + length front ≡ place + size = omega (arith, long) in ap (λ p. xored_from key p (drop size text)) same ∙ sym (drop-xored key size place text))
     ] in
     gathered-encrypted g key n size (place + length front) (drop size text) next
-    ∙ ap (λ (t : List ℕ). all_of g (pieces n size t) next) rest
-    ∙ ap (λ (c : List ℕ). all_of g (pieces n size (drop size (xored_from key place text))) (gathered_more g c s)) (sym (take-xored key size place text))
+    ∙ ap (λ (t : List ℕ). gathered_segments g (pieces n size t) next) rest
+    ∙ ap (λ (c : List ℕ). gathered_segments g (pieces n size (drop size (xored_from key place text))) (gathered_more g c s)) (sym (take-xored key size place text))
 
 -- one more at the end of a list, and the rest
 one-more : {X : Type 0} (xs : List X) (x : X) (ys : List X) → (xs ++ x ∷ []) ++ ys ≡ xs ++ x ∷ ys
 one-more xs x ys = append_assoc xs (x ∷ []) ys
 
 module _ (g : Geometry) where
-  ciphertext-all : (cs : List (List ℕ)) (s : Gathered) → (all_of g cs s).ciphertext ≡ s.ciphertext ++ joined cs
+  pub ciphertext-all : (cs : List (List ℕ)) (s : Gathered) → (gathered_segments g cs s).ciphertext ≡ s.ciphertext ++ joined cs
   ciphertext-all [] s = sym (append-nil s.ciphertext)
   ciphertext-all (c ∷ cs) s = ciphertext-all cs (gathered_more g c s) ∙ append_assoc s.ciphertext c (joined cs)
 
-  leaves-all : (cs : List (List ℕ)) (s : Gathered) → (all_of g cs s).leaves ≡ s.leaves ++ segment_hashes cs
+  pub leaves-all : (cs : List (List ℕ)) (s : Gathered) → (gathered_segments g cs s).leaves ≡ s.leaves ++ segment_hashes cs
   leaves-all [] s = sym (append-nil s.leaves)
   leaves-all (c ∷ cs) s = leaves-all cs (gathered_more g c s) ∙ one-more s.leaves (tagged_hash CiphertextSegment c) (segment_hashes cs)
 
-  block_leaves-all : (i : ℕ) (cs : List (List ℕ)) (s : Gathered) → (all_of g cs s).block_leaves i ≡ s.block_leaves i ++ block_hashes (blocks_of g.needed i cs)
+  block_leaves-all : (i : ℕ) (cs : List (List ℕ)) (s : Gathered) → (gathered_segments g cs s).block_leaves i ≡ s.block_leaves i ++ block_hashes (blocks_of g.needed i cs)
   block_leaves-all i [] s = sym (append-nil (s.block_leaves i))
   block_leaves-all i (c ∷ cs) s =
       block_leaves-all i cs (gathered_more g c s) ∙ one-more (s.block_leaves i) (tagged_hash Block (block_of g.needed i c)) (block_hashes (blocks_of g.needed i cs))
 
-  written-all : (i : ℕ) (cs : List (List ℕ)) (s : Gathered) → (all_of g cs s).written i ≡ s.written i ++ joined (blocks_of g.needed i cs)
+  written-all : (i : ℕ) (cs : List (List ℕ)) (s : Gathered) → (gathered_segments g cs s).written i ≡ s.written i ++ joined (blocks_of g.needed i cs)
   written-all i [] s = sym (append-nil (s.written i))
   written-all i (c ∷ cs) s = written-all i cs (gathered_more g c s) ∙ append_assoc (s.written i) (block_of g.needed i c) (joined (blocks_of g.needed i cs))
 
 -- ---- a text and its pieces
 
-joined-pieces : (n size : ℕ) (text : List ℕ) → length text ≤ n * size → joined (pieces n size text) ≡ text
+pub joined-pieces : (n size : ℕ) (text : List ℕ) → length text ≤ n * size → joined (pieces n size text) ≡ text
 joined-pieces zero size [] fits = refl
 joined-pieces zero size (b ∷ bs) fits = absurd (omega arith)
 joined-pieces (suc n) size text fits =
@@ -90,7 +86,7 @@ one_by_one g key file valid long =
     let c : List ℕ = xored key file in
     let cs : List (List ℕ) = segments_of g c in
     let s : Gathered = gathered g key 0 (segments_of g file) (gathered_none g) in
-    let all : s ≡ all_of g cs (gathered_none g) = gathered-encrypted g key (segment_count g) g.segment_size 0 file (gathered_none g) in
+    let all : s ≡ gathered_segments g cs (gathered_none g) = gathered-encrypted g key (segment_count g) g.segment_size 0 file (gathered_none g) in
     record {
       ciphertext_is = ap (λ (t : Gathered). t.ciphertext) all ∙ ciphertext-all g cs (gathered_none g) ∙ joined-segments g c valid (length-xored_from key 0 file ∙ long);
       leaves = ap (λ (t : Gathered). t.leaves) all ∙ leaves-all g cs (gathered_none g);

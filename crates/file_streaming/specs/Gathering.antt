@@ -1,17 +1,18 @@
 -- What the second pass over a source holds.
-use Rattle.std.specs.Prelude.{◌≡◌, ℕ, ◌*◌, List, ◌++◌, length}
+use Rattle.std.specs.Prelude.{◌≡◌, ℕ, ◌-◌, ◌*◌, ◌<◌, List, ◌++◌, length, min}
 use Rattle.std.specs.Int.{div_ceil}
 use Rattle.aes_ctr.specs.CounterMode.{xored_from}
 use Rattle.tagged_hash.specs.TaggedHasher.{Holds, HoldsFile}
 use Rattle.tagged_hash.specs.declared.tag.Tag.TheVariants.{Ciphertext}
-use Rattle.share_layout.specs.Geometry.{Geometry, block_size}
-use Rattle.share_layout.specs.Pieces.{segment_length, segments_of}
+use Rattle.share_layout.specs.Geometry.{Geometry, IsGeometry, block_size, segment_count}
+use Rattle.share_layout.specs.Pieces.{pieces, segments_of}
 use Rattle.sources.specs.Source.{IsPass, IsRead}
-use Rattle.file_streaming.specs.Gathered.{Gathered, gathered, gathered_more, gathered_none}
+use Rattle.file_streaming.specs.Gathered.{Gathered, gathered, gathered_none, gathered_segments}
 use Rattle.file_streaming.specs.Shares.{HoldShares}
 use Rattle.file_streaming.specs.Wholes.{AreGiven}
 use Rattle.file_streaming.specs.declared.gathering.Buffers.{Buffers}
 use Rattle.file_streaming.specs.declared.gathering.Gathering.{Gathering}
+use Rattle.file_streaming.specs.declared.groups.Group.{Group}
 
 -- what was gathered of a file and its ciphertext
 pub record HasGathered (g : Geometry) (s : Gathered) (secret file : List ℕ) (x : Gathering)
@@ -24,15 +25,29 @@ pub record HasGathered (g : Geometry) (s : Gathered) (secret file : List ℕ) (x
   pub groups : length x.wholes.items ≡ div_ceil g.total 8
   pub wholes : AreGiven g.total s.written x.wholes.items
 
--- the segment of this number was read and gathered, encrypted at its place
-pub record IsSegmentGathered {S : Type 0} (gives : S → ℕ → List ℕ → S → Type 0) (old : S)
-    (g : Geometry) (key : List ℕ) (number : ℕ) (before after : Gathering) (new : S) : Type 0 where
-  pub segment : List ℕ
-  pub long : length segment ≡ segment_length g number
-  pub read : IsRead gives old (number * g.segment_size) segment new
+-- the segments that begin with this one: eight, or those that are left
+pub record IsGroup (g : Geometry) (group : Group) : Type 0 where
+  pub valid : IsGeometry g
+  pub some : group.first < segment_count g
+  pub count : group.count ≡ min 8 (segment_count g - group.first)
+  pub place : group.place ≡ group.first * g.segment_size
+  pub long : group.len ≡ min (group.count * g.segment_size) (g.size - group.place)
+
+-- what is gathered with the ciphertext of these segments
+abbrev pub gathered_group : Geometry → Group → List ℕ → Gathered → Gathered
+gathered_group g group text s =
+    gathered_segments g (pieces group.count g.segment_size text) s
+
+-- these segments were read and gathered, encrypted at their place
+pub record IsGroupGathered {S : Type 0} (gives : S → ℕ → List ℕ → S → Type 0) (old : S)
+    (g : Geometry) (key : List ℕ) (group : Group) (before after : Gathering) (new : S)
+    : Type 0 where
+  pub text : List ℕ
+  pub long : length text ≡ group.len
+  pub read : IsRead gives old group.place text new
   pub has : (s : Gathered) (secret file : List ℕ) → HasGathered g s secret file before
-      → HasGathered g (gathered_more g (xored_from key (number * g.segment_size) segment) s)
-      secret (file ++ segment) after
+      → HasGathered g (gathered_group g group (xored_from key group.place text) s)
+      secret (file ++ text) after
 
 -- the source was read once, and what is held was gathered of its segments, each encrypted at its
 -- place under this key
@@ -42,7 +57,7 @@ pub record IsGatheredFrom {S : Type 0} (gives : S → ℕ → List ℕ → S →
   pub pass : IsPass gives g.size old file new
   pub has : HasGathered g (gathered g key 0 (segments_of g file) (gathered_none g)) secret file x
 
--- they have room for a segment with its padding, and for eight blocks
+-- they have room for eight segments with their padding, and for eight blocks
 pub record AreBuffers (g : Geometry) (b : Buffers) : Type 0 where
-  pub segment : length b.segment.items ≡ g.segment_size
+  pub segments : length b.segments.items ≡ 8 * g.segment_size
   pub lanes : length b.lanes.items ≡ 8 * block_size g

@@ -1,29 +1,31 @@
-// The second pass over a source: its segments are encrypted, encoded and hashed one after another,
-// each let go before the next.
+// The second pass over a source: its segments are encrypted, encoded and hashed, eight at a time,
+// and let go before the next.
 
 ghost use Rattle.std.specs.Prelude.{◌≡◌, ◌⊎◌, ◌+◌, ◌*◌, ◌/◌, ◌%◌, ◌<◌, ◌≤◌, ◌^◌, ◌++◌, ℕ, List, []};
 ghost use Rattle.std.specs.Prelude.{length, take, drop, IfErr, IfOk, IsErrOf, OnOk};
 ghost use Rattle.std.specs.Int.{div_ceil};
 ghost use Rattle.aes_ctr.specs.CounterMode.{xored_from};
 ghost use Rattle.tagged_hash.specs.TaggedHasher.{HoldsFile};
-ghost use Rattle.ueb.specs.Shape.{rounded_up};
-ghost use Rattle.share_layout.specs.Geometry.{Geometry, block_size, segment_count};
+ghost use Rattle.share_layout.specs.Geometry.{block_size};
+ghost use Rattle.share_layout.specs.Pieces.{pieces};
+ghost use Rattle.proved_parts.specs.FileOf.{segment_hashes};
 ghost use Rattle.sources.specs.Change.{HasEndedEarly};
 ghost use Rattle.sources.specs.Source.{HasFailedMore};
-ghost use Rattle.file_streaming.specs.Gathered.{Gathered, gathered_more, gathered_none};
+ghost use Rattle.file_streaming.specs.Gathered.{Gathered, gathered_none};
 ghost use Rattle.file_streaming.specs.Gathering.{AreBuffers, HasGathered, IsGatheredFrom};
-ghost use Rattle.file_streaming.specs.Gathering.{IsSegmentGathered};
+ghost use Rattle.file_streaming.specs.Gathering.{IsGroup, IsGroupGathered, gathered_group};
 
 use crate::error::PrepareError;
 use crate::geometry::file_code;
-use crate::shares::{ShareSoFar, add_blocks, begin_shares};
+use crate::groups::Group;
+use crate::shares::{ShareSoFar, add_segments, begin_shares};
 use crate::wholes::{WholeHashers, begin_wholes};
 use aes_ctr::Aes128;
 use block_making::Encoder;
 use share_layout::Geometry;
 use sources::{Source, read_part};
 use std::alloc::{AllocError, Global};
-use tagged_hash::{KeyHasher, Tag, TaggedHasher, tagged};
+use tagged_hash::{KeyHasher, Tag, TaggedHasher, tagged_pieces};
 
 /// What is gathered of a file: its key, the hash of its ciphertext, the leaves of the ciphertext
 /// tree, and its shares by number with the hashers of their bytes.
@@ -72,48 +74,45 @@ impl Gathering {
         })
     }
 
-    // Gathers a segment, of so many bytes at the beginning of the buffer, which stands at this
-    // place of its file. The buffer has room for its padding alone, and its bytes are lost. Its
-    // blocks have `size` bytes, and there is room for eight.
+    // Gathers a group of segments, which stand at the beginning of the first buffer. Their bytes
+    // are lost. The other buffer has room for eight blocks.
     fn add(
         &mut self,
         encoder: &Encoder,
-        place: u64,
-        len: usize,
-        padded: &mut [u8],
-        size: usize,
+        geometry: &Geometry,
+        group: Group,
+        segments: &mut [u8],
         lanes: &mut [u8],
     ) -> Result<(), AllocError>
-        requires place { place + len < 2 ^ 64 }
-        requires some { 0 < encoder.now.code.k }
-        requires small { encoder.now.code.k ≤ 256 }
-        requires padded { length padded.old ≡ rounded_up len encoder.now.code.k }
-        requires block { length padded.old ≡ encoder.now.code.k * size }
-        requires room { 8 * size ≤ length lanes.old }
-        requires total { length self.old.shares.items ≡ encoder.now.code.n }
-        requires few { length self.old.shares.items ≤ 256 }
-        requires wholes { length self.old.wholes.items
-            ≡ div_ceil (length self.old.shares.items) 8 }
+        requires group { IsGroup geometry.now group }
+        requires needed { encoder.now.code.k ≡ geometry.now.needed }
+        requires total { encoder.now.code.n ≡ geometry.now.total }
+        requires segments { length segments.old ≡ 8 * geometry.now.segment_size }
+        requires lanes { length lanes.old ≡ 8 * block_size geometry.now }
+        requires shares { length self.old.shares.items ≡ geometry.now.total }
+        requires wholes { length self.old.wholes.items ≡ div_ceil geometry.now.total 8 }
         ensures shares { OnOk result
             (length self.new.shares.items ≡ length self.old.shares.items) }
         ensures wholes { OnOk result
             (length self.new.wholes.items ≡ length self.old.wholes.items) }
-        ensures gathered { (g : Geometry) (s : Gathered) (secret file : List ℕ)
-            → g.needed ≡ encoder.now.code.k → HasGathered g s secret file self.old
-            → OnOk result (HasGathered g
-            (gathered_more g (xored_from encoder.now.cipher place (take len padded.old)) s)
-            secret (file ++ take len padded.old) self.new) }
+        ensures gathered { (s : Gathered) (secret file : List ℕ)
+            → HasGathered geometry.now s secret file self.old
+            → OnOk result (HasGathered geometry.now (gathered_group geometry.now group
+            (xored_from encoder.now.cipher group.place (take group.len segments.old)) s)
+            secret (file ++ take group.len segments.old) self.new) }
     {
-        let segment = &mut padded[..len];
-        self.key.update(segment);
-        encoder.cipher.xor_at(place, segment);
-        self.ciphertext.update(segment);
-        self.leaves.push(tagged(Tag::CiphertextSegment, segment))?;
-        padded[len..].fill(0);
-        add_blocks(
+        let size = geometry.segment_size() as usize;
+        let text = &mut segments[..group.len];
+        self.key.update(text);
+        encoder.cipher.xor_at(group.place, text);
+        self.ciphertext.update(text);
+        add_leaves(text, size, group.count as usize, &mut self.leaves)?;
+        segments[group.len..].fill(0);
+        add_segments(
             &encoder.code,
-            padded,
-            size,
+            geometry,
+            group,
+            segments,
             lanes,
             &mut self.shares,
             &mut self.wholes,
@@ -122,10 +121,28 @@ impl Gathering {
     }
 }
 
-/// Room for a segment with its padding, and for eight blocks side by side.
+// Adds the hashes of segments of a ciphertext, at most eight of `size` bytes, the last perhaps
+// shorter. They are hashed side by side.
+fn add_leaves(
+    text: &[u8],
+    size: usize,
+    count: usize,
+    leaves: &mut Vec<[u8; 32]>,
+) -> Result<(), AllocError>
+    requires { count ≤ 8 }
+    ensures { OnOk result (leaves.new.items
+        ≡ leaves.old.items ++ segment_hashes (pieces count size text.now)) }
+{
+    let mut hashes = [[0; 32]; 8];
+    tagged_pieces(Tag::CiphertextSegment, text, size, &mut hashes[..count]);
+    leaves.extend_from_slice(&hashes[..count])?;
+    Ok(())
+}
+
+/// Room for eight segments with their padding, and for eight blocks side by side.
 #[derive(Drop)]
 pub(crate) struct Buffers {
-    pub segment: Vec<u8>,
+    pub segments: Vec<u8>,
     pub lanes: Vec<u8>,
 }
 
@@ -135,34 +152,34 @@ impl Buffers {
         ensures { IfOk result (AreBuffers geometry.now) }
     {
         Ok(Buffers {
-            segment: vec![in alloc; 0u8; geometry.segment_size() as usize]?,
+            segments: vec![in alloc; 0u8; 8 * geometry.segment_size() as usize]?,
             lanes: vec![in alloc; 0u8; 8 * geometry.block_size() as usize]?,
         })
     }
 }
 
-// Reads the segment of a number and gathers it.
-fn gather_segment<S: Source>(
+// Reads a group of segments and gathers them.
+fn gather_group<S: Source>(
     source: &mut S,
     geometry: &Geometry,
-    number: u32,
+    group: Group,
     encoder: &Encoder,
-    segment: &mut [u8],
+    segments: &mut [u8],
     lanes: &mut [u8],
     gathering: &mut Gathering,
 ) -> Result<(), PrepareError>
-    requires number { number < segment_count geometry.now }
+    requires group { IsGroup geometry.now group }
     requires needed { encoder.now.code.k ≡ geometry.now.needed }
     requires total { encoder.now.code.n ≡ geometry.now.total }
-    requires segment { length segment.old ≡ geometry.now.segment_size }
+    requires segments { length segments.old ≡ 8 * geometry.now.segment_size }
     requires lanes { length lanes.old ≡ 8 * block_size geometry.now }
     requires shares { length gathering.old.shares.items ≡ geometry.now.total }
     requires wholes { length gathering.old.wholes.items ≡ div_ceil geometry.now.total 8 }
     ensures shares { OnOk result (length gathering.new.shares.items ≡ geometry.now.total) }
     ensures wholes { OnOk result
         (length gathering.new.wholes.items ≡ div_ceil geometry.now.total 8) }
-    ensures gathered { OnOk result (IsSegmentGathered S.gives source.old geometry.now
-        encoder.now.cipher number gathering.old gathering.new source.new) }
+    ensures gathered { OnOk result (IsGroupGathered S.gives source.old geometry.now
+        encoder.now.cipher group gathering.old gathering.new source.new) }
     ensures ended { IsErrOf result PrepareError.SourceChanged
         → HasEndedEarly S.gives source.old geometry.now.size source.new }
     ensures failed { IsErrOf result PrepareError.SourceFault
@@ -172,12 +189,8 @@ fn gather_segment<S: Source>(
     ensures no_other { IfErr result (λ e. (e ≡ PrepareError.OutOfMemory)
         ⊎ (e ≡ PrepareError.SourceChanged) ⊎ (e ≡ PrepareError.SourceFault)) }
 {
-    let place = u64::from(number) * u64::from(geometry.segment_size());
-    let len = geometry.segment_length(number) as usize;
-    let size = geometry.block_length(number) as usize;
-    let padded = &mut segment[..size * usize::from(geometry.needed())];
-    read_part(source, place, &mut padded[..len])?;
-    gathering.add(encoder, place, len, padded, size, lanes)?;
+    read_part(source, group.place, &mut segments[..group.len])?;
+    gathering.add(encoder, geometry, group, segments, lanes)?;
     Ok(())
 }
 
@@ -188,12 +201,12 @@ pub(crate) fn gather<S: Source>(
     geometry: &Geometry,
     encoder: &Encoder,
     hasher: KeyHasher,
-    segment: &mut [u8],
+    segments: &mut [u8],
     lanes: &mut [u8],
 ) -> Result<Gathering, PrepareError>
     requires needed { encoder.now.code.k ≡ geometry.now.needed }
     requires total { encoder.now.code.n ≡ geometry.now.total }
-    requires segment { length segment.old ≡ geometry.now.segment_size }
+    requires segments { length segments.old ≡ 8 * geometry.now.segment_size }
     requires lanes { length lanes.old ≡ 8 * block_size geometry.now }
     ensures gathered { (secret : List ℕ) → HoldsFile hasher geometry.now.needed
         geometry.now.total geometry.now.segment_size secret []
@@ -208,13 +221,14 @@ pub(crate) fn gather<S: Source>(
         ⊎ (e ≡ PrepareError.SourceChanged) ⊎ (e ≡ PrepareError.SourceFault)) }
 {
     let mut gathering = Gathering::begin(alloc, geometry, hasher)?;
-    for number in 0..geometry.segment_count() {
-        gather_segment(
+    for number in 0..geometry.segment_count().div_ceil(8) {
+        let group = Group::of(geometry, 8 * number);
+        gather_group(
             source,
             geometry,
-            number,
+            group,
             encoder,
-            segment,
+            segments,
             lanes,
             &mut gathering,
         )?;

@@ -7,6 +7,7 @@ mod finishing;
 mod first_pass;
 mod gathering;
 mod geometry;
+mod groups;
 mod laws;
 mod passes;
 mod pieces;

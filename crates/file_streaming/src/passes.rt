@@ -74,7 +74,7 @@ fn read_again<S: Source>(
         geometry,
         &encoder,
         hasher,
-        &mut buffers.segment,
+        &mut buffers.segments,
         &mut buffers.lanes,
     )?;
     let Gathering {
@@ -118,6 +118,6 @@ pub(crate) fn read_twice<S: Source>(
 {
     let mut buffers = Buffers::of(alloc, geometry)?;
     let hasher = key_hasher(geometry, secret);
-    let key = read_key(source, geometry.size(), hasher, &mut buffers.segment)?;
+    let key = read_key(source, geometry.size(), hasher, &mut buffers.segments)?;
     read_again(alloc, source, geometry, secret, key, buffers)
 }

@@ -52,7 +52,7 @@ impl Prepared {
         let maker = BlockMaker::new(self.geometry, &self.encoder, &self.block_trees, share);
         maker.put_blocks(
             source,
-            &mut self.buffers.segment,
+            &mut self.buffers.segments,
             &mut self.buffers.lanes,
             &mut self.slots,
             offset,

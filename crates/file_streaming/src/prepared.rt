@@ -29,7 +29,7 @@ use std::marker::Model;
 use tagged_hash::{Tag, tagged};
 
 /// What is kept of a file: its cap, the digests of its shares, and the trees of its hashes. Of the
-/// file's bytes it holds those of one segment and of some blocks at most.
+/// file's bytes it holds those of eight segments and of some blocks at most.
 #[derive(Drop)]
 pub struct Prepared {
     pub(crate) geometry: Geometry,

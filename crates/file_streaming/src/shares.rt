@@ -1,13 +1,17 @@
 // What is gathered of each share while the segments of its file go by.
 
-ghost use Rattle.std.specs.Prelude.{◌≡◌, ◌+◌, ◌*◌, ◌<◌, ◌≤◌, ℕ, All, IfOk, OnOk};
-ghost use Rattle.std.specs.Prelude.{drop, length, take};
+ghost use Rattle.std.specs.Prelude.{◌≡◌, ◌+◌, ◌-◌, ◌*◌, ◌<◌, ◌≤◌, ℕ, All, IfOk, OnOk};
+ghost use Rattle.std.specs.Prelude.{drop, length, replicate, take};
 ghost use Rattle.std.specs.Int.{div_ceil};
 ghost use Rattle.sha2_lanes.specs.Lanes.{text};
 ghost use Rattle.zfec_code.specs.ShareValue.{share_block};
-ghost use Rattle.file_streaming.specs.Gathered.{gathered_none};
+ghost use Rattle.share_layout.specs.Geometry.{block_size};
+ghost use Rattle.file_streaming.specs.Gathered.{Gathered, gathered_none};
+ghost use Rattle.file_streaming.specs.Gathering.{IsGroup, gathered_group};
 ghost use Rattle.file_streaming.specs.Shares.{HaveBlocksMore, HaveWholesMore, HoldShares};
+ghost use Rattle.file_streaming.specs.Wholes.{AreGiven};
 
+use crate::groups::Group;
 use crate::wholes::WholeHashers;
 use block_making::{encode_lane, lane_of};
 use share_layout::Geometry;
@@ -39,9 +43,46 @@ pub(crate) fn begin_shares(
     Ok(shares)
 }
 
-/// Gathers the blocks of a padded segment, one of `size` bytes for each share. The buffer has room
-/// for eight.
-pub(crate) fn add_blocks(
+/// Gathers the blocks of a group of segments, which stand one after another with zeros behind the
+/// last. The buffer has room for eight blocks.
+pub(crate) fn add_segments(
+    code: &Code,
+    geometry: &Geometry,
+    group: Group,
+    segments: &[u8],
+    lanes: &mut [u8],
+    shares: &mut [ShareSoFar],
+    wholes: &mut [WholeHashers],
+) -> Result<(), AllocError>
+    requires group { IsGroup geometry.now group }
+    requires needed { code.now.k ≡ geometry.now.needed }
+    requires total { code.now.n ≡ geometry.now.total }
+    requires segments { length segments.now ≡ 8 * geometry.now.segment_size }
+    requires padding { drop group.len segments.now
+        ≡ replicate (8 * geometry.now.segment_size - group.len) 0 }
+    requires lanes { length lanes.old ≡ 8 * block_size geometry.now }
+    requires shares { length shares.old ≡ geometry.now.total }
+    requires wholes { length wholes.old ≡ div_ceil geometry.now.total 8 }
+    ensures shares { (s : Gathered) → HoldShares s shares.old → OnOk result (HoldShares
+        (gathered_group geometry.now group (take group.len segments.now) s) shares.new) }
+    ensures wholes { (s : Gathered) → AreGiven geometry.now.total s.written wholes.old
+        → OnOk result (AreGiven geometry.now.total
+        (gathered_group geometry.now group (take group.len segments.now) s).written wholes.new) }
+{
+    let segment_size = geometry.segment_size() as usize;
+    let needed = usize::from(geometry.needed());
+    for i in 0..group.count {
+        let size = geometry.block_length(group.first + i) as usize;
+        let start = i as usize * segment_size;
+        let padded = &segments[start..start + size * needed];
+        add_blocks(code, padded, size, lanes, shares, wholes)?;
+    }
+    Ok(())
+}
+
+// Gathers the blocks of a padded segment, one of `size` bytes for each share. The buffer has room
+// for eight.
+fn add_blocks(
     code: &Code,
     padded: &[u8],
     size: usize,

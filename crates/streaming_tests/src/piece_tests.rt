@@ -187,19 +187,20 @@ fn is_enough(
     ))
 }
 
-// While all shares go in step each segment is read once more than by the two passes.
+// While all shares go in step each segment is read once more than by the two passes, which read
+// eight at a time: 1, 3, 4 and 20 segments.
 #[test]
 fn segments_are_read_once_in_step(rt: HostRuntime) -> Result<(), Fail> {
     let alloc = rt.alloc();
-    for (needed, total, segment, length, segments) in [
-        (1, 1, 300, 100, 1),
-        (1, 9, 100, 70, 3),
-        (3, 10, 90, 40, 4),
-        (3, 10, 15, 200, 20),
+    for (needed, total, segment, length, reads) in [
+        (1, 1, 300, 100, 1 + 2),
+        (1, 9, 100, 70, 3 + 2),
+        (3, 10, 90, 40, 4 + 2),
+        (3, 10, 15, 200, 20 + 6),
     ] {
         let numbers = (needed, total, segment);
-        assert!(rt; is_enough(alloc, numbers, length, 3 * segments)?);
-        assert!(rt; !is_enough(alloc, numbers, length, 3 * segments - 1)?);
+        assert!(rt; is_enough(alloc, numbers, length, reads)?);
+        assert!(rt; !is_enough(alloc, numbers, length, reads - 1)?);
     }
     Ok(())
 }

@@ -137,6 +137,21 @@ fn groups_of_shares_are_prepared(rt: HostRuntime) -> Result<(), Fail> {
     Ok(())
 }
 
+// Eight segments are gathered at a time: groups that are full, and others.
+#[test]
+fn groups_of_segments_are_prepared(rt: HostRuntime) -> Result<(), Fail> {
+    let alloc = rt.alloc();
+    for segments in [1, 7, 8, 9, 16, 17] {
+        for more in [56, 57, 60] {
+            let file = counted(alloc, (segments - 1) * 60 + more)?;
+            assert!(rt; becomes(alloc, &file, b"", (1, 1, 60), "")?);
+            assert!(rt; becomes(alloc, &file, b"", (3, 9, 60), "")?);
+            assert!(rt; becomes(alloc, &file, b"s", (4, 17, 60), "")?);
+        }
+    }
+    Ok(())
+}
+
 // Sources that change: the key of the second pass has to be that of the first.
 #[test]
 fn sources_that_change(rt: HostRuntime) -> Result<(), Fail> {

@@ -111,17 +111,17 @@ fn ends_so<S: Source + Drop>(alloc: Global, source: S, value: u8, expected: Endi
     upload_ends(alloc, source, &params, share.as_slice()) == Some(expected)
 }
 
-// Each read fails in turn, or finds the end of the file: three of each pass, and three of the piece.
+// Each read fails in turn, or finds the end of the file: one of each pass, and three of the piece.
 #[test]
 fn each_read_of_an_upload_fails_in_turn(rt: HostRuntime) {
-    for left in 0..10 {
+    for left in 0..6 {
         for fails in [false, true] {
             let source = FileSource::new(Halting { left, fails }, 300);
             let expected = match (left, fails) {
-                (0..6, false) => Ending::Refused(PrepareError::SourceChanged),
-                (0..6, true) => Ending::Refused(PrepareError::SourceFault),
-                (6..9, false) => Ending::Failed(PieceFault::SourceChanged),
-                (6..9, true) => Ending::Failed(PieceFault::SourceFault),
+                (0..2, false) => Ending::Refused(PrepareError::SourceChanged),
+                (0..2, true) => Ending::Refused(PrepareError::SourceFault),
+                (2..5, false) => Ending::Failed(PieceFault::SourceChanged),
+                (2..5, true) => Ending::Failed(PieceFault::SourceFault),
                 _ => Ending::Stored,
             };
             assert!(rt; ends_so(rt.alloc(), source, 0, expected), "{left}");

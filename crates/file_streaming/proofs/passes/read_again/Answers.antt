@@ -19,8 +19,8 @@ returns-clause-passes g c =
     let cipher : c.in_ok-encoder.encoder.cipher ≡ c.args.key = c.in_ok-encoder.ensures.cipher in
     let has : HasGathered geometry (gathered_of geometry c.args.key read.file) secret read.file x =
     subst (λ (key : List ℕ). HasGathered geometry (gathered geometry key 0 (segments_of geometry read.file) (gathered_none geometry)) secret read.file x) cipher read.has in
-    let segment : (with_items c.args.buffers.segment c.gather.new.segment).items ≡ c.gather.new.segment =
-    with_items_is c.args.buffers.segment c.gather.new.segment (omega (arith, c.gather.auto.segment, ap length c.deref_mut.ensures.value, c.args.buffers.segment.ok.0)) in
+    let segments : (with_items c.args.buffers.segments c.gather.new.segments).items ≡ c.gather.new.segments =
+    with_items_is c.args.buffers.segments c.gather.new.segments (omega (arith, c.gather.auto.segments, ap length c.deref_mut.ensures.value, c.args.buffers.segments.ok.0)) in
     let lanes : (with_items c.args.buffers.lanes c.gather.new.lanes).items ≡ c.gather.new.lanes =
     with_items_is c.args.buffers.lanes c.gather.new.lanes (omega (arith, c.gather.auto.lanes, ap length c.deref_mut-2.ensures.value, c.args.buffers.lanes.ok.0)) in
     record {
@@ -33,7 +33,7 @@ returns-clause-passes g c =
         total = c.in_ok-encoder.ensures.total;
         cipher = cipher;
         buffers = record {
-          segment = ap length segment ∙ c.gather.auto.segment ∙ ap length c.deref_mut.ensures.value ∙ c.requires.buffers.segment;
+          segments = ap length segments ∙ c.gather.auto.segments ∙ ap length c.deref_mut.ensures.value ∙ c.requires.buffers.segments;
           lanes = ap length lanes ∙ c.gather.auto.lanes ∙ ap length c.deref_mut-2.ensures.value ∙ c.requires.buffers.lanes;
         };
         ciphertext = has.ciphertext;

@@ -1,56 +1,98 @@
-use Rattle.std.proofs.Common.{◌≡◌, ◌-◌, ◌≤◌, replicate, ℕ, List, [], ◌∷◌, ◌++◌, length, take, drop, refl, ap, subst, sym, ◌∙◌, arith}
-use Rattle.std.proofs.lemmas.List.{length-append, length-drop, length-take, length-take-le}
+use Rattle.std.proofs.Common.{◌≡◌, ◌-◌, ℕ, List, ◌++◌, length, take, drop, ap, subst, sym, ◌∙◌, arith}
+use Rattle.std.proofs.lemmas.List.{length-append, length-take-le, take_at}
 use Rattle.std.proofs.lemmas.List.{with_items_is}
 use Rattle.std.specs.Vec.{with_items}
-use borrow.Rule.Slice.PartMut.{put_mid}
 use Rattle.aes_ctr.specs.CounterMode.{xored_from}
-use Rattle.tagged_hash.specs.TaggedHash.{tagged_hash}
-use Rattle.tagged_hash.specs.TaggedHasher.{Holds}
-use Rattle.tagged_hash.specs.declared.tag.Tag.TheVariants.{Ciphertext, CiphertextSegment}
-use Rattle.ueb.specs.Shape.{rounded_up}
-use Rattle.zfec_code.specs.ShareValue.{share_block}
-use Rattle.file_encoding.proofs.Padding.{rounded_up-over}
-use Rattle.file_encoding.specs.Encoding.{padded_segment}
-use Rattle.file_streaming.specs.declared.shares.ShareSoFar.{ShareSoFar}
-use Rattle.file_streaming.specs.Shares.{HaveBlocksMore, HaveWholesMore}
-use Rattle.file_streaming.specs.declared.wholes.WholeHashers.{WholeHashers}
 use Rattle.aes_ctr.proofs.StreamLemmas.{length-xored_from}
-use Rattle.file_streaming.proofs.SecondPass.{cleared, gathered-segment}
+use borrow.Rule.Slice.PartMut.{put_mid}
+use Rattle.tagged_hash.specs.TaggedHasher.{Holds}
+use Rattle.tagged_hash.specs.declared.tag.Tag.TheVariants.{Ciphertext}
+use Rattle.proved_parts.specs.FileOf.{segment_hashes}
+use Rattle.share_layout.specs.Geometry.{Geometry}
+use Rattle.share_layout.specs.Pieces.{pieces}
+use Rattle.file_streaming.specs.Gathering.{gathered_group}
+use Rattle.file_streaming.specs.Shares.{HoldShares}
+use Rattle.file_streaming.specs.Wholes.{AreGiven}
+use Rattle.file_streaming.specs.declared.groups.Group.{Group}
+use Rattle.file_streaming.specs.declared.shares.ShareSoFar.{ShareSoFar}
+use Rattle.file_streaming.specs.declared.wholes.WholeHashers.{WholeHashers}
+use Rattle.file_streaming.proofs.GroupSteps.{has_place}
+use Rattle.file_streaming.proofs.SecondPass.{gathered-parts}
 use Rattle.file_streaming.proofs.gathering.Gathering.add.Goals as goal
 
+pub slice_bounds-text-end : goal.slice_bounds-text-end
+slice_bounds-text-end c =
+    let at = has_place c.args.geometry.now c.args.group 0 c.requires.group (omega (arith, c.requires.group.count, c.requires.group.some)) in
+    omega (arith, at.fits, c.requires.segments)
+
+pub slice_bounds-text-end-2 : goal.slice_bounds-text-end-2
+slice_bounds-text-end-2 c =
+    let at = has_place c.args.geometry.now c.args.group 0 c.requires.group (omega (arith, c.requires.group.count, c.requires.group.some)) in
+    sym (length-take-le c.args.group.len c.args.segments.now (omega (arith, at.fits, c.requires.segments)))
+
+pub slice_bounds-fill-count : goal.slice_bounds-fill-count
+slice_bounds-fill-count c =
+    let len : ℕ = c.args.group.len in
+    let at = has_place c.args.geometry.now c.args.group 0 c.requires.group (omega (arith, c.requires.group.count, c.requires.group.some)) in
+    omega (
+      arith,
+      length-append c.xor_at.new.text (drop len c.args.segments.now),
+      ap length c.xor_at.ensures,
+      length-xored_from c.args.encoder.now.cipher c.args.group.place (take len c.args.segments.now),
+      length-take-le len c.args.segments.now (omega (arith, at.fits, c.requires.segments)),
+    )
+
+pub slice_bounds-fill-start : goal.slice_bounds-fill-start
+slice_bounds-fill-start c =
+    let len : ℕ = c.args.group.len in
+    let at = has_place c.args.geometry.now c.args.group 0 c.requires.group (omega (arith, c.requires.group.count, c.requires.group.some)) in
+    omega (
+      arith,
+      length-append c.xor_at.new.text (drop len c.args.segments.now),
+      ap length c.xor_at.ensures,
+      length-xored_from c.args.encoder.now.cipher c.args.group.place (take len c.args.segments.now),
+      length-take-le len c.args.segments.now (omega (arith, at.fits, c.requires.segments)),
+    )
+
 pub returns-clause-gathered : goal.returns-clause-gathered
-returns-clause-gathered c = λ g s secret file same has.
-    let len : ℕ = c.args.len in
-    let segment : List ℕ = take len c.args.padded.now in
+returns-clause-gathered c = λ s secret file has.
+    let g : Geometry = c.args.geometry.now in
+    let group : Group = c.args.group in
+    let len : ℕ = group.len in
     let key : List ℕ = c.args.encoder.now.cipher in
-    let encrypted : List ℕ = xored_from key c.args.place segment in
-    let behind : List ℕ = drop len c.args.padded.now in
-    let fits : len ≤ length c.args.padded.now = omega (arith, c.requires.padded, rounded_up-over len c.args.encoder.now.code.k c.requires.some) in
-    let long : length c.xor_at.new.text ≡ len = ap length c.xor_at.ensures ∙ length-xored_from key c.args.place segment ∙ length-take-le len c.args.padded.now fits in
-    let whole : length (c.xor_at.new.text ++ behind) ≡ rounded_up len c.args.encoder.now.code.k =
-    omega (arith, c.requires.padded, length-append c.xor_at.new.text behind, long, length-drop len c.args.padded.now, fits) in
-    let all : List ℕ = c.xor_at.new.text ++ behind in
-    let left : length (take (length all - len) (drop len all)) ≡ length all - len = omega (arith, length-take (length all - len) (drop len all), length-drop len all) in
-    let zeros : c.fill.new.self ≡ replicate (length all - len) 0 = c.fill.ensures.after (λ y same. same) ∙ ap (λ n. replicate n 0) left in
-    let k : ℕ = c.args.encoder.now.code.k in
-    let padded : List ℕ = put_mid len (length all - len) all c.fill.new.self in
-    let is : padded ≡ padded_segment k encrypted = cleared k len (length all - len) c.xor_at.new.text behind c.fill.new.self long refl zeros whole ∙ ap (padded_segment k) c.xor_at.ensures in
-    let old : List ShareSoFar = c.args.self.now.shares.items in
-    let new : List ShareSoFar = c.add_blocks.new.shares in
-    let old_wholes : List WholeHashers = c.args.self.now.wholes.items in
-    let new_wholes : List WholeHashers = c.add_blocks.new.wholes in
-    let block : ℕ → List ℕ = λ i. share_block k i (c.args.size) padded in
-    let own : c.deref_mut.result.now ≡ old = c.deref_mut.ensures.value in
-    let added : HaveBlocksMore block old new = subst (λ (shares : List ShareSoFar). HaveBlocksMore block shares new) own c.in_ok-add_blocks.ensures.shares in
-    let written : (with_items c.args.self.now.shares new).items ≡ new = with_items_is c.args.self.now.shares new (omega (arith, added.count, c.args.self.now.shares.ok.0)) in
-    let given : HaveWholesMore (length old) block old_wholes new_wholes =
-    subst (λ (wholes : List WholeHashers). HaveWholesMore (length old) block wholes new_wholes) c.deref_mut-2.ensures.value
-    (subst (λ (shares : List ShareSoFar). HaveWholesMore (length shares) block c.deref_mut-2.result.now new_wholes) own c.in_ok-add_blocks.ensures.wholes) in
-    let written_too : (with_items c.args.self.now.wholes new_wholes).items ≡ new_wholes = with_items_is c.args.self.now.wholes new_wholes (omega (arith, given.count, c.args.self.now.wholes.ok.0)) in
-    gathered-segment g k s secret file segment encrypted padded (c.args.size) c.args.self.now _ same c.requires.some has is
-    (ap (λ n. rounded_up n k) (sym (ap length c.xor_at.ensures) ∙ long) ∙ sym c.requires.padded ∙ c.requires.block)
+    let text : List ℕ = take len c.args.segments.now in
+    let encrypted : List ℕ = xored_from key group.place text in
+    let at = has_place g group 0 c.requires.group (omega (arith, c.requires.group.count, c.requires.group.some)) in
+    let written : List ℕ = c.xor_at.new.text in
+    let all : List ℕ = written ++ drop len c.args.segments.now in
+    let same : written ≡ encrypted = c.xor_at.ensures in
+    let text_long : length text ≡ len = length-take-le len c.args.segments.now (omega (arith, at.fits, c.requires.segments)) in
+    let long : length encrypted ≡ len = length-xored_from key group.place text ∙ text_long in
+    let buffer : List ℕ = put_mid len (length all - len) all c.fill.new.self in
+    let front : take len all ≡ written = take_at written (drop len c.args.segments.now) len (ap length same ∙ long) in
+    let kept : take len buffer ≡ encrypted =
+    take_at (take len all) (c.fill.new.self ++ drop (length all - len) (drop len all)) len (ap length front ∙ ap length same ∙ long) ∙ front ∙ same in
+    let size : c.segment_size-size.result ≡ g.segment_size = c.segment_size-size.ensures.value in
+    let new : List ShareSoFar = c.add_segments.new.shares in
+    let new_wholes : List WholeHashers = c.add_segments.new.wholes in
+    let own : c.deref_mut.result.now ≡ c.args.self.now.shares.items = c.deref_mut.ensures.value in
+    let own_wholes : c.deref_mut-2.result.now ≡ c.args.self.now.wholes.items = c.deref_mut-2.ensures.value in
+    let count : length new ≡ length c.args.self.now.shares.items = c.add_segments.auto.shares ∙ ap length own in
+    let count_wholes : length new_wholes ≡ length c.args.self.now.wholes.items = c.add_segments.auto.wholes ∙ ap length own_wholes in
+    let put : (with_items c.args.self.now.shares new).items ≡ new = with_items_is c.args.self.now.shares new (omega (arith, count, c.args.self.now.shares.ok.0)) in
+    let put_wholes : (with_items c.args.self.now.wholes new_wholes).items ≡ new_wholes =
+    with_items_is c.args.self.now.wholes new_wholes (omega (arith, count_wholes, c.args.self.now.wholes.ok.0)) in
+    let shares : HoldShares (gathered_group g group encrypted s) new =
+    subst (λ (t : List ℕ). HoldShares (gathered_group g group t s) new) kept
+    (c.in_ok-add_segments.ensures.shares s (subst (λ (l : List ShareSoFar). HoldShares s l) (sym own) has.shares)) in
+    let wholes : AreGiven g.total (gathered_group g group encrypted s).written new_wholes =
+    subst (λ (t : List ℕ). AreGiven g.total (gathered_group g group t s).written new_wholes) kept
+    (c.in_ok-add_segments.ensures.wholes s (subst (λ (l : List WholeHashers). AreGiven g.total s.written l) (sym own_wholes) has.wholes)) in
+    gathered-parts g group s secret file text encrypted c.args.self.now _ has (omega (arith, long, at.whole))
     (c.update.ensures g.needed g.total g.segment_size secret file has.key)
-    (subst (λ (e : List ℕ). Holds c.update-2.new.self Ciphertext (s.ciphertext ++ e)) c.xor_at.ensures (c.update-2.ensures Ciphertext s.ciphertext has.ciphertext))
-    (c.in_ok-push.ensures.items ∙ ap (λ (h : List ℕ). c.args.self.now.leaves.items ++ h ∷ []) (c.tagged.ensures ∙ ap (tagged_hash CiphertextSegment) c.xor_at.ensures))
-    (subst (HaveBlocksMore block old) (sym written) added)
-    (subst (HaveWholesMore (length old) block old_wholes) (sym written_too) given)
+    (subst (λ (e : List ℕ). Holds c.update-2.new.self Ciphertext (s.ciphertext ++ e)) same (c.update-2.ensures Ciphertext s.ciphertext has.ciphertext))
+    (c.in_ok-add_leaves.ensures ∙ λ p. c.args.self.now.leaves.items ++ segment_hashes (pieces group.count (size p) (same p)))
+    (ap length put ∙ count ∙ has.count)
+    (subst (λ (l : List ShareSoFar). HoldShares (gathered_group g group encrypted s) l) (sym put) shares)
+    (ap length put_wholes ∙ count_wholes ∙ has.groups)
+    (subst (λ (l : List WholeHashers). AreGiven g.total (gathered_group g group encrypted s).written l) (sym put_wholes) wholes)
