@@ -57,11 +57,11 @@ struct Trees {
     shares: Tree,
 }
 
-// The trees over the leaves of the shares.
-fn build_block_trees(alloc: Global, shares: &[ShareSoFar]) -> Result<Vec<Tree>, AllocError>
-    requires { All (λ share. HaveLeaves share.leaves.items) shares.now }
+// The trees over the leaves of the shares, which are let go as each tree is made.
+fn build_block_trees(alloc: Global, shares: Vec<ShareSoFar>) -> Result<Vec<Tree>, AllocError>
+    requires { All (λ share. HaveLeaves share.leaves.items) shares.items }
     ensures { IfOk result
-        (λ trees. trees.items ≡ map (λ share. share.leaves.items) shares.now) }
+        (λ trees. trees.items ≡ map (λ share. share.leaves.items) shares.items) }
 {
     let mut trees = Vec::with_capacity(alloc, shares.len())?;
     for share in shares {
@@ -87,15 +87,15 @@ fn build_share_tree(alloc: Global, block_trees: &[Tree]) -> Result<Tree, AllocEr
 fn build_trees(
     alloc: Global,
     leaves: &[[u8; 32]],
-    shares: &[ShareSoFar],
+    shares: Vec<ShareSoFar>,
 ) -> Result<Trees, AllocError>
     requires leaves { HaveLeaves leaves.now }
-    requires all { All (λ share. HaveLeaves share.leaves.items) shares.now }
-    requires some { 0 < length shares.now }
-    requires few { length shares.now ≤ 256 }
+    requires all { All (λ share. HaveLeaves share.leaves.items) shares.items }
+    requires some { 0 < length shares.items }
+    requires few { length shares.items ≤ 256 }
     ensures ciphertext { IfOk result (λ trees. trees.ciphertext ≡ leaves.now) }
     ensures blocks { IfOk result
-        (λ trees. trees.blocks.items ≡ map (λ share. share.leaves.items) shares.now) }
+        (λ trees. trees.blocks.items ≡ map (λ share. share.leaves.items) shares.items) }
     ensures shares { IfOk result (λ trees. trees.shares ≡ map tree_root trees.blocks.items) }
 {
     let ciphertext = build_tree(alloc, leaves)?;
@@ -362,20 +362,20 @@ pub(crate) fn finish(
     geometry: &Geometry,
     ciphertext: TaggedHasher,
     leaves: &[[u8; 32]],
-    shares: &[ShareSoFar],
+    shares: Vec<ShareSoFar>,
     wholes: Vec<WholeHashers>,
 ) -> Result<Finished, AllocError>
     requires leaves { HaveLeaves leaves.now }
-    requires all { All (λ share. HaveLeaves share.leaves.items) shares.now }
-    requires alike { All (λ share. length share.leaves.items ≡ length leaves.now) shares.now }
-    requires count { length shares.now ≡ geometry.now.total }
+    requires all { All (λ share. HaveLeaves share.leaves.items) shares.items }
+    requires alike { All (λ share. length share.leaves.items ≡ length leaves.now) shares.items }
+    requires count { length shares.items ≡ geometry.now.total }
     requires groups { length wholes.items ≡ div_ceil geometry.now.total 8 }
     requires file { IsFile geometry.now.needed geometry.now.total geometry.now.size }
     requires segments { IsSegmentSize geometry.now.needed geometry.now.size
         geometry.now.segment_size }
     ensures { (text : List ℕ) (s : Gathered) → IsGathered geometry.now text s
         → Holds ciphertext Ciphertext s.ciphertext → leaves.now ≡ s.leaves
-        → HoldShares s shares.now → AreGiven geometry.now.total s.written wholes.items
+        → HoldShares s shares.items → AreGiven geometry.now.total s.written wholes.items
         → IfOk result (IsFinished geometry.now text) }
 {
     let trees = build_trees(alloc, leaves, shares)?;

@@ -116,7 +116,7 @@ fn keep(alloc: Global, geometry: Geometry, passes: Passes) -> Result<Prepared, A
         shares,
         wholes,
     } = passes;
-    let finished = finish(alloc, &geometry, ciphertext, &leaves, &shares, wholes)?;
+    let finished = finish(alloc, &geometry, ciphertext, &leaves, shares, wholes)?;
     let Finished { behind, digests } = finished;
     let ueb_hash = tagged(Tag::ExtensionBlock, &behind.extension_block);
     Ok(Prepared {

@@ -26,7 +26,7 @@ finish_digests-requires-clause-hashes c =
 
 pub finish_digests-requires-clause-alike : goal.finish_digests-requires-clause-alike
 finish_digests-requires-clause-alike c = λ k d low.
-    let shares : List ShareSoFar = c.args.shares.now in
+    let shares : List ShareSoFar = c.args.shares.items in
     let leaves_of : ShareSoFar → List (List ℕ) = λ share. share.leaves.items in
     let trees = c.in_ok-behind.ensures.blocks ∙ c.in_ok-trees.ensures.blocks in
     let within : k < length shares = omega (arith, low, ap length trees, length-map shares leaves_of) in
@@ -42,7 +42,7 @@ returns c = λ text s is whole leaves held given.
     let b : Behind = c.in_ok-behind.behind in
     let tree : trees.ciphertext ≡ segment_hashes segments = c.in_ok-trees.ensures.ciphertext ∙ leaves ∙ is.leaves in
     let blocks : trees.blocks.items ≡ map (λ i. block_hashes (blocks_of g.needed i segments)) (range_with_len 0 g.total) =
-    c.in_ok-trees.ensures.blocks ∙ block_leaves_are g text s is c.args.shares.now held c.requires.count in
+    c.in_ok-trees.ensures.blocks ∙ block_leaves_are g text s is c.args.shares.items held c.requires.count in
     let roots : trees.shares ≡ share_leaves g segments = c.in_ok-trees.ensures.shares ∙ roots_are g text s is trees.blocks.items blocks in
     let hash : c.finish.result ≡ tagged_hash Ciphertext text = c.finish.ensures Ciphertext s.ciphertext whole ∙ ap (tagged_hash Ciphertext) is.ciphertext_is in
     let own_tree = c.in_ok-behind.ensures.ciphertext ∙ tree in

@@ -7,9 +7,7 @@ use Rattle.share_layout.specs.Geometry.{Geometry}
 use Rattle.file_streaming.specs.Finishing.{HaveLeaves, IsFinished}
 use Rattle.file_streaming.specs.Passes.{IsPassOf, gathered_of}
 use Rattle.file_streaming.specs.declared.finishing.Finished.{Finished}
-use Rattle.file_streaming.specs.Shares.{HoldShares}
 use Rattle.file_streaming.specs.declared.passes.Passes.{Passes}
-use Rattle.file_streaming.specs.declared.shares.ShareSoFar.{ShareSoFar}
 use Rattle.file_streaming.proofs.Keeping.{all_alike, all_fit, gathered_is, kept_is, kept_too, leaves_fit}
 use Rattle.file_streaming.proofs.prepared.keep.Goals as goal
 
@@ -21,15 +19,14 @@ finish-requires-clause-leaves c =
 pub finish-requires-clause-all : goal.finish-requires-clause-all
 finish-requires-clause-all c =
     let shape : IsShape c.args.geometry.needed c.args.geometry.total c.args.geometry.size c.args.geometry.segment_size = record { file = c.requires.file; segments = c.requires.segments } in
-    subst (λ (shares : List ShareSoFar). All (λ share. HaveLeaves share.leaves.items) shares) (sym c.deref-2.ensures.value) (all_fit c.args.geometry c.requires.some.0 c.args.passes c.requires.some.1 shape)
+    all_fit c.args.geometry c.requires.some.0 c.args.passes c.requires.some.1 shape
 
 pub finish-requires-clause-alike : goal.finish-requires-clause-alike
 finish-requires-clause-alike c =
     let shape : IsShape c.args.geometry.needed c.args.geometry.total c.args.geometry.size c.args.geometry.segment_size = record { file = c.requires.file; segments = c.requires.segments } in
     let p : Passes = c.args.passes in
-    subst (λ (leaves : List (List ℕ)). All (λ share. length share.leaves.items ≡ length leaves) c.deref-2.result.now) (sym c.deref.ensures.value)
-    (subst (λ (shares : List ShareSoFar). All (λ share. length share.leaves.items ≡ length p.leaves.items) shares) (sym c.deref-2.ensures.value)
-    (all_alike c.args.geometry c.requires.some.0 p c.requires.some.1 shape))
+    subst (λ (leaves : List (List ℕ)). All (λ share. length share.leaves.items ≡ length leaves) p.shares.items) (sym c.deref.ensures.value)
+    (all_alike c.args.geometry c.requires.some.0 p c.requires.some.1 shape)
 
 pub invariant_of-result : goal.invariant_of-result
 invariant_of-result c =
@@ -40,9 +37,9 @@ invariant_of-result c =
     let shape : IsShape g.needed g.total g.size g.segment_size = record { file = c.requires.file; segments = c.requires.segments } in
     let f : Finished = c.in_ok-finished.finished in
     let is : IsFinished g (xored p.key file) f =
-    c.in_ok-finished.ensures (xored p.key file) (gathered_of g p.key file) (gathered_is g file p pass shape) pass.ciphertext (c.deref.ensures.value ∙ pass.leaves) (subst (HoldShares (gathered_of g p.key file)) (sym c.deref-2.ensures.value) pass.shares) pass.wholes in
+    c.in_ok-finished.ensures (xored p.key file) (gathered_of g p.key file) (gathered_is g file p pass shape) pass.ciphertext (c.deref.ensures.value ∙ pass.leaves) pass.shares pass.wholes in
     record {
-      kept = kept_too g file p pass shape f is c.tagged-ueb_hash.result c.file_cap.result (c.tagged-ueb_hash.ensures ∙ ap (tagged_hash ExtensionBlock) c.deref-3.ensures.value) c.file_cap.ensures;
+      kept = kept_too g file p pass shape f is c.tagged-ueb_hash.result c.file_cap.result (c.tagged-ueb_hash.ensures ∙ ap (tagged_hash ExtensionBlock) c.deref-2.ensures.value) c.file_cap.ensures;
       verified = c.in_ok-file_slots.ensures f.behind.block_trees.items;
     }
 
@@ -53,5 +50,5 @@ returns c = λ file pass.
     let shape : IsShape g.needed g.total g.size g.segment_size = record { file = c.requires.file; segments = c.requires.segments } in
     let f : Finished = c.in_ok-finished.finished in
     let is : IsFinished g (xored p.key file) f =
-    c.in_ok-finished.ensures (xored p.key file) (gathered_of g p.key file) (gathered_is g file p pass shape) pass.ciphertext (c.deref.ensures.value ∙ pass.leaves) (subst (HoldShares (gathered_of g p.key file)) (sym c.deref-2.ensures.value) pass.shares) pass.wholes in
-    kept_is g file p pass shape f is c.tagged-ueb_hash.result c.file_cap.result (c.tagged-ueb_hash.ensures ∙ ap (tagged_hash ExtensionBlock) c.deref-3.ensures.value) c.file_cap.ensures
+    c.in_ok-finished.ensures (xored p.key file) (gathered_of g p.key file) (gathered_is g file p pass shape) pass.ciphertext (c.deref.ensures.value ∙ pass.leaves) pass.shares pass.wholes in
+    kept_is g file p pass shape f is c.tagged-ueb_hash.result c.file_cap.result (c.tagged-ueb_hash.ensures ∙ ap (tagged_hash ExtensionBlock) c.deref-2.ensures.value) c.file_cap.ensures
