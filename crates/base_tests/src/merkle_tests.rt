@@ -3,7 +3,7 @@
 use merkle::{Padding, Partial, Tree, check_path};
 use std::alloc::Global;
 
-const LEAVES: [[u8; 32]; 5] = [[0; 32], [1; 32], [2; 32], [3; 32], [4; 32]];
+static LEAVES: [[u8; 32]; 5] = [[0; 32], [1; 32], [2; 32], [3; 32], [4; 32]];
 
 // Whether the root of the first leaves begins so.
 fn has_root(alloc: Global, count: usize, start: [u8; 4]) -> bool {
@@ -84,7 +84,7 @@ fn needed_numbers_rise(rt: HostRuntime) {
 const ROOT_OF_FIVE: [u8; 4] = [0x5d, 0xfb, 0xcd, 0xa6];
 
 // The path of the last leaf, from below.
-const PATH: [[u8; 4]; 3] = [
+static PATH: [[u8; 4]; 3] = [
     [0x28, 0x9c, 0xa3, 0x08],
     [0x95, 0x7e, 0x90, 0x27],
     [0x0c, 0x0d, 0x81, 0xd9],
@@ -136,7 +136,7 @@ fn refused_memory_in_a_tree(rt: HostRuntime) {
 
 // ---- trees of which some nodes are known
 
-const EIGHT: [[u8; 32]; 8] = [
+static EIGHT: [[u8; 32]; 8] = [
     [0; 32], [1; 32], [2; 32], [3; 32], [4; 32], [5; 32], [6; 32], [7; 32],
 ];
 

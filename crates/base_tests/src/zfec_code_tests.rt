@@ -5,7 +5,7 @@ use zfec_code::{Code, Decoder};
 
 // Share values of the matrix that zfec makes of the field modulo 0x11D: k, n, column, share and
 // value.
-const SHARES: [(u16, u16, &[u8], u16, u8); 11] = [
+static SHARES: [(u16, u16, &[u8], u16, u8); 11] = [
     (2, 4, &[0x01, 0x02], 0, 0x01),
     (2, 4, &[0x01, 0x02], 1, 0x02),
     (2, 4, &[0x01, 0x02], 2, 0x07),

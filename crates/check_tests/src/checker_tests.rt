@@ -328,7 +328,7 @@ fn good_ones(good: usize) -> Ending {
     }
 }
 
-const WRONG_SHARES: [(Wrong, Found); 15] = [
+static WRONG_SHARES: [(Wrong, Found); 15] = [
     // The version, the blocks' length, and the place of the share hashes.
     (Wrong::Byte(3), Found::Layout),
     (Wrong::Byte(7), Found::Layout),

@@ -67,7 +67,7 @@ const LIT_55: &str = "URI:LIT:\
 
 // Words, whether they write to standard output or else to standard error, how many bytes at least,
 // and the status where those are taken.
-const LINES: [(&[&str], bool, usize, u8); 3] = [
+static LINES: [(&[&str], bool, usize, u8); 3] = [
     (&["grid", "get", LIT_55, "--grid", "nowhere"], true, 55, 0),
     (&["grid", "cap", "URI:LIT:nbswy3dp"], true, 16, 0),
     (&["grid", "get", "URI:", "--grid", "nowhere"], false, 21, 3),

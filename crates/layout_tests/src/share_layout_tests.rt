@@ -14,7 +14,7 @@ use std::test::Fail;
 
 // Size, shares needed and in all, greatest segment; segment size, segments, tail, block, tail's
 // block; the header's numbers.
-const GEOMETRIES: [((u64, u16, u16, u32), [u32; 5], [u32; 9]); 6] = [
+static GEOMETRIES: [((u64, u16, u16, u32), [u32; 5], [u32; 9]); 6] = [
     (
         (56, 3, 10, 131_072),
         [57, 1, 56, 19, 19],
@@ -88,7 +88,7 @@ fn a_geometry_gives_itself(rt: HostRuntime) -> Result<(), Fail> {
 }
 
 // Size, shares needed and in all, greatest segment, and the refusal's number, or 0.
-const LIMITS: [((u64, u16, u16, u32), u8); 20] = [
+static LIMITS: [((u64, u16, u16, u32), u8); 20] = [
     ((0, 3, 10, 131_072), 2),
     ((1, 3, 10, 131_072), 0),
     ((56, 0, 10, 131_072), 2),

@@ -14,7 +14,7 @@ const UEB_HASH: [u8; 32] = [
 ];
 
 // Places at which one bit is turned, and the fault's number.
-const FLIPS: [(usize, u8); 22] = [
+static FLIPS: [(usize, u8); 22] = [
     // the header
     (3, 40),
     (7, 40),

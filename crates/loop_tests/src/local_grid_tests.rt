@@ -292,7 +292,7 @@ const ONE_AFTER_ANOTHER: [(NodeId, Request); 4] = [
     (0, Request::Ask),
 ];
 
-const CASES: [Case; 8] = [
+static CASES: [Case; 8] = [
     Case {
         kinds: &[Honest],
         requests: &WHOLE_SHARE,

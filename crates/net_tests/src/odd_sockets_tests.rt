@@ -7,7 +7,7 @@ use std::alloc::AllocError;
 use std::io;
 
 // What is odd, and how happy an upload is then.
-const ODDS: [(Odd, u16); 8] = [
+static ODDS: [(Odd, u16); 8] = [
     (Odd::Nothing, 10),
     (Odd::Stranger, 10),
     (Odd::NoConnection, 9),

@@ -189,7 +189,7 @@ fn a_share_of_layout_2_is_opened_by_four_reads(rt: HostRuntime) -> Result<(), Fa
 }
 
 // Which number of the header is another, what it is, and the refusal.
-const OTHER_NUMBERS: [(usize, u32, OpeningError, usize); 4] = [
+static OTHER_NUMBERS: [(usize, u32, OpeningError, usize); 4] = [
     (0, 3, OpeningError::Header(LayoutError::BadVersion), 1),
     (1, 57, OpeningError::OtherHeader, 3),
     (3, 37, OpeningError::Header(LayoutError::BadOffset), 1),
@@ -211,7 +211,7 @@ fn other_headers_are_refused(rt: HostRuntime) -> Result<(), Fail> {
 }
 
 // The bytes of the extension block's length, the refusal and its check.
-const LENGTHS: [(&[u8], OpeningError, Check); 5] = [
+static LENGTHS: [(&[u8], OpeningError, Check); 5] = [
     (&[0, 0, 0, 0], OpeningError::NoBlock, Check::Ueb),
     (&[0, 0, 0x10, 1], OpeningError::TooLong, Check::Layout),
     (&[255, 255, 255, 255], OpeningError::TooLong, Check::Layout),

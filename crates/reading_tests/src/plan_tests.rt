@@ -10,7 +10,7 @@ pub(crate) type Count = (u32, u64);
 // The size of a file in bytes, at 3 of 10, and its greatest segment; the first segment that is
 // wanted and the one behind the last; the reads of a tree, and those of the blocks. The numbers are
 // from a program of its own, in Python.
-pub(crate) const COUNTS: [((u64, u32), (u32, u32), Count, Count); 8] = [
+pub(crate) static COUNTS: [((u64, u32), (u32, u32), Count, Count); 8] = [
     ((1 << 30, 131_072), (4_095, 4_096), (2, 6_144), (2, 43_691)),
     (
         (1 << 30, 131_072),

@@ -75,7 +75,7 @@ fn told(bytes: &[u8], most: usize, fails: bool, digest: &Digest) -> (io::Result<
 }
 
 // Bytes, their digest to be, and whether they have it.
-const ROWS: [(&[u8], Digest, Verdict); 6] = [
+static ROWS: [(&[u8], Digest, Verdict); 6] = [
     (b"", EMPTY, Verdict::Whole),
     (b"", THREE, Verdict::Damaged),
     (b"\x01\x02\x03", THREE, Verdict::Whole),

@@ -24,7 +24,7 @@ enum Change {
     Extend,
 }
 
-const CHANGES: [(Change, bool); 5] = [
+static CHANGES: [(Change, bool); 5] = [
     (Change::Nothing, true),
     (Change::Empty, false),
     (Change::Replace, false),
@@ -94,7 +94,7 @@ fn shares_begin_anew(rt: HostRuntime) -> Result<(), Fail> {
 }
 
 // What is read part by part, forwards and backwards, and between two shares.
-const PARTS: [Call; 7] = [
+static PARTS: [Call; 7] = [
     Call::Read(INDEX, 255, 0, 2, b"\0\0"),
     Call::Read(INDEX, 255, 2, 9, b"\0\0"),
     Call::Read(INDEX, 255, 1, 1, b"\0"),
@@ -133,7 +133,7 @@ fn a_store_for_reading(rt: HostRuntime) -> Result<(), Fail> {
 }
 
 // What comes after the index in a name, and the number of the open share that has it.
-const OPEN_NAMES: [(&str, Option<u8>); 8] = [
+static OPEN_NAMES: [(&str, Option<u8>); 8] = [
     (".0.open", Some(0)),
     (".255.open", Some(255)),
     (".256.open", None),

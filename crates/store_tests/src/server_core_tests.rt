@@ -191,7 +191,7 @@ fn server(alloc: Global, capacity: u64, readonly: bool) -> Server<MemoryStore> {
     Server::start(alloc, MemoryStore::new(alloc), capacity, readonly)
 }
 
-const ONE_BUCKET: [Row; 28] = [
+static ONE_BUCKET: [Row; 28] = [
     (0, FIRST, Event::Allocate(3, 10), Said::Granted),
     (0, FIRST, Event::Write(3, 0, b"0123"), Said::Wrote(4)),
     (0, FIRST, Event::Write(3, 0, b"0123"), Said::WrongOffset(4)),
@@ -287,7 +287,7 @@ fn right_rows_in_folder(rt: &HostRuntime, folder: &str, rows: &[Row]) -> Option<
 }
 
 // What another server finds in that folder.
-const FOUND: [Row; 4] = [
+static FOUND: [Row; 4] = [
     (0, SECOND, Event::Ask, Said::Have(false, 1)),
     (0, SECOND, Event::Read(3, 8, 5), Said::Data(2)),
     (0, SECOND, Event::Allocate(3, 10), Said::Already(DIGEST)),
@@ -320,7 +320,7 @@ fn refused_memory_one_bucket(rt: HostRuntime) {
     assert_eq!(rt; end, Some(*b"89"));
 }
 
-const CAPACITY: [Row; 9] = [
+static CAPACITY: [Row; 9] = [
     (0, FIRST, Event::Allocate(0, 10), Said::Granted),
     (0, FIRST, Event::Write(0, 0, b"0123456789"), Said::Wrote(10)),
     (0, FIRST, Event::Close(0), Said::Closed(DIGEST)),
@@ -332,7 +332,7 @@ const CAPACITY: [Row; 9] = [
     (0, FIRST, Event::Allocate(4, 8), Said::Granted),
 ];
 
-const READONLY: [Row; 2] = [
+static READONLY: [Row; 2] = [
     (0, FIRST, Event::Allocate(0, 1), Said::Full),
     (0, FIRST, Event::Ask, Said::Have(true, 0)),
 ];
@@ -397,7 +397,7 @@ fn refused_memory_most_buckets(rt: HostRuntime) {
 
 // A bucket is touched by writes, by wrong offsets, by a close that comes too early and by its
 // client's `Allocate`.
-const OVER_TIME: [Row; 20] = [
+static OVER_TIME: [Row; 20] = [
     (0, FIRST, Event::Allocate(0, 8), Said::Granted),
     (0, SECOND, Event::Allocate(0, 8), Said::Busy),
     (599, SECOND, Event::Tick, Said::Nothing),
@@ -426,7 +426,7 @@ fn dropped_after_600_seconds(rt: HostRuntime) {
     assert_eq!(rt; right_rows(rt.alloc(), &mut server, &OVER_TIME), 20);
 }
 
-const ANOTHERS: [Row; 13] = [
+static ANOTHERS: [Row; 13] = [
     (0, FIRST, Event::Allocate(0, 10), Said::Granted),
     (0, SECOND, Event::Allocate(0, 10), Said::Busy),
     (0, SECOND, Event::Write(0, 0, b"0123456789"), Said::NoShare),
@@ -453,7 +453,7 @@ fn another_clients_bucket(rt: HostRuntime) {
     assert_eq!(rt; right_rows(rt.alloc(), &mut server, &ANOTHERS), 13);
 }
 
-const FAILING: [Row; 18] = [
+static FAILING: [Row; 18] = [
     (0, FIRST, Event::StoreFails, Said::Nothing),
     (0, FIRST, Event::Ask, Said::Fault(60)),
     (0, FIRST, Event::Ask, Said::Have(false, 0)),

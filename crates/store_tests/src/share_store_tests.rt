@@ -47,7 +47,7 @@ pub(crate) enum Call {
 }
 
 // A share that is written in pieces, closed and read.
-const KEEPS: [Call; 13] = [
+static KEEPS: [Call; 13] = [
     Call::Used(0),
     Call::Write(INDEX, 3, 0, b"\x09\x09\x09\x09"),
     Call::Write(INDEX, 3, 0, b"\x01\x02\x03"),
@@ -65,7 +65,7 @@ const KEEPS: [Call; 13] = [
 
 // The shares of a storage index come in order, and no other index's. An open one is gone after a
 // restart.
-const LISTS: [Call; 18] = [
+static LISTS: [Call; 18] = [
     Call::Write(INDEX, 200, 0, b"\xc8"),
     Call::Close(INDEX, 200, 7),
     Call::Write(INDEX, 3, 0, b"\x03"),
@@ -243,7 +243,7 @@ fn refused_memory_in_memory(rt: HostRuntime) {
     assert_eq!(rt; right_at_last(rt.alloc(), &mut store, &LISTS), 18);
 }
 
-const FAILING: [Call; 4] = [
+static FAILING: [Call; 4] = [
     Call::Write(INDEX, 3, 0, b"\x01\x02"),
     Call::Close(INDEX, 3, 7),
     Call::Read(INDEX, 3, 0, 9, b"\x01\x02"),
@@ -309,7 +309,7 @@ pub(crate) fn right_in_folder(rt: &HostRuntime, calls: &[Call]) -> Result<usize,
     Ok(right_calls(rt.alloc(), &mut store, calls))
 }
 
-const KEPT: [Call; 2] = [Call::Used(5), Call::Read(INDEX, 3, 1, 3, b"\x02\x03\x04")];
+static KEPT: [Call; 2] = [Call::Used(5), Call::Read(INDEX, 3, 1, 3, b"\x02\x03\x04")];
 
 #[test]
 fn folder_keeps(rt: HostRuntime) -> Result<(), Fail> {
@@ -325,7 +325,7 @@ fn folder_keeps(rt: HostRuntime) -> Result<(), Fail> {
     Ok(())
 }
 
-const LISTED: [Call; 5] = [
+static LISTED: [Call; 5] = [
     Call::List(INDEX, b"\x03\x04\x0a\xc8", 7),
     Call::List(OTHER_INDEX, b"\x05", 8),
     Call::Read(INDEX, 4, 0, 9, b"\x06"),
@@ -360,7 +360,7 @@ fn refused_memory_in_folder(rt: HostRuntime) {
     assert_eq!(rt; read, 4);
 }
 
-const NAMES: [(&str, &str, usize); 12] = [
+static NAMES: [(&str, &str, usize); 12] = [
     (".0.", SEVENS, 1),
     (".0.", GREATER, 2),
     (".255.", SEVENS, 4),
@@ -386,9 +386,9 @@ pub(crate) fn fill(rt: &HostRuntime) -> Result<(), Fail> {
     Ok(())
 }
 
-const EMPTY: [Call; 1] = [Call::Used(0)];
+static EMPTY: [Call; 1] = [Call::Used(0)];
 
-const FILLED: [Call; 7] = [
+static FILLED: [Call; 7] = [
     Call::Used(6),
     Call::Open(INDEX, 6),
     Call::Closed(INDEX, 0, 208),
@@ -410,7 +410,7 @@ fn folder_ignores_other_names(rt: HostRuntime) -> Result<(), Fail> {
     Ok(())
 }
 
-const ONE_SHARE: [Call; 2] = [
+static ONE_SHARE: [Call; 2] = [
     Call::Write(INDEX, 0, 0, b"\x01\x02"),
     Call::Close(INDEX, 0, 7),
 ];

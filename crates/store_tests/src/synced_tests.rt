@@ -206,7 +206,7 @@ fn closes_one<'a>(
     Ok(true)
 }
 
-const CLOSE: [Step; 3] = [Step::SyncFile, Step::Rename, Step::SyncFolder];
+static CLOSE: [Step; 3] = [Step::SyncFile, Step::Rename, Step::SyncFolder];
 
 // The name of the folder above is put on the disk before the folder is made, and then its own. Of a
 // share first the bytes are put there, and its name once it is renamed. What stands in the folder
@@ -242,7 +242,7 @@ fn standing_folders(rt: HostRuntime) -> Result<(), Fail> {
 }
 
 // A path, and how many folders are synced where the last one of it is made, and where it stands.
-const PATHS: [(&str, usize, usize); 5] = [
+static PATHS: [(&str, usize, usize); 5] = [
     ("/a", 2, 1),
     ("/a/", 2, 1),
     ("/a/b/c", 6, 1),
@@ -295,7 +295,7 @@ fn nothing_is_synced_unasked(rt: HostRuntime) -> Result<(), Fail> {
 
 // A call that fails in a close, whether the closed file stands then, and whether a further close
 // goes well.
-const FAILURES: [(Step, bool, bool); 3] = [
+static FAILURES: [(Step, bool, bool); 3] = [
     (Step::SyncFile, false, false),
     (Step::Rename, false, true),
     (Step::SyncFolder, true, false),

@@ -11,7 +11,7 @@ use std::{fs, io};
 const BYTES: &[u8] = b"\x01\x02\x03\x04\x05";
 
 // What each store is asked, in turn.
-const CALLS: [Call; 4] = [
+static CALLS: [Call; 4] = [
     Call::Write(INDEX, 3, 0, b"\x01\x02"),
     Call::Write(INDEX, 3, 2, b"\x03\x04"),
     Call::Write(INDEX, 3, 4, b"\x05"),
@@ -83,7 +83,7 @@ fn stays_whole(rt: &HostRuntime, order: u8) -> Result<bool, Fail> {
 }
 
 // What a third store finds.
-const FOUND: [Call; 3] = [
+static FOUND: [Call; 3] = [
     Call::Used(5),
     Call::Closed(INDEX, 3, 7),
     Call::Read(INDEX, 3, 0, 9, BYTES),
