@@ -170,6 +170,7 @@ module _ (s : SourceState) (is : IsSource s) (c : Cursors) where
     asks_now = record {
       reads = step.reads;
       in_order = step.in_order;
+      upper = step.upper;
       fresh = λ part has asked. lead_fresh s.asked (parts_of wanted) c part step.in_order has (asked_passed part asked);
       different = lead_different s.asked (parts_of wanted) c step.in_order;
       asked = asked_more;

@@ -21,6 +21,7 @@ use Rattle.download_plan.specs.declared.part.Part.{Part}
 use Rattle.download_plan.specs.declared.part.Part.TheVariants.{ShareHashes, BlockTree, CiphertextTree, Data}
 use Rattle.download_plan.proofs.PartLemmas.{above_holds, above_there, are_apart, block_within, data_before, data_begins, data_more, data_rest, data_rise, data_rises, lie_inside}
 use Rattle.download_trees.specs.Trees.{IsBlockTree}
+use Rattle.download_source.specs.Asking.{IsAsked}
 use Rattle.download_source.specs.Blocks.{block_end, block_first, block_offset}
 use Rattle.download_source.specs.Laws.{FirstIsDue, JoinedHasLength, KnowsPiece, LeadOnGiving, LeadOnTogether, LeavesAreKnown, LongerPlansHoldMore, SourcePartsAreApart, TakenIsReady, TakenNodesAreKnown}
 use Rattle.download_source.specs.Source.{IsSource, SourceState}
@@ -211,10 +212,10 @@ lead_put from to levels (CiphertextTree q ∷ ps) none leads = absurd (none q (c
 lead_put from to levels (Data i ∷ ps) none leads =
     (leads.0, lead_put (passed from (Data i)) to levels ps (λ p has. none p (contains_tail (Data i) (CiphertextTree p) ps has)) leads.1)
 
-pub lead_giving : LeadOnGiving
-lead_giving s levels waiting is none leads =
-    lead_put s.taken s.asked levels waiting
-    (λ p has.
+-- where no piece of the ciphertext tree was asked, none waits
+pub none_waits : (s : SourceState) (waiting : List Part) → IsSource s → ((p : NodePiece) → ¬ IsAsked s (CiphertextTree p)) → LeadOn s.taken waiting s.asked
+    → (p : NodePiece) → ¬ Contains waiting (CiphertextTree p)
+none_waits s waiting is none leads p has =
     let not = lead_fresh s.taken waiting s.asked (CiphertextTree p) leads has in
     let given = is.given p.level in
     none p (
@@ -223,8 +224,10 @@ lead_giving s levels waiting is none leads =
         | inr high ↦ high
       ],
       lead_adds s.taken waiting s.asked (CiphertextTree p) leads has,
-    ))
-    leads
+    )
+
+pub lead_giving : LeadOnGiving
+lead_giving s levels waiting is none leads = lead_put s.taken s.asked levels waiting (none_waits s waiting is none leads) leads
 
 -- ---- longer plans
 

@@ -12,21 +12,26 @@ use Rattle.download_plan.specs.declared.part.Part.{Part}
 use Rattle.download_source.specs.Asking.{IsReadBy, parts_of}
 use Rattle.download_source.specs.Batch.{AreRaised, BatchState, IsBatch, IsMore, IsOpen, levels_of, part_of, raised, with_levels}
 use Rattle.download_source.specs.Cursors.{IsNext, LeadOn, cursor_at, index_of, passed}
+use Rattle.download_source.specs.Upper.{HasOverPassed, UpperComeFirst}
 use Rattle.download_source.specs.declared.cursors.Cursors.{Cursors}
 use Rattle.download_source.specs.declared.tree.Tree.{Tree}
 use Rattle.download_source.specs.declared.tree.Tree.TheVariants.{Blocks, Ciphertext}
 use Rattle.download_source.specs.declared.wanted.Wanted.{Wanted}
 use Rattle.download_source.proofs.CursorLemmas.{lead_push}
+use Rattle.download_source.proofs.UpperLemmas.{upper_push}
 
 pub batch_more : (b : BatchState) (w : Wanted) (c : Cursors) (items : List Wanted) → IsBatch b → IsReadBy b.geometry b.first b.end w
-    → IsNext b.reached w.part → c ≡ passed b.reached w.part → items ≡ b.wanted ++ w ∷ [] → IsBatch (record b { reached = c; wanted = items })
-batch_more b w c items is reads next reached more = record {
+    → IsNext b.reached w.part → HasOverPassed b.geometry b.first b.reached w.part → c ≡ passed b.reached w.part → items ≡ b.wanted ++ w ∷ [] → IsBatch (record b { reached = c; wanted = items })
+batch_more b w c items is reads next over reached more = record {
   reads = subst (λ (ws : List Wanted). (k : ℕ) (d : Wanted) → k < length ws → IsReadBy b.geometry b.first b.end (get_or ws k d)) (sym more)
       (All-push (IsReadBy b.geometry b.first b.end) b.wanted w is.reads reads);
   in_order = subst (λ (ps : List Part). LeadOn b.begun ps c)
       (sym (ap parts_of more ∙ map-append (λ (v : Wanted). v.part) b.wanted (w ∷ [])))
       (subst (λ (to : Cursors). LeadOn b.begun (parts_of b.wanted ++ w.part ∷ []) to) (sym reached)
       (lead_push b.begun (parts_of b.wanted) b.reached w.part is.in_order next));
+  upper = subst (λ (ps : List Part). UpperComeFirst b.geometry (λ part. b.first) b.begun ps)
+      (sym (ap parts_of more ∙ map-append (λ (v : Wanted). v.part) b.wanted (w ∷ [])))
+      (upper_push b.geometry (λ part. b.first) b.begun (parts_of b.wanted) b.reached w.part is.in_order is.upper over);
 }
 
 -- a level of which nothing more is passed yet

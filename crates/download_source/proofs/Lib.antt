@@ -6,3 +6,4 @@ pub mod StepLemmas
 pub mod SourceLemmas
 pub mod TakingLemmas
 pub mod LawLemmas
+pub mod UpperLemmas

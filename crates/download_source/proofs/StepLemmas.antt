@@ -12,11 +12,13 @@ use Rattle.download_source.specs.Asking.{AsksNow, IsAsked, IsReadBy, IsReadOf, I
 use Rattle.download_source.specs.Batch.{AreRaised, BatchState, IsBatch, IsCiphertextUpTo, IsStep, with_levels}
 use Rattle.download_source.specs.Cursors.{IsPassed, LeadOn, cursor_at}
 use Rattle.download_source.specs.Source.{HaveLevels, IsSource, SourceState, first_of}
+use Rattle.download_source.specs.Upper.{UpperComeFirst}
 use Rattle.download_source.specs.declared.cursors.Cursors.{Cursors}
 use Rattle.download_source.specs.declared.tree.Tree.TheVariants.{Blocks, Ciphertext}
 use Rattle.download_source.specs.declared.wanted.Wanted.{Wanted}
 use Rattle.download_source.proofs.BatchLemmas.{asks_now, ciphertext_asked, ciphertext_exact, ciphertext_parts, now, own_asked, own_exact, own_parts, still_source}
 use Rattle.download_source.proofs.CursorLemmas.{lead_adds, lead_fresh}
+use Rattle.download_source.proofs.UpperLemmas.{upper_of}
 
 -- one of the parts that are asked
 part_at : (wanted : List Wanted) (k : ℕ) (d : Wanted) → k < length wanted → Contains (parts_of wanted) (get_or wanted k d).part
@@ -79,9 +81,16 @@ step_by s a b to wanted is of reached all levels section =
     (subst (λ e. All (IsReadBy s.geometry a e) b.wanted) of.end
     (subst (λ f. All (IsReadBy s.geometry f b.end) b.wanted) of.first
     (subst (λ (g : Geometry). All (IsReadBy g b.first b.end) b.wanted) of.geometry is.reads))) in
+    let upper : UpperComeFirst s.geometry (λ part. a) s.asked (parts_of wanted) =
+    subst (λ (ws : List Wanted). UpperComeFirst s.geometry (λ part. a) s.asked (parts_of ws)) (sym all)
+    (subst (λ (c : Cursors). UpperComeFirst s.geometry (λ part. a) c (parts_of b.wanted)) of.begun
+    (subst (λ n. UpperComeFirst s.geometry (λ part. n) b.begun (parts_of b.wanted)) of.first
+    (subst (λ (g : Geometry). UpperComeFirst g (λ part. b.first) b.begun (parts_of b.wanted)) of.geometry is.upper))) in
     record {
       reads = reads_of s a to wanted leads reads section;
       in_order = leads;
+      upper = upper_of s.geometry a (first_of s) s.asked (parts_of wanted)
+          (λ part has. section part (lead_adds s.asked (parts_of wanted) to part leads has) (lead_fresh s.asked (parts_of wanted) to part leads has)) upper;
       levels = levels;
     }
 

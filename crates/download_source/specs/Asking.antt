@@ -7,6 +7,7 @@ use Rattle.download_plan.specs.declared.part.Part.{Part}
 use Rattle.download_plan.specs.declared.part.Part.TheVariants.{CiphertextTree}
 use Rattle.download_source.specs.Cursors.{IsPassed, LeadOn, cursor_at}
 use Rattle.download_source.specs.Source.{SourceState, first_of}
+use Rattle.download_source.specs.Upper.{UpperComeFirst}
 use Rattle.download_source.specs.declared.wanted.Wanted.{Wanted}
 
 -- the parts that are asked
@@ -32,11 +33,12 @@ IsAsked s (CiphertextTree p) =
     (cursor_at s.given p.level ≤ p.index) × IsPassed s.asked (CiphertextTree p)
 IsAsked s part = IsPassed s.asked part
 
--- These parts are asked now, one after another, each once. None of them was asked before, and
--- nothing else is asked.
+-- These parts are asked now, one after another, each once, and a piece of a tree after the piece
+-- over it. None of them was asked before, and nothing else is asked.
 pub record AsksNow (old new : SourceState) (wanted : List Wanted) : Type 0 where
   pub reads : All (IsReadOf old) wanted
   pub in_order : LeadOn old.asked (parts_of wanted) new.asked
+  pub upper : UpperComeFirst old.geometry (first_of old) old.asked (parts_of wanted)
   pub fresh : (part : Part) → Contains (parts_of wanted) part → ¬ IsAsked old part
   pub different : AllPairs (λ part other. part ≢ other) (parts_of wanted)
   pub asked : (part : Part)

@@ -8,7 +8,8 @@ use Rattle.download_plan.specs.declared.part.Part.{Part}
 use Rattle.download_plan.specs.declared.part.Part.TheVariants.{BlockTree, CiphertextTree}
 use Rattle.download_source.specs.Cursors.{LeadOn, cursor_at}
 use Rattle.download_source.specs.Asking.{IsReadBy, IsReadOf, parts_of}
-use Rattle.download_source.specs.Source.{HaveLevels, SourceState}
+use Rattle.download_source.specs.Source.{HaveLevels, SourceState, first_of}
+use Rattle.download_source.specs.Upper.{UpperComeFirst}
 use Rattle.download_source.specs.declared.cursors.Cursors.{Cursors}
 use Rattle.download_source.specs.declared.tree.Tree.{Tree}
 use Rattle.download_source.specs.declared.tree.Tree.TheVariants.{Blocks, Ciphertext}
@@ -47,6 +48,7 @@ pub record BatchState : Type 0 where
 pub record IsBatch (b : BatchState) : Type 0 where
   pub reads : All (IsReadBy b.geometry b.first b.end) b.wanted
   pub in_order : LeadOn b.begun (parts_of b.wanted) b.reached
+  pub upper : UpperComeFirst b.geometry (λ part. b.first) b.begun (parts_of b.wanted)
 
 -- it is the same batch, with more parts
 pub record IsMore (old new : BatchState) : Type 0 where
@@ -71,6 +73,7 @@ pub record AreRaised (g : Geometry) (a b levels : ℕ) (old new : List ℕ) : Ty
 pub record IsStep (s : SourceState) (reached : Cursors) (wanted : List Wanted) : Type 0 where
   pub reads : All (IsReadOf s) wanted
   pub in_order : LeadOn s.asked (parts_of wanted) reached
+  pub upper : UpperComeFirst s.geometry (first_of s) s.asked (parts_of wanted)
   pub levels : HaveLevels reached
 
 -- pieces of the ciphertext tree, by the plan that ends with this segment

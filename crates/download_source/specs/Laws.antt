@@ -1,18 +1,18 @@
 -- Laws of sources.
 use Rattle.std.specs.Prelude.{◌≡◌, ◌⊎◌, ℕ, ◌+◌, ◌-◌, ◌*◌, ◌<◌, ◌≤◌, List, ◌∷◌, ◌++◌, length}
-use Rattle.std.specs.Prelude.{[], is_some, slice_index_or, true}
-use Rattle.merkle.specs.Partial.{PartialState, Takes, known_at}
+use Rattle.std.specs.Prelude.{[], is_some, Some, slice_index_or, true}
+use Rattle.merkle.specs.Partial.{IsPartial, PartialState, Takes, known_at}
 use Rattle.merkle.specs.Tree.{node_number}
 use Rattle.share_layout.specs.Geometry.{Geometry, segment_count}
 use Rattle.share_layout.specs.Pieces.{block_length}
-use Rattle.download_plan.specs.Laws.{AreApart}
+use Rattle.download_plan.specs.Laws.{AreApart, piece_over}
 use Rattle.download_plan.specs.Plan.{IsAmong, IsNodePiece, IsPart, length_of, nodes_of}
 use Rattle.download_plan.specs.Plan.{place_of}
 use Rattle.download_plan.specs.Range.{IsRange}
 use Rattle.download_plan.specs.declared.part.NodePiece.{NodePiece}
 use Rattle.download_plan.specs.declared.part.Nodes.{Nodes}
 use Rattle.download_plan.specs.declared.part.Part.{Part}
-use Rattle.download_plan.specs.declared.part.Part.TheVariants.{CiphertextTree, Data}
+use Rattle.download_plan.specs.declared.part.Part.TheVariants.{BlockTree, CiphertextTree, Data}
 use Rattle.download_trees.specs.Offers.{nodes_offered}
 use Rattle.download_trees.specs.Trees.{LeadTo, known_leaf}
 use Rattle.download_source.specs.Asking.{IsAsked, IsWanted, IsWithin}
@@ -21,6 +21,7 @@ use Rattle.download_source.specs.Cursors.{IsPassed, LeadOn}
 use Rattle.download_source.specs.Source.{IsPartOf, IsSource, SourceState, first_of}
 use Rattle.download_source.specs.Source.{gives_from}
 use Rattle.download_source.specs.Taking.{IsDue}
+use Rattle.download_source.specs.Upper.{HasOverPassed, KnowsTops, UpperComeFirst}
 use Rattle.download_source.specs.declared.cursors.Cursors.{Cursors}
 
 -- a law: two parts that a source is read in are one, or they have no byte in common
@@ -85,3 +86,29 @@ abbrev pub LongerPlansHoldMore : Type 0
 LongerPlansHoldMore = (g : Geometry) (a b c : ℕ) (part : Part) → b ≤ c → IsPart g a b part
     → IsPart g a c part × (place_of g a c part ≡ place_of g a b part)
     × (length_of g a b part ≤ length_of g a c part)
+
+-- a law: so do parts of which each comes after the piece over it
+abbrev pub UpperFirstTogether : Type 0
+UpperFirstTogether = (g : Geometry) (first : Part → ℕ) (from between : Cursors)
+    (waiting parts : List Part) → LeadOn from waiting between → UpperComeFirst g first from waiting
+    → UpperComeFirst g first between parts → UpperComeFirst g first from (waiting ++ parts)
+
+abbrev pub UpperFirstGiving : Type 0
+UpperFirstGiving = (s : SourceState) (levels : List ℕ) (waiting : List Part) → IsSource s
+    → ((p : NodePiece) → ¬ IsAsked s (CiphertextTree p)) → LeadOn s.taken waiting s.asked
+    → UpperComeFirst s.geometry (first_of s) s.taken waiting
+    → UpperComeFirst s.geometry (first_of s) (gives_from s levels).taken waiting
+
+-- a law: what proves a piece of a tree is known where the piece over it is, and by the root alone
+-- where there is none
+abbrev pub OverProves : Type 0
+OverProves = (g : Geometry) (a b : ℕ) (p : NodePiece) (t : PartialState) → IsRange g a b
+    → IsNodePiece g a b p → IsPartial t → (0 < p.level → KnowsPiece g a b t (piece_over g a p))
+    → KnowsTops t (nodes_of g a b p)
+
+-- a law: what proves a piece of the block tree that is due is known, where the piece over it is
+-- taken
+abbrev pub DueIsProved : Type 0
+DueIsProved = (s : SourceState) (p : NodePiece) (t : PartialState) → IsSource s
+    → IsDue s (BlockTree p) → HasOverPassed s.geometry s.first s.taken (BlockTree p)
+    → s.tree ≡ Some t → KnowsTops t (nodes_of s.geometry s.first s.end p)

@@ -1,6 +1,7 @@
 -- what public contracts rest on
 pub mod Cursors
 pub mod Source
+pub mod Upper
 pub mod Asking
 pub mod Taking
 pub mod Blocks

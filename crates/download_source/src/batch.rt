@@ -6,6 +6,7 @@ ghost use Rattle.download_plan.specs.Plan.{IsPart, data_pieces};
 ghost use Rattle.download_source.specs.Batch.{AreRaised, IsBatch, IsMore, IsOpen, levels_of};
 ghost use Rattle.download_source.specs.Batch.{part_of, raised, with_levels};
 ghost use Rattle.download_source.specs.Cursors.{IsNext, index_of, passed};
+ghost use Rattle.download_source.specs.Upper.{HasOverPassed};
 
 use crate::cursors::Cursors;
 use crate::tree::Tree;
@@ -77,6 +78,7 @@ impl Batch {
     fn ask(&mut self, part: Part) -> Result<(), AllocError>
         requires part { IsPart self.old.geometry self.old.first self.old.end part }
         requires next { IsNext self.old.reached part }
+        requires upper { HasOverPassed self.old.geometry self.old.first self.old.reached part }
         requires low { index_of part + 1 < 2 ^ 32 }
         ensures reached { OnOk result (self.new.reached ≡ passed self.old.reached part) }
         ensures more { IsMore self.old self.new }
@@ -104,6 +106,8 @@ impl Batch {
         requires there { level < length (levels_of tree self.old.reached) }
         requires parts { (index : ℕ) → index < count
             → IsPart self.old.geometry self.old.first self.old.end (part_of tree level index) }
+        requires upper { (index : ℕ) → index < count → HasOverPassed self.old.geometry
+            self.old.first self.old.reached (part_of tree level index) }
         requires opened { IsOpen tree self.old.reached }
         ensures reached { OnOk result (self.new.reached ≡ with_levels tree self.old.reached
             (raised (levels_of tree self.old.reached) level count)) }

@@ -1,9 +1,11 @@
 //! Laws of sources.
 
-ghost use Rattle.download_source.specs.Laws.{FirstIsDue, JoinedHasLength, LeadOnGiving};
-ghost use Rattle.download_source.specs.Laws.{LeadOnTogether, LeavesAreKnown};
-ghost use Rattle.download_source.specs.Laws.{LongerPlansHoldMore, SourcePartsAreApart};
-ghost use Rattle.download_source.specs.Laws.{TakenIsReady, TakenNodesAreKnown};
+ghost use Rattle.download_source.specs.Laws.{DueIsProved, FirstIsDue, JoinedHasLength};
+ghost use Rattle.download_source.specs.Laws.{LeadOnGiving, LeadOnTogether, LeavesAreKnown};
+ghost use Rattle.download_source.specs.Laws.{LongerPlansHoldMore, OverProves};
+ghost use Rattle.download_source.specs.Laws.{SourcePartsAreApart, TakenIsReady};
+ghost use Rattle.download_source.specs.Laws.{TakenNodesAreKnown, UpperFirstGiving};
+ghost use Rattle.download_source.specs.Laws.{UpperFirstTogether};
 
 /// A law of the definitions: two parts that a source is read in are one, or they have no byte in
 /// common. The law is the contract; the call does nothing.
@@ -57,4 +59,29 @@ pub fn waiting_goes_on_giving()
 /// its bytes there. The law is the contract; the call does nothing.
 pub fn longer_plans_hold_more()
     ensures { LongerPlansHoldMore }
+{}
+
+/// A law of the definitions: parts that wait to be taken, and those that are asked then, come each
+/// after the piece over it. The law is the contract; the call does nothing.
+pub fn waiting_stays_ordered()
+    ensures { UpperFirstTogether }
+{}
+
+/// A law of the definitions: parts that wait to be taken come each after the piece over it, also
+/// where the source begins to give the ciphertext tree. The law is the contract; the call does
+/// nothing.
+pub fn waiting_stays_ordered_giving()
+    ensures { UpperFirstGiving }
+{}
+
+/// A law of the definitions: what proves a piece of a tree is known where the piece over it is, and
+/// by the root alone where there is none. The law is the contract; the call does nothing.
+pub fn over_proves()
+    ensures { OverProves }
+{}
+
+/// A law of the definitions: what proves a piece of the block tree that is due is known, where the
+/// piece over it is taken. The law is the contract; the call does nothing.
+pub fn due_is_proved()
+    ensures { DueIsProved }
 {}

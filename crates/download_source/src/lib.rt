@@ -14,9 +14,9 @@ mod wanted;
 
 pub use cursors::Cursors;
 pub use laws::{
-    first_is_due, joined_has_length, leaves_are_known, longer_plans_hold_more,
-    source_parts_are_apart, taken_is_ready, taken_nodes_are_known, waiting_goes_on,
-    waiting_goes_on_giving,
+    due_is_proved, first_is_due, joined_has_length, leaves_are_known, longer_plans_hold_more,
+    over_proves, source_parts_are_apart, taken_is_ready, taken_nodes_are_known, waiting_goes_on,
+    waiting_goes_on_giving, waiting_stays_ordered, waiting_stays_ordered_giving,
 };
 pub use source::Source;
 pub use wanted::Wanted;

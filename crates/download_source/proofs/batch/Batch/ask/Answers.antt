@@ -2,6 +2,7 @@ use Rattle.std.proofs.Common.{subst, sym, rules}
 use Rattle.download_plan.specs.Plan.{IsPart}
 use Rattle.download_source.specs.Batch.{BatchState}
 use Rattle.download_source.specs.Cursors.{IsNext}
+use Rattle.download_source.specs.Upper.{HasOverPassed}
 use Rattle.download_source.proofs.LevelLemmas.{batch_more}
 use Rattle.download_source.proofs.batch.Batch.ask.Goals as goal
 
@@ -9,6 +10,7 @@ pub invariant_of-self-2 : goal.invariant_of-self-2
 invariant_of-self-2 c =
     let part = subst (λ (b : BatchState). IsPart b.geometry b.first b.end c.args.part) (sym c.self.view_is) c.requires.part in
     let next = subst (λ (b : BatchState). IsNext b.reached c.args.part) (sym c.self.view_is) c.requires.next in
+    let over = subst (λ (b : BatchState). HasOverPassed b.geometry b.first b.reached c.args.part) (sym c.self.view_is) c.requires.upper in
     batch_more _ (record { part = c.args.part; read = c.read-read.result }) c.pass.new.self c.push.new.self.items c.self.invariant
     (record {
       part = part;
@@ -17,4 +19,4 @@ invariant_of-self-2 c =
       some = c.read-read.ensures.range.0;
       few = c.read-read.ensures.range.1;
     })
-    next c.pass.ensures (search rules)
+    next over c.pass.ensures (search rules)
