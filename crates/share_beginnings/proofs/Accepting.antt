@@ -1,6 +1,7 @@
 -- One header is compared.
-use Rattle.std.proofs.Common.{◌≡◌, ℕ, ◌+◌, inr, Bool, true, List, [], ◌∷◌, ◌++◌, Some, None, refl, sym, ap, ◌∙◌, arith, true≢false}
+use Rattle.std.proofs.Common.{◌≡◌, ℕ, ◌+◌, inr, Bool, true, List, [], ◌∷◌, ◌++◌, length, Some, None, refl, sym, ap, ◌∙◌, arith, true≢false}
 use Rattle.std.specs.Prelude.{slice_get}
+use Rattle.std.proofs.lemmas.List.{length-set}
 use Rattle.lemmas.proofs.Places.{get_set}
 use Rattle.lemmas.proofs.Options.{one_there}
 use Rattle.share_layout.specs.Geometry.{Geometry, IsGeometry}
@@ -8,7 +9,8 @@ use Rattle.share_opening.specs.Opening.{Agrees}
 use Rattle.share_opening.specs.declared.opening.Opening.{Opening}
 use Rattle.share_holdings.specs.Moves.{Blames}
 use Rattle.share_holdings.specs.Right.{IsRight}
-use Rattle.share_holdings.specs.State.{HoldingsState}
+use Rattle.share_holdings.specs.Numbers.{released}
+use Rattle.share_holdings.specs.State.{HoldingsState, TableState}
 use Rattle.share_holdings.specs.Table.{IsHolding, IsTable, Releases, Suspends}
 use Rattle.share_holdings.specs.declared.holding.Blame.{Blame}
 use Rattle.share_holdings.specs.declared.holding.Holding.{Holding}
@@ -25,6 +27,10 @@ use Rattle.share_beginnings.proofs.Comparing.{Unreads, compared_gone, compared_k
 use Rattle.share_beginnings.proofs.Falling.{falls_one, retired_left}
 use Rattle.share_beginnings.proofs.Knowing.{keeps_same, known_blamed, known_same, shares_released, shares_suspended}
 use Rattle.share_beginnings.proofs.Opened.{goes_blamed, goes_from, goes_none}
+
+-- as many numbers count where a holding is read no more
+pub released_count : (holding : ℕ) (old new : TableState) → Releases holding old new → length new.numbers ≡ length old.numbers
+released_count holding old new r = ap length r.3.numbers ∙ length-set old.numbers r.0.share (record r.3.number { reading = released holding r.3.number.reading })
 
 module _ (g : Geometry) (holding : ℕ) (valid : IsGeometry g) (s : BeginningsState) (known : AreBegun s) (b : Begun) (at : IsBegun s holding b) (t : HoldingsState)
     (releases : Releases holding s.holdings.table t.table) (others : t ≡ record s.holdings { table = t.table }) (right : IsRight t) (table : IsTable t.table) where

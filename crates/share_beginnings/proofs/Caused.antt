@@ -1,5 +1,5 @@
 -- Which blames are added, and why, and which reads.
-use Rattle.std.proofs.Common.{◌≡◌, ℕ, inl, inr, List, [], ◌∷◌, ◌++◌, length, Option, Some, sym, ap, subst, ◌∙◌, arith}
+use Rattle.std.proofs.Common.{◌≡◌, ℕ, ◌<◌, inl, inr, List, [], ◌∷◌, ◌++◌, length, Option, Some, sym, ap, subst, ◌∙◌, arith}
 use Rattle.std.specs.Prelude.{slice_get, slice_index_or}
 use Rattle.std.proofs.lemmas.Bool.{cases_lt}
 use Rattle.std.proofs.lemmas.Option.{slice_get-get_or, slice_get_within}
@@ -19,10 +19,10 @@ use Rattle.share_opening.specs.Refusal.{IsRefused, check_of}
 use Rattle.share_opening.specs.declared.error.OpeningError.{OpeningError}
 use Rattle.share_opening.specs.declared.opening.Opening.{Opening}
 use Rattle.share_opening.proofs.ReadLemmas.{lead_on, more_led}
-use Rattle.share_holdings.specs.Table.{IsHolding}
+use Rattle.share_holdings.specs.Table.{IsHolding, IsTable}
 use Rattle.share_holdings.specs.declared.holding.Blame.{Blame}
 use Rattle.share_holdings.specs.declared.holding.Holding.{Holding}
-use Rattle.share_holdings.specs.Moves.{Asks}
+use Rattle.share_holdings.specs.Moves.{Asks, Blames}
 use Rattle.share_holdings.specs.State.{HoldingsState}
 use Rattle.share_holdings.proofs.Records.{StaysTo}
 use Rattle.share_holdings.proofs.Telling.{append_cases}
@@ -53,6 +53,13 @@ adds_trans P s t u goes first second i b is le = elim (append_cases t.holdings.b
 
 pub adds_as : (P Q : Blame → Type 0) (old new : List Blame) → ((b : Blame) → P b → Q b) → AddsBlames P old new → AddsBlames Q old new
 adds_as P Q old new from adds i b is le = from b (adds i b is le)
+
+-- a share that is blamed is one of a holding, whose number counts
+pub blamed_low : (n : ℕ) (w u : HoldingsState) (holding : ℕ) (check : Check) → IsTable w.table → length w.table.numbers ≡ n → Blames holding check w u
+    → AddsBlames (λ b. b.share < n) w.blamed u.blamed
+blamed_low n w u holding check table same blames =
+    adds_one (λ b. b.share < n) w.blamed u.blamed (record { server = blames.held.server; share = blames.held.share; check = check }) blames.blamed
+    (let low = table.below holding blames.held blames.is in omega (arith, low, same))
 
 -- ---- an answer to the next read of an opening fails
 

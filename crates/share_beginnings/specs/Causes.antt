@@ -1,5 +1,5 @@
 -- Why shares are blamed.
-use Rattle.std.specs.Prelude.{◌≡◌, ◌⊎◌, ℕ, ◌≤◌, List, Some, length, slice_get}
+use Rattle.std.specs.Prelude.{◌≡◌, ◌⊎◌, ℕ, ◌<◌, ◌≤◌, List, Some, length, slice_get}
 use Rattle.cap_text.specs.Cap.{VerifyCapValue}
 use Rattle.wire.specs.declared.message.Body.TheVariants.{Data}
 use Rattle.request_record.specs.declared.requests.Asked.TheVariants.{Reading}
@@ -17,11 +17,16 @@ use Rattle.share_opening.specs.declared.opening.Opening.{Opening}
 use Rattle.share_opening.specs.declared.opening.Progress.TheVariants.{Next, Done}
 use Rattle.share_holdings.specs.declared.holding.Blame.{Blame}
 use Rattle.share_beginnings.specs.Reads.{brought_of}
+use Rattle.share_beginnings.specs.State.{BeginningsState}
 
 -- each blame that was added has this cause
 abbrev pub AddsBlames : (Blame → Type 0) → List Blame → List Blame → Type 0
 AddsBlames cause old new =
     (i : ℕ) (b : Blame) → slice_get new i ≡ Some b → length old ≤ i → cause b
+
+-- the number of the share that is blamed counts
+abbrev pub IsNumbered : BeginningsState → Blame → Type 0
+IsNumbered s b = b.share < length s.holdings.table.numbers
 
 -- The next bytes of an opening are refused, or the header that they tell is another than that of a
 -- file with this geometry.

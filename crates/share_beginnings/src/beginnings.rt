@@ -16,7 +16,8 @@ ghost use Rattle.share_holdings.specs.Right.{IsRight};
 ghost use Rattle.share_holdings.specs.Table.{IsFree, IsHolding, IsTable};
 ghost use Rattle.share_holdings.specs.declared.holding.Holding.{Holding};
 ghost use Rattle.share_beginnings.specs.Causes.{AddsBlames, FailsAs, IsBeginningFault};
-ghost use Rattle.share_beginnings.specs.Causes.{IsOpeningFault, IsOtherHeader, LeadsOn};
+ghost use Rattle.share_beginnings.specs.Causes.{IsNumbered, IsOpeningFault, IsOtherHeader};
+ghost use Rattle.share_beginnings.specs.Causes.{LeadsOn};
 ghost use Rattle.share_beginnings.specs.Known.{AreBegun};
 ghost use Rattle.share_beginnings.specs.Moves.{AsksNext, Awaits, BringsBytes, Compares};
 ghost use Rattle.share_beginnings.specs.Moves.{CountsAsMany, GoesOn, IsGone};
@@ -199,6 +200,8 @@ impl Beginnings {
         ensures goes { GoesOn self.old self.new }
         ensures causes { AddsBlames (IsOpeningFault cap.now self.old.holdings.requests.entries)
             self.old.holdings.blamed self.new.holdings.blamed }
+        ensures low { AddsBlames (IsNumbered self.old) self.old.holdings.blamed
+            self.new.holdings.blamed }
         ensures adds { AddsReads (IsInBeginning self.new.holdings.requests.entries)
             self.old.holdings.requests.entries self.new.holdings.requests.entries }
         ensures count { CountsAsMany self.old self.new }
@@ -235,6 +238,8 @@ impl Beginnings {
         ensures goes { GoesOn self.old self.new }
         ensures causes { AddsBlames (IsOtherHeader geometry.now
             self.old.holdings.requests.entries) self.old.holdings.blamed self.new.holdings.blamed }
+        ensures low { AddsBlames (IsNumbered self.old) self.old.holdings.blamed
+            self.new.holdings.blamed }
         ensures count { CountsAsMany self.old self.new }
     {
         for holding in 0..self.begun.len() {
@@ -256,6 +261,8 @@ impl Beginnings {
         ensures goes { GoesOn self.old self.new }
         ensures causes { AddsBlames (IsOtherHeader geometry.now
             self.old.holdings.requests.entries) self.old.holdings.blamed self.new.holdings.blamed }
+        ensures low { AddsBlames (IsNumbered self.old) self.old.holdings.blamed
+            self.new.holdings.blamed }
         ensures count { CountsAsMany self.old self.new }
     {
         let begun = self.begun[holding];
@@ -294,6 +301,8 @@ impl Beginnings {
             → IsGone holding self.new ⊎ LeadsOn cap.now geometry.now opening bytes) }
         ensures causes { AddsBlames (IsBeginningFault cap.now geometry.now
             self.old.holdings.requests.entries) self.old.holdings.blamed self.new.holdings.blamed }
+        ensures low { AddsBlames (IsNumbered self.old) self.old.holdings.blamed
+            self.new.holdings.blamed }
         ensures requests { self.new.holdings.requests ≡ self.old.holdings.requests }
         ensures goes { GoesOn self.old self.new }
     {

@@ -1,8 +1,8 @@
-use Rattle.std.proofs.Common.{◌≡◌, ◌∙◌, length, refl, ap, arith, subst}
+use Rattle.std.proofs.Common.{◌≡◌, ◌∙◌, ◌<◌, length, refl, ap, arith, subst}
 use Rattle.request_record.specs.Record.{RequestsState}
 use Rattle.share_beginnings.specs.Causes.{AddsBlames}
 use Rattle.share_beginnings.specs.State.{BeginningsState}
-use Rattle.share_beginnings.specs.Causes.{IsOtherHeader}
+use Rattle.share_beginnings.specs.Causes.{IsNumbered, IsOtherHeader}
 use Rattle.share_beginnings.proofs.Caused.{adds_none, adds_trans}
 use Rattle.share_beginnings.proofs.Comparing.{compared_all, compared_none}
 use Rattle.share_beginnings.proofs.Opened.{goes_none, goes_trans}
@@ -18,6 +18,7 @@ loop-holding-init c = record {
   causes = adds_none (IsOtherHeader c.args.geometry.now c.args.self.now.holdings.requests.entries) c.args.self.now.holdings.blamed c.args.self.now.holdings.blamed refl;
   goes = goes_none c.args.self.now c.args.self.now refl refl;
   count = refl;
+  low = adds_none (IsNumbered c.args.self.now) c.args.self.now.holdings.blamed c.args.self.now.holdings.blamed refl;
 }
 
 pub returns-clause-compared : goal.returns-clause-compared
@@ -38,6 +39,17 @@ compared_causes c =
     adds_trans (IsOtherHeader c.args.geometry.now s.holdings.requests.entries) s c.loop-holding.self c.compare_one.new.self e.goes k.causes
     (subst (λ (r : RequestsState). AddsBlames (IsOtherHeader c.args.geometry.now r.entries) c.loop-holding.self.holdings.blamed c.compare_one.new.self.holdings.blamed) k.requests e.causes)
 
+compared_low : (c : After-compare_one) → AddsBlames (IsNumbered c.args.self.now) c.args.self.now.holdings.blamed c.compare_one.new.self.holdings.blamed
+compared_low c =
+    let s = c.args.self.now in
+    let k = c.loop-holding.invariant in
+    let e = c.compare_one.ensures in
+    adds_trans (IsNumbered s) s c.loop-holding.self c.compare_one.new.self e.goes k.low
+    (subst (λ n. AddsBlames (λ b. b.share < n) c.loop-holding.self.holdings.blamed c.compare_one.new.self.holdings.blamed) k.count e.low)
+
+pub returns-in_err-compare_one-clause-low : goal.returns-in_err-compare_one-clause-low
+returns-in_err-compare_one-clause-low c = compared_low (goal.at.returns-in_err-compare_one-clause-low c).After-compare_one
+
 pub returns-in_err-compare_one-clause-causes : goal.returns-in_err-compare_one-clause-causes
 returns-in_err-compare_one-clause-causes c = compared_causes (goal.at.returns-in_err-compare_one-clause-causes c).After-compare_one
 
@@ -53,4 +65,5 @@ loop-holding-preserved c =
       causes = compared_causes (goal.at.loop-holding-preserved c).After-compare_one;
       goes = goes_trans c.args.self.now c.loop-holding.self c.compare_one.new.self k.goes e.goes;
       count = e.count ∙ k.count;
+      low = compared_low (goal.at.loop-holding-preserved c).After-compare_one;
     }

@@ -1,5 +1,5 @@
 use Rattle.std.proofs.Common.{◌≡◌}
-use Rattle.share_beginnings.specs.Causes.{AddsBlames, IsOtherHeader}
+use Rattle.share_beginnings.specs.Causes.{AddsBlames, IsNumbered, IsOtherHeader}
 use Rattle.share_beginnings.specs.Known.{AreBegun}
 use Rattle.share_beginnings.specs.Moves.{CountsAsMany, GoesOn}
 use Rattle.share_beginnings.specs.Opening.{AreComparedUpTo}
@@ -15,4 +15,5 @@ invariant-loop-holding l = record {
   causes : AddsBlames (IsOtherHeader l.geometry l.initial.self.holdings.requests.entries) l.initial.self.holdings.blamed l.self.holdings.blamed;
   goes : GoesOn l.initial.self l.self;
   count : CountsAsMany l.initial.self l.self;
+  low : AddsBlames (IsNumbered l.initial.self) l.initial.self.holdings.blamed l.self.holdings.blamed;
 }

@@ -8,9 +8,9 @@ use Rattle.share_holdings.specs.State.{HoldingsState}
 use Rattle.share_holdings.specs.Table.{IsHolding, Suspends}
 use Rattle.share_holdings.specs.declared.holding.Blame.{Blame}
 use Rattle.share_holdings.specs.declared.holding.Holding.{Holding}
-use Rattle.share_beginnings.specs.Causes.{AddsBlames, IsBeginningFault, LeadsOn}
+use Rattle.share_beginnings.specs.Causes.{AddsBlames, IsBeginningFault, IsNumbered, LeadsOn}
 use Rattle.share_beginnings.specs.Reads.{IsAnsweredBy}
-use Rattle.share_beginnings.proofs.Caused.{adds_none, adds_one, fault_of}
+use Rattle.share_beginnings.proofs.Caused.{adds_none, adds_one, blamed_low, fault_of}
 use Rattle.share_beginnings.specs.Known.{AreBegun}
 use Rattle.share_beginnings.specs.Moves.{GoesOn}
 use Rattle.share_beginnings.specs.State.{BeginningsState}
@@ -134,3 +134,27 @@ returns-in-None-clause-agrees c o bytes awaits answered =
     let same : c.in-Some.opening ≡ o = cc in
     inr (subst (λ (p : Opening). LeadsOn c.args.cap.now c.args.geometry.now p bytes) same
     (c.in-None.ensures.leads bytes (subst (λ (h : HoldingsState). IsAnsweredBy h.requests.entries c.args.place bytes) (sym (ap (λ (x : BeginningsState). x.holdings) c.take_waiting.ensures.rests.is)) answered)))
+
+-- the numbers of the shares that are blamed
+pub returns-then-not-holdings-holding-clause-low : goal.returns-then-not-holdings-holding-clause-low
+returns-then-not-holdings-holding-clause-low c =
+    let s = c.args.self.now in
+    adds_none (IsNumbered s) s.holdings.blamed c.take_waiting.new.self.holdings.blamed (ap (λ (x : BeginningsState). x.holdings.blamed) c.take_waiting.ensures.rests.is)
+
+pub returns-in-Some-compared-clause-low : goal.returns-in-Some-compared-clause-low
+returns-in-Some-compared-clause-low c =
+    let s = c.args.self.now in
+    let w = c.self.inside.holdings in
+    let u = c.blame.new.self in
+    let same : w ≡ s.holdings = ap (λ (x : BeginningsState). x.holdings) c.self.view_is ∙ ap (λ (x : BeginningsState). x.holdings) c.take_waiting.ensures.rests.is in
+    subst (λ (l : List Blame). AddsBlames (IsNumbered s) l u.blamed) (ap (λ (h : HoldingsState). h.blamed) same)
+    (by_result c.blame.result _ _ (AddsBlames (IsNumbered s) w.blamed u.blamed) c.blame.ensures.ok c.blame.ensures.err
+    (λ b. blamed_low (length s.holdings.table.numbers) w u c.args.holding c.in-Some-compared.check c.holdings.ensures.table (ap (λ (h : HoldingsState). length h.table.numbers) same) b)
+    (λ e. adds_none (IsNumbered s) w.blamed u.blamed (ap (λ (h : HoldingsState). h.blamed) e)))
+
+pub returns-in-None-clause-low : goal.returns-in-None-clause-low
+returns-in-None-clause-low c =
+    let s = c.args.self.now in
+    let same : c.self.inside.holdings ≡ s.holdings = ap (λ (x : BeginningsState). x.holdings) c.self.view_is ∙ ap (λ (x : BeginningsState). x.holdings) c.take_waiting.ensures.rests.is in
+    adds_none (IsNumbered s) s.holdings.blamed c.suspend.new.self.blamed
+    (ap (λ (h : HoldingsState). h.blamed) c.suspend.ensures.others ∙ ap (λ (h : HoldingsState). h.blamed) same)

@@ -5,13 +5,14 @@ use Rattle.share_opening.specs.declared.opening.Opening.{Opening}
 use Rattle.share_holdings.specs.State.{HoldingsState}
 use Rattle.share_holdings.specs.declared.holding.Holding.{Holding}
 use Rattle.share_verify.specs.declared.check.Check.TheVariants as checks
-use Rattle.share_beginnings.specs.Causes.{AddsBlames, IsOtherHeader}
-use Rattle.share_beginnings.proofs.Caused.{adds_none}
+use Rattle.share_holdings.specs.declared.holding.Blame.{Blame}
+use Rattle.share_beginnings.specs.Causes.{AddsBlames, IsNumbered, IsOtherHeader}
+use Rattle.share_beginnings.proofs.Caused.{adds_none, blamed_low}
 use Rattle.share_beginnings.specs.Known.{AreBegun}
 use Rattle.share_beginnings.specs.Moves.{GoesOn}
 use Rattle.share_beginnings.specs.Opening.{AreComparedUpTo}
 use Rattle.share_beginnings.specs.State.{BeginningsState, IsBegun}
-use Rattle.share_beginnings.proofs.Accepting.{refused_causes, refused_compared, refused_goes, refused_known, released_goes, released_known, released_requests, released_blamed, suspended_compared, suspended_goes, suspended_known, unopened_compared}
+use Rattle.share_beginnings.proofs.Accepting.{refused_causes, refused_compared, refused_goes, refused_known, released_goes, released_count, released_known, released_requests, released_blamed, suspended_compared, suspended_goes, suspended_known, unopened_compared}
 use Rattle.share_beginnings.proofs.Opened.{goes_from, goes_none}
 use Rattle.share_beginnings.proofs.beginnings.Beginnings.compare_one.Goals.{else-left-via-then-left+else-differs, else-left-via-else-left}
 use Rattle.share_beginnings.proofs.beginnings.Beginnings.compare_one.Goals as goal
@@ -133,4 +134,28 @@ returns-then-differs-clause-causes c =
 pub returns-clause-causes : goal.returns-clause-causes
 returns-clause-causes c =
     adds_none (IsOtherHeader c.args.geometry.now c.args.self.now.holdings.requests.entries) c.args.self.now.holdings.blamed c.suspend.new.self.blamed
+    (ap (λ (x : HoldingsState). x.blamed) c.suspend.ensures.others ∙ ap (λ (x : HoldingsState). x.blamed) c.release.ensures.others ∙ ap (λ (x : BeginningsState). x.holdings.blamed) c.self.view_is)
+
+-- the numbers of the shares that are blamed
+pub returns-in_default-clause-low : goal.returns-in_default-clause-low
+returns-in_default-clause-low c =
+    adds_none (IsNumbered c.args.self.now) c.args.self.now.holdings.blamed c.release.new.self.blamed
+    (ap (λ (x : HoldingsState). x.blamed) c.release.ensures.others ∙ ap (λ (x : BeginningsState). x.holdings.blamed) c.self.view_is)
+
+pub returns-then-differs-clause-low : goal.returns-then-differs-clause-low
+returns-then-differs-clause-low c =
+    let s = c.args.self.now in
+    let t = c.release.new.self in
+    let u = c.blame.new.self in
+    let still : t.blamed ≡ s.holdings.blamed = ap (λ (x : HoldingsState). x.blamed) c.release.ensures.others ∙ ap (λ (x : BeginningsState). x.holdings.blamed) c.self.view_is in
+    let count : length t.table.numbers ≡ length s.holdings.table.numbers =
+    released_count c.args.holding c.self.inside.holdings.table t.table c.release.ensures.releases ∙ ap (λ (x : BeginningsState). length x.holdings.table.numbers) c.self.view_is in
+    subst (λ (l : List Blame). AddsBlames (IsNumbered s) l u.blamed) still
+    (by_result c.blame.result _ _ (AddsBlames (IsNumbered s) t.blamed u.blamed) c.blame.ensures.ok c.blame.ensures.err
+    (λ b. blamed_low (length s.holdings.table.numbers) t u c.args.holding checks.Layout c.holdings.ensures.table count b)
+    (λ e. adds_none (IsNumbered s) t.blamed u.blamed (ap (λ (h : HoldingsState). h.blamed) e)))
+
+pub returns-clause-low : goal.returns-clause-low
+returns-clause-low c =
+    adds_none (IsNumbered c.args.self.now) c.args.self.now.holdings.blamed c.suspend.new.self.blamed
     (ap (λ (x : HoldingsState). x.blamed) c.suspend.ensures.others ∙ ap (λ (x : HoldingsState). x.blamed) c.release.ensures.others ∙ ap (λ (x : BeginningsState). x.holdings.blamed) c.self.view_is)

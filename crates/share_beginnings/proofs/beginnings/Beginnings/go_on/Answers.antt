@@ -11,14 +11,14 @@ use Rattle.share_beginnings.specs.Known.{AreBegun}
 use Rattle.share_beginnings.specs.Moves.{Awaits, GoesOn, Rests}
 use Rattle.request_record.specs.Record.{RequestsState}
 use Rattle.share_beginnings.specs.Reads.{AddsReads, IsAnsweredBy, IsInBeginning}
-use Rattle.share_beginnings.specs.Causes.{IsOpeningFault}
+use Rattle.share_beginnings.specs.Causes.{AddsBlames, IsNumbered, IsOpeningFault}
 use Rattle.share_holdings.specs.declared.holding.Blame.{Blame}
 use Rattle.request_record.specs.declared.requests.Request.{Request}
 use Rattle.cap_text.specs.Cap.{VerifyCapValue}
 use Rattle.share_beginnings.specs.State.{BeginningsState, IsBegun}
 use Rattle.share_beginnings.specs.declared.begun.Begun.{Begun}
 use Rattle.share_beginnings.proofs.Going.{block_at, blamed_known, blamed_opening, found, gone_opening, goes_on_from, led_now, next_unasked, nexts_known, nexts_opening, rested_goes, rested_known, rested_requests}
-use Rattle.share_beginnings.proofs.Caused.{adds_none, adds_one, opening_fault, reads_next, reads_none}
+use Rattle.share_beginnings.proofs.Caused.{adds_none, adds_one, blamed_low, opening_fault, reads_next, reads_none}
 use Rattle.share_beginnings.proofs.Opened.{goes_blamed, goes_next, goes_none}
 use Rattle.share_beginnings.proofs.beginnings.Beginnings.go_on.Goals as goal
 
@@ -182,6 +182,44 @@ pub returns-in-Ok-Done-clause-causes : goal.returns-in-Ok-Done-clause-causes
 returns-in-Ok-Done-clause-causes c =
     let s = c.args.self.now in
     adds_none (fault c.args.cap.now s) s.holdings.blamed c.take_waiting.new.self.holdings.blamed (blamed_still s c.take_waiting.new.self c.args.holding c.take_waiting.ensures.rests)
+
+-- ---- the numbers of the shares that are blamed
+
+pub returns-then-not-holdings-holding-clause-low : goal.returns-then-not-holdings-holding-clause-low
+returns-then-not-holdings-holding-clause-low c =
+    let s = c.args.self.now in
+    adds_none (IsNumbered s) s.holdings.blamed c.take_waiting.new.self.holdings.blamed (blamed_still s c.take_waiting.new.self c.args.holding c.take_waiting.ensures.rests)
+
+pub returns-in_err-blame-in-Err-clause-low : goal.returns-in_err-blame-in-Err-clause-low
+returns-in_err-blame-in-Err-clause-low c =
+    let s = c.args.self.now in
+    adds_none (IsNumbered s) s.holdings.blamed c.blame.new.self.blamed
+    (ap (λ (x : HoldingsState). x.blamed) c.in_err-blame-in-Err.ensures.err ∙ ap (λ (x : BeginningsState). x.holdings.blamed) c.self.view_is ∙ blamed_still s c.take_waiting.new.self c.args.holding c.take_waiting.ensures.rests)
+
+pub returns-in_err-ask_next-in-Ok-Next-clause-low : goal.returns-in_err-ask_next-in-Ok-Next-clause-low
+returns-in_err-ask_next-in-Ok-Next-clause-low c =
+    let s = c.args.self.now in
+    adds_none (IsNumbered s) s.holdings.blamed c.ask_next.new.self.holdings.blamed
+    (ap (λ (x : BeginningsState). x.holdings.blamed) c.in_err-ask_next-in-Ok-Next.ensures.err ∙ blamed_still s c.take_waiting.new.self c.args.holding c.take_waiting.ensures.rests)
+
+pub returns-in_ok-blame-in-Err-clause-low : goal.returns-in_ok-blame-in-Err-clause-low
+returns-in_ok-blame-in-Err-clause-low c =
+    let s = c.args.self.now in
+    let same : c.self.inside.holdings ≡ s.holdings = ap (λ (x : BeginningsState). x.holdings) c.self.view_is ∙ ap (λ (x : BeginningsState). x.holdings) c.take_waiting.ensures.rests.is in
+    subst (λ (l : List Blame). AddsBlames (IsNumbered s) l c.blame.new.self.blamed) (ap (λ (h : HoldingsState). h.blamed) same)
+    (blamed_low (length s.holdings.table.numbers) c.self.inside.holdings c.blame.new.self c.args.holding c.check.result c.holdings.ensures.table
+    (ap (λ (h : HoldingsState). length h.table.numbers) same) c.in_ok-blame-in-Err.ensures.ok)
+
+pub returns-in_ok-ask_next-in-Ok-Next-clause-low : goal.returns-in_ok-ask_next-in-Ok-Next-clause-low
+returns-in_ok-ask_next-in-Ok-Next-clause-low c =
+    let s = c.args.self.now in
+    adds_none (IsNumbered s) s.holdings.blamed c.ask_next.new.self.holdings.blamed
+    (ap (λ (x : HoldingsState). x.blamed) c.in_ok-ask_next-in-Ok-Next.ensures.asks.asks.2 ∙ blamed_still s c.take_waiting.new.self c.args.holding c.take_waiting.ensures.rests)
+
+pub returns-in-Ok-Done-clause-low : goal.returns-in-Ok-Done-clause-low
+returns-in-Ok-Done-clause-low c =
+    let s = c.args.self.now in
+    adds_none (IsNumbered s) s.holdings.blamed c.take_waiting.new.self.holdings.blamed (blamed_still s c.take_waiting.new.self c.args.holding c.take_waiting.ensures.rests)
 
 -- ---- what is read
 
