@@ -7,10 +7,12 @@ use Rattle.download_plan.specs.declared.part.Part.{Part}
 use Rattle.download_plan.specs.declared.part.Part.TheVariants.{CiphertextTree}
 use Rattle.download_source.specs.Asking.{AsksNow, IsAsked, IsReadOf, IsWanted, IsWantedCiphertext, OnlyAsks, parts_of}
 use Rattle.download_source.specs.Cursors.{LeadOn}
-use Rattle.download_source.specs.Source.{SourceState}
+use Rattle.download_source.specs.Source.{SourceState, first_of}
+use Rattle.download_source.specs.Upper.{UpperComeFirst}
 use Rattle.download_source.specs.declared.wanted.Wanted.{Wanted}
 use Rattle.download_source.proofs.CursorLemmas.{lead_different}
 use Rattle.download_source.proofs.LawLemmas.{lead_append}
+use Rattle.download_source.proofs.UpperLemmas.{upper_append}
 use Rattle.download_file.specs.State.{placed}
 use Rattle.download_file.specs.Steps.{Asks, AsksNoTree}
 use Rattle.download_file.specs.declared.reader.Waiting.{Waiting}
@@ -49,10 +51,14 @@ asks_both s m t v w only one two =
     let parts : parts_of (v ++ w) ≡ parts_of v ++ parts_of w = map-append (λ (x : Wanted). x.part) v w in
     let leads : LeadOn s.asked (parts_of (v ++ w)) t.asked =
     subst (λ (l : List Part). LeadOn s.asked l t.asked) (sym parts) (lead_append s.asked m.asked t.asked (parts_of v) (parts_of w) one.in_order two.in_order) in
+    let upper : UpperComeFirst s.geometry (first_of s) m.asked (parts_of w) =
+    subst (λ (q : SourceState). UpperComeFirst q.geometry (first_of q) m.asked (parts_of w)) only two.upper in
     record {
       reads = All-append (IsReadOf s) v w one.reads
           (All-weaker (IsReadOf m) (IsReadOf s) (λ x read. subst (λ (q : SourceState). IsReadOf q x) only read) w two.reads);
       in_order = leads;
+      upper = subst (λ (l : List Part). UpperComeFirst s.geometry (first_of s) s.asked l) (sym parts)
+          (upper_append s.geometry (first_of s) s.asked m.asked (parts_of v) (parts_of w) one.in_order one.upper upper);
       fresh = λ part among asked. elim (Contains-append_cases (parts_of v) (parts_of w) part (subst (λ (l : List Part). Contains l part) parts among)) [
         | inl first ↦ one.fresh part first asked
         | inr second ↦ two.fresh part second ((one.asked part).1 (inl asked))

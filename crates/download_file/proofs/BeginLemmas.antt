@@ -12,7 +12,8 @@ use Rattle.download_plan.specs.declared.part.Part.{Part}
 use Rattle.download_plan.specs.declared.part.Part.TheVariants.{CiphertextTree}
 use Rattle.download_source.specs.Asking.{IsAsked, IsReadOf}
 use Rattle.download_source.specs.Cursors.{LeadOn}
-use Rattle.download_source.specs.Source.{IsSource, SourceState, gives_from, new_source}
+use Rattle.download_source.specs.Source.{IsSource, SourceState, first_of, gives_from, new_source}
+use Rattle.download_source.specs.Upper.{UpperComeFirst}
 use Rattle.download_segments.specs.Handout.{next_segment}
 use Rattle.download_segments.proofs.TreeLemmas.{grow_none}
 use Rattle.download_trees.proofs.TreeLemmas.{knows_itself}
@@ -20,7 +21,7 @@ use Rattle.download_file.specs.State.{FileState, IsLive, IsReader, ReaderState, 
 use Rattle.download_file.specs.Answers.{HoldsAnswers}
 use Rattle.download_file.specs.Asked.{AsksNoMore}
 use Rattle.download_file.specs.Changes.{IsSameFile, ReadersGoOn, StaysAskedUp, StaysRead}
-use Rattle.download_file.specs.Right.{AreLive, GivesTree, IsFile, IsGroup, IsReaderOf, TellsRoot}
+use Rattle.download_file.specs.Right.{AreLive, GivesTree, IsFile, IsGroup, IsReaderOf, TellsRoot, WaitsByLevels}
 use Rattle.download_file.specs.Steps.{IsBegun}
 use Rattle.download_file.specs.declared.reader.Waiting.{Waiting}
 use Rattle.download_file.proofs.ListLemmas.{get_first}
@@ -169,6 +170,14 @@ module _ (f : FileState) (server share next : ℕ) (x : ReaderState) (gives : Bo
           ]
           | inr new ↦ subst (λ (q : ReaderState). LeadOn q.source.taken (waiting_parts q.waiting) q.source.asked) new.1
               (subst (λ (l : List Waiting). LeadOn x.source.taken (waiting_parts l) x.source.asked) (sym begun.waiting) begun.asked)
+        ];
+        upper = λ place r among at. elim (which place r at) [
+          | inl old ↦ elim (which_live place among) [
+            | inl was ↦ is.live.upper place r was old
+            | inr last ↦ absurd (let low = old_there place r old in omega (arith, last, low))
+          ]
+          | inr new ↦ subst WaitsByLevels new.1
+              (subst (λ (l : List Waiting). UpperComeFirst x.source.geometry (first_of x.source) x.source.taken (waiting_parts l)) (sym begun.waiting) tt)
         ];
         reads = λ place r among at. elim (which place r at) [
           | inl old ↦ elim (which_live place among) [

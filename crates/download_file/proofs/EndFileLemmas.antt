@@ -18,6 +18,7 @@ use Rattle.download_source.specs.Cursors.{LeadOn, cursor_at}
 use Rattle.download_source.specs.Laws.{KnowsPiece}
 use Rattle.download_source.specs.Source.{IsSource, SourceState, gives_from}
 use Rattle.download_source.proofs.LawLemmas.{lead_giving}
+use Rattle.download_source.proofs.UpperLemmas.{upper_giving}
 use Rattle.download_source.proofs.SourceLemmas.{gives_source}
 use Rattle.download_segments.specs.Handout.{next_segment}
 use Rattle.download_segments.specs.State.{IsHandout}
@@ -27,7 +28,7 @@ use Rattle.download_file.specs.State.{FileState, IsLive, IsReader, ReaderState, 
 use Rattle.download_file.specs.Answers.{HoldsAnswers, HoldsFor}
 use Rattle.download_file.specs.Asked.{AsksNoMore}
 use Rattle.download_file.specs.Changes.{GoesOn, IsSameFile, OthersWait, ReadersGoOn, StaysAskedUp, StaysRead}
-use Rattle.download_file.specs.Right.{AreConsecutive, AreLive, IsFile, IsGroup, IsReaderOf, TellsRoot, made_end}
+use Rattle.download_file.specs.Right.{AreConsecutive, AreLive, IsFile, IsGroup, IsReaderOf, TellsRoot, WaitsByLevels, made_end}
 use Rattle.download_file.specs.Steps.{AsksNoTree, CanGive, EndsReader, giving, stopped}
 use Rattle.download_file.proofs.ListLemmas.{All-from_contains, get_cases, map_set, set_again, set_same, waiting_set}
 use Rattle.download_file.proofs.GrowLemmas.{goes_same, group_stays, holds_as, read_stays, reader_there, same_file, same_two, tree_same}
@@ -135,6 +136,7 @@ module _ (f : FileState) (reader : ℕ) (r r1 : ReaderState) (is : IsFile f) (li
             let b = left j y two at_two in
             is.live.different i j x y a.0 b.0 order a.1 b.1;
         waits = λ place q among there. let k = left place q among there in is.live.waits place q k.0 k.1;
+        upper = λ place q among there. let k = left place q among there in is.live.upper place q k.0 k.1;
         reads = λ place q among there. let k = left place q among there in is.live.reads place q k.0 k.1;
       }
 
@@ -293,6 +295,13 @@ module _ (f : FileState) (next : ℕ) (s : ReaderState) (k : Nearly f) (first : 
               (lead_giving s.source f.taken (waiting_parts s.waiting) (k.readers next s at).source none
               (k.live.waits next s (first_live f.live next first) at))
           | inr e ↦ k.live.waits place q among e.1
+        ];
+        upper = λ place q among there. elim (set_cases f.readers next place (giving s f.taken) q there) [
+          | inl e ↦
+              let one = first_live f.live next first in
+              subst WaitsByLevels e.1
+              (upper_giving s.source f.taken (waiting_parts s.waiting) (k.readers next s at).source none (k.live.waits next s one at) (k.live.upper next s one at))
+          | inr e ↦ k.live.upper place q among e.1
         ];
         reads = λ place q among there. elim (set_cases f.readers next place (giving s f.taken) q there) [
           | inl e ↦ subst (λ (x : ReaderState). All (λ v. IsReadOf x.source v.wanted) x.waiting) e.1 (k.live.reads next s (first_live f.live next first) at)

@@ -7,6 +7,7 @@ pub mod TakingLemmas
 pub mod LiveLemmas
 pub mod StateLemmas
 pub mod TakeLemmas
+pub mod ProofLemmas
 pub mod EndLemmas
 pub mod BeginLemmas
 pub mod EndFileLemmas

@@ -61,6 +61,7 @@ module _ (key : List ℕ) (u : Contents) (g : Geometry) (from to : ℕ) (some : 
           few = omega arith;
           different = λ i j r s one two order_is at_one at_two same. contains_none i one;
           waits = λ place r among at. absurd (contains_none place among);
+          upper = λ place r among at. absurd (contains_none place among);
           reads = λ place r among at. absurd (contains_none place among);
         };
         ciphertext = record {
@@ -113,6 +114,7 @@ module _ (f : FileState) (ready : List Piece) (handed : ℕ) (is : IsFile f) (ri
       few = is.live.few;
       different = is.live.different;
       waits = is.live.waits;
+      upper = is.live.upper;
       reads = is.live.reads;
     };
     ciphertext = record {

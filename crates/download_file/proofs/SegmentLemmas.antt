@@ -324,6 +324,7 @@ module _ (entries : List Request) (f : FileState) (number : ℕ) (groups groups'
       few = is.live.few;
       different = is.live.different;
       waits = is.live.waits;
+      upper = is.live.upper;
       reads = is.live.reads;
     };
     ciphertext = record {
@@ -392,6 +393,7 @@ has_groups entries f number groups groups' h' is read next begun same_handout sa
           few = is.live.few;
           different = is.live.different;
           waits = is.live.waits;
+          upper = is.live.upper;
           reads = is.live.reads;
         };
         ciphertext = record {

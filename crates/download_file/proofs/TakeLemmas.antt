@@ -17,6 +17,7 @@ use Rattle.download_source.specs.Asking.{IsAsked, IsReadOf}
 use Rattle.download_source.specs.Cursors.{IsNextPiece, LeadOn, cursor_at, passed}
 use Rattle.download_source.specs.Source.{SourceState, first_of}
 use Rattle.download_source.specs.Taking.{IsDue}
+use Rattle.download_source.specs.Upper.{UpperComeFirst}
 use Rattle.download_source.specs.declared.cursors.Cursors.{Cursors}
 use Rattle.download_source.proofs.CursorLemmas.{piece_next}
 use Rattle.download_source.proofs.LawLemmas.{first_due}
@@ -26,7 +27,7 @@ use Rattle.download_file.specs.Answers.{AnswersFirst, HoldsAnswers, HoldsFor, Is
 use Rattle.request_record.specs.declared.requests.Asked.TheVariants.{Reading}
 use Rattle.download_file.specs.Asked.{AsksNoMore}
 use Rattle.download_file.specs.Changes.{GoesOn, IsSameFile, OthersWait, ReadersGoOn, StaysAskedUp}
-use Rattle.download_file.specs.Right.{AreLive, GivesTree, IsFile, IsGroup, IsReaderOf}
+use Rattle.download_file.specs.Right.{AreLive, GivesTree, IsFile, IsGroup, IsReaderOf, WaitsByLevels}
 use Rattle.download_file.specs.Steps.{IsTaker, KnowsPart, TakesPart, held_with, taken_with}
 use Rattle.download_file.specs.declared.reader.Waiting.{Waiting}
 use Rattle.download_file.proofs.ListLemmas.{get_cases, map_set, set_same}
@@ -137,7 +138,7 @@ module _ (f : FileState) (t : FileTreesState) (reader : ℕ) (r r' : ReaderState
       }
 
   -- only the giver is due to give a piece of the ciphertext tree
-  gives_if : (q : NodePiece) → w.wanted.part ≡ CiphertextTree q → giver f ≡ Some reader
+  pub gives_if : (q : NodePiece) → w.wanted.part ≡ CiphertextTree q → giver f ≡ Some reader
   gives_if q part = elim (live_giver 0 f.live reader is.live.rise live) [
     | inl e ↦ e
     | inr before ↦
@@ -227,6 +228,13 @@ module _ (f : FileState) (t : FileTreesState) (reader : ℕ) (r r' : ReaderState
         subst (λ (l : List Waiting). LeadOn r'.source.taken (waiting_parts l) r'.source.asked) (sym rest)
         (subst (λ (s : SourceState). LeadOn s.taken (waiting_parts ws) s.asked) (sym T.source_is) was.1)
 
+    upper_on : WaitsByLevels r'
+    upper_on =
+        let was = subst (λ (l : List Waiting). UpperComeFirst r.source.geometry (first_of r.source) r.source.taken (waiting_parts l)) waits (is.live.upper reader r live at) in
+        let rest : r'.waiting ≡ ws = T.waiting ∙ ap (drop 1) waits in
+        subst (λ (l : List Waiting). UpperComeFirst r'.source.geometry (first_of r'.source) r'.source.taken (waiting_parts l)) (sym rest)
+        (subst (λ (s : SourceState). UpperComeFirst s.geometry (first_of s) s.taken (waiting_parts ws)) (sym T.source_is) was.1)
+
     reads_on : All (λ v. IsReadOf r'.source v.wanted) r'.waiting
     reads_on =
         let rest : r'.waiting ≡ ws = T.waiting ∙ ap (drop 1) waits in
@@ -247,6 +255,10 @@ module _ (f : FileState) (t : FileTreesState) (reader : ℕ) (r r' : ReaderState
       waits = λ place q one there. elim (set_cases f.readers reader place r' q there) [
         | inl k ↦ subst (λ (x : ReaderState). LeadOn x.source.taken (waiting_parts x.waiting) x.source.asked) k.1 leads_on
         | inr k ↦ is.live.waits place q one k.1
+      ];
+      upper = λ place q one there. elim (set_cases f.readers reader place r' q there) [
+        | inl k ↦ subst WaitsByLevels k.1 upper_on
+        | inr k ↦ is.live.upper place q one k.1
       ];
       reads = λ place q one there. elim (set_cases f.readers reader place r' q there) [
         | inl k ↦ subst (λ (x : ReaderState). All (λ v. IsReadOf x.source v.wanted) x.waiting) k.1 reads_on

@@ -15,9 +15,11 @@ use Rattle.download_plan.specs.declared.part.Part.TheVariants.{ShareHashes, Bloc
 use Rattle.download_source.specs.Asking.{IsAsked, IsReadOf, IsWanted, IsWantedCiphertext, OnlyAsks, parts_of}
 use Rattle.download_source.specs.Cursors.{IsPassed, LeadOn}
 use Rattle.download_source.specs.Source.{IsPartOf, IsSource, SourceState, first_of}
+use Rattle.download_source.specs.Upper.{UpperComeFirst}
 use Rattle.download_source.specs.declared.cursors.Cursors.{Cursors}
 use Rattle.download_source.specs.declared.wanted.Wanted.{Wanted}
 use Rattle.download_source.proofs.LawLemmas.{lead_append, parts_apart, plans_grow}
+use Rattle.download_source.proofs.UpperLemmas.{upper_append}
 use Rattle.download_segments.specs.Handout.{next_segment}
 use Rattle.download_segments.proofs.TreeLemmas.{grow_none}
 use Rattle.download_trees.proofs.TreeLemmas.{knows_itself}
@@ -25,7 +27,7 @@ use Rattle.download_file.specs.State.{FileState, IsLive, IsReader, ReaderState, 
 use Rattle.download_file.specs.Answers.{HoldsAnswers, HoldsFor}
 use Rattle.download_file.specs.Asked.{AsksParts, HasAsked, IsAskedUp, IsOneOf, IsPlannedRead}
 use Rattle.download_file.specs.Changes.{GoesOn, IsSameFile, OthersWait, ReadersGoOn, StaysAskedUp, StaysRead}
-use Rattle.download_file.specs.Right.{AreLive, IsFile, IsGroup, IsReaderOf, TellsRoot}
+use Rattle.download_file.specs.Right.{AreLive, IsFile, IsGroup, IsReaderOf, TellsRoot, WaitsByLevels}
 use Rattle.download_file.specs.Steps.{Asks, AsksNoTree}
 use Rattle.download_file.specs.declared.reader.Waiting.{Waiting}
 use Rattle.download_file.proofs.ListLemmas.{All-from_contains, from_map, get_cases, map_set}
@@ -143,15 +145,24 @@ module _ (f : FileState) (reader : ℕ) (r r' : ReaderState) (gives : Bool) (las
     | inr k ↦ (q, k.1, refl)
   ]
 
+  parts : waiting_parts r'.waiting ≡ waiting_parts r.waiting ++ parts_of wanted
+  parts = ap waiting_parts waits ∙ map-append (λ (w : Waiting). w.wanted.part) r.waiting (placed place wanted)
+      ∙ ap (λ (l : List Part). waiting_parts r.waiting ++ l) (placed_parts place wanted)
+
   leads_on : LeadOn r'.source.taken (waiting_parts r'.waiting) r'.source.asked
   leads_on =
-      let parts : waiting_parts r'.waiting ≡ waiting_parts r.waiting ++ parts_of wanted =
-      ap waiting_parts waits ∙ map-append (λ (w : Waiting). w.wanted.part) r.waiting (placed place wanted)
-      ∙ ap (λ (l : List Part). waiting_parts r.waiting ++ l) (placed_parts place wanted) in
       let taken : r'.source.taken ≡ r.source.taken = ap (λ (s : SourceState). s.taken) only in
       subst (λ (l : List Part). LeadOn r'.source.taken l r'.source.asked) (sym parts)
       (subst (λ (c : Cursors). LeadOn c (waiting_parts r.waiting ++ parts_of wanted) r'.source.asked) (sym taken)
       (lead_append r.source.taken r.source.asked r'.source.asked (waiting_parts r.waiting) (parts_of wanted) (is.live.waits reader r live at) asks.now.in_order))
+
+  upper_on : WaitsByLevels r'
+  upper_on =
+      let both : List Part = waiting_parts r.waiting ++ parts_of wanted in
+      subst (λ (l : List Part). UpperComeFirst r'.source.geometry (first_of r'.source) r'.source.taken l) (sym parts)
+      (subst (λ (s : SourceState). UpperComeFirst s.geometry (first_of s) s.taken both) (sym only)
+      (upper_append r.source.geometry (first_of r.source) r.source.taken r.source.asked (waiting_parts r.waiting) (parts_of wanted)
+      (is.live.waits reader r live at) (is.live.upper reader r live at) asks.now.upper))
 
   reads_on : All (λ v. IsReadOf r'.source v.wanted) r'.waiting
   reads_on =
@@ -175,6 +186,10 @@ module _ (f : FileState) (reader : ℕ) (r r' : ReaderState) (gives : Bool) (las
         waits = λ other q among there. elim (set_cases f.readers reader other r' q there) [
           | inl k ↦ subst (λ (x : ReaderState). LeadOn x.source.taken (waiting_parts x.waiting) x.source.asked) k.1 leads_on
           | inr k ↦ is.live.waits other q among k.1
+        ];
+        upper = λ other q among there. elim (set_cases f.readers reader other r' q there) [
+          | inl k ↦ subst WaitsByLevels k.1 upper_on
+          | inr k ↦ is.live.upper other q among k.1
         ];
         reads = λ other q among there. elim (set_cases f.readers reader other r' q there) [
           | inl k ↦ subst (λ (x : ReaderState). All (λ v. IsReadOf x.source v.wanted) x.waiting) k.1 reads_on

@@ -10,7 +10,8 @@ use Rattle.download_trees.specs.Trees.{known_leaf}
 use Rattle.download_source.specs.Asking.{IsAsked, IsReadOf}
 use Rattle.download_source.specs.Cursors.{LeadOn, cursor_at}
 use Rattle.download_source.specs.Laws.{KnowsPiece}
-use Rattle.download_source.specs.Source.{IsSource}
+use Rattle.download_source.specs.Source.{IsSource, first_of}
+use Rattle.download_source.specs.Upper.{UpperComeFirst}
 use Rattle.download_segments.specs.Decoding.{IsDecoding}
 use Rattle.download_segments.specs.Handout.{next_segment}
 use Rattle.download_segments.specs.State.{HandoutState, IsHandout}
@@ -38,6 +39,11 @@ abbrev pub RiseFrom : ℕ → List ℕ → Type 0
 RiseFrom low [] = Unit {0}
 RiseFrom low (place ∷ places) = (low ≤ place) × RiseFrom (place + 1) places
 
+-- the pieces of trees that wait of a reader come each after the piece over it
+abbrev pub WaitsByLevels : ReaderState → Type 0
+WaitsByLevels r =
+    UpperComeFirst r.source.geometry (first_of r.source) r.source.taken (waiting_parts r.waiting)
+
 -- The readers that are read: at most as many as are needed, and of different shares. The parts that
 -- wait of each lead from what was taken of it to what was asked.
 pub record AreLive (f : FileState) : Type 0 where
@@ -48,6 +54,8 @@ pub record AreLive (f : FileState) : Type 0 where
       → IsReader f i r → IsReader f j s → r.share ≢ s.share
   pub waits : (place : ℕ) (r : ReaderState) → IsLive f place → IsReader f place r
       → LeadOn r.source.taken (waiting_parts r.waiting) r.source.asked
+  pub upper : (place : ℕ) (r : ReaderState) → IsLive f place → IsReader f place r
+      → WaitsByLevels r
   pub reads : (place : ℕ) (r : ReaderState) → IsLive f place → IsReader f place r
       → All (λ w. IsReadOf r.source w.wanted) r.waiting
 

@@ -1,6 +1,6 @@
 -- What is taken of the readers of a file, and why it is refused.
-use Rattle.std.specs.Prelude.{◌≡◌, ◌≢◌, ◌⊎◌, ℕ, List, ◌∷◌, length}
-use Rattle.merkle.specs.Partial.{IsNotConsistent}
+use Rattle.std.specs.Prelude.{◌≡◌, ◌≢◌, ◌⊎◌, ℕ, List, ◌∷◌, Some, length}
+use Rattle.merkle.specs.Partial.{IsNotConsistent, PartialState}
 use Rattle.share_verify.specs.declared.check.Check.{Check}
 use Rattle.share_verify.specs.declared.check.Check.TheVariants as checks
 use Rattle.download_plan.specs.Plan.{nodes_of}
@@ -10,6 +10,7 @@ use Rattle.download_plan.specs.declared.part.Part.TheVariants.{CiphertextTree, D
 use Rattle.download_trees.specs.Offers.{nodes_offered}
 use Rattle.download_trees.specs.Refusal.{IsHashesRefusal}
 use Rattle.download_source.specs.Taking.{RefutesPiece}
+use Rattle.download_source.specs.Upper.{KnowsTops}
 use Rattle.download_segments.specs.State.{HandoutState}
 use Rattle.download_file.specs.State.{FileState, IsReader, ReaderState}
 use Rattle.download_file.specs.declared.reader.Waiting.{Waiting}
@@ -35,3 +36,10 @@ pub record IsRefused (f : FileState) (reader : ℕ) (bytes : List ℕ) (check : 
   pub why : ((check ≡ checks.Layout) × (length bytes ≢ first.wanted.read.length))
       ⊎ ((length bytes ≡ first.wanted.read.length)
       × RefutesPart f.handout f.first f.end r first.wanted.part bytes check)
+
+-- what proves a part that is read of a reader is known
+abbrev pub KnowsProof : HandoutState → ℕ → ℕ → ReaderState → Part → Type 0
+KnowsProof h a b r (BlockTree p) = (t : PartialState) → r.source.tree ≡ Some t
+    → KnowsTops t (nodes_of r.source.geometry r.source.first r.source.end p)
+KnowsProof h a b r (CiphertextTree p) = KnowsTops h.trees.ciphertext (nodes_of h.geometry a b p)
+KnowsProof h a b r part = Unit {0}

@@ -1,7 +1,7 @@
 //! Laws of files that are read.
 
 ghost use Rattle.download_file.specs.Hashed.{GivenAreHashed, HashedStays};
-ghost use Rattle.download_file.specs.Laws.{GivenStays, ReadsStay};
+ghost use Rattle.download_file.specs.Laws.{FirstPartsAreProved, GivenStays, ReadsStay};
 ghost use Rattle.download_file.specs.Tested.{InconsistentIsNoCodeWord, TestedStays};
 ghost use Rattle.download_file.specs.Whole.{SegmentsAreMadeOnce, WholeFiles};
 
@@ -15,6 +15,13 @@ pub fn reads_stay()
 /// still. The law is the contract; the call does nothing.
 pub fn given_stays()
     ensures { GivenStays }
+{}
+
+/// A law of the definitions: what proves the first part that waits of a reader that is read is
+/// known: the nodes 7 rows above a piece of a tree, or the root where that is nearer. The law is the
+/// contract; the call does nothing.
+pub fn first_parts_are_proved()
+    ensures { FirstPartsAreProved }
 {}
 
 /// A law of the definitions: all that is hashed for a piece that is given was hashed for the file:

@@ -18,7 +18,7 @@ mod window;
 
 pub use file::{File, Made};
 pub use laws::{
-    given_are_hashed, given_stays, hashed_stays, inconsistent_is_no_code_word, reads_stay,
-    segments_are_made_once, tested_stays, whole_files,
+    first_parts_are_proved, given_are_hashed, given_stays, hashed_stays,
+    inconsistent_is_no_code_word, reads_stay, segments_are_made_once, tested_stays, whole_files,
 };
 pub use reader::Waiting;

@@ -1,4 +1,5 @@
 use Rattle.std.proofs.Common.{◌∙◌, subst, sym}
+use Rattle.download_segments.specs.Handout.{TakesPiece}
 use Rattle.download_file.specs.State.{FileState}
 use Rattle.download_file.proofs.NewLemmas.{HasPieces, has_geometry, has_pieces}
 use Rattle.download_file.proofs.file.File.take_piece.Goals as goal
@@ -30,6 +31,9 @@ taken c =
 
 pub invariant_of-self : goal.invariant_of-self
 invariant_of-self c = ((taken c).right, c.self.invariant.1 ∙ sym (has_geometry _ c.take.new.self c.take.result c.take.ensures.taken))
+
+pub returns-clause-taken : goal.returns-clause-taken
+returns-clause-taken c = subst (λ (s : FileState). TakesPiece s.handout c.take.result c.take.new.self) c.self.view_is c.take.ensures.taken
 
 pub returns-clause-right : goal.returns-clause-right
 returns-clause-right c = (taken c).right
