@@ -1,5 +1,5 @@
 -- Why shares are blamed.
-use Rattle.std.proofs.Common.{◌≡◌, ℕ, inl, inr, List, [], ◌∷◌, Some, None, refl, sym, ap, subst, ◌∙◌}
+use Rattle.std.proofs.Common.{◌≡◌, ℕ, ◌<◌, inl, inr, List, [], ◌∷◌, Some, None, refl, sym, ap, subst, ◌∙◌}
 use Rattle.std.specs.Prelude.{Option, option_map, slice_get, Contains}
 use Rattle.std.proofs.lemmas.Option.{slice_get-map}
 use Rattle.lemmas.proofs.Options.{one_there}
@@ -70,7 +70,7 @@ block_moved es ns f g b stays same k = record {
 }
 
 pub cause_moved : (cap : VerifyCapValue) (es : List Request) (f g : FileState) (b : Blame) → IsSameFile f g → HasCause cap es f b → HasCause cap es g b
-cause_moved cap es f g b same (inl k) = inl (subst (λ (x : Geometry). IsBeginningFault cap x es b) (sym same.geometry) k)
+cause_moved cap es f g b same (inl k) = inl (subst (λ (x : Geometry). IsBeginningFault cap x es b × (b.share < x.total)) (sym same.geometry) k)
 cause_moved cap es f g b same (inr k) = inr (part_moved es es f g b (λ i q e quiet. e) same k)
 
 -- what waits first
@@ -210,8 +210,10 @@ taken_causes s t u r q p first second same before after =
 
 pub began_causes : (cap : VerifyCapValue) (s t : BeginningsState) (q p : ReadingState) → p.file.handout.geometry ≡ q.file.handout.geometry
     → AddsBlames (IsBeginningFault cap q.file.handout.geometry s.holdings.requests.entries) s.holdings.blamed t.holdings.blamed
+    → AddsBlames (λ b. b.share < q.file.handout.geometry.total) s.holdings.blamed t.holdings.blamed
     → AddsBlames (HasCause cap s.holdings.requests.entries p.file) s.holdings.blamed t.holdings.blamed
-began_causes cap s t q p same adds i b is le = inl (subst (λ (g : Geometry). IsBeginningFault cap g s.holdings.requests.entries b) (sym same) (adds i b is le))
+began_causes cap s t q p same adds low i b is le =
+    inl (subst (λ (g : Geometry). IsBeginningFault cap g s.holdings.requests.entries b × (b.share < g.total)) (sym same) (adds i b is le, low i b is le))
 
 pub took_causes : (cap : VerifyCapValue) (s t u : BeginningsState) (p : ReadingState) → t.holdings.requests ≡ s.holdings.requests
     → AddsBlames (IsPartFault t.holdings.requests.entries p.file) t.holdings.blamed u.holdings.blamed

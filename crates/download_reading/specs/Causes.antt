@@ -1,5 +1,5 @@
 -- Why shares are blamed while a file is read.
-use Rattle.std.specs.Prelude.{◌≡◌, ◌⊎◌, ℕ, List, Some, slice_get}
+use Rattle.std.specs.Prelude.{◌≡◌, ◌⊎◌, ℕ, ◌<◌, List, Some, slice_get}
 use Rattle.cap_text.specs.Cap.{VerifyCapValue}
 use Rattle.wire.specs.declared.message.Body.TheVariants.{Data}
 use Rattle.request_record.specs.declared.requests.Asked.TheVariants.{Reading}
@@ -55,10 +55,10 @@ pub record IsBlockFault (entries : List Request) (f : FileState) (b : Blame) : T
   pub reads : copy_of refuted.r ≡ copy b.server b.share
   pub check : b.check ≡ checks.Data
 
--- why a message brings a share to be blamed
+-- why a message brings a share to be blamed, one whose number the file has
 abbrev pub HasCause : VerifyCapValue → List Request → FileState → Blame → Type 0
-HasCause cap entries f b = IsBeginningFault cap f.handout.geometry entries b
-    ⊎ IsPartFault entries f b
+HasCause cap entries f b = (IsBeginningFault cap f.handout.geometry entries b
+    × (b.share < f.handout.geometry.total)) ⊎ IsPartFault entries f b
 
 -- it is the share that the reader reads, and this check
 pub record IsBlameOf (s : BeginningsState) (r : ReadingState) (reader : ℕ) (check : Check)

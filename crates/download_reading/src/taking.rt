@@ -40,6 +40,8 @@ impl Reading {
         ensures causes { AddsBlames (IsBeginningFault cap.now self.old.file.handout.geometry
             beginnings.old.holdings.requests.entries) beginnings.old.holdings.blamed
             beginnings.new.holdings.blamed }
+        ensures low { AddsBlames (λ b. b.share < self.old.file.handout.geometry.total)
+            beginnings.old.holdings.blamed beginnings.new.holdings.blamed }
     {
         beginnings.compare(cap, self.file.geometry(), holding, place)?;
         self.end_gone(beginnings);

@@ -1,4 +1,4 @@
-use Rattle.std.proofs.Common.{◌∙◌, ap}
+use Rattle.std.proofs.Common.{◌∙◌, ◌<◌, ap}
 use Rattle.share_beginnings.specs.Causes.{AddsBlames, IsBeginningFault}
 use Rattle.download_reading.specs.State.{ReadingState}
 use Rattle.std.proofs.Common.{refl, sym, subst}
@@ -8,6 +8,7 @@ use Rattle.download_file.specs.Answers.{IsRead}
 use Rattle.download_reading.specs.Steps.{Continues}
 use Rattle.download_reading.proofs.Compared.{awaited, compared_kept, compared_live, compared_told}
 use Rattle.download_reading.proofs.Ended.{adds_none, asks_none, continues_trans}
+use Rattle.download_reading.proofs.reading.Reading.compare.Goals.{After-compare}
 use Rattle.download_reading.proofs.reading.Reading.compare.Goals as goal
 
 pub compare-requires-clause-awaits : goal.compare-requires-clause-awaits
@@ -60,3 +61,13 @@ pub returns-in_err-compare-clause-causes : goal.returns-in_err-compare-clause-ca
 returns-in_err-compare-clause-causes c =
     subst (λ g. AddsBlames (IsBeginningFault c.args.cap.now g c.args.beginnings.now.holdings.requests.entries) c.args.beginnings.now.holdings.blamed c.compare.new.self.holdings.blamed)
     (c.geometry.ensures.value ∙ ap (λ (x : ReadingState). x.file.handout.geometry) c.self.view_is) c.compare.ensures.causes
+
+numbered : (c : After-compare) → AddsBlames (λ b. b.share < c.args.self.now.file.handout.geometry.total) c.args.beginnings.now.holdings.blamed c.compare.new.self.holdings.blamed
+numbered c =
+    subst (λ n. AddsBlames (λ b. b.share < n) c.args.beginnings.now.holdings.blamed c.compare.new.self.holdings.blamed) c.requires.told.linked.kept.total c.compare.ensures.low
+
+pub returns-clause-low : goal.returns-clause-low
+returns-clause-low c = numbered (goal.at.returns-clause-low c).After-compare
+
+pub returns-in_err-compare-clause-low : goal.returns-in_err-compare-clause-low
+returns-in_err-compare-clause-low c = numbered (goal.at.returns-in_err-compare-clause-low c).After-compare

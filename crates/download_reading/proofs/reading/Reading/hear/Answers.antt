@@ -53,7 +53,7 @@ returns-in-Bytes-clause-continues c =
 
 pub returns-in_err-compare-in-Beginning-clause-causes : goal.returns-in_err-compare-in-Beginning-clause-causes
 returns-in_err-compare-in-Beginning-clause-causes c =
-    began_causes c.args.cap.now c.args.beginnings.now c.compare.new.beginnings c.follow.new.self c.compare.new.self c.compare.ensures.continues.same.geometry c.compare.ensures.causes
+    began_causes c.args.cap.now c.args.beginnings.now c.compare.new.beginnings c.follow.new.self c.compare.new.self c.compare.ensures.continues.same.geometry c.compare.ensures.causes c.compare.ensures.low
 
 pub returns-in-Nothing-clause-causes : goal.returns-in-Nothing-clause-causes
 returns-in-Nothing-clause-causes c =
@@ -64,7 +64,7 @@ pub returns-in_ok-compare-in-Beginning-clause-causes : goal.returns-in_ok-compar
 returns-in_ok-compare-in-Beginning-clause-causes c =
     heard_causes c.args.cap.now c.args.beginnings.now c.compare.new.beginnings c.take_of.new.beginnings c.compare.new.self c.take_of.new.self
     c.take_of.ensures.continues c.compare.ensures.requests
-    (began_causes c.args.cap.now c.args.beginnings.now c.compare.new.beginnings c.follow.new.self c.compare.new.self c.compare.ensures.continues.same.geometry c.compare.ensures.causes)
+    (began_causes c.args.cap.now c.args.beginnings.now c.compare.new.beginnings c.follow.new.self c.compare.new.self c.compare.ensures.continues.same.geometry c.compare.ensures.causes c.compare.ensures.low)
     c.take_of.ensures.causes
 
 pub returns-in-Bytes-clause-causes : goal.returns-in-Bytes-clause-causes
