@@ -16,7 +16,7 @@ use Rattle.share_beginnings.specs.Causes.{AddsBlames, IsOpeningFault, IsOtherHea
 use Rattle.share_beginnings.specs.Moves.{GoesOn}
 use Rattle.share_beginnings.specs.Reads.{AddsReads, IsInBeginning}
 use Rattle.share_beginnings.specs.State.{BeginningsState}
-use Rattle.share_beginnings.proofs.Caused.{adds_as, beginning_stays, fault_stays, opening_fault_stays, reads_none}
+use Rattle.share_beginnings.proofs.Caused.{beginning_stays, fault_stays, opening_fault_stays, reads_none}
 use Rattle.download_plan.specs.Plan.{IsPlanned}
 use Rattle.download_file.specs.Asked.{IsPlannedRead}
 use Rattle.download_file.specs.State.{FileState}
@@ -35,8 +35,8 @@ use Rattle.download_core.proofs.Records.{GoesFrom}
 -- ---- the record goes on
 
 cause_stays : (cap : VerifyCapValue) (es ns : List Request) (f : Option Found) (b : Blame) → StaysTo es ns → IsCause cap es f b → IsCause cap ns f b
-cause_stays cap es ns None b stays k = opening_fault_stays cap es ns b stays k
-cause_stays cap es ns (Some f) b stays (inl (inl k)) = inl (inl (fault_stays cap f.file.handout.geometry es ns b stays k))
+cause_stays cap es ns None b stays k = (opening_fault_stays cap es ns b stays k.0, k.1)
+cause_stays cap es ns (Some f) b stays (inl (inl k)) = inl (inl (fault_stays cap f.file.handout.geometry es ns b stays k.0, k.1))
 cause_stays cap es ns (Some f) b stays (inl (inr k)) = inl (inr (part_moved es ns f.file f.file b stays (same_itself f.file) k))
 cause_stays cap es ns (Some f) b stays (inr k) = inr (block_moved es ns f.file f.file b stays (same_itself f.file) k)
 
@@ -82,38 +82,35 @@ fair_grows cap s t f goes blames reads k = record {
         may_stay es t.holdings.requests.entries f r.server share offset len stays (k.reads place r share offset len (was ∙ ap Some same) asked)
 
 -- shares are opened
-opening_cause : (cap : VerifyCapValue) (entries : List Request) (f : Option Found) (b : Blame) → IsOpeningFault cap entries b → IsCause cap entries f b
-opening_cause cap entries None b k = k
-opening_cause cap entries (Some f) b k = inl (inl (inl k))
-
-opening_read : (entries : List Request) (f : Option Found) (server share offset len : ℕ) → IsInBeginning entries server share offset len → MayRead entries f server share offset len
-opening_read entries None server share offset len k = k
-opening_read entries (Some f) server share offset len k = inl k
-
-pub fair_opened : (cap : VerifyCapValue) (s t : BeginningsState) (f : Option Found) → GoesOn s t → AddsBlames (IsOpeningFault cap s.holdings.requests.entries) s.holdings.blamed t.holdings.blamed
-    → AddsReads (IsInBeginning t.holdings.requests.entries) s.holdings.requests.entries t.holdings.requests.entries → IsFair cap s f → IsFair cap t f
-fair_opened cap s t f goes blames reads =
+pub fair_opened : (cap : VerifyCapValue) (s t : BeginningsState) → GoesOn s t → AddsBlames (IsOpeningFault cap s.holdings.requests.entries) s.holdings.blamed t.holdings.blamed
+    → AddsBlames (λ b. b.share < cap.total) s.holdings.blamed t.holdings.blamed
+    → AddsReads (IsInBeginning t.holdings.requests.entries) s.holdings.requests.entries t.holdings.requests.entries → IsFair cap s None → IsFair cap t None
+fair_opened cap s t goes blames low reads =
     let now = t.holdings.requests.entries in
-    fair_grows cap s t f goes
-    (λ i b is le. opening_cause cap now f b (opening_fault_stays cap s.holdings.requests.entries now b (λ j r there quiet. goes_stays s t goes j r there) (blames i b is le)))
-    (λ place r share offset len there le asked. opening_read now f r.server share offset len (reads place r share offset len there le asked))
+    fair_grows cap s t None goes
+    (λ i b is le. (opening_fault_stays cap s.holdings.requests.entries now b (λ j r there quiet. goes_stays s t goes j r there) (blames i b is le), low i b is le))
+    reads
 
 -- ---- an extension block is accepted
 
-fair_found : (cap : VerifyCapValue) (s : BeginningsState) (f : Found) → IsFair cap s None → IsFair cap s (Some f)
-fair_found cap s f k = record {
-  causes = λ i b is. inl (inl (inl (k.causes i b is)));
+fair_found : (cap : VerifyCapValue) (s : BeginningsState) (f : Found) → cap.total ≡ f.file.handout.geometry.total → IsFair cap s None → IsFair cap s (Some f)
+fair_found cap s f total k = record {
+  causes = λ i b is. let cause = k.causes i b is in inl (inl (inl cause.0, subst (λ n. b.share < n) total cause.1));
   reads = λ place r share offset len there asked. inl (k.reads place r share offset len there asked);
 }
 
-pub fair_accepted : (cap : VerifyCapValue) (s t : BeginningsState) (g : Geometry) (f : Found) → GoesOn s t → t.holdings.requests ≡ s.holdings.requests → f.file.handout.geometry ≡ g
-    → AddsBlames (IsOtherHeader g s.holdings.requests.entries) s.holdings.blamed t.holdings.blamed → IsFair cap s None → IsFair cap t (Some f)
-fair_accepted cap s t g f goes same geometry blames k =
+pub fair_accepted : (cap : VerifyCapValue) (s t : BeginningsState) (g : Geometry) (f : Found) → GoesOn s t → t.holdings.requests ≡ s.holdings.requests → f.file.handout.geometry ≡ g → cap.total ≡ g.total
+    → AddsBlames (IsOtherHeader g s.holdings.requests.entries) s.holdings.blamed t.holdings.blamed → AddsBlames (λ b. b.share < cap.total) s.holdings.blamed t.holdings.blamed
+    → IsFair cap s None → IsFair cap t (Some f)
+fair_accepted cap s t g f goes same geometry total blames low k =
     let now = t.holdings.requests.entries in
+    let same_total : cap.total ≡ f.file.handout.geometry.total = total ∙ ap (λ (x : Geometry). x.total) (sym geometry) in
     fair_grows cap s t (Some f) goes
-    (adds_as (IsOtherHeader g s.holdings.requests.entries) (IsCause cap now (Some f)) s.holdings.blamed t.holdings.blamed
-    (λ b other. inl (inl (inr (subst (λ (x : Geometry). IsOtherHeader x now b) (sym geometry) (subst (λ (r : RequestsState). IsOtherHeader g r.entries b) (sym same) other))))) blames)
-    (reads_none (MayRead now (Some f)) s.holdings.requests.entries now (ap (λ (r : RequestsState). r.entries) same)) (fair_found cap s f k)
+    (λ i b is le. inl (inl (
+      inr (subst (λ (x : Geometry). IsOtherHeader x now b) (sym geometry) (subst (λ (r : RequestsState). IsOtherHeader g r.entries b) (sym same) (blames i b is le))),
+      subst (λ n. b.share < n) same_total (low i b is le),
+    )))
+    (reads_none (MayRead now (Some f)) s.holdings.requests.entries now (ap (λ (r : RequestsState). r.entries) same)) (fair_found cap s f same_total k)
 
 -- ---- a file goes on
 

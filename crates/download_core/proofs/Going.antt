@@ -1,5 +1,5 @@
 -- How a download goes on, step by step.
-use Rattle.std.proofs.Common.{◌≡◌, ℕ, ◌/◌, ◌≤◌, ◌⊎◌, inl, inr, arith, List, [], ◌++◌, length, Option, Some, None, refl, sym, ap, subst, ◌∙◌}
+use Rattle.std.proofs.Common.{◌≡◌, ℕ, ◌/◌, ◌<◌, ◌≤◌, ◌⊎◌, inl, inr, arith, List, [], ◌++◌, length, Option, Some, None, refl, sym, ap, subst, ◌∙◌}
 use Rattle.std.specs.Prelude.{slice_get, slice_index_or}
 use Rattle.std.proofs.lemmas.Bool.{cases_lt}
 use Rattle.std.proofs.lemmas.Option.{slice_get-get_or, slice_get_within}
@@ -135,8 +135,9 @@ stays_on s t goes = subst (λ (r : RequestsState). StaysTo s.holdings.requests.e
 
 -- shares are opened
 pub moves_asked : (m : Machine) (t : BeginningsState) → GoesOn m.beginnings t → AddsBlames (IsOpeningFault (verify_cap_of m.cap) (entries_of m)) m.beginnings.holdings.blamed t.holdings.blamed
+    → AddsBlames (λ b. b.share < m.cap.total) m.beginnings.holdings.blamed t.holdings.blamed
     → AddsReads (IsInBeginning t.holdings.requests.entries) (entries_of m) t.holdings.requests.entries → m.found ≡ None → MovesOn m (record m { beginnings = t })
-moves_asked m t goes blames reads none = record {
+moves_asked m t goes blames low reads none = record {
   cap = refl;
   verify = refl;
   from_is = refl;
@@ -144,7 +145,10 @@ moves_asked m t goes blames reads none = record {
   goes = goes;
   found = grows_none m.from m.found;
   file = λ k. file_stays m.cap m.from m.to (entries_of m) t.holdings.requests.entries (found_of m.found) (stays_on m.beginnings t goes) k;
-  fair = λ k. fair_opened (verify_cap_of m.cap) m.beginnings t (found_of m.found) goes blames reads k;
+  fair = λ k.
+      let cap = verify_cap_of m.cap in
+      subst (λ (f : Option FoundFile). IsFair cap t (found_of f)) (sym none)
+      (fair_opened cap m.beginnings t goes blames low reads (subst (λ (f : Option FoundFile). IsFair cap m.beginnings (found_of f)) none k));
   later = subst (λ (f : Option FoundFile). PlansMore (found_of f) (entries_of m) t.holdings.requests.entries) (sym none) tt;
 }
 
@@ -186,8 +190,9 @@ moves_read m f t r is on blames = record {
 -- an extension block is accepted
 moves_found : (m : Machine) (t : BeginningsState) (g : FoundFile) → m.found ≡ None → GoesOn m.beginnings t → g.reading.file.handout.handed ≡ m.from
     → t.holdings.requests ≡ m.beginnings.holdings.requests → AddsBlames (IsOtherHeader g.reading.file.handout.geometry (entries_of m)) m.beginnings.holdings.blamed t.holdings.blamed
+    → m.cap.total ≡ g.reading.file.handout.geometry.total → AddsBlames (λ b. b.share < m.cap.total) m.beginnings.holdings.blamed t.holdings.blamed
     → IsFileIfFound m.cap m.from m.to t.holdings.requests.entries (found_of (Some g)) → MovesOn m (record m { beginnings = t; found = Some g })
-moves_found m t g is goes handed same blames file = record {
+moves_found m t g is goes handed same blames total low file = record {
   cap = refl;
   verify = refl;
   from_is = refl;
@@ -195,7 +200,7 @@ moves_found m t g is goes handed same blames file = record {
   goes = goes;
   found = subst (λ (o : Option FoundFile). FoundGrows m.from o (Some g)) (sym is) handed;
   file = λ k. file;
-  fair = λ k. fair_accepted (verify_cap_of m.cap) m.beginnings t g.reading.file.handout.geometry (record { place = g.place; file = g.reading.file }) goes same refl blames
+  fair = λ k. fair_accepted (verify_cap_of m.cap) m.beginnings t g.reading.file.handout.geometry (record { place = g.place; file = g.reading.file }) goes same refl total blames low
       (subst (λ (f : Option FoundFile). IsFair (verify_cap_of m.cap) m.beginnings (found_of f)) is k);
   later = plans_none (found_of (Some g)) (entries_of m) t.holdings.requests.entries (ap (λ (r : RequestsState). r.entries) same);
 }
@@ -261,9 +266,14 @@ module _ (m : Machine) (t : BeginningsState) (place : ℕ) (o : Opened) (r : Rea
   pub found_way : AreReading t r → IsUnderWay (record m { beginnings = t; found = Some (record { place = place; reading = r }) })
   found_way reading = record { wanted = record { verify = wanted.verify; some = wanted.some; inside = wanted.inside }; file = file_of; phase = reading }
 
-  pub found_moves : AddsBlames (IsOtherHeader o.geometry (entries_of m)) m.beginnings.holdings.blamed t.holdings.blamed → MovesOn m (record m { beginnings = t; found = Some (record { place = place; reading = r }) })
-  found_moves blames = moves_found m t (record { place = place; reading = r }) none goes (ap (λ (f : FileState). f.handout.handed) file) same
-      (subst (λ (f : FileState). AddsBlames (IsOtherHeader f.handout.geometry (entries_of m)) m.beginnings.holdings.blamed t.holdings.blamed) (sym file) blames) file_of
+  total_is : m.cap.total ≡ o.geometry.total
+  total_is = sym (ap (λ (v : VerifyCapValue). v.total) wanted.verify) ∙ sym block.block.total ∙ ap (λ (g : Geometry). g.total) (sym block.geometry)
+
+  pub found_moves : AddsBlames (IsOtherHeader o.geometry (entries_of m)) m.beginnings.holdings.blamed t.holdings.blamed
+      → AddsBlames (λ b. b.share < m.cap.total) m.beginnings.holdings.blamed t.holdings.blamed → MovesOn m (record m { beginnings = t; found = Some (record { place = place; reading = r }) })
+  found_moves blames low = moves_found m t (record { place = place; reading = r }) none goes (ap (λ (f : FileState). f.handout.handed) file) same
+      (subst (λ (f : FileState). AddsBlames (IsOtherHeader f.handout.geometry (entries_of m)) m.beginnings.holdings.blamed t.holdings.blamed) (sym file) blames)
+      (total_is ∙ ap (λ (f : FileState). f.handout.geometry.total) (sym file)) low file_of
 
 -- ---- what contracts see of it
 

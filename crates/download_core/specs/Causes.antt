@@ -1,5 +1,5 @@
 -- Why a download blames shares.
-use Rattle.std.specs.Prelude.{◌≡◌, ◌⊎◌, ℕ, List, Option, Some, None, slice_get}
+use Rattle.std.specs.Prelude.{◌≡◌, ◌⊎◌, ℕ, ◌<◌, List, Option, Some, None, slice_get}
 use Rattle.cap_text.specs.Cap.{VerifyCapValue}
 use Rattle.request_record.specs.declared.requests.Request.{Request}
 use Rattle.share_holdings.specs.declared.holding.Blame.{Blame}
@@ -9,9 +9,9 @@ use Rattle.download_core.specs.State.{Found}
 
 -- Before an extension block is accepted, the cap alone refuses what was answered to a read of the
 -- share's beginning. Then its beginning, a part or a block of it may also fail a check for the file
--- that was found.
+-- that was found. The number of each share that is blamed is one that the cap's file has.
 abbrev pub IsCause : VerifyCapValue → List Request → Option Found → Blame → Type 0
-IsCause cap entries None b = IsOpeningFault cap entries b
+IsCause cap entries None b = IsOpeningFault cap entries b × (b.share < cap.total)
 IsCause cap entries (Some f) b = HasCause cap entries f.file b ⊎ IsBlockFault entries f.file b
 
 -- each share that is blamed failed its check by what its server answered

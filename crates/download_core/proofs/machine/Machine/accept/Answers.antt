@@ -1,7 +1,8 @@
-use Rattle.std.proofs.Common.{◌≡◌, ◌∙◌, List, ℕ, ap, sym}
+use Rattle.std.proofs.Common.{◌≡◌, ◌∙◌, ◌<◌, List, ℕ, ap, subst, sym}
 use Rattle.download_file.specs.State.{new_file}
 use Rattle.cap_text.specs.Cap.{VerifyCapValue}
 use Rattle.share_layout.specs.Geometry.{Geometry}
+use Rattle.share_beginnings.specs.Causes.{AddsBlames}
 use Rattle.download_core.proofs.Results.{on_both}
 use Rattle.download_core.proofs.Going.{found_moves, found_way, moves_none}
 use Rattle.download_core.proofs.machine.Machine.accept.Goals.{After-accept}
@@ -26,6 +27,7 @@ returns-clause-moves c =
     let e = c.accept.ensures in
     found_moves c.args.self.now c.accept.new.self c.args.place c.args.opened.now c.in_ok-reading.reading c.requires.none c.requires.wanted c.requires.block e.goes e.requests
     (file_is (goal.at.returns-clause-moves c).After-accept) e.causes
+    (subst (λ n. AddsBlames (λ b. b.share < n) c.args.self.now.beginnings.holdings.blamed c.accept.new.self.holdings.blamed) c.requires.count e.low)
 
 pub returns-in_err-reading-clause-moves : goal.returns-in_err-reading-clause-moves
 returns-in_err-reading-clause-moves c = moves_none c.args.self.now

@@ -1,4 +1,4 @@
-use Rattle.std.proofs.Common.{◌≡◌, ◌∙◌, None, inl, inr, refl, subst}
+use Rattle.std.proofs.Common.{◌≡◌, ◌∙◌, ◌<◌, None, inl, inr, refl, subst}
 use Rattle.share_holdings.specs.State.{HoldingsState}
 use Rattle.share_holdings.specs.Table.{NoneIsFree}
 use Rattle.cap_text.specs.Cap.{verify_cap_of}
@@ -20,7 +20,8 @@ opened : (c : After-open) → c.args.self.now.found ≡ None → MovesOn c.loop-
 opened c none =
     let m = c.loop-self.self in
     let t = c.open.new.self in
-    moves_asked m t c.open.ensures.goes (adds_none (IsOpeningFault (verify_cap_of m.cap) (entries_of m)) m.beginnings.holdings.blamed t.holdings.blamed c.open.ensures.blamed) c.open.ensures.adds (c.loop-self.invariant.found ∙ none)
+    moves_asked m t c.open.ensures.goes (adds_none (IsOpeningFault (verify_cap_of m.cap) (entries_of m)) m.beginnings.holdings.blamed t.holdings.blamed c.open.ensures.blamed)
+    (adds_none (λ b. b.share < m.cap.total) m.beginnings.holdings.blamed t.holdings.blamed c.open.ensures.blamed) c.open.ensures.adds (c.loop-self.invariant.found ∙ none)
 
 pub loop-self-preserved : goal.loop-self-preserved
 loop-self-preserved c = record {

@@ -1,4 +1,4 @@
-use Rattle.std.proofs.Common.{◌≡◌, IfSome, None, Option, Some, ap, inr, subst}
+use Rattle.std.proofs.Common.{◌≡◌, ◌<◌, IfSome, None, Option, Some, ap, inr, subst}
 use Rattle.request_record.specs.Record.{RequestsState}
 use Rattle.cap_text.specs.Cap.{VerifyCapValue}
 use Rattle.share_beginnings.specs.Causes.{AddsBlames, IsOpeningFault}
@@ -24,7 +24,8 @@ asked : (c : After-go_on) → MovesOn c.args.self.now (record c.args.self.now { 
 asked c =
     let m = c.args.self.now in
     let t = c.go_on.new.self in
-    moves_asked m t c.go_on.ensures.goes (subst (λ (v : VerifyCapValue). AddsBlames (IsOpeningFault v (entries_of m)) m.beginnings.holdings.blamed t.holdings.blamed) c.requires.wanted.verify c.go_on.ensures.causes) c.go_on.ensures.adds c.requires.none
+    moves_asked m t c.go_on.ensures.goes (subst (λ (v : VerifyCapValue). AddsBlames (IsOpeningFault v (entries_of m)) m.beginnings.holdings.blamed t.holdings.blamed) c.requires.wanted.verify c.go_on.ensures.causes)
+    (subst (λ n. AddsBlames (λ b. b.share < n) m.beginnings.holdings.blamed t.holdings.blamed) c.requires.opens.opened.count c.go_on.ensures.low) c.go_on.ensures.adds c.requires.none
 
 pub returns-in_err-opened-clause-moves : goal.returns-in_err-opened-clause-moves
 returns-in_err-opened-clause-moves c = asked (goal.at.returns-in_err-opened-clause-moves c).After-go_on
