@@ -39,7 +39,7 @@ more_inputs p q input grows k = record {
 
 -- a file from which the one that was tested went on
 module _ (IsOne : List ℕ → Type 0) (no_clash : HasNoClashIn IsOne) (entries : List Request) (old f : FileState) (num : ℕ) (share : List ℕ) (s : Sections) (segments shares : List (List ℕ))
-    (tests : AreTestsOf IsOne entries f) (of : IsShareOf IsOne f num share s segments shares) (right : IsFile old) (same : IsSameFile old f) where
+    (tests : AreTestsOf IsOne entries f) (of : IsShareOf IsOne f.handout.geometry f.handout.ueb num share s segments shares) (right : IsFile old) (same : IsSameFile old f) where
   abbrev g : Geometry
   g = old.handout.geometry
 
@@ -101,7 +101,7 @@ server_is : (r : ReaderState) (server share : ℕ) → copy_of r ≡ copy server
 server_is r server share e = ap (λ (c : CopyState). c.server) e
 
 pub parts_are_fair : (IsOne : List ℕ → Type 0) → PartsAreBlamedFairlyIn IsOne
-parts_are_fair IsOne no_clash entries f b share s segments shares tests of fault proof = elim (own_or_other entries b.server b.share share) [
+parts_are_fair IsOne no_clash entries f b share s segments shares tests of fault = elim (own_or_other entries b.server b.share share) [
   | inr other ↦ other
   | inl own ↦
       let r = fault.refused.r in
@@ -111,7 +111,6 @@ parts_are_fair IsOne no_clash entries f b share s segments shares tests of fault
       absurd (own_bytes_are_taken fault.file fault.reader fault.bytes b.check share s segments shares fault.right fault.live fault.refused
       (subst (λ (n : ℕ). IsOwnShare fault.file.handout.geometry n share s segments shares) (sym reads) mine)
       (knows_own IsOne no_clash entries fault.file f b.share share s segments shares tests of fault.right fault.same fault.reader r fault.refused.there reads)
-      proof
       (own w.place w.wanted.read.place w.wanted.read.length fault.request fault.bytes fault.there fault.of_server fault.asked fault.answer))
 ]
 

@@ -8,3 +8,5 @@ pub mod OpeningLemmas
 pub mod AnswerLemmas
 pub mod OwnReaders
 pub mod FairBlame
+pub mod EncodedShares
+pub mod Downloads

@@ -36,12 +36,13 @@ use Rattle.download_source.proofs.PlanLemmas.{block_order}
 use Rattle.download_file.specs.Answers.{HoldsFor, answer_at, block_of}
 use Rattle.download_file.specs.Right.{IsFile}
 use Rattle.download_file.specs.State.{FileState, ReaderState}
-use Rattle.download_file.specs.Taking.{RefutesPart}
+use Rattle.download_file.specs.Taking.{KnowsProof, RefutesPart}
 use Rattle.download_file.specs.declared.reader.Waiting.{Waiting}
 use Rattle.download_file.proofs.GrowLemmas.{answer_is}
+use Rattle.download_file.proofs.ProofLemmas.{first_parts_are_proved}
 use Rattle.download_binding.specs.Answers.{AnswersOwn}
 use Rattle.download_binding.specs.OwnParts.{HoldsLeaves, own_part}
-use Rattle.download_binding.specs.OwnReaders.{IsOwnShare, KnowsOwn, KnowsProof, OwnBlocksAreRight, OwnBytesAreTaken, own_leaves}
+use Rattle.download_binding.specs.OwnReaders.{IsOwnShare, KnowsOwn, OwnBlocksAreRight, OwnBytesAreTaken, own_leaves}
 use Rattle.download_binding.proofs.HashSiblings.{share_hashes_have_siblings}
 use Rattle.download_binding.proofs.OwnBlock.{own_pieces_join}
 use Rattle.download_binding.proofs.OwnPieces.{own_parts_have_lengths, own_pieces_go_on}
@@ -198,12 +199,13 @@ long r (CiphertextTree p) share s is there of = own_parts_have_lengths r.source.
 long r (Data i) share s is there of = own_parts_have_lengths r.source.geometry r.source.first r.source.end r.share share s (Data i) is.range there of
 
 pub own_bytes_are_taken : OwnBytesAreTaken
-own_bytes_are_taken f reader bytes check share s segments shares is live refused own knows proof mine =
+own_bytes_are_taken f reader bytes check share s segments shares is live refused own knows mine =
     let r = refused.r in
     let reads = is.readers reader r refused.there in
     let w = refused.first in
     let read = first_read r w refused.others refused.waits (is.live.reads reader r live refused.there) in
     let part : Part = w.wanted.part in
+    let proof = first_parts_are_proved f reader r w refused.others is live refused.there refused.waits in
     let here : bytes ≡ own_part r.source.geometry (first_of r.source part) r.source.end share part = mine ∙ (λ i. take (read.length i) (drop (read.place i) share)) in
     elim refused.why [
       | inl other ↦

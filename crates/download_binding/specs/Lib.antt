@@ -4,3 +4,4 @@ pub mod OwnParts
 pub mod Answers
 pub mod OwnReaders
 pub mod FairBlame
+pub mod Downloads

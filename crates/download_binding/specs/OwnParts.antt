@@ -14,8 +14,8 @@ use Rattle.download_plan.specs.declared.part.NodePiece.{NodePiece}
 use Rattle.download_plan.specs.declared.part.Part.{Part}
 use Rattle.download_plan.specs.declared.part.Part.TheVariants.{BlockTree, CiphertextTree, Data}
 use Rattle.download_source.specs.Blocks.{block_end, block_first, joined_block}
+use Rattle.download_source.specs.Upper.{KnowsTops}
 use Rattle.download_trees.specs.Offers.{nodes_offered}
-use Rattle.download_binding.specs.Siblings.{KnowsTops}
 
 -- the share's own bytes of a part of the plan for the segments `a` to before `b`
 abbrev pub own_part : Geometry → ℕ → ℕ → List ℕ → Part → List ℕ

@@ -10,9 +10,6 @@ use Rattle.share_layout.specs.Share.{IsShare, Sections}
 use Rattle.share_verify.specs.Pieces.{block_hashes, pieces}
 use Rattle.share_verify.specs.TreeSection.{HoldsTree}
 use Rattle.share_verify.specs.declared.check.Check.{Check}
-use Rattle.download_plan.specs.Plan.{nodes_of}
-use Rattle.download_plan.specs.declared.part.Part.{Part}
-use Rattle.download_plan.specs.declared.part.Part.TheVariants.{BlockTree, CiphertextTree}
 use Rattle.download_trees.specs.Offers.{share_hashes_offered}
 use Rattle.download_trees.specs.Trees.{share_places}
 use Rattle.download_segments.specs.State.{HandoutState}
@@ -23,7 +20,6 @@ use Rattle.download_file.specs.State.{FileState, IsLive, ReaderState}
 use Rattle.download_file.specs.Taking.{IsRefused}
 use Rattle.download_binding.specs.Answers.{AnswersOwn}
 use Rattle.download_binding.specs.OwnParts.{HoldsLeaves}
-use Rattle.download_binding.specs.Siblings.{KnowsTops}
 
 -- the leaves of a share's block tree: the hashes of its blocks
 abbrev pub own_leaves : Geometry → Sections → List (List ℕ)
@@ -48,13 +44,6 @@ pub record KnowsOwn (h : HandoutState) (r : ReaderState) (s : Sections)
   pub ciphertext : KnowsTree h.trees.ciphertext segments
   pub share_tree : KnowsTree h.trees.shares shares
 
--- what proves a part that is read of a reader is known
-abbrev pub KnowsProof : HandoutState → ℕ → ℕ → ReaderState → Part → Type 0
-KnowsProof h a b r (BlockTree p) = (t : PartialState) → r.source.tree ≡ Some t
-    → KnowsTops t (nodes_of r.source.geometry r.source.first r.source.end p)
-KnowsProof h a b r (CiphertextTree p) = KnowsTops h.trees.ciphertext (nodes_of h.geometry a b p)
-KnowsProof h a b r part = Unit {0}
-
 -- a law: own bytes of the first part that waits of a reader that is read are not refused
 abbrev pub OwnBytesAreTaken : Type 0
 OwnBytesAreTaken = (f : FileState) (reader : ℕ) (bytes : List ℕ) (check : Check) (share : List ℕ)
@@ -62,7 +51,6 @@ OwnBytesAreTaken = (f : FileState) (reader : ℕ) (bytes : List ℕ) (check : Ch
     → (refused : IsRefused f reader bytes check)
     → IsOwnShare f.handout.geometry refused.r.share share s segments shares
     → KnowsOwn f.handout refused.r s segments shares
-    → KnowsProof f.handout f.first f.end refused.r refused.first.wanted.part
     → bytes ≡ take refused.first.wanted.read.length
     (drop refused.first.wanted.read.place share) → ⊥
 

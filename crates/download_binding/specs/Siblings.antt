@@ -1,22 +1,14 @@
 -- The nodes that a read brings to a tree of which nodes are known: each comes with its sibling.
-use Rattle.std.specs.Prelude.{◌≡◌, ℕ, ◌+◌, ◌-◌, ◌*◌, ◌/◌, ◌^◌, ◌<◌, List}
-use Rattle.std.specs.Prelude.{is_some, length, min, true}
+use Rattle.std.specs.Prelude.{◌≡◌, ℕ, ◌+◌, ◌*◌, ◌^◌, ◌<◌, List, length}
 use Rattle.merkle.specs.Offers.{AreWithSiblings}
-use Rattle.merkle.specs.Partial.{IsPartial, PartialState, known_at}
-use Rattle.merkle.specs.Tree.{height, node_number}
+use Rattle.merkle.specs.Partial.{IsPartial, PartialState}
+use Rattle.merkle.specs.Tree.{height}
 use Rattle.share_layout.specs.Geometry.{Geometry, segment_count}
-use Rattle.download_plan.specs.Level.{group_size}
-use Rattle.download_plan.specs.Plan.{IsAmong, IsNodePiece, nodes_of}
+use Rattle.download_plan.specs.Plan.{IsNodePiece, nodes_of}
 use Rattle.download_plan.specs.Range.{IsRange}
 use Rattle.download_plan.specs.declared.part.NodePiece.{NodePiece}
-use Rattle.download_plan.specs.declared.part.Nodes.{Nodes}
 use Rattle.download_trees.specs.Offers.{nodes_offered, share_hashes_offered}
-
--- What proves some nodes of a row is known: above each the node 7 rows above it, or the root where
--- that is nearer.
-abbrev pub KnowsTops : PartialState → Nodes → Type 0
-KnowsTops p n = (place : ℕ) → IsAmong n place
-    → is_some (known_at p (node_number (n.row - min n.row 7) (place / group_size n.row))) ≡ true
+use Rattle.download_source.specs.Upper.{KnowsTops}
 
 -- a law: what the bytes of a piece of a tree offer comes with its siblings, where what proves the
 -- piece is known

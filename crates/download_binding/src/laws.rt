@@ -1,6 +1,7 @@
 //! Laws of what a read brings.
 
 ghost use Rattle.download_binding.specs.Answers.{OwnBeginningsGoOn, OwnOrOther};
+ghost use Rattle.download_binding.specs.Downloads.{DownloadsBlameFairly, EncodedSharesServe};
 ghost use Rattle.download_binding.specs.FairBlame.{BlocksAreBlamedFairly, PartsAreBlamedFairly};
 ghost use Rattle.download_binding.specs.OwnParts.{OwnPartsHaveLengths, OwnPiecesGoOn};
 ghost use Rattle.download_binding.specs.OwnParts.{OwnPiecesJoin};
@@ -51,8 +52,8 @@ pub fn own_beginnings_go_on()
 {}
 
 /// A law of the definitions: a share's own bytes of the first part that waits of a reader are not
-/// refused where all that is known are nodes of its trees, and what proves the part is known. The
-/// law is the contract; the call does nothing.
+/// refused where all that is known are nodes of its trees. The law is the contract; the call does
+/// nothing.
 pub fn own_bytes_are_taken()
     ensures { OwnBytesAreTaken }
 {}
@@ -63,8 +64,8 @@ pub fn own_blocks_are_right()
     ensures { OwnBlocksAreRight }
 {}
 
-/// A law of the definitions: without a clash, who is blamed for a part whose proof was known had
-/// sent other bytes than the share has. The law is the contract; the call does nothing.
+/// A law of the definitions: without a clash, who is blamed for a part had sent other bytes than the
+/// share has. The law is the contract; the call does nothing.
 pub fn parts_are_blamed_fairly()
     ensures { PartsAreBlamedFairly }
 {}
@@ -73,4 +74,18 @@ pub fn parts_are_blamed_fairly()
 /// the share has. The law is the contract; the call does nothing.
 pub fn blocks_are_blamed_fairly()
     ensures { BlocksAreBlamedFairly }
+{}
+
+/// A law of the definitions: without a clash, who is blamed by a download had sent other bytes than
+/// the share has, for whatever check the share is blamed. The law is the contract; the call does
+/// nothing.
+pub fn downloads_blame_fairly()
+    ensures { DownloadsBlameFairly }
+{}
+
+/// A law of the definitions: the shares of a ciphertext's encoding have nodes of the trees with the
+/// roots that its extension block tells, and what is hashed for these is hashed for the encoding.
+/// The law is the contract; the call does nothing.
+pub fn encoded_shares_serve()
+    ensures { EncodedSharesServe }
 {}
