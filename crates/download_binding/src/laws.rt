@@ -64,8 +64,8 @@ pub fn own_blocks_are_right()
     ensures { OwnBlocksAreRight }
 {}
 
-/// A law of the definitions: without a clash, who is blamed for a part had sent other bytes than the
-/// share has. The law is the contract; the call does nothing.
+/// A law of the definitions: without a clash, who is blamed for a part had sent other bytes than
+/// the share has. The law is the contract; the call does nothing.
 pub fn parts_are_blamed_fairly()
     ensures { PartsAreBlamedFairly }
 {}

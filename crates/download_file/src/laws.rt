@@ -18,8 +18,8 @@ pub fn given_stays()
 {}
 
 /// A law of the definitions: what proves the first part that waits of a reader that is read is
-/// known: the nodes 7 rows above a piece of a tree, or the root where that is nearer. The law is the
-/// contract; the call does nothing.
+/// known: the nodes 7 rows above a piece of a tree, or the root where that is nearer. The law is
+/// the contract; the call does nothing.
 pub fn first_parts_are_proved()
     ensures { FirstPartsAreProved }
 {}
