@@ -19,7 +19,9 @@ use Rattle.share_layout.specs.Share.{Sections}
 use Rattle.share_verify.specs.CapBlock.{IsUebFor}
 use Rattle.share_verify.specs.Inputs.{share_inputs}
 use Rattle.share_verify.specs.Verify.{IsSound}
+use Rattle.share_holdings.specs.declared.holding.Blame.{Blame}
 use Rattle.share_reading.specs.Verdict.{IsGood}
+use Rattle.wire.specs.declared.message.Body.TheVariants.{Data}
 use Rattle.proved_parts.proofs.Segments.{data_agrees_in, one_ueb}
 use Rattle.file_encoding.specs.Encoding.{encoding_of, extension_block_contents}
 use Rattle.file_encoding.specs.Inputs.{ciphertext_inputs, encoding_inputs}
@@ -42,18 +44,21 @@ use Rattle.download_core.specs.Tested.{IsTested, ShowsNoCodeWord}
 use Rattle.download_core.proofs.HashedLemmas.{file_of}
 use Rattle.download_core.proofs.RightBlocks.{right_blocks}
 use Rattle.download_core.proofs.TestedLemmas.{inconsistent_shows}
+use Rattle.download_binding.specs.Downloads.{AreSharesFor, IsDownloadBy}
+use Rattle.download_binding.proofs.Downloads.{downloads_are_fair}
+use Rattle.download_binding.proofs.EncodedShares.{encoded_shares_serve}
 use Rattle.checker.specs.Shares.{settled_of}
 use Rattle.checker.specs.State.{CheckState}
 use Rattle.world_operations.specs.declared.operation.Operation.{Operation}
 use Rattle.world_operations.specs.declared.task.Task.{Task}
 use Rattle.world_operations.specs.Given.{IsTestedBy}
 use Rattle.world_operations.specs.Jobs.{IsUpload}
-use Rattle.world_operations.specs.Tasks.{IsRightTask}
+use Rattle.world_operations.specs.Tasks.{IsRightTask, requests_of}
 use Rattle.world_operations.proofs.Places.{member_at}
 use Rattle.world_operations.proofs.Uploads.{could_start}
 use Rattle.world.specs.Binding.{block_in as block_in_upload}
-use Rattle.world.specs.Binding.{BlocksAreOwn, GoodSharesAreOwn, HasNoClashInTests, IsBound, IsCheckOf, IsDownloadOf, IsHashedOrTested, IsStarted, NeverInconsistent, hashed, tested}
-use Rattle.world.specs.Consistent.{IsConsistent}
+use Rattle.world.specs.Binding.{BlocksAreOwn, GoodSharesAreOwn, HasNoClashInTests, IsBound, IsCheckOf, IsDownloadOf, IsHashedOrTested, IsStarted, NeverInconsistent, NoFalseBlame, ToldOther, hashed, tested}
+use Rattle.world.specs.Consistent.{CameFrom, IsConsistent}
 use Rattle.world.specs.State.{WorldState}
 use Rattle.world.proofs.Hashed.{download_among, encoding_among}
 
@@ -205,6 +210,27 @@ module _ (w : WorldState) (c : IsConsistent w) (no_clash : HasNoClashInTests w) 
         (block_in (IsTested d) (IsHashedOrTested w) tests_among said share number block
         (subst (λ (u : Contents). IsBlockIn (IsTested d) u share number block) (one_block f there head) b))
 
+    -- the shares of the encoding, as what the download blames is compared with
+    own_shares : AreSharesFor (IsHashedOrTested w) (verify_cap_of d.cap) said (prepared_of file secret p).shares
+    unfolding encoding_of
+    own_shares =
+        subst (λ (k : ReadCapValue). AreSharesFor (IsHashedOrTested w) (verify_cap_of k) said (prepared_of file secret p).shares) (sym of.cap_is)
+        (encoded_shares_serve (IsHashedOrTested w) g key ciphertext shape (length-xored_from key 0 file) trees_among)
+
+    by_download : IsDownloadBy (IsHashedOrTested w) said d
+    by_download = record { right = right; accepted = λ f there. one_block f there (file_of d f there right.file).head; tested = tests_among }
+
+    told_other : (i : ℕ) (b : Blame) → slice_get d.blamed i ≡ Some b → ToldOther w of.number of.operation.node d b.server b.share (slice_index_or (prepared_of file secret p).shares b.share [])
+    told_other i b is =
+        let other = downloads_are_fair (IsHashedOrTested w) no_clash d said (prepared_of file secret p).shares i b by_download own_shares is in
+        let here : slice_get (requests_of of.operation.task).entries other.place ≡ Some other.request =
+        subst (λ (t : Task). slice_get (requests_of t).entries other.place ≡ Some other.request) (sym of.task) other.there in
+        record {
+          answered = other;
+          sent = subst (λ server. CameFrom w.sent of.number of.operation.node other.place server other.request.asked (Data other.bytes)) other.of_server
+              ((c.fine of.number of.operation of.at).answers other.place other.request (Data other.bytes) here other.answer);
+        }
+
 never_inconsistent : (w : WorldState) → IsConsistent w → HasNoClashInTests w → NeverInconsistent w
 never_inconsistent w c no_clash file secret p d s of e =
     refuted w c no_clash file secret p s d of (inconsistent_shows d (right w c no_clash file secret p s d of) e)
@@ -217,9 +243,13 @@ blocks_are_own w c no_clash file secret p d f place segment r s of there at own 
 good_shares_are_own : (w : WorldState) → IsConsistent w → HasNoClashInTests w → GoodSharesAreOwn w
 good_shares_are_own w c no_clash file secret p check server share s of good = good_own w c no_clash file secret p s check of server share good
 
+no_false_blame : (w : WorldState) → IsConsistent w → HasNoClashInTests w → NoFalseBlame w
+no_false_blame w c no_clash file secret p d i b s of is = told_other w c no_clash file secret p s d of i b is
+
 pub bound : (w : WorldState) → IsConsistent w → IsBound w
 bound w c = record {
   never_inconsistent = never_inconsistent w c;
   blocks_are_own = blocks_are_own w c;
   good_shares_are_own = good_shares_are_own w c;
+  no_false_blame = no_false_blame w c;
 }

@@ -1,5 +1,5 @@
--- Beside the headline: what binds downloads and checks of a cap to the file whose upload was started
--- with it.
+-- Beside the headline: what binds downloads and checks of a cap to the file whose upload was
+-- started with it.
 use Rattle.std.specs.Prelude.{◌≡◌, ◌≢◌, ℕ, ◌<◌, List, [], length, Some, Contains}
 use Rattle.std.specs.Prelude.{slice_get, slice_index, slice_index_or}
 use Rattle.aes_ctr.specs.CounterMode.{xored}
@@ -15,13 +15,17 @@ use Rattle.download_file.specs.Answers.{HasRightBlock, block_of}
 use Rattle.download_file.specs.State.{IsReader, ReaderState}
 use Rattle.download_core.specs.State.{DownloadState, Found}
 use Rattle.download_core.specs.declared.status.DownloadStatus.TheVariants.{Inconsistent}
+use Rattle.download_binding.specs.Answers.{AnsweredOther}
+use Rattle.share_holdings.specs.declared.holding.Blame.{Blame}
 use Rattle.share_reading.specs.Verdict.{IsGood}
+use Rattle.wire.specs.declared.message.Body.TheVariants.{Data}
 use Rattle.checker.specs.Shares.{settled_of}
 use Rattle.checker.specs.State.{CheckState}
 use Rattle.world_operations.specs.declared.operation.Operation.{Operation}
 use Rattle.world_operations.specs.declared.task.Task.TheVariants.{Checking, Downloading}
 use Rattle.world_operations.specs.Given.{IsTestedBy}
 use Rattle.world_operations.specs.Jobs.{HasOneKey, Uploads}
+use Rattle.world.specs.Consistent.{CameFrom}
 use Rattle.world.specs.Headline.{IsHashed}
 use Rattle.world.specs.State.{WorldState}
 
@@ -98,8 +102,26 @@ GoodSharesAreOwn w = (file secret : List ℕ) (p : UploadParameters) (c : CheckS
     → (good : IsGood c.cap share (settled_of c.requests.entries server share))
     → good.bytes ≡ slice_index_or (prepared_of file secret p).shares share []
 
+-- In an answer that counted, and that it sent to the node that downloads, the server told other
+-- bytes than the share has at the place that it was asked for.
+pub record ToldOther (w : WorldState) (number node : ℕ) (d : DownloadState) (server num : ℕ)
+    (share : List ℕ) : Type 0 where
+  pub answered : AnsweredOther d.requests.entries server num share
+  pub sent : CameFrom w.sent number node answered.place server answered.request.asked
+      (Data answered.bytes)
+
+-- Each server that a download of its cap blames for a share told other bytes than the upload's
+-- share of that number has. So nobody is blamed for a share that it tells as the encoding has it.
+abbrev pub NoFalseBlame : WorldState → Type 0
+NoFalseBlame w = (file secret : List ℕ) (p : UploadParameters) (d : DownloadState) (i : ℕ)
+    (b : Blame) → IsStarted w file secret p
+    → (of : IsDownloadOf w (prepared_of file secret p).cap d) → slice_get d.blamed i ≡ Some b
+    → ToldOther w of.number of.operation.node d b.server b.share
+    (slice_index_or (prepared_of file secret p).shares b.share [])
+
 -- What binds downloads and checks, of one world. It holds of every world.
 pub record IsBound (w : WorldState) : Type 0 where
   pub never_inconsistent : HasNoClashInTests w → NeverInconsistent w
   pub blocks_are_own : HasNoClashInTests w → BlocksAreOwn w
   pub good_shares_are_own : HasNoClashInTests w → GoodSharesAreOwn w
+  pub no_false_blame : HasNoClashInTests w → NoFalseBlame w
