@@ -93,6 +93,18 @@ head -c 70000 file > part && mkfifo pipe
 put_from_pipe() { cat part > pipe & ends 0 '' "$grid" put pipe --grid g; }
 sees 'a file that comes through a pipe' put_from_pipe
 
+# ---- files of very many segments
+
+# Levels of its trees need more than one read of the level above, and the reader begins in the midst
+# of one.
+rm -rf g && head -c 4356000 /dev/urandom > many
+"$grid" put many --grid g --k 1 --happy 1 --n 1 --servers 1 --segment 33 --no-sync > put.out
+cap=$(head -n 1 put.out)
+sees 'a get from the 129th of 132,000 segments on' ends 0 '' \
+    "$grid" get "$cap" --grid g --from 4224 -o rest
+gives_the_rest() { tail -c +4225 many | cmp -s - rest; }
+sees 'the bytes that it gives' gives_the_rest
+
 # ---- how it is called
 
 sees 'a word that is not UTF-8' ends 2 "error: invalid UTF-8 was detected in one or more arguments
