@@ -1,7 +1,7 @@
 #!/bin/bash
 # Measures what the built program holds and reads: the peak memory of put, get, check and repair by
-# the file's size, that of puts of large files at some numbers of shares, with their processor time
-# for each byte, that of a get of a large file, and the time and the bytes read of a get of one
+# the file's size, that of puts and checks of large files at some numbers of shares, with their
+# processor time, that of a get of a large file, and the time and the bytes read of a get of one
 # byte. Its words: the program (that of this repository if none, which is built first), the MiB of
 # the file of which one byte is got (1,024 if none), and the MiB of the greatest file that is put
 # (2,048 if none). It takes some 25 GB of the disk.
@@ -42,12 +42,17 @@ told_put() { awk -v name="$1" -v peak="$2" -v time="$3" -v size="$4" 'BEGIN {
     printf "%-28s %7.1f MiB, %5.2f of what is wanted, %6.2f s, %5.1f ns a byte\n",
         name, peak / 1048576, peak / most, time, time / size * 1e9 }'; }
 
+# Prints a check's peak beside 150 MiB, and its time.
+told_check() { awk -v name="$1" -v peak="$2" -v time="$3" 'BEGIN {
+    printf "%-28s %7.1f MiB, %5.2f of what is wanted, %6.2f s\n",
+        name, peak / 1048576, peak / (150 * 1048576), time }'; }
+
 # Prints a peak beside the size in bytes.
 told() { awk -v name="$1" -v peak="$2" -v size="$3" 'BEGIN {
     printf "%-28s %7.1f MiB, %5.2f of its bytes\n", name, peak / 1048576, peak / size }'; }
 
 echo "The peak memory of a command, beside the file's bytes, or of a put of a large file beside"
-echo "what is wanted (100 MiB and 2 % of the file), with its processor time."
+echo "what is wanted (100 MiB and 2 % of the file; 150 MiB for a check), with its processor time."
 for mib in 16 64; do
     size=$((mib << 20))
     head -c $size /dev/urandom > file
@@ -69,6 +74,7 @@ for shape in '3 10' '1 3' '25 100'; do
         truncate -s ${mib}M sparse
         told_put "put of $mib MiB, $needed of $total" $(peak_and_time "$program" put sparse \
             --grid grid --k "$needed" --n "$total" --happy 1 --no-sync) $((mib << 20))
+        told_check "check of it" $(peak_and_time "$program" check "$(head -n 1 out)" --grid grid)
     done
 done
 rm -rf grid sparse
