@@ -6,6 +6,7 @@ ghost use Rattle.std.specs.List.{range_with_len};
 ghost use Rattle.aes_ctr.specs.CounterMode.{xored};
 ghost use Rattle.cap_text.specs.declared.cap.Cap.TheVariants.{Chk, Lit};
 ghost use Rattle.cap_text.specs.Cap.{ReadCapValue};
+ghost use Rattle.tagged_hash.specs.ConvergentKey.{IsSecret};
 ghost use Rattle.merkle.specs.Tree.{height, tree_nodes, tree_root};
 ghost use Rattle.ueb.specs.Shape.{IsFile, IsSegmentSize, rounded_up};
 ghost use Rattle.ueb.specs.Limits.{max_file_size, max_length, min_file_size};
@@ -258,7 +259,7 @@ pub fn encode_all(
     secret: &[u8],
     params: &Params,
 ) -> Result<Encoded, EncodeError>
-    requires { length secret.now ≤ 64 }
+    requires { IsSecret secret.now }
     ensures literal { length file.now < min_file_size → IfOk result
         (λ e. (e.cap ≡ Lit file.now) × (e.shares.items ≡ [])) }
     ensures cap { min_file_size ≤ length file.now → IfOk result

@@ -25,7 +25,7 @@ pub use laws::{
     files_are_of_their_caps, good_shares_give_own, own_evidence_is_within, own_shares_are_within,
     own_shares_give_the_file, own_trees_are_within, regenerated_pass, shares_have_one_length,
 };
-pub use params::{MAX_CHOSEN_SEGMENT_SIZE, Params};
+pub use params::{MAX_CHOSEN_SEGMENT_SIZE, MAX_SECRET_SIZE, Params};
 pub use reading::{ReadError, read_ciphertext, read_from};
 pub use repair::{RegenerateError, regenerate, regenerate_all};
 pub use share::Share;

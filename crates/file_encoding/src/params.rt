@@ -7,6 +7,9 @@ use crate::error::EncodeError;
 use std::marker::Model;
 use ueb::MAX_SHARES;
 
+/// The greatest convergence secret, in bytes. It may be empty.
+pub const MAX_SECRET_SIZE: usize = 64;
+
 /// The greatest segment that a user may choose, in bytes.
 pub const MAX_CHOSEN_SEGMENT_SIZE: u32 = 1 << 20;
 

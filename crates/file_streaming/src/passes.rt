@@ -1,6 +1,7 @@
 // Two passes over a source: the first for its key, the second for the key again and all hashes.
 
-ghost use Rattle.std.specs.Prelude.{◌≡◌, ◌⊎◌, ◌≤◌, [], length, IfErr, IfOk, IsErrOf};
+ghost use Rattle.std.specs.Prelude.{◌≡◌, ◌⊎◌, [], IfErr, IfOk, IsErrOf};
+ghost use Rattle.tagged_hash.specs.ConvergentKey.{IsSecret};
 ghost use Rattle.tagged_hash.specs.TaggedHasher.{HoldsFile};
 ghost use Rattle.sources.specs.Change.{HasChanged};
 ghost use Rattle.sources.specs.Source.{HasFailedMore};
@@ -20,7 +21,7 @@ use tagged_hash::{KeyHasher, TaggedHasher};
 
 // The hasher of a file's key, which was given no byte yet.
 fn key_hasher(geometry: &Geometry, secret: &[u8]) -> KeyHasher
-    requires { length secret.now ≤ 64 }
+    requires { IsSecret secret.now }
     ensures { HoldsFile result geometry.now.needed geometry.now.total geometry.now.segment_size
         secret.now [] }
 {
@@ -53,7 +54,7 @@ fn read_again<S: Source>(
     key: [u8; 16],
     mut buffers: Buffers,
 ) -> Result<Passes, PrepareError>
-    requires secret { length secret.now ≤ 64 }
+    requires secret { IsSecret secret.now }
     requires buffers { AreBuffers geometry.now buffers }
     ensures passes { IfOk result
         (λ p. IsSecondPass S.gives source.old geometry.now secret.now p source.new) }
@@ -105,7 +106,7 @@ pub(crate) fn read_twice<S: Source>(
     geometry: &Geometry,
     secret: &[u8],
 ) -> Result<Passes, PrepareError>
-    requires { length secret.now ≤ 64 }
+    requires { IsSecret secret.now }
     ensures passes { IfOk result
         (λ p. AreTwoPasses S.gives source.old geometry.now secret.now p source.new) }
     ensures changed { IsErrOf result PrepareError.SourceChanged

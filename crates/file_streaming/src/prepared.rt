@@ -3,6 +3,7 @@
 ghost use Rattle.std.specs.Prelude.{◌≡◌, ◌⊎◌, ◌<◌, ◌≤◌, ◌^◌, ℕ, List, length, IfErr, IfOk};
 ghost use Rattle.std.specs.Prelude.{IsErrOf};
 ghost use Rattle.aes_ctr.specs.CounterMode.{xored};
+ghost use Rattle.tagged_hash.specs.ConvergentKey.{IsSecret};
 ghost use Rattle.ueb.specs.Limits.{max_file_size, min_file_size};
 ghost use Rattle.ueb.specs.Shape.{IsFile, IsSegmentSize};
 ghost use Rattle.file_encoding.specs.Params.{HasTooManySegments, IsEncodable, parameters_of};
@@ -155,7 +156,7 @@ pub fn prepare<S: Source>(
     secret: &[u8],
     params: &Params,
 ) -> Result<Prepared, PrepareError>
-    requires secret { length secret.now ≤ 64 }
+    requires secret { IsSecret secret.now }
     requires not_small { min_file_size ≤ S.size source.old }
     ensures prepared { IfOk result (λ p. IsPreparedFrom S.gives (S.size source.old)
         source.old secret.now (parameters_of params.now) p source.new) }

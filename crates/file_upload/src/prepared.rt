@@ -3,6 +3,7 @@
 ghost use Rattle.std.specs.Prelude.{◌≡◌, ◌≤◌, ◌<◌, ◌⊎◌, length, map, nat_eq};
 ghost use Rattle.std.specs.Prelude.{IfOk, IfErr, IsErrOf};
 ghost use Rattle.std.specs.List.{IsDistinct};
+ghost use Rattle.tagged_hash.specs.ConvergentKey.{IsSecret};
 ghost use Rattle.ueb.specs.Limits.{max_file_size, min_file_size};
 ghost use Rattle.file_encoding.specs.Params.{HasTooManySegments, IsEncodable};
 ghost use Rattle.upload_core.specs.Moves.{Begins};
@@ -58,7 +59,7 @@ pub fn prepare(
     secret: &[u8],
     params: &Params,
 ) -> Result<FileUpload, EncodeError>
-    requires { length secret.now ≤ 64 }
+    requires { IsSecret secret.now }
     ensures literal { length file.now < min_file_size
         → IfOk result (λ upload. upload ≡ Literal file.now) }
     ensures shares { min_file_size ≤ length file.now → IfOk result

@@ -1,14 +1,15 @@
 //! `grid put`: a file becomes shares on servers, and a cap.
 
-ghost use Rattle.std.specs.Prelude.{◌≡◌, ◌≤◌, ◌<◌, ◌*◌, ◌/◌, length, max, IfOk, nat_eq};
+ghost use Rattle.std.specs.Prelude.{◌≡◌, ◌≤◌, ◌<◌, ◌*◌, ◌/◌, max, IfOk, nat_eq};
 ghost use Rattle.std.specs.List.{IsDistinct};
+ghost use Rattle.tagged_hash.specs.ConvergentKey.{IsSecret};
 ghost use Rattle.ueb.specs.Limits.{min_file_size};
 
 use crate::mending::mend_servers;
 use crate::placing::{Begun, Placing, carry_upload, durability_of};
 use crate::streaming::begin_stream;
 use cap_text::{Cap, LitCap, ReadCap};
-use file_encoding::Params;
+use file_encoding::{MAX_SECRET_SIZE, Params};
 use file_upload::prepared::{FileUpload, PreparedUpload, prepare};
 use grid_rules::{Fault, Limit, Verb, first_servers, servers_of};
 use grid_servers::{
@@ -24,9 +25,6 @@ use std::net::Net;
 use std::rt::{Clock, Files};
 use upload_core::pieces::{Pieces, WholeShares};
 use wire::message::NodeId;
-
-/// The greatest convergence secret, in bytes.
-const MAX_SECRET_SIZE: usize = 64;
 
 /// The greatest number of shares.
 const MAX_SHARES: u64 = 256;
@@ -90,7 +88,7 @@ fn put_file<R, E>(
 where
     R: Files + Net + Clock + AllocGlobal + Clone + Drop,
     E: Write + IsTerminal,
-    requires secret { length putting.now.secret.now ≤ 64 }
+    requires secret { IsSecret putting.now.secret.now }
     requires distinct { IsDistinct nat_eq putting.now.placing.servers.now }
 {
     let words = putting.words;
@@ -160,7 +158,7 @@ fn server_count(servers: u64) -> Result<u16, Fault>
 fn read_secret<R>(rt: &R, words: &SecretWords<'_>) -> Result<Vec<u8>, Fault>
 where
     R: Files + AllocGlobal,
-    ensures { IfOk result (λ secret. length secret.items ≤ 64) }
+    ensures { IfOk result (λ secret. IsSecret secret.items) }
 {
     let secret = match words {
         SecretWords::Text(text) => Vec::from_slice(rt.alloc(), text.as_bytes())?,
@@ -198,7 +196,7 @@ fn put_held<R, E>(
 where
     R: Files + Net + Clock + AllocGlobal + Clone + Drop,
     E: Write + IsTerminal,
-    requires secret { length putting.now.secret.now ≤ 64 }
+    requires secret { IsSecret putting.now.secret.now }
     requires distinct { IsDistinct nat_eq putting.now.placing.servers.now }
 {
     progress.encode(Verb::Put, file.len() as u64);
@@ -214,7 +212,7 @@ where
 
 // Encodes a file. Its bytes are let go before the shares are placed.
 fn encode(alloc: Global, file: Vec<u8>, putting: &Putting<'_>) -> Result<FileUpload, Fault>
-    requires { length putting.now.secret.now ≤ 64 }
+    requires { IsSecret putting.now.secret.now }
 {
     Ok(prepare(alloc, &file, putting.secret, putting.params)?)
 }
@@ -250,7 +248,7 @@ fn put_opened<R, E>(
 where
     R: Files + Net + Clock + AllocGlobal + Clone + Drop,
     E: Write + IsTerminal,
-    requires secret { length putting.now.secret.now ≤ 64 }
+    requires secret { IsSecret putting.now.secret.now }
     requires distinct { IsDistinct nat_eq putting.now.placing.servers.now }
     requires not_small { min_file_size ≤ size }
 {

@@ -1,8 +1,9 @@
 //! A file of a `put` that is not held: it is read twice, and then as often as pieces of its shares
 //! are made again.
 
-ghost use Rattle.std.specs.Prelude.{◌≡◌, ◌≤◌, length, nat_eq, IfOk};
+ghost use Rattle.std.specs.Prelude.{◌≡◌, ◌≤◌, nat_eq, IfOk};
 ghost use Rattle.std.specs.List.{IsDistinct};
+ghost use Rattle.tagged_hash.specs.ConvergentKey.{IsSecret};
 ghost use Rattle.ueb.specs.Limits.{min_file_size};
 ghost use Rattle.file_encoding.specs.Params.{parameters_of};
 ghost use Rattle.file_streaming.specs.Prepared.{IsPreparedFrom};
@@ -30,7 +31,7 @@ pub(crate) fn begin_stream<S: Source + Drop>(
     params: &Params,
     servers: &[NodeId],
 ) -> Result<(ReadCap, Begun<Streamed<S>>), Fault>
-    requires secret { length secret.now ≤ 64 }
+    requires secret { IsSecret secret.now }
     requires not_small { min_file_size ≤ S.size source }
     requires distinct { IsDistinct nat_eq servers.now }
     ensures prepared { IfOk result (λ begun. IsPreparedFrom S.gives (S.size source) source

@@ -1,7 +1,8 @@
 //! A file that was read twice and has not been uploaded yet.
 
-ghost use Rattle.std.specs.Prelude.{◌≡◌, ◌⊎◌, ◌≤◌, ◌<◌, length, map, nat_eq, IfErr, IfOk, IsErrOf};
+ghost use Rattle.std.specs.Prelude.{◌≡◌, ◌⊎◌, ◌≤◌, ◌<◌, map, nat_eq, IfErr, IfOk, IsErrOf};
 ghost use Rattle.std.specs.List.{IsDistinct};
+ghost use Rattle.tagged_hash.specs.ConvergentKey.{IsSecret};
 ghost use Rattle.ueb.specs.Limits.{max_file_size, min_file_size};
 ghost use Rattle.file_encoding.specs.Params.{HasTooManySegments, IsEncodable, parameters_of};
 ghost use Rattle.sources.specs.Change.{HasChanged};
@@ -51,7 +52,7 @@ pub fn prepare_stream<S: Source + Drop>(
     secret: &[u8],
     params: &Params,
 ) -> Result<PreparedStream<S>, PrepareError>
-    requires secret { length secret.now ≤ 64 }
+    requires secret { IsSecret secret.now }
     requires not_small { min_file_size ≤ S.size source }
     ensures prepared { IfOk result (λ ready. IsPreparedFrom S.gives (S.size source) source
         secret.now (parameters_of params.now) ready.pieces.kept ready.pieces.source) }

@@ -27,7 +27,7 @@ use checker::KeepingCheck;
 use checker::status::CheckStatus;
 use download_core::Download;
 use download_core::status::{DownloadError, DownloadStatus, Piece};
-use file_encoding::{EncodeError, Params};
+use file_encoding::{EncodeError, MAX_SECRET_SIZE, Params};
 use file_streaming::PrepareError;
 use file_upload::prepared::{FileUpload, prepare};
 use sources::ChangingSource;
@@ -223,7 +223,7 @@ fn begin_upload(
     ensures refused { IsErrOf result StartError.Refused
         → MayStart (jobs.Upload file.now secret.now params.now) → ⊥ }
 {
-    if (file.len() as u64) < MIN_FILE_SIZE || secret.len() > 64 {
+    if (file.len() as u64) < MIN_FILE_SIZE || secret.len() > MAX_SECRET_SIZE {
         return Err(StartError::Refused);
     }
     let _ = params.needed();
@@ -262,7 +262,10 @@ fn begin_changing(
     ensures refused { IsErrOf result StartError.Refused
         → MayStart (jobs.Changing file.now other.now after secret.now params.now) → ⊥ }
 {
-    if (file.len() as u64) < MIN_FILE_SIZE || secret.len() > 64 || other.len() != file.len() {
+    if (file.len() as u64) < MIN_FILE_SIZE
+        || secret.len() > MAX_SECRET_SIZE
+        || other.len() != file.len()
+    {
         return Err(StartError::Refused);
     }
     let _ = params.needed();

@@ -16,7 +16,7 @@ ghost use Rattle.world_runner.specs.Events.{IsRepairOf};
 ghost use Rattle.world_runner.specs.Plans.{IsUploadCap};
 
 use cap_text::ReadCap;
-use file_encoding::EncodeError;
+use file_encoding::{EncodeError, MAX_SECRET_SIZE};
 use file_upload::prepared::{FileUpload, prepare};
 use proved_parts::Bytes;
 use std::alloc::{AllocError, Global};
@@ -26,9 +26,6 @@ use world_operations::job::Job;
 use world_operations::message::copied;
 use world_operations::operation::Operation;
 use world_script::Command;
-
-// The greatest secret, in bytes.
-const MAX_SECRET_SIZE: usize = 64;
 
 // The events of a command that chooses no messages, the last one first.
 pub(crate) fn events_of(
