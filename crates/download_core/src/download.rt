@@ -71,10 +71,8 @@ impl Download {
         if to < from || cap.size() < to {
             return Err(DownloadError::BadRange);
         }
-        match Download::begin(alloc, cap, from, to, servers, session, now) {
-            Ok(download) => Ok(download),
-            Err(_) => Err(DownloadError::OutOfMemory),
-        }
+        Download::begin(alloc, cap, from, to, servers, session, now)
+            .map_err(|_| DownloadError::OutOfMemory)
     }
 
     fn begin(

@@ -125,10 +125,7 @@ pub(crate) fn base32_of(alloc: Global, bytes: &[u8]) -> Result<String, StoreErro
     ensures text { IfOk result (λ text. string_bytes text ≡ base32 bytes.now) }
     ensures memory { IsOkUnless result StoreError.OutOfMemory }
 {
-    match to_base32(alloc, bytes) {
-        Ok(text) => Ok(text),
-        Err(_) => Err(StoreError::OutOfMemory),
-    }
+    to_base32(alloc, bytes).map_err(|_| StoreError::OutOfMemory)
 }
 
 // The share number between two dots.

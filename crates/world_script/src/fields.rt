@@ -99,8 +99,5 @@ fn chosen(needed: u64, happy: u64, total: u64, segment: u64) -> Result<Params, L
     ensures in_ranges { IsOk result → AreChosen needed happy total segment }
     ensures none { result ≡ Err NoCommand → ¬ AreChosen needed happy total segment }
 {
-    match Params::new(needed, happy, total, segment) {
-        Ok(params) => Ok(params),
-        Err(_) => Err(LineError::NoCommand),
-    }
+    Params::new(needed, happy, total, segment).map_err(|_| LineError::NoCommand)
 }
