@@ -4,3 +4,4 @@ pub mod Whole
 pub mod Reads
 pub mod Verdict
 pub mod Judged
+pub mod JudgingSize

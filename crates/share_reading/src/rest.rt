@@ -3,6 +3,8 @@
 ghost use Rattle.std.specs.Prelude.{◌≡◌, ◌≤◌, ◌<◌, ◌+◌, ◌↔◌, IfOk, Err};
 ghost use Rattle.cap_text.specs.Cap.{VerifyCapValue};
 ghost use Rattle.share_layout.specs.Layout.{header_size};
+ghost use Rattle.share_reading.specs.JudgingSize.{judging_size};
+ghost use Rattle.share_verify.specs.CapBlock.{geometry_by};
 ghost use Rattle.share_verify.specs.declared.check.Check.{Check};
 ghost use Rattle.wire.specs.Limits.{most_data};
 
@@ -32,7 +34,9 @@ impl Rest {
 
     /// How many bytes a `Judged` may keep of the share: a hash for each block, eight blocks, the
     /// trees and the share hashes, all of it twice, since its lists may have room for as much more.
-    pub fn judging_size(&self) -> u64 {
+    pub fn judging_size(&self) -> u64
+        ensures { result ≡ judging_size (geometry_by self.now.ueb) }
+    {
         let geometry = geometry_of(&self.ueb);
         let hashes = 32 * u64::from(geometry.segment_count());
         let blocks = 8 * u64::from(geometry.block_size());
