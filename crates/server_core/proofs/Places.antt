@@ -1,11 +1,12 @@
 -- The place of a bucket, and what a change there does.
-use Rattle.std.proofs.Common.{◌≡◌, ℕ, ◌+◌, List, [], ◌∷◌, Bool, true, false, cond, not, Option, Some, None, get_or, set, refl, ap, subst, sym, add-one}
+use Rattle.std.proofs.Common.{◌≡◌, ℕ, zero, suc, ◌+◌, List, [], ◌∷◌, Bool, true, false, cond, not, Option, Some, None, get_or, set, refl, ap, subst, sym, ◌∙◌, add-one}
 use Rattle.std.specs.List.{remove}
 use Rattle.wire.specs.declared.message.ShareId.{ShareId}
 use Rattle.server_core.specs.declared.bucket.Bucket.{Bucket}
 use Rattle.server_core.specs.Buckets.{same_id, place_of, place_after, changed, ended, bucket_at}
 use Rattle.server_core.specs.Sound.{AreApart}
-use Rattle.server_core.proofs.Listed.{eq_of_same}
+use Rattle.std.specs.Prelude.{slice_get}
+use Rattle.server_core.proofs.Listed.{eq_of_same, same_refl}
 
 some_after : (o : Option ℕ) (k : ℕ) → place_after o ≡ Some k → (j : ℕ) × (o ≡ Some j) × (k ≡ j + 1)
 some_after None k e = absurd cc
@@ -56,3 +57,18 @@ removed_at id (b ∷ bs) k e apart =
     removed_at-step (same_id b.id id) b bs (ended id bs) (place_of id bs) k
     (λ is. ended_none id bs (subst (λ (i : ShareId). bucket_at i bs ≡ None) (eq_of_same b.id id is) apart.0))
     (λ j at. removed_at id bs j at apart.1) e
+
+-- a bucket stands where its share is found, as no share has two
+pub placed_at : (bs : List Bucket) (k : ℕ) (b : Bucket) → slice_get bs k ≡ Some b → AreApart bs → place_of b.id bs ≡ Some k
+placed_at [] k b e apart = absurd cc
+placed_at (c ∷ bs) zero b e apart =
+    let here : c ≡ b = cc in
+    ap (λ (t : Bool). cond t (Some 0) (place_after (place_of b.id bs))) (ap (λ (x : Bucket). same_id x.id b.id) here ∙ same_refl b.id)
+placed_at (c ∷ bs) (suc k) b e apart = by (same_id c.id b.id) refl (placed_at bs k b e apart.1)
+  where
+    by : (same : Bool) → same_id c.id b.id ≡ same → place_of b.id bs ≡ Some k → cond same (Some 0) (place_after (place_of b.id bs)) ≡ Some (suc k)
+    by true is later =
+        let none : bucket_at b.id bs ≡ None = subst (λ (i : ShareId). bucket_at i bs ≡ None) (eq_of_same c.id b.id is) apart.0 in
+        let some : bucket_at b.id bs ≡ Some (get_or bs k b) = found_at b.id bs k b later in
+        absurd cc
+    by false is later = rw later (ap Some (add-one k))

@@ -265,3 +265,16 @@ pub record RestartsTo {S : Type 0} (restart_gives : S → S → Type 0) (old new
     pub buckets : new.buckets ≡ []
     pub clock : new.clock ≡ old.clock
     pub terms : KeepsTerms old new
+
+-- ---- words of private clauses
+
+-- a body or a fault, as the outcome of a message
+abbrev pub outcome_of : Message → Result Body ServerFault → Outcome
+outcome_of m (Ok body) = Ok (Some (reply_to m body))
+outcome_of m (Err fault) = Err fault
+
+-- what a line does for any message: it answers with a body
+abbrev pub DoesFor : {S : Type 0} → Calls S → Line → ℕ → Machine S → Result Body ServerFault
+    → Machine S → Type 0
+DoesFor calls line now old result new =
+    (m : Message) → Does calls line now old m (outcome_of m result) new

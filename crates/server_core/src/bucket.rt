@@ -1,13 +1,9 @@
-//! Open buckets: the shares that clients are writing.
+//! A bucket: a share that a client is writing.
 
-ghost use Rattle.std.specs.Prelude.{◌≡◌, ◌<◌, ◌-◌, length, IfNone, IfSome, None, Some, slice_get};
-ghost use Rattle.server_core.specs.Buckets.{GoesOn, HasRoom, IsNothing, IsFresh, is_owned, touched};
-ghost use Rattle.server_core.specs.Buckets.{with_bytes, count_in, bytes_so_far, bucket_at, changed};
-ghost use Rattle.server_core.specs.Buckets.{ended, promised, place_of};
-ghost use Rattle.server_core.specs.Sound.{AreApart};
-ghost use Rattle.server_core.specs.declared.bucket.Bucket.{Bucket};
+ghost use Rattle.std.specs.Prelude.{◌≡◌, length};
+ghost use Rattle.server_core.specs.Buckets.{GoesOn, HasRoom, IsNothing, IsFresh, is_owned};
+ghost use Rattle.server_core.specs.Buckets.{with_bytes, count_in, bytes_so_far};
 ghost use Rattle.server_core.specs.declared.bucket.Gathered.{Gathered};
-ghost use Rattle.wire.specs.declared.message.ShareId.{ShareId};
 
 use std::mem;
 use tagged_hash::{Tag, TaggedHasher};
@@ -103,7 +99,7 @@ impl Bucket {
     }
 
     // More bytes came.
-    fn push(&mut self, bytes: &[u8], now: u64)
+    pub(crate) fn push(&mut self, bytes: &[u8], now: u64)
         requires { HasRoom self.old.length (length bytes.now) self.old.gathered }
         ensures { (gathered : Gathered)
             × GoesOn self.old.length bytes.now self.old.gathered gathered
@@ -114,63 +110,4 @@ impl Bucket {
         self.gathered = gathered.followed_by(bytes, self.length);
         self.touched = now;
     }
-}
-
-/// The bucket of a share, and where it stands.
-pub fn find_bucket(buckets: &[Bucket], id: ShareId) -> Option<(usize, &Bucket)>
-    ensures none { IfNone result (bucket_at id buckets.now ≡ None) }
-    ensures some { IfSome result (λ found. bucket_at id buckets.now ≡ Some found.1.now) }
-    ensures place { IfSome result (λ found. place_of id buckets.now ≡ Some found.0) }
-    ensures within { IfSome result (λ found. found.0 < length buckets.now) }
-    ensures there { IfSome result (λ found. slice_get buckets.now found.0 ≡ Some found.1.now) }
-{
-    for (place, bucket) in buckets.iter().enumerate() {
-        if bucket.id == id {
-            return Some((place, bucket));
-        }
-    }
-    None
-}
-
-/// Notes that the bucket at a place was touched.
-pub fn touch_bucket(buckets: &mut Vec<Bucket>, place: usize, now: u64)
-    requires { place < length buckets.old.items }
-    ensures { (id : ShareId) → place_of id buckets.old.items ≡ Some place
-        → buckets.new.items ≡ changed id (touched now) buckets.old.items }
-{
-    buckets[place].touched = now;
-}
-
-/// Adds bytes to the bucket at a place.
-pub fn push_bytes(buckets: &mut Vec<Bucket>, place: usize, bytes: &[u8], now: u64)
-    requires room { IfSome (slice_get buckets.old.items place)
-        (λ b. HasRoom b.length (length bytes.now) b.gathered) }
-    requires within { place < length buckets.old.items }
-    ensures { (id : ShareId) (b : Bucket) → place_of id buckets.old.items ≡ Some place
-        → bucket_at id buckets.old.items ≡ Some b → (gathered : Gathered)
-        × GoesOn b.length bytes.now b.gathered gathered
-        × (buckets.new.items ≡ changed id (with_bytes now gathered) buckets.old.items) }
-{
-    buckets[place].push(bytes, now);
-}
-
-/// Ends the bucket at a place. No share has two.
-pub fn end_bucket(buckets: &mut Vec<Bucket>, place: usize)
-    requires apart { AreApart buckets.old.items }
-    requires within { place < length buckets.old.items }
-    ensures { (id : ShareId) → place_of id buckets.old.items ≡ Some place
-        → buckets.new.items ≡ ended id buckets.old.items }
-{
-    let _ = buckets.remove(place);
-}
-
-/// What is left of some room, in bytes, beside what the buckets are to hold.
-pub fn room_beside(buckets: &[Bucket], room: u64) -> u64
-    ensures { result ≡ room - promised buckets.now }
-{
-    let mut left = room;
-    for bucket in buckets {
-        left = left.saturating_sub(bucket.length.get());
-    }
-    left
 }

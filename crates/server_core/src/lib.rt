@@ -2,6 +2,7 @@
 #![tactic(auto)]
 
 mod bucket;
+mod buckets;
 pub mod error;
 pub mod keeping;
 pub mod laws;

@@ -1,16 +1,15 @@
 //! The server over a store.
 
-ghost use Rattle.std.specs.Prelude.{◌≡◌, ◌≤◌, [], length, max, true};
-ghost use Rattle.server_core.specs.Machine.{Does, Serves, Ticks, RestartsTo, KeepsTerms};
-ghost use Rattle.server_core.specs.Machine.{ListsHoldings, reply_to, is_full, line_of};
+ghost use Rattle.std.specs.Prelude.{◌≡◌, ◌≤◌, ℕ, [], length, max, true};
+ghost use Rattle.server_core.specs.Machine.{Does, DoesFor, Serves, Ticks, RestartsTo, KeepsTerms};
+ghost use Rattle.server_core.specs.Machine.{ListsHoldings, outcome_of, is_full, line_of};
 ghost use Rattle.server_core.specs.Machine.{allocate_line, write_line, close_line, abort_line};
 ghost use Rattle.server_core.specs.Machine.{read_line};
 ghost use Rattle.server_core.specs.Buckets.{bucket_at};
 ghost use Rattle.server_core.specs.Sound.{OthersBucketsStay};
 
-use crate::bucket::{
-    Bucket, Gathered, end_bucket, find_bucket, push_bytes, room_beside, touch_bucket,
-};
+use crate::bucket::{Bucket, Gathered};
+use crate::buckets::Buckets;
 use crate::error::ServerFault;
 use share_store::error::StoreError;
 use share_store::memory::MemoryStore;
@@ -26,9 +25,6 @@ pub const CAPACITY: u64 = 1 << 42;
 
 /// The most buckets that are open at a time.
 const MOST_BUCKETS: usize = 1024;
-
-/// The seconds after which a bucket that was not touched is dropped.
-const PATIENCE: u64 = 600;
 
 /// A server over any store. Each message of a client is answered by the first line of the table
 /// that fits:
@@ -59,7 +55,7 @@ const PATIENCE: u64 = 600;
 #[derive(Drop)]
 pub struct Server<S: Store> {
     store: S,
-    buckets: Vec<Bucket>,
+    buckets: Buckets,
     clock: u64,
     capacity: u64,
     readonly: bool,
@@ -67,30 +63,30 @@ pub struct Server<S: Store> {
 
 impl<S: Store> Model for Server<S> {
     ghost use Rattle.server_core.specs.Machine.{Machine};
-    ghost use Rattle.server_core.specs.Sound.{AreApart};
 
     ghost Value = { Machine S };
 
     ghost view = { λ s. record {
       store = s.store;
-      buckets = s.buckets.items;
+      buckets = s.buckets;
       clock = s.clock;
       capacity = s.capacity;
       readonly = s.readonly;
     } };
-
-    ghost invariant = { λ s. AreApart s.buckets.items };
 }
 
 // An answer repeats the request's session and number.
-fn reply_to(message: &Message, body: Body) -> Message
-    ensures { result ≡ reply_to message.now body }
+fn replied(
+    message: &Message,
+    body: Result<Body, ServerFault>,
+) -> Result<Option<Message>, ServerFault>
+    ensures { result ≡ outcome_of message.now body }
 {
-    Message {
+    Ok(Some(Message {
         session: message.session,
         number: message.number,
-        body,
-    }
+        body: body?,
+    }))
 }
 
 impl<S: Store> Server<S> {
@@ -106,7 +102,7 @@ impl<S: Store> Server<S> {
     {
         Server {
             store,
-            buckets: Vec::new(alloc),
+            buckets: Buckets::new(alloc),
             clock: 0,
             capacity,
             readonly,
@@ -131,191 +127,180 @@ impl<S: Store> Server<S> {
     fn is_full(&self, length: ShareLength) -> bool
         ensures { result ≡ is_full S.calls self.now length }
     {
-        if self.readonly || self.buckets.len() >= MOST_BUCKETS {
+        if self.readonly || self.buckets.count() >= MOST_BUCKETS {
             return true;
         }
         let room = self.capacity.saturating_sub(self.store.used());
-        room_beside(&self.buckets, room) < length.get()
+        self.buckets.room_beside(room) < length.get()
     }
 
-    fn list(
-        &mut self,
-        message: &Message,
-        index: StorageIndex,
-        now: u64,
-    ) -> Result<Option<Message>, ServerFault>
-        ensures does { Does S.calls (ListsHoldings index) now self.old message.now result self.new }
+    // All closed shares of a file.
+    fn list(&mut self, index: StorageIndex) -> Result<Body, ServerFault>
+        ensures does { (now : ℕ)
+            → DoesFor S.calls (ListsHoldings index) now self.old result self.new }
         ensures clock { self.new.clock ≡ self.old.clock }
         ensures terms { KeepsTerms self.old self.new }
     {
-        let alloc = *self.buckets.allocator();
+        let alloc = self.buckets.allocator();
         let found = self.store.list(alloc, &index)?;
-        Ok(Some(reply_to(message, Body::Have(self.readonly, found))))
+        Ok(Body::Have(self.readonly, found))
     }
 
+    // A bucket for a share of this length.
     fn allocate(
         &mut self,
         from: NodeId,
-        message: &Message,
+        session: u64,
         id: ShareId,
         length: ShareLength,
         now: u64,
-    ) -> Result<Option<Message>, ServerFault>
-        ensures does { Does S.calls
-            (allocate_line from message.now.session id length (is_full S.calls self.old length)
+    ) -> Result<Body, ServerFault>
+        ensures does { DoesFor S.calls
+            (allocate_line from session id length (is_full S.calls self.old length)
             (S.calls.told self.old.store id) (bucket_at id self.old.buckets))
-            now self.old message.now result self.new }
+            now self.old result self.new }
         ensures clock { self.new.clock ≡ self.old.clock }
         ensures terms { KeepsTerms self.old self.new }
     {
         if let Some(digest) = self.store.closed(&id) {
-            return Ok(Some(reply_to(message, Body::Already(digest))));
+            return Ok(Body::Already(digest));
         }
-        if let Some((place, bucket)) = find_bucket(&self.buckets, id) {
-            if !bucket.is_owned(from, message.session) || bucket.length != length {
-                return Ok(Some(reply_to(message, Body::Busy)));
+        if let Some((place, bucket)) = self.buckets.find(id) {
+            if !bucket.is_owned(from, session) || bucket.length != length {
+                return Ok(Body::Busy);
             }
-            touch_bucket(&mut self.buckets, place, now);
-            return Ok(Some(reply_to(message, Body::Granted)));
+            self.buckets.touch(place, now);
+            return Ok(Body::Granted);
         }
         if self.is_full(length) {
-            return Ok(Some(reply_to(message, Body::Full)));
+            return Ok(Body::Full);
         }
-        let bucket = Bucket::new(from, message.session, id, length, now);
-        self.buckets.push(bucket)?;
-        Ok(Some(reply_to(message, Body::Granted)))
+        let bucket = Bucket::new(from, session, id, length, now);
+        self.buckets.open(bucket)?;
+        Ok(Body::Granted)
     }
 
+    // The next bytes of a share.
     fn write(
         &mut self,
         from: NodeId,
-        message: &Message,
+        session: u64,
         id: ShareId,
         offset: u64,
         bytes: &[u8],
         now: u64,
-    ) -> Result<Option<Message>, ServerFault>
+    ) -> Result<Body, ServerFault>
         requires { 1 ≤ length bytes.now }
-        ensures does { Does S.calls
-            (write_line from message.now.session id offset bytes.now
+        ensures does { DoesFor S.calls
+            (write_line from session id offset bytes.now
             (S.calls.told self.old.store id) (bucket_at id self.old.buckets))
-            now self.old message.now result self.new }
+            now self.old result self.new }
         ensures clock { self.new.clock ≡ self.old.clock }
         ensures terms { KeepsTerms self.old self.new }
     {
         if let Some(digest) = self.store.closed(&id) {
-            return Ok(Some(reply_to(message, Body::Already(digest))));
+            return Ok(Body::Already(digest));
         }
-        let Some((place, bucket)) = find_bucket(&self.buckets, id) else {
-            return Ok(Some(reply_to(message, Body::NoShare)));
+        let Some((place, bucket)) = self.buckets.find(id) else {
+            return Ok(Body::NoShare);
         };
-        if !bucket.is_owned(from, message.session) {
-            return Ok(Some(reply_to(message, Body::NoShare)));
+        if !bucket.is_owned(from, session) {
+            return Ok(Body::NoShare);
         }
         let so_far = bucket.bytes_so_far();
         let room = bucket.length.get().saturating_sub(so_far);
         if offset != so_far || room < bytes.len() as u64 {
-            touch_bucket(&mut self.buckets, place, now);
-            return Ok(Some(reply_to(message, Body::WrongOffset(so_far))));
+            self.buckets.touch(place, now);
+            return Ok(Body::WrongOffset(so_far));
         }
         match self.store.write(&id, offset, bytes) {
             Ok(()) => {
-                push_bytes(&mut self.buckets, place, bytes, now);
-                Ok(Some(reply_to(message, Body::Wrote(offset + bytes.len() as u64))))
+                self.buckets.push(place, bytes, now);
+                Ok(Body::Wrote(offset + bytes.len() as u64))
             }
             Err(StoreError::StoreFault) => {
-                end_bucket(&mut self.buckets, place);
+                self.buckets.end(place);
                 Err(ServerFault::StoreFault)
             }
             Err(StoreError::OutOfMemory) => Err(ServerFault::OutOfMemory),
         }
     }
 
+    // The share is kept once its bucket has all bytes.
     fn close(
         &mut self,
         from: NodeId,
-        message: &Message,
+        session: u64,
         id: ShareId,
         now: u64,
-    ) -> Result<Option<Message>, ServerFault>
-        ensures does { Does S.calls
-            (close_line from message.now.session id
+    ) -> Result<Body, ServerFault>
+        ensures does { DoesFor S.calls
+            (close_line from session id
             (S.calls.told self.old.store id) (bucket_at id self.old.buckets))
-            now self.old message.now result self.new }
+            now self.old result self.new }
         ensures clock { self.new.clock ≡ self.old.clock }
         ensures terms { KeepsTerms self.old self.new }
     {
         if let Some(digest) = self.store.closed(&id) {
-            return Ok(Some(reply_to(message, Body::Closed(digest))));
+            return Ok(Body::Closed(digest));
         }
-        let Some((place, bucket)) = find_bucket(&self.buckets, id) else {
-            return Ok(Some(reply_to(message, Body::NoShare)));
+        let Some((place, bucket)) = self.buckets.find(id) else {
+            return Ok(Body::NoShare);
         };
-        if !bucket.is_owned(from, message.session) {
-            return Ok(Some(reply_to(message, Body::NoShare)));
+        if !bucket.is_owned(from, session) {
+            return Ok(Body::NoShare);
         }
         let digest = match &bucket.gathered {
             Gathered::Whole(digest) => *digest,
             Gathered::Part(count, _) => {
                 let count = *count;
-                touch_bucket(&mut self.buckets, place, now);
-                return Ok(Some(reply_to(message, Body::NotComplete(count))));
+                self.buckets.touch(place, now);
+                return Ok(Body::NotComplete(count));
             }
         };
         match self.store.close(&id, &digest) {
             Ok(()) => {
-                end_bucket(&mut self.buckets, place);
-                Ok(Some(reply_to(message, Body::Closed(digest))))
+                self.buckets.end(place);
+                Ok(Body::Closed(digest))
             }
             Err(StoreError::StoreFault) => {
-                end_bucket(&mut self.buckets, place);
+                self.buckets.end(place);
                 Err(ServerFault::StoreFault)
             }
             Err(StoreError::OutOfMemory) => Err(ServerFault::OutOfMemory),
         }
     }
 
-    fn abort(
-        &mut self,
-        from: NodeId,
-        message: &Message,
-        id: ShareId,
-        now: u64,
-    ) -> Result<Option<Message>, ServerFault>
-        ensures does { Does S.calls
-            (abort_line from message.now.session id (bucket_at id self.old.buckets))
-            now self.old message.now result self.new }
+    // The client's own bucket ends.
+    fn abort(&mut self, from: NodeId, session: u64, id: ShareId) -> Result<Body, ServerFault>
+        ensures does { (now : ℕ) → DoesFor S.calls
+            (abort_line from session id (bucket_at id self.old.buckets))
+            now self.old result self.new }
         ensures clock { self.new.clock ≡ self.old.clock }
         ensures terms { KeepsTerms self.old self.new }
     {
-        if let Some((place, bucket)) = find_bucket(&self.buckets, id) {
-            if bucket.is_owned(from, message.session) {
-                end_bucket(&mut self.buckets, place);
+        if let Some((place, bucket)) = self.buckets.find(id) {
+            if bucket.is_owned(from, session) {
+                self.buckets.end(place);
             }
         }
-        Ok(Some(reply_to(message, Body::NoShare)))
+        Ok(Body::NoShare)
     }
 
-    fn read(
-        &mut self,
-        message: &Message,
-        id: ShareId,
-        offset: u64,
-        length: ReadLength,
-        now: u64,
-    ) -> Result<Option<Message>, ServerFault>
-        ensures does { Does S.calls
+    // Some bytes of a closed share.
+    fn read(&mut self, id: ShareId, offset: u64, length: ReadLength) -> Result<Body, ServerFault>
+        ensures does { (now : ℕ) → DoesFor S.calls
             (read_line id offset length (S.calls.told self.old.store id))
-            now self.old message.now result self.new }
+            now self.old result self.new }
         ensures clock { self.new.clock ≡ self.old.clock }
         ensures terms { KeepsTerms self.old self.new }
     {
         if self.store.closed(&id).is_none() {
-            return Ok(Some(reply_to(message, Body::NoShare)));
+            return Ok(Body::NoShare);
         }
-        let alloc = *self.buckets.allocator();
+        let alloc = self.buckets.allocator();
         let bytes = self.store.read(alloc, &id, offset, length)?;
-        Ok(Some(reply_to(message, Body::Data(bytes))))
+        Ok(Body::Data(bytes))
     }
 
     /// Answers one message, by the first line that fits.
@@ -350,15 +335,19 @@ impl<S: Store> Server<S> {
         ensures clock { self.new.clock ≡ self.old.clock }
         ensures terms { KeepsTerms self.old self.new }
     {
+        let session = message.session;
         match &message.body {
-            Body::Ask(index) => self.list(message, *index, now),
-            Body::Allocate(id, length) => self.allocate(from, message, *id, *length, now),
-            Body::Write(id, offset, bytes) => {
-                self.write(from, message, *id, *offset, bytes.as_slice(), now)
+            Body::Ask(index) => replied(message, self.list(*index)),
+            Body::Allocate(id, length) => {
+                replied(message, self.allocate(from, session, *id, *length, now))
             }
-            Body::Close(id) => self.close(from, message, *id, now),
-            Body::Abort(id) => self.abort(from, message, *id, now),
-            Body::Read(id, offset, length) => self.read(message, *id, *offset, *length, now),
+            Body::Write(id, offset, bytes) => {
+                let bytes = bytes.as_slice();
+                replied(message, self.write(from, session, *id, *offset, bytes, now))
+            }
+            Body::Close(id) => replied(message, self.close(from, session, *id, now)),
+            Body::Abort(id) => replied(message, self.abort(from, session, *id)),
+            Body::Read(id, offset, length) => replied(message, self.read(*id, *offset, *length)),
             _ => Ok(None),
         }
     }
@@ -369,8 +358,7 @@ impl<S: Store> Server<S> {
     {
         let now = self.later(now);
         self.clock = now;
-        self.buckets
-            .retain(|bucket| now.saturating_sub(bucket.touched) < PATIENCE);
+        self.buckets.drop_stale(now);
     }
 
     /// A restart forgets the open buckets.

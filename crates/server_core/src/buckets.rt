@@ -1,0 +1,153 @@
+//! The open buckets of a server.
+
+ghost use Rattle.std.specs.Prelude.{◌≡◌, ◌<◌, ◌-◌, ◌∷◌, ◌++◌, [], filter, length, slice_get};
+ghost use Rattle.std.specs.Prelude.{IfNone, IfSome, None, OnErr, OnOk, Some};
+ghost use Rattle.server_core.specs.Buckets.{GoesOn, HasRoom, bucket_at, changed, ended, place_of};
+ghost use Rattle.server_core.specs.Buckets.{promised, touched, with_bytes};
+ghost use Rattle.server_core.specs.Machine.{is_fresh_at};
+ghost use Rattle.server_core.specs.declared.bucket.Bucket.{Bucket};
+ghost use Rattle.server_core.specs.declared.bucket.Gathered.{Gathered};
+ghost use Rattle.wire.specs.declared.message.ShareId.{ShareId};
+
+use crate::bucket::Bucket;
+use std::alloc::{AllocError, Global};
+use std::marker::Model;
+use wire::message::ShareId;
+
+/// The seconds after which a bucket that was not touched is dropped.
+const PATIENCE: u64 = 600;
+
+/// The open buckets. No share has two.
+#[derive(Drop)]
+pub struct Buckets {
+    open: Vec<Bucket>,
+}
+
+impl Model for Buckets {
+    ghost use Rattle.std.specs.Prelude.{List};
+    ghost use Rattle.server_core.specs.declared.bucket.Bucket.{Bucket};
+    ghost use Rattle.server_core.specs.Sound.{AreApart};
+
+    ghost Value = { List Bucket };
+
+    ghost view = { λ b. b.open.items };
+
+    ghost invariant = { λ b. AreApart b.open.items };
+}
+
+impl Buckets {
+    /// None is open.
+    pub fn new(alloc: Global) -> Buckets
+        ensures { result ≡ [] }
+    {
+        Buckets {
+            open: Vec::new(alloc),
+        }
+    }
+
+    /// Where their memory comes from.
+    pub fn allocator(&self) -> Global {
+        *self.open.allocator()
+    }
+
+    /// How many are open.
+    pub fn count(&self) -> usize
+        ensures { result ≡ length self.now }
+    {
+        self.open.len()
+    }
+
+    /// The bucket of a share, and where it stands.
+    pub fn find(&self, id: ShareId) -> Option<(usize, &Bucket)>
+        ensures none { IfNone result (bucket_at id self.now ≡ None) }
+        ensures some { IfSome result (λ found. bucket_at id self.now ≡ Some found.1.now) }
+        ensures place { IfSome result (λ found. place_of id self.now ≡ Some found.0) }
+        ensures within { IfSome result (λ found. found.0 < length self.now) }
+        ensures there { IfSome result (λ found. slice_get self.now found.0 ≡ Some found.1.now) }
+    {
+        find_in(self.open.as_slice(), id)
+    }
+
+    /// What is left of some room, in bytes, beside what the buckets are to hold.
+    pub fn room_beside(&self, room: u64) -> u64
+        ensures { result ≡ room - promised self.now }
+    {
+        let mut left = room;
+        for bucket in &self.open {
+            left = left.saturating_sub(bucket.length.get());
+        }
+        left
+    }
+
+    /// Opens a bucket of a share that has none.
+    pub fn open(&mut self, bucket: Bucket) -> Result<(), AllocError>
+        requires { bucket_at bucket.id self.old ≡ None }
+        ensures ok { OnOk result (self.new ≡ self.old ++ bucket ∷ []) }
+        ensures err { OnErr result (self.new ≡ self.old) }
+    {
+        self.open.push(bucket)?;
+        Ok(())
+    }
+
+    /// The bucket at a place was touched.
+    pub fn touch(&mut self, place: usize, now: u64)
+        requires { place < length self.old }
+        ensures { (id : ShareId) → place_of id self.old ≡ Some place
+            → self.new ≡ changed id (touched now) self.old }
+    {
+        self.open[place].touched = now;
+    }
+
+    /// Adds bytes to the bucket at a place.
+    pub fn push(&mut self, place: usize, bytes: &[u8], now: u64)
+        requires room { IfSome (slice_get self.old place)
+            (λ b. HasRoom b.length (length bytes.now) b.gathered) }
+        requires within { place < length self.old }
+        ensures { (id : ShareId) (b : Bucket) → place_of id self.old ≡ Some place
+            → bucket_at id self.old ≡ Some b → (gathered : Gathered)
+            × GoesOn b.length bytes.now b.gathered gathered
+            × (self.new ≡ changed id (with_bytes now gathered) self.old) }
+    {
+        self.open[place].push(bytes, now);
+    }
+
+    /// Ends the bucket at a place.
+    pub fn end(&mut self, place: usize)
+        requires { place < length self.old }
+        ensures { (id : ShareId) → place_of id self.old ≡ Some place
+            → self.new ≡ ended id self.old }
+    {
+        let _ = self.open.remove(place);
+    }
+
+    /// Drops those that were not touched for 600 seconds.
+    pub fn drop_stale(&mut self, now: u64)
+        ensures { self.new ≡ filter (is_fresh_at now) self.old }
+    {
+        self.open
+            .retain(|bucket| now.saturating_sub(bucket.touched) < PATIENCE);
+    }
+
+    /// Ends all.
+    pub fn clear(&mut self)
+        ensures { self.new ≡ [] }
+    {
+        self.open.clear();
+    }
+}
+
+// The bucket of a share, and where it stands.
+fn find_in(buckets: &[Bucket], id: ShareId) -> Option<(usize, &Bucket)>
+    ensures none { IfNone result (bucket_at id buckets.now ≡ None) }
+    ensures some { IfSome result (λ found. bucket_at id buckets.now ≡ Some found.1.now) }
+    ensures place { IfSome result (λ found. place_of id buckets.now ≡ Some found.0) }
+    ensures within { IfSome result (λ found. found.0 < length buckets.now) }
+    ensures there { IfSome result (λ found. slice_get buckets.now found.0 ≡ Some found.1.now) }
+{
+    for (place, bucket) in buckets.iter().enumerate() {
+        if bucket.id == id {
+            return Some((place, bucket));
+        }
+    }
+    None
+}
