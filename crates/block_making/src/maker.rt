@@ -90,8 +90,7 @@ impl BlockMaker<'_> {
     /// on. A block that no slot holds is made of its segment, and with it those of other shares
     /// that want it next.
     ///
-    /// The two buffers are for a segment with its padding, or more, and for eight blocks side by
-    /// side.
+    /// The two buffers have room for a segment with its padding, and for eight blocks side by side.
     pub fn put_blocks<S: Source>(
         &self,
         source: &mut S,
@@ -102,7 +101,7 @@ impl BlockMaker<'_> {
         out: &mut [u8],
     ) -> Result<(), PieceError>
         requires segment { self.now.geometry.segment_size ≤ length segment.old }
-        requires lanes { length lanes.old ≡ 8 * block_size self.now.geometry }
+        requires lanes { 8 * block_size self.now.geometry ≤ length lanes.old }
         requires slots { AreSlots self.now.geometry self.now.leaves slots.old }
         requires inside { offset + length out.old < 2 ^ 63 }
         ensures put { OnOk result (ArePut self.now offset out.old out.new) }
@@ -144,7 +143,7 @@ impl BlockMaker<'_> {
     ) -> Result<(), PieceError>
         requires number { number < segment_count self.now.geometry }
         requires segment { self.now.geometry.segment_size ≤ length segment.old }
-        requires lanes { length lanes.old ≡ 8 * block_size self.now.geometry }
+        requires lanes { 8 * block_size self.now.geometry ≤ length lanes.old }
         requires slots { AreSlots self.now.geometry self.now.leaves slots.old }
         requires inside { offset + length out.old < 2 ^ 63 }
         ensures put { OnOk result

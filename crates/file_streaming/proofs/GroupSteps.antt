@@ -1,5 +1,5 @@
 -- Segments that are gathered at once.
-use Rattle.std.proofs.Common.{◌≡◌, ℕ, zero, suc, ◌+◌, ◌-◌, ◌*◌, ◌<◌, ◌≤◌, List, [], ◌∷◌, ◌++◌, length, take, drop, min, replicate, inl, inr, refl, ap, sym, ◌∙◌, arith}
+use Rattle.std.proofs.Common.{◌≡◌, ℕ, zero, suc, ◌+◌, ◌-◌, ◌*◌, ◌<◌, ◌≤◌, List, [], ◌∷◌, ◌++◌, length, take, drop, min, replicate, inl, inr, refl, ap, sym, ◌∙◌, arith, max, ◌/◌, ◌^◌}
 use Rattle.std.proofs.Math.Nat.{add-mul, mul-le-mul_right}
 use Rattle.std.proofs.Math.Seq.{take-append-add}
 use Rattle.std.proofs.lemmas.Bool.{cases_lt}
@@ -8,11 +8,11 @@ use Rattle.aes_ctr.specs.CounterMode.{xored_from}
 use Rattle.aes_ctr.proofs.StreamLemmas.{length-xored_from, xored_from-append}
 use Rattle.ueb.specs.Shape.{rounded_up}
 use Rattle.file_encoding.specs.Encoding.{padded_segment}
-use Rattle.share_layout.specs.Geometry.{Geometry, segment_count}
+use Rattle.share_layout.specs.Geometry.{Geometry, block_size, segment_count}
 use Rattle.share_layout.specs.Pieces.{block_length, pieces, segment_length}
 use Rattle.block_making.proofs.MadeBlocks.{IsRoom, begins-before, is_room}
 use Rattle.file_streaming.specs.Gathered.{Gathered, gathered_more, gathered_segments}
-use Rattle.file_streaming.specs.Gathering.{IsGroup, gathered_group}
+use Rattle.file_streaming.specs.Gathering.{IsGroup, at_once, gathered_group}
 use Rattle.file_streaming.specs.declared.groups.Group.{Group}
 
 -- ---- pieces of two texts
@@ -65,9 +65,25 @@ segments-group g key group file text s is long =
 
 -- ---- the places of a group's segments
 
+some_at_once : (n : ℕ) → (0 < max (min n 8) 1) × (max (min n 8) 1 ≤ 8)
+some_at_once n = (omega arith, omega arith)
+
+-- at least one is gathered at once, and no more than eight
+pub few_at_once : (g : Geometry) → (0 < at_once g) × (at_once g ≤ 8)
+unfolding at_once
+few_at_once g = some_at_once (2 ^ 20 / block_size g)
+
+some_times : (n b : ℕ) → 0 < n → 8 * b ≤ 8 * (n * b)
+some_times n b some = omega (arith, mul-le-mul_right {m = 1} {n = n} b (omega (arith, some)))
+
+-- where the blocks of eight shares that are made at once have room, eight blocks have room
+pub eight_lanes : (g : Geometry) → 8 * block_size g ≤ 8 * (at_once g * block_size g)
+eight_lanes g = some_times (at_once g) (block_size g) (few_at_once g).0
+
 -- what a group takes, and its segment of this number
 pub record HasPlace (g : Geometry) (group : Group) (i : ℕ) : Type 0 where
   pub number : group.first + i < segment_count g
+  pub few : group.count ≤ 8
   pub begins : i * g.segment_size < group.len
   pub ends : i * g.segment_size + g.segment_size ≤ 8 * g.segment_size
   pub fits : group.len ≤ 8 * g.segment_size
@@ -79,14 +95,16 @@ pub has_place : (g : Geometry) (group : Group) (i : ℕ) → IsGroup g group →
 has_place g group i is low =
     let s : ℕ = g.segment_size in
     let number : group.first + i < segment_count g = omega (arith, low, is.count) in
+    let few : group.count ≤ 8 = omega (arith, is.count, (few_at_once g).1) in
     let before : (group.first + i) * s < g.size = begins-before g (group.first + i) is.valid number in
     let split : (group.first + i) * s ≡ group.first * s + i * s = add-mul group.first i s in
     let next : (i + 1) * s ≤ group.count * s = mul-le-mul_right {m = i + 1} {n = group.count} s (omega (arith, low)) in
     let more : (i + 1) * s ≡ i * s + 1 * s = add-mul i 1 s in
-    let eight : group.count * s ≤ 8 * s = mul-le-mul_right {m = group.count} {n = 8} s (omega (arith, is.count)) in
+    let eight : group.count * s ≤ 8 * s = mul-le-mul_right {m = group.count} {n = 8} s few in
     let some : 0 < s = is.valid.some_segment in
     record {
       number = number;
+      few = few;
       begins = omega (arith, is.long, is.place, before, split, next, more, some);
       ends = omega (arith, next, more, eight);
       fits = omega (arith, is.long, eight);
@@ -135,3 +153,7 @@ padded-piece g group i room buffer is low long padding room_is small =
           take-append-le room rest (replicate m 0) (omega (arith, same, whole)) ∙ ap (λ n. take n rest) same ∙ sym (append-nil piece) ∙ λ p. piece ++ replicate (sym none p) 0)
     ] in
     ap (take room) split ∙ padded ∙ ap (λ n. piece ++ replicate (n - length piece) 0) rounded
+
+-- there is a first one
+pub has_first : (g : Geometry) (group : Group) → IsGroup g group → 0 < group.count
+has_first g group is = omega (arith, is.count, is.some, (few_at_once g).0)

@@ -3,6 +3,7 @@ pub mod Blocks
 pub mod Given
 pub mod KeyReading
 pub mod GroupSteps
+pub mod Rows
 pub mod ShareBlocks
 pub mod GivenBytes
 pub mod SecondPass

@@ -56,12 +56,12 @@ module _ (g : Geometry) where
   leaves-all [] s = sym (append-nil s.leaves)
   leaves-all (c ∷ cs) s = leaves-all cs (gathered_more g c s) ∙ one-more s.leaves (tagged_hash CiphertextSegment c) (segment_hashes cs)
 
-  block_leaves-all : (i : ℕ) (cs : List (List ℕ)) (s : Gathered) → (gathered_segments g cs s).block_leaves i ≡ s.block_leaves i ++ block_hashes (blocks_of g.needed i cs)
+  pub block_leaves-all : (i : ℕ) (cs : List (List ℕ)) (s : Gathered) → (gathered_segments g cs s).block_leaves i ≡ s.block_leaves i ++ block_hashes (blocks_of g.needed i cs)
   block_leaves-all i [] s = sym (append-nil (s.block_leaves i))
   block_leaves-all i (c ∷ cs) s =
       block_leaves-all i cs (gathered_more g c s) ∙ one-more (s.block_leaves i) (tagged_hash Block (block_of g.needed i c)) (block_hashes (blocks_of g.needed i cs))
 
-  written-all : (i : ℕ) (cs : List (List ℕ)) (s : Gathered) → (gathered_segments g cs s).written i ≡ s.written i ++ joined (blocks_of g.needed i cs)
+  pub written-all : (i : ℕ) (cs : List (List ℕ)) (s : Gathered) → (gathered_segments g cs s).written i ≡ s.written i ++ joined (blocks_of g.needed i cs)
   written-all i [] s = sym (append-nil (s.written i))
   written-all i (c ∷ cs) s = written-all i cs (gathered_more g c s) ∙ append_assoc (s.written i) (block_of g.needed i c) (joined (blocks_of g.needed i cs))
 

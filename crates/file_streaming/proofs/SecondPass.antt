@@ -21,24 +21,20 @@ use Rattle.tagged_hash.specs.declared.convergence.KeyHasher.{KeyHasher}
 use Rattle.share_layout.specs.Geometry.{Geometry, IsGeometry, segment_count}
 use Rattle.share_layout.specs.Pieces.{pieces}
 use Rattle.sources.specs.Source.{IsRead}
-use Rattle.file_streaming.specs.Gathered.{Gathered, gathered_more, gathered_none, gathered_segments}
+use Rattle.file_streaming.specs.Gathered.{Gathered, gathered_none, gathered_segments}
 use Rattle.file_streaming.specs.Gathering.{HasGathered, IsGatheredFrom, IsGroup, IsGroupGathered, gathered_group}
 use Rattle.file_streaming.specs.declared.gathering.Gathering.{Gathering}
 use Rattle.block_making.proofs.ReadRuns.{is_read-append}
 use Rattle.file_streaming.proofs.GroupSteps.{group-end, segments-group}
 use Rattle.file_streaming.proofs.OneByOne.{ciphertext-all, gathered-encrypted, joined-pieces, leaves-all}
-use Rattle.file_streaming.proofs.ShareBlocks.{shares_more}
-use Rattle.file_streaming.proofs.GivenBytes.{given-more}
-use Rattle.file_streaming.specs.Shares.{HaveBlocksMore, HaveWholesMore, HoldShares}
+use Rattle.file_streaming.specs.Shares.{HoldShares}
 use Rattle.file_streaming.specs.Wholes.{AreGiven}
 use Rattle.file_streaming.specs.declared.groups.Group.{Group}
-use Rattle.file_streaming.specs.declared.shares.ShareSoFar.{ShareSoFar}
-use Rattle.file_streaming.specs.declared.wholes.WholeHashers.{WholeHashers}
 use Rattle.proved_parts.specs.FileOf.{segment_hashes}
 use Rattle.block_making.proofs.MadeBlocks.{begins-before}
 
 -- the blocks that are made of a padded segment are those of the segment
-block-is : (k i size : ℕ) (segment padded : List ℕ) → 0 < k → padded ≡ padded_segment k segment → length padded ≡ k * size
+pub block-is : (k i size : ℕ) (segment padded : List ℕ) → 0 < k → padded ≡ padded_segment k segment → length padded ≡ k * size
     → share_block k i size padded ≡ block_of k i segment
 block-is k i size segment padded some is long =
     let whole : length (padded_segment k segment) ≡ size * k = omega (arith, ap length is, long) in
@@ -50,25 +46,9 @@ pub ended_fault : {T U : Type 0} (r : Result T PrepareError) (f : PartFault) →
 ended_fault r Ended answered is = refl
 ended_fault r Unreadable answered is = let p = err_from_is_err_and r answered in absurd (cc (p.1, p.2, is))
 
--- a changed source that is told on
-pub changed-again : {T U : Type 0} (r : Result T PrepareError) (e : PrepareError) → IsErrAnd r (λ x. x ≡ e) → IsErrOf r SourceChanged → IsErrOf {T = U} (Err e) SourceChanged
-changed-again r e answered is = let p = err_from_is_err_and r answered in cc (p.1, p.2, is)
-
--- the blocks of a padded segment are gathered of the segment
-pub gathered-shares : (g : Geometry) (s : Gathered) (size : ℕ) (encrypted padded : List ℕ) (old new : List ShareSoFar) → 0 < g.needed
-    → padded ≡ padded_segment g.needed encrypted → length padded ≡ g.needed * size
-    → HaveBlocksMore (λ i. share_block g.needed i size padded) old new → HoldShares s old → HoldShares (gathered_more g encrypted s) new
-gathered-shares g s size encrypted padded old new some is long more =
-    shares_more g s encrypted old new
-    (subst (λ (b : ℕ → List ℕ). HaveBlocksMore b old new) (λ p i. block-is g.needed i size encrypted padded some is long p) more)
-
-pub gathered-wholes : (g : Geometry) (s : Gathered) (total size : ℕ) (encrypted padded : List ℕ) (old new : List WholeHashers) → 0 < g.needed
-    → padded ≡ padded_segment g.needed encrypted → length padded ≡ g.needed * size → total ≡ g.total
-    → HaveWholesMore total (λ i. share_block g.needed i size padded) old new → AreGiven g.total s.written old
-    → AreGiven g.total (gathered_more g encrypted s).written new
-gathered-wholes g s total size encrypted padded old new some is long same more =
-    given-more g.total total s.written (λ i. block_of g.needed i encrypted) old new same
-    (subst (λ (b : ℕ → List ℕ). HaveWholesMore total b old new) (λ p i. block-is g.needed i size encrypted padded some is long p) more)
+-- a fault that is told on
+pub told-again : {T U : Type 0} (r : Result T PrepareError) (e x : PrepareError) → IsErrAnd r (λ y. y ≡ e) → IsErrOf r x → IsErrOf {T = U} (Err e) x
+told-again r e x answered is = let p = err_from_is_err_and r answered in cc (p.1, p.2, is)
 
 -- what is gathered of a group of segments, by its parts
 pub gathered-parts : (g : Geometry) (group : Group) (s : Gathered) (secret file text encrypted : List ℕ) (x y : Gathering) → HasGathered g s secret file x

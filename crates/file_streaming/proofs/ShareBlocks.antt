@@ -1,18 +1,17 @@
--- Shares with one block more.
-use Rattle.std.proofs.Common.{◌≡◌, ℕ, zero, suc, ◌+◌, ◌-◌, ◌<◌, ◌≤◌, ◌≢◌, List, [], ◌∷◌, ◌++◌, length, take, drop, get_or, Some, refl, inl, inr, ap, sym, subst, ◌∙◌, arith}
+-- Shares with more blocks.
+use Rattle.std.proofs.Common.{◌≡◌, ℕ, zero, suc, ◌+◌, ◌-◌, ◌<◌, ◌≤◌, ◌≢◌, List, [], ◌∷◌, ◌++◌, length, take, drop, map, Some, refl, inl, inr, ap, sym, subst, ◌∙◌, arith}
 use Rattle.std.specs.Prelude.{slice_get}
 use Rattle.std.proofs.Math.ListN.{set, length-set}
 use Rattle.std.proofs.lemmas.Bool.{cases_eq, cases_lt}
 use Rattle.std.proofs.lemmas.List.{length-append, length-drop, length-take-le}
-use Rattle.std.proofs.lemmas.Option.{same_Some, slice_get-get_or, slice_get_within}
+use Rattle.std.proofs.lemmas.Option.{same_Some, slice_get_within}
 use borrow.Rule.Slice.PartMut.{put_mid}
 use Rattle.lemmas.proofs.Places.{get_pushed, get_set, get_set_other}
 use Rattle.tagged_hash.specs.TaggedHash.{tagged_hash}
 use Rattle.tagged_hash.specs.declared.tag.Tag.TheVariants.{Block}
-use Rattle.share_layout.specs.Geometry.{Geometry}
-use Rattle.file_encoding.specs.Encoding.{block_of}
-use Rattle.file_streaming.specs.Gathered.{Gathered, gathered_more}
-use Rattle.file_streaming.specs.Shares.{HasBlockMore, HaveBecome, HaveBlocksMore, HoldShares}
+use Rattle.share_layout.specs.Pieces.{pieces}
+use Rattle.file_streaming.specs.Gathered.{Gathered}
+use Rattle.file_streaming.specs.Shares.{HasBlocksMore, HaveBecome, HaveBlocksMore, HoldShares}
 use Rattle.file_streaming.specs.declared.shares.ShareSoFar.{ShareSoFar}
 
 -- the first of these have become what they are now, and the others stand as they were
@@ -66,8 +65,8 @@ get_take (suc k) [] i low = refl
 get_take (suc k) (x ∷ xs) zero low = refl
 get_take (suc k) (x ∷ xs) (suc i) low = get_take k xs i (omega (arith, low))
 
--- a group more has one block more
-module _ (block : ℕ → List ℕ) (old now group : List ShareSoFar) (done count : ℕ) (within : done + count ≤ length now) where
+-- a group more has its blocks
+module _ (leaves size : ℕ) (rows : ℕ → List ℕ) (old now group : List ShareSoFar) (done count : ℕ) (within : done + count ≤ length now) where
   abbrev next : List ShareSoFar
   next = put_mid done count now group
 
@@ -75,16 +74,17 @@ module _ (block : ℕ → List ℕ) (old now group : List ShareSoFar) (done coun
   before_group = length-take-le done now (omega (arith, within))
 
   -- the same blocks by other words
-  pub same_blocks : (lanes : ℕ → List ℕ) → ((i : ℕ) → i < count → lanes i ≡ block (done + i)) → HaveBlocksMore lanes (take count (drop done now)) group
-      → HaveBlocksMore (λ i. block (done + i)) (take count (drop done now)) group
+  pub same_blocks : (lanes : ℕ → List ℕ) → ((i : ℕ) → i < count → lanes i ≡ rows (done + i)) → HaveBlocksMore leaves size lanes (take count (drop done now)) group
+      → HaveBlocksMore leaves size (λ i. rows (done + i)) (take count (drop done now)) group
   same_blocks lanes are more = record {
     count = more.count;
     each = λ i before after was is.
         let low : i < count = omega (arith, slice_get_within (take count (drop done now)) i before was, length-take-le count (drop done now) (omega (arith, within, length-drop done now))) in
-        subst (λ (b : List ℕ). after.leaves.items ≡ before.leaves.items ++ tagged_hash Block b ∷ []) (are i low) (more.each i before after was is);
+        subst (λ (d : List ℕ). after.leaves.items ≡ before.leaves.items ++ map (tagged_hash Block) (pieces leaves size d)) (are i low) (more.each i before after was is);
   }
 
-  pub so_far-group : HaveSoFar (HasBlockMore block) old now done → HaveBlocksMore (λ i. block (done + i)) (take count (drop done now)) group → HaveSoFar (HasBlockMore block) old next (done + count)
+  pub so_far-group : HaveSoFar (HasBlocksMore leaves size rows) old now done → HaveBlocksMore leaves size (λ i. rows (done + i)) (take count (drop done now)) group
+      → HaveSoFar (HasBlocksMore leaves size rows) old next (done + count)
   so_far-group far more =
       let front : List ShareSoFar = take done now in
       let behind : List ShareSoFar = drop count (drop done now) in
@@ -109,19 +109,10 @@ module _ (block : ℕ → List ℕ) (old now group : List ShareSoFar) (done coun
               let there : slice_get (take count (drop done now)) j ≡ Some before =
               get_take count (drop done now) j inside ∙ get_drop done now j ∙ ap (slice_get now) at ∙ far.same i later ∙ was in
               let here : slice_get group j ≡ Some after = sym (mid j inside) ∙ ap (slice_get next) at ∙ is in
-              subst (λ n. HasBlockMore block n before after) at (more.each j before after there here))
+              subst (λ n. HasBlocksMore leaves size rows n before after) at (more.each j before after there here))
         ];
         same = λ i above. high i (i - (done + count)) (omega (arith, above)) ∙ far.same i (omega (arith, above));
       }
-
--- so one segment more is gathered of each share
-pub shares_more : (g : Geometry) (s : Gathered) (segment : List ℕ) (old new : List ShareSoFar) → HaveBlocksMore (λ i. block_of g.needed i segment) old new
-    → HoldShares s old → HoldShares (gathered_more g segment s) new
-shares_more g s segment old new more holds i share is =
-    let within : i < length old = omega (arith, slice_get_within new i share is, more.count) in
-    let before : ShareSoFar = get_or old i share in
-    let was : slice_get old i ≡ Some before = slice_get-get_or old i share within in
-    more.each i before share was is ∙ ap (λ (l : List (List ℕ)). l ++ tagged_hash Block (block_of g.needed i segment) ∷ []) (holds i before was)
 
 -- one share more
 pub held-push : (s : Gathered) (shares : List ShareSoFar) (share : ShareSoFar) → HoldShares s shares → ((i : ℕ) → share.leaves.items ≡ s.block_leaves i)

@@ -1,4 +1,4 @@
-// The second pass over a source: its segments are encrypted, encoded and hashed, eight at a time,
+// The second pass over a source: its segments are encrypted, encoded and hashed, some at a time,
 // and let go before the next.
 
 ghost use Rattle.std.specs.Prelude.{◌≡◌, ◌⊎◌, ◌+◌, ◌*◌, ◌/◌, ◌%◌, ◌<◌, ◌≤◌, ◌^◌, ◌++◌, ℕ, List, []};
@@ -7,25 +7,24 @@ ghost use Rattle.std.specs.Int.{div_ceil};
 ghost use Rattle.aes_ctr.specs.CounterMode.{xored_from};
 ghost use Rattle.tagged_hash.specs.TaggedHasher.{HoldsFile};
 ghost use Rattle.share_layout.specs.Geometry.{block_size};
-ghost use Rattle.share_layout.specs.Pieces.{pieces};
-ghost use Rattle.proved_parts.specs.FileOf.{segment_hashes};
 ghost use Rattle.sources.specs.Change.{HasEndedEarly};
 ghost use Rattle.sources.specs.Source.{HasFailedMore};
 ghost use Rattle.file_streaming.specs.Gathered.{Gathered, gathered_none};
 ghost use Rattle.file_streaming.specs.Gathering.{AreBuffers, HasGathered, IsGatheredFrom};
-ghost use Rattle.file_streaming.specs.Gathering.{IsGroup, IsGroupGathered, gathered_group};
+ghost use Rattle.file_streaming.specs.Gathering.{IsGroup, IsGroupGathered, at_once};
+ghost use Rattle.file_streaming.specs.Gathering.{gathered_group};
 
 use crate::error::PrepareError;
 use crate::geometry::file_code;
-use crate::groups::Group;
-use crate::shares::{ShareSoFar, add_segments, begin_shares};
+use crate::groups::{Group, segments_at_once};
+use crate::shares::{ShareSoFar, add_leaves, add_segments, begin_shares};
 use crate::wholes::{WholeHashers, begin_wholes};
 use aes_ctr::Aes128;
 use block_making::Encoder;
 use share_layout::Geometry;
 use sources::{Source, read_part};
 use std::alloc::{AllocError, Global};
-use tagged_hash::{KeyHasher, Tag, TaggedHasher, tagged_pieces};
+use tagged_hash::{KeyHasher, Tag, TaggedHasher};
 
 /// What is gathered of a file: its key, the hash of its ciphertext, the leaves of the ciphertext
 /// tree, and its shares by number with the hashers of their bytes.
@@ -75,7 +74,7 @@ impl Gathering {
     }
 
     // Gathers a group of segments, which stand at the beginning of the first buffer. Their bytes
-    // are lost. The other buffer has room for eight blocks.
+    // are lost. The other buffer has room for the blocks of eight shares.
     fn add(
         &mut self,
         encoder: &Encoder,
@@ -88,7 +87,7 @@ impl Gathering {
         requires needed { encoder.now.code.k ≡ geometry.now.needed }
         requires total { encoder.now.code.n ≡ geometry.now.total }
         requires segments { length segments.old ≡ 8 * geometry.now.segment_size }
-        requires lanes { length lanes.old ≡ 8 * block_size geometry.now }
+        requires lanes { length lanes.old ≡ 8 * (at_once geometry.now * block_size geometry.now) }
         requires shares { length self.old.shares.items ≡ geometry.now.total }
         requires wholes { length self.old.wholes.items ≡ div_ceil geometry.now.total 8 }
         ensures shares { OnOk result
@@ -106,7 +105,8 @@ impl Gathering {
         self.key.update(text);
         encoder.cipher.xor_at(group.place, text);
         self.ciphertext.update(text);
-        add_leaves(text, size, group.count as usize, &mut self.leaves)?;
+        let count = group.count as usize;
+        add_leaves(Tag::CiphertextSegment, text, size, count, &mut self.leaves)?;
         segments[group.len..].fill(0);
         add_segments(
             &encoder.code,
@@ -121,25 +121,8 @@ impl Gathering {
     }
 }
 
-// Adds the hashes of segments of a ciphertext, at most eight of `size` bytes, the last perhaps
-// shorter. They are hashed side by side.
-fn add_leaves(
-    text: &[u8],
-    size: usize,
-    count: usize,
-    leaves: &mut Vec<[u8; 32]>,
-) -> Result<(), AllocError>
-    requires { count ≤ 8 }
-    ensures { OnOk result (leaves.new.items
-        ≡ leaves.old.items ++ segment_hashes (pieces count size text.now)) }
-{
-    let mut hashes = [[0; 32]; 8];
-    tagged_pieces(Tag::CiphertextSegment, text, size, &mut hashes[..count]);
-    leaves.extend_from_slice(&hashes[..count])?;
-    Ok(())
-}
-
-/// Room for eight segments with their padding, and for eight blocks side by side.
+/// Room for eight segments with their padding, and for the blocks of eight shares that are made at
+/// once.
 #[derive(Drop)]
 pub(crate) struct Buffers {
     pub segments: Vec<u8>,
@@ -151,9 +134,10 @@ impl Buffers {
     pub(crate) fn of(alloc: Global, geometry: &Geometry) -> Result<Buffers, AllocError>
         ensures { IfOk result (AreBuffers geometry.now) }
     {
+        let blocks = segments_at_once(geometry) * geometry.block_size();
         Ok(Buffers {
             segments: vec![in alloc; 0u8; 8 * geometry.segment_size() as usize]?,
-            lanes: vec![in alloc; 0u8; 8 * geometry.block_size() as usize]?,
+            lanes: vec![in alloc; 0u8; 8 * blocks as usize]?,
         })
     }
 }
@@ -172,7 +156,7 @@ fn gather_group<S: Source>(
     requires needed { encoder.now.code.k ≡ geometry.now.needed }
     requires total { encoder.now.code.n ≡ geometry.now.total }
     requires segments { length segments.old ≡ 8 * geometry.now.segment_size }
-    requires lanes { length lanes.old ≡ 8 * block_size geometry.now }
+    requires lanes { length lanes.old ≡ 8 * (at_once geometry.now * block_size geometry.now) }
     requires shares { length gathering.old.shares.items ≡ geometry.now.total }
     requires wholes { length gathering.old.wholes.items ≡ div_ceil geometry.now.total 8 }
     ensures shares { OnOk result (length gathering.new.shares.items ≡ geometry.now.total) }
@@ -207,7 +191,7 @@ pub(crate) fn gather<S: Source>(
     requires needed { encoder.now.code.k ≡ geometry.now.needed }
     requires total { encoder.now.code.n ≡ geometry.now.total }
     requires segments { length segments.old ≡ 8 * geometry.now.segment_size }
-    requires lanes { length lanes.old ≡ 8 * block_size geometry.now }
+    requires lanes { length lanes.old ≡ 8 * (at_once geometry.now * block_size geometry.now) }
     ensures gathered { (secret : List ℕ) → HoldsFile hasher geometry.now.needed
         geometry.now.total geometry.now.segment_size secret []
         → IfOk result (λ x. IsGatheredFrom S.gives source.old geometry.now
@@ -221,8 +205,9 @@ pub(crate) fn gather<S: Source>(
         ⊎ (e ≡ PrepareError.SourceChanged) ⊎ (e ≡ PrepareError.SourceFault)) }
 {
     let mut gathering = Gathering::begin(alloc, geometry, hasher)?;
-    for number in 0..geometry.segment_count().div_ceil(8) {
-        let group = Group::of(geometry, 8 * number);
+    let at_once = segments_at_once(geometry);
+    for number in 0..geometry.segment_count().div_ceil(at_once) {
+        let group = Group::of(geometry, at_once * number);
         gather_group(
             source,
             geometry,

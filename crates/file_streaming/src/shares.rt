@@ -1,14 +1,14 @@
 // What is gathered of each share while the segments of its file go by.
 
-ghost use Rattle.std.specs.Prelude.{◌≡◌, ◌+◌, ◌-◌, ◌*◌, ◌<◌, ◌≤◌, ℕ, All, IfOk, OnOk};
-ghost use Rattle.std.specs.Prelude.{drop, length, replicate, take};
+ghost use Rattle.std.specs.Prelude.{◌≡◌, ◌+◌, ◌-◌, ◌*◌, ◌<◌, ◌≤◌, ◌++◌, ℕ, All, IfOk, OnOk};
+ghost use Rattle.std.specs.Prelude.{drop, length, map, replicate, take};
 ghost use Rattle.std.specs.Int.{div_ceil};
 ghost use Rattle.sha2_lanes.specs.Lanes.{text};
-ghost use Rattle.zfec_code.specs.ShareValue.{share_block};
-ghost use Rattle.share_layout.specs.Geometry.{block_size};
+ghost use Rattle.tagged_hash.specs.TaggedHash.{tagged_hash};
+ghost use Rattle.share_layout.specs.Pieces.{pieces};
 ghost use Rattle.file_streaming.specs.Gathered.{Gathered, gathered_none};
-ghost use Rattle.file_streaming.specs.Gathering.{IsGroup, gathered_group};
-ghost use Rattle.file_streaming.specs.Shares.{HaveBlocksMore, HaveWholesMore, HoldShares};
+ghost use Rattle.file_streaming.specs.Gathering.{IsGroup, gathered_group, row_of};
+ghost use Rattle.file_streaming.specs.Shares.{HaveBlocksMore, HoldShares};
 ghost use Rattle.file_streaming.specs.Wholes.{AreGiven};
 
 use crate::groups::Group;
@@ -44,7 +44,7 @@ pub(crate) fn begin_shares(
 }
 
 /// Gathers the blocks of a group of segments, which stand one after another with zeros behind the
-/// last. The buffer has room for eight blocks.
+/// last. The buffer has room for those of eight shares.
 pub(crate) fn add_segments(
     code: &Code,
     geometry: &Geometry,
@@ -60,7 +60,7 @@ pub(crate) fn add_segments(
     requires segments { length segments.now ≡ 8 * geometry.now.segment_size }
     requires padding { drop group.len segments.now
         ≡ replicate (8 * geometry.now.segment_size - group.len) 0 }
-    requires lanes { length lanes.old ≡ 8 * block_size geometry.now }
+    requires room { 8 * group.row ≤ length lanes.old }
     requires shares { length shares.old ≡ geometry.now.total }
     requires wholes { length wholes.old ≡ div_ceil geometry.now.total 8 }
     ensures shares { (s : Gathered) → HoldShares s shares.old → OnOk result (HoldShares
@@ -69,85 +69,117 @@ pub(crate) fn add_segments(
         → OnOk result (AreGiven geometry.now.total
         (gathered_group geometry.now group (take group.len segments.now) s).written wholes.new) }
 {
-    let segment_size = geometry.segment_size() as usize;
-    let needed = usize::from(geometry.needed());
-    for i in 0..group.count {
-        let size = geometry.block_length(group.first + i) as usize;
-        let start = i as usize * segment_size;
-        let padded = &segments[start..start + size * needed];
-        add_blocks(code, padded, size, lanes, shares, wholes)?;
-    }
-    Ok(())
-}
-
-// Gathers the blocks of a padded segment, one of `size` bytes for each share. The buffer has room
-// for eight.
-fn add_blocks(
-    code: &Code,
-    padded: &[u8],
-    size: usize,
-    lanes: &mut [u8],
-    shares: &mut [ShareSoFar],
-    wholes: &mut [WholeHashers],
-) -> Result<(), AllocError>
-    requires some { 0 < code.now.k }
-    requires small { code.now.k ≤ 256 }
-    requires padded { length padded.now ≡ code.now.k * size }
-    requires room { 8 * size ≤ length lanes.old }
-    requires few { length shares.old ≤ 256 }
-    requires in_range { length shares.old ≤ code.now.n }
-    requires wholes { length wholes.old ≡ div_ceil (length shares.old) 8 }
-    ensures shares { OnOk result (HaveBlocksMore (λ i. share_block code.now.k i size padded.now)
-        shares.old shares.new) }
-    ensures wholes { OnOk result (HaveWholesMore (length shares.old)
-        (λ i. share_block code.now.k i size padded.now) wholes.old wholes.new) }
-{
-    for group in 0..shares.len().div_ceil(8) {
-        let first = 8 * group;
+    let size = geometry.block_size() as usize;
+    for eight in 0..shares.len().div_ceil(8) {
+        let first = 8 * eight;
         let end = shares.len().min(first + 8);
-        encode_group(code, padded, size, first, end - first, lanes);
-        add_group(lanes, size, &mut shares[first..end])?;
-        wholes[group].update(&all_lanes(lanes, size), size);
+        encode_rows(code, geometry, group, segments, first, end - first, lanes);
+        add_rows(lanes, group, size, &mut shares[first..end])?;
+        wholes[eight].update(&all_lanes(lanes, group.row), group.row);
     }
     Ok(())
 }
 
-// Writes the blocks of so many shares, from one on, into lanes of `size` bytes.
-fn encode_group(
+// Writes the blocks of so many shares, from one on, into lanes: those of a share stand one after
+// another.
+fn encode_rows(
     code: &Code,
-    padded: &[u8],
-    size: usize,
+    geometry: &Geometry,
+    group: Group,
+    segments: &[u8],
     first: usize,
     count: usize,
     lanes: &mut [u8],
 )
-    requires some { 0 < code.now.k }
-    requires small { code.now.k ≤ 256 }
-    requires padded { length padded.now ≡ code.now.k * size }
+    requires group { IsGroup geometry.now group }
+    requires needed { code.now.k ≡ geometry.now.needed }
+    requires total { code.now.n ≡ geometry.now.total }
+    requires segments { length segments.now ≡ 8 * geometry.now.segment_size }
+    requires padding { drop group.len segments.now
+        ≡ replicate (8 * geometry.now.segment_size - group.len) 0 }
     requires few { count ≤ 8 }
-    requires room { 8 * size ≤ length lanes.old }
-    requires in_range { first + count ≤ code.now.n }
-    requires low { first + count ≤ 256 }
-    ensures { (i : ℕ) → i < count → take size (drop (i * size) lanes.new)
-        ≡ share_block code.now.k (first + i) size padded.now }
+    requires room { 8 * group.row ≤ length lanes.old }
+    requires in_range { first + count ≤ geometry.now.total }
+    ensures { (i : ℕ) → i < count → take group.row (drop (i * group.row) lanes.new)
+        ≡ row_of geometry.now group (take group.len segments.now) (first + i) }
 {
     for lane in 0..count {
-        encode_lane(code, padded, (first + lane) as u16, size, lane, lanes);
+        let share = (first + lane) as u16;
+        let start = lane * group.row;
+        let row = &mut lanes[start..start + group.row];
+        encode_row(code, geometry, group, segments, share, row);
     }
 }
 
-// Gathers the hash of the next block of at most eight shares, each in its lane of `size` bytes.
-// They are hashed side by side.
-fn add_group(lanes: &[u8], size: usize, group: &mut [ShareSoFar]) -> Result<(), AllocError>
-    requires { length group.old ≤ 8 }
-    ensures { OnOk result
-        (HaveBlocksMore (λ i. take size (drop (i * size) lanes.now)) group.old group.new) }
+// Writes the blocks of a share one after another.
+fn encode_row(
+    code: &Code,
+    geometry: &Geometry,
+    group: Group,
+    segments: &[u8],
+    share: u16,
+    row: &mut [u8],
+)
+    requires group { IsGroup geometry.now group }
+    requires needed { code.now.k ≡ geometry.now.needed }
+    requires total { code.now.n ≡ geometry.now.total }
+    requires segments { length segments.now ≡ 8 * geometry.now.segment_size }
+    requires padding { drop group.len segments.now
+        ≡ replicate (8 * geometry.now.segment_size - group.len) 0 }
+    requires in_range { share < geometry.now.total }
+    requires row { length row.old ≡ group.row }
+    ensures { row.new ≡ row_of geometry.now group (take group.len segments.now) share }
 {
-    let mut leaves = [[0; 32]; 8];
-    tagged_pieces(Tag::Block, lanes, size, &mut leaves[..group.len()]);
-    for lane in 0..group.len() {
-        group[lane].leaves.push(leaves[lane])?;
+    let segment_size = geometry.segment_size() as usize;
+    let block_size = geometry.block_size() as usize;
+    let needed = usize::from(geometry.needed());
+    for i in 0..group.count {
+        let size = geometry.block_length(group.first + i) as usize;
+        let start = i as usize * segment_size;
+        let place = i as usize * block_size;
+        let padded = &segments[start..start + size * needed];
+        encode_lane(code, padded, share, size, 0, &mut row[place..place + size]);
     }
+}
+
+// Gathers the hashes of the next blocks of at most eight shares, each in its lane. Blocks have
+// `size` bytes, and the last of a lane perhaps fewer.
+fn add_rows(
+    lanes: &[u8],
+    group: Group,
+    size: usize,
+    shares: &mut [ShareSoFar],
+) -> Result<(), AllocError>
+    requires few { length shares.old ≤ 8 }
+    requires at_once { group.count ≤ 8 }
+    requires room { 8 * group.row ≤ length lanes.now }
+    ensures { OnOk result (HaveBlocksMore group.count size
+        (λ i. take group.row (drop (i * group.row) lanes.now)) shares.old shares.new) }
+{
+    let count = group.count as usize;
+    for lane in 0..shares.len() {
+        let row = lane_of(lanes, group.row, lane);
+        add_leaves(Tag::Block, row, size, count, &mut shares[lane].leaves)?;
+    }
+    Ok(())
+}
+
+/// Adds the hashes of the pieces of a text, at most eight of `size` bytes, the last perhaps
+/// shorter. They are hashed side by side.
+pub(crate) fn add_leaves(
+    tag: Tag,
+    text: &[u8],
+    size: usize,
+    count: usize,
+    leaves: &mut Vec<[u8; 32]>,
+) -> Result<(), AllocError>
+    requires { count ≤ 8 }
+    ensures { OnOk result (leaves.new.items
+        ≡ leaves.old.items ++ map (tagged_hash tag) (pieces count size text.now)) }
+{
+    let mut hashes = [[0; 32]; 8];
+    tagged_pieces(tag, text, size, &mut hashes[..count]);
+    leaves.extend_from_slice(&hashes[..count])?;
     Ok(())
 }
 

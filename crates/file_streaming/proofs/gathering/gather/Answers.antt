@@ -1,15 +1,25 @@
-use Rattle.std.proofs.Common.{◌≡◌, ℕ, ◌+◌, ◌*◌, ◌<◌, min, refl, subst, ◌∙◌, arith}
+use Rattle.std.proofs.Common.{◌≡◌, ℕ, ◌+◌, ◌*◌, ◌<◌, min, refl, subst, ◌∙◌, arith, ◌-◌, ◌≤◌, ap, sym}
+use Rattle.std.proofs.Math.Nat.{add-mul, mul_comm, mul-le-mul_right}
+use Rattle.std.specs.Int.{div_ceil}
 use Rattle.std.proofs.lemmas.Grind.{div_ceil_times}
+use Rattle.share_layout.proofs.CutLemmas.{whole_segments}
+use Rattle.file_streaming.specs.Gathering.{at_once}
+use Rattle.file_streaming.proofs.GroupSteps.{few_at_once}
 use Rattle.share_layout.specs.Geometry.{Geometry, segment_count}
+use Rattle.sources.specs.Source.{HasFailedMore}
 use Rattle.block_making.proofs.ReadRuns.{ended-later}
-use Rattle.file_streaming.proofs.SecondPass.{IsGatheredTo, changed-again, gathered-all, gathered-begin, gathered-more}
+use Rattle.file_streaming.proofs.SecondPass.{IsGatheredTo, gathered-all, gathered-begin, gathered-more, told-again}
 use Rattle.file_streaming.specs.declared.groups.Group.{Group}
 use Rattle.file_streaming.proofs.gathering.gather.Goals as goal
+
+-- the end of a group, and where the next begins
+end_of : (n before after total first count : ℕ) → before < total → after ≡ before + n → first ≡ before → count ≡ min (total - first) n → first + count ≡ min after total
+end_of n before after total first count within next same is = omega (arith, within, next, same, is)
 
 pub loop-number-init : goal.loop-number-init
 loop-number-init g c = record {
   to =
-      (let none : 0 ≡ min (8 * 0) (segment_count c.args.geometry.now) = omega arith in
+      (let none : 0 ≡ min (at_once c.args.geometry.now * 0) (segment_count c.args.geometry.now) = omega (arith, mul_comm (at_once c.args.geometry.now) 0) in
       subst (λ n. IsGatheredTo g.S.Source.gives c.args.source.now c.args.geometry.now c.args.encoder.now.cipher c.args.hasher n c.in_ok-gathering.gathering c.args.source.now) none
       (gathered-begin g.S.Source.gives c.args.source.now c.args.geometry.now c.args.encoder.now.cipher c.args.hasher c.in_ok-gathering.gathering c.in_ok-gathering.ensures.begun));
   shares = c.in_ok-gathering.ensures.count;
@@ -23,18 +33,38 @@ returns-in_err-gather_group-clause-ended g c = λ e.
     let to = c.loop-number.invariant.to in
     let size : ℕ = c.args.geometry.now.size in
     ended-later g.S.Source.gives c.args.source.now c.loop-number.source c.gather_group.new.source 0 size size to.file to.read
-    (c.in_err-gather_group.ensures.ended (changed-again c.from_residual-in_err-gather_group.result _ c.from_residual-in_err-gather_group.ensures.1 e)) (omega arith)
+    (c.in_err-gather_group.ensures.ended (told-again c.from_residual-in_err-gather_group.result _ _ c.from_residual-in_err-gather_group.ensures.1 e)) (omega arith)
+
+pub returns-in_err-gather_group-clause-failed : goal.returns-in_err-gather_group-clause-failed
+returns-in_err-gather_group-clause-failed g c = λ e.
+    subst (λ n. HasFailedMore n (g.S.Source.failures c.gather_group.new.source)) c.loop-number.invariant.failures
+    (c.in_err-gather_group.ensures.failed (told-again c.from_residual-in_err-gather_group.result _ _ c.from_residual-in_err-gather_group.ensures.1 e))
+
+pub of-group-requires : goal.of-group-requires
+of-group-requires g c =
+    let geometry : Geometry = c.args.geometry.now in
+    let n : ℕ = at_once geometry in
+    let number : ℕ = c.loop-number.number in
+    let count : c.div_ceil-number-end.result ≡ div_ceil (segment_count geometry) n =
+    c.div_ceil-number-end.ensures ∙ λ p. div_ceil (c.segment_count.ensures.value p) (c.segments_at_once-at_once.ensures.value p) in
+    subst (λ m. m < segment_count geometry) (mul_comm number n ∙ ap (λ m. m * number) (sym c.segments_at_once-at_once.ensures.value))
+    (whole_segments (segment_count geometry) n number (few_at_once geometry).0 (omega (arith, c.loop-number-test.true, c.loop-number.auto.number-end, count)))
 
 pub loop-number-preserved : goal.loop-number-preserved
 loop-number-preserved g c =
     let geometry : Geometry = c.args.geometry.now in
     let number : ℕ = c.loop-number.number in
-    let groups = (div_ceil_times (segment_count geometry) 8 (omega arith)).1 in
-    let within : 8 * number < segment_count geometry =
-    omega (arith, c.loop-number-test.true, c.loop-number.auto.number-end, c.div_ceil-number-end.ensures, c.segment_count.ensures.value, groups) in
+    let n : ℕ = at_once geometry in
+    let count : c.div_ceil-number-end.result ≡ div_ceil (segment_count geometry) n =
+    c.div_ceil-number-end.ensures ∙ λ p. div_ceil (c.segment_count.ensures.value p) (c.segments_at_once-at_once.ensures.value p) in
+    let within : n * number < segment_count geometry =
+    subst (λ m. m < segment_count geometry) (mul_comm number n)
+    (whole_segments (segment_count geometry) n number (few_at_once geometry).0 (omega (arith, c.loop-number-test.true, c.loop-number.auto.number-end, count))) in
     let group : Group = c.of-group.result in
-    let before : min (8 * number) (segment_count geometry) ≡ group.first = omega (arith, within, c.of-group.ensures.first) in
-    let after : group.first + group.count ≡ min (8 * (number + 1)) (segment_count geometry) = omega (arith, within, c.of-group.ensures.first, c.of-group.ensures.is.count) in
+    let first : group.first ≡ n * number = c.of-group.ensures.first ∙ ap (λ m. m * number) c.segments_at_once-at_once.ensures.value in
+    let before : min (n * number) (segment_count geometry) ≡ group.first = omega (arith, within, first) in
+    let next : n * (number + 1) ≡ n * number + n = mul_comm n (number + 1) ∙ add-mul number 1 n ∙ (let e : number * n + 1 * n ≡ number * n + n = omega arith in e) ∙ ap (λ m. m + n) (mul_comm number n) in
+    let after : group.first + group.count ≡ min (n * (number + 1)) (segment_count geometry) = end_of n (n * number) (n * (number + 1)) (segment_count geometry) group.first group.count within next first c.of-group.ensures.is.count in
     record {
       to =
           subst (λ n. IsGatheredTo g.S.Source.gives c.args.source.now geometry c.args.encoder.now.cipher c.args.hasher n c.gather_group.new.gathering c.gather_group.new.source) after
@@ -51,8 +81,13 @@ loop-number-preserved g c =
 
 pub returns-clause-gathered : goal.returns-clause-gathered
 returns-clause-gathered g c = λ secret fresh.
-    let groups = (div_ceil_times (segment_count c.args.geometry.now) 8 (omega arith)).0 in
-    let all : min (8 * c.loop-number.number) (segment_count c.args.geometry.now) ≡ segment_count c.args.geometry.now =
-    omega (arith, c.loop-number-test.false, c.loop-number.auto.number-end, c.div_ceil-number-end.ensures, c.segment_count.ensures.value, groups) in
-    gathered-all g.S.Source.gives c.args.source.now c.args.geometry.now c.args.encoder.now.cipher c.args.hasher (min (8 * c.loop-number.number) (segment_count c.args.geometry.now))
+    let n : ℕ = at_once c.args.geometry.now in
+    let number : ℕ = c.loop-number.number in
+    let groups = (div_ceil_times (segment_count c.args.geometry.now) n (few_at_once c.args.geometry.now).0).0 in
+    let count : c.div_ceil-number-end.result ≡ div_ceil (segment_count c.args.geometry.now) n =
+    c.div_ceil-number-end.ensures ∙ λ p. div_ceil (c.segment_count.ensures.value p) (c.segments_at_once-at_once.ensures.value p) in
+    let over : div_ceil (segment_count c.args.geometry.now) n * n ≤ number * n =
+    mul-le-mul_right {m = div_ceil (segment_count c.args.geometry.now) n} {n = number} n (omega (arith, c.loop-number-test.false, c.loop-number.auto.number-end, count)) in
+    let all : min (n * number) (segment_count c.args.geometry.now) ≡ segment_count c.args.geometry.now = omega (arith, groups, over, mul_comm n number) in
+    gathered-all g.S.Source.gives c.args.source.now c.args.geometry.now c.args.encoder.now.cipher c.args.hasher (min (n * number) (segment_count c.args.geometry.now))
     c.loop-number.gathering c.loop-number.source secret c.segment_count.ensures.valid all c.loop-number.invariant.to fresh

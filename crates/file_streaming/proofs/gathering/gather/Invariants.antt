@@ -1,12 +1,13 @@
 use Rattle.std.proofs.Common.{◌≡◌, ◌*◌, length, min}
 use Rattle.std.specs.Int.{div_ceil}
 use Rattle.share_layout.specs.Geometry.{segment_count}
+use Rattle.file_streaming.specs.Gathering.{at_once}
 use Rattle.file_streaming.proofs.SecondPass.{IsGatheredTo}
 use Rattle.file_streaming.proofs.gathering.gather.Given as goal
 
 abbrev pub invariant-loop-number : goal.invariant-loop-number
 invariant-loop-number g l = record {
-  to : IsGatheredTo g.S.Source.gives l.fn.source l.geometry l.encoder.cipher l.fn.hasher (min (8 * l.number) (segment_count l.geometry)) l.gathering l.source;
+  to : IsGatheredTo g.S.Source.gives l.fn.source l.geometry l.encoder.cipher l.fn.hasher (min (at_once l.geometry * l.number) (segment_count l.geometry)) l.gathering l.source;
   shares : length l.gathering.shares.items ≡ l.geometry.total;
   wholes : length l.gathering.wholes.items ≡ div_ceil l.geometry.total 8;
   size : g.S.Source.size l.source ≡ g.S.Source.size l.fn.source;

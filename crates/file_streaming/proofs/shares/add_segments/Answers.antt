@@ -1,68 +1,75 @@
-use Rattle.std.proofs.Common.{◌≡◌, ℕ, ◌+◌, ◌-◌, ◌*◌, ◌<◌, ◌≤◌, List, length, take, drop, ap, sym, subst, ◌∙◌, arith}
-use Rattle.std.proofs.Math.Nat.{div-mul-le_self, mul_comm, mul-le-mul_right}
-use Rattle.std.proofs.lemmas.List.{length-drop, length-take-le}
-use Rattle.share_layout.specs.Geometry.{Geometry, block_size}
-use Rattle.share_layout.specs.Pieces.{block_length, pieces}
-use Rattle.zfec_code.specs.ShareValue.{share_block}
-use Rattle.file_encoding.specs.Encoding.{padded_segment}
-use Rattle.file_streaming.specs.Gathered.{Gathered, gathered_segments}
-use Rattle.file_streaming.specs.Shares.{HaveBlocksMore, HaveWholesMore, HoldShares}
-use Rattle.file_streaming.specs.Wholes.{AreGiven}
-use Rattle.file_streaming.proofs.GroupSteps.{has_place, padded-piece, segments-more}
-use Rattle.file_streaming.proofs.SecondPass.{gathered-shares, gathered-wholes}
+use Rattle.std.proofs.Common.{◌≡◌, ℕ, ◌+◌, ◌-◌, ◌*◌, ◌<◌, ◌≤◌, List, ◌++◌, length, min, take, get_or, ap, subst, sym, ◌∙◌, arith}
+use Rattle.std.proofs.lemmas.Grind.{div_ceil_times}
+use Rattle.std.proofs.lemmas.List.{length-take-le}
+use Rattle.std.proofs.lemmas.Option.{slice_get-get_or}
+use Rattle.std.specs.Int.{div_ceil}
+use Rattle.share_layout.specs.Geometry.{Geometry}
+use Rattle.file_streaming.specs.Gathering.{row_of}
+use Rattle.file_streaming.specs.Shares.{HasBlocksMore, HaveBlocksMore}
+use Rattle.file_streaming.specs.Wholes.{HavePieceMore, IsGivenAt}
+use Rattle.file_streaming.specs.declared.groups.Group.{Group}
+use Rattle.file_streaming.specs.declared.shares.ShareSoFar.{ShareSoFar}
+use Rattle.file_streaming.specs.declared.wholes.WholeHashers.{WholeHashers}
+use Rattle.file_streaming.proofs.GroupSteps.{has_first, has_place}
+use Rattle.file_streaming.proofs.Rows.{rows-shares, rows-wholes}
+use Rattle.file_streaming.proofs.ShareBlocks.{HaveSoFar, same_blocks, so_far-all, so_far-group, so_far-more}
 use Rattle.file_streaming.proofs.shares.add_segments.Goals as goal
 
--- so many bytes for each block are no more than a segment
-within_segment : (g : Geometry) (size needed : ℕ) → needed ≡ g.needed → size ≤ block_size g → size * needed ≤ g.segment_size
-within_segment g size needed same low =
-    let one : size * needed ≤ block_size g * needed = mul-le-mul_right {m = size} {n = block_size g} needed low in
-    omega (arith, one, subst (λ n. block_size g * n ≤ g.segment_size) (sym same) (div-mul-le_self g.segment_size g.needed))
+pub add_rows-requires-clause-at_once : goal.add_rows-requires-clause-at_once
+add_rows-requires-clause-at_once c = (has_place c.args.geometry.now c.args.group 0 c.requires.group (has_first c.args.geometry.now c.args.group c.requires.group)).few
 
-pub slice_bounds-padded-end : goal.slice_bounds-padded-end
-slice_bounds-padded-end c =
-    let g : Geometry = c.args.geometry.now in
-    let i : ℕ = c.loop-i.i in
-    let at = has_place g c.args.group i c.requires.group (omega (arith, c.loop-i-test.true, c.loop-i.auto.i-end)) in
-    let start : i * c.segment_size-segment_size.result ≡ i * g.segment_size = ap (λ n. i * n) c.segment_size-segment_size.ensures.value in
-    let room = within_segment g c.block_length-size.result c.from-needed.result (c.from-needed.ensures ∙ c.needed.ensures.value) c.block_length-size.ensures.range.1 in
-    omega (arith, start, room, at.ends, c.requires.segments)
-
-pub loop-i-preserved : goal.loop-i-preserved
-loop-i-preserved c =
-    let g : Geometry = c.args.geometry.now in
-    let i : ℕ = c.loop-i.i in
-    let buffer : List ℕ = c.args.segments.now in
-    let text : List ℕ = take c.args.group.len buffer in
-    let size : ℕ = c.block_length-size.result in
-    let needed : ℕ = c.from-needed.result in
-    let same : needed ≡ g.needed = c.from-needed.ensures ∙ c.needed.ensures.value in
-    let low : i < c.args.group.count = omega (arith, c.loop-i-test.true, c.loop-i.auto.i-end) in
-    let at = has_place g c.args.group i c.requires.group low in
-    let start : ℕ = i * c.segment_size-segment_size.result in
-    let start_is : start ≡ i * g.segment_size = ap (λ n. i * n) c.segment_size-segment_size.ensures.value in
-    let room = within_segment g size needed same c.block_length-size.ensures.range.1 in
-    let room_is : size * needed ≡ block_length g (c.args.group.first + i) * g.needed = λ p. c.block_length-size.ensures.value p * same p in
-    let count : start + size * needed - start ≡ size * needed = omega arith in
-    let padded : List ℕ = take (start + size * needed - start) (drop start buffer) in
-    let piece : List ℕ = take g.segment_size (drop (i * g.segment_size) text) in
-    let is : padded ≡ padded_segment g.needed piece =
-    (λ p. take (count p) (drop (start_is p) buffer))
-    ∙ padded-piece g c.args.group i (size * needed) buffer c.requires.group low c.requires.segments c.requires.padding room_is room in
-    let long : length padded ≡ g.needed * size =
-    ap (λ n. length (take n (drop start buffer))) count
-    ∙ length-take-le (size * needed) (drop start buffer) (omega (arith, length-drop start buffer, start_is, room, at.ends, c.requires.segments))
-    ∙ mul_comm size needed ∙ ap (λ n. n * size) same in
-    let some : 0 < g.needed = c.segment_size-segment_size.ensures.valid.some_needed in
+pub loop-eight-preserved : goal.loop-eight-preserved
+loop-eight-preserved c =
+    let group : Group = c.args.group in
+    let leaves : ℕ = group.count in
+    let size : ℕ = c.block_size-size.result in
+    let rows : ℕ → List ℕ = row_of c.args.geometry.now group (take group.len c.args.segments.now) in
+    let old : List ShareSoFar = c.args.shares.now in
+    let now : List ShareSoFar = c.loop-eight.shares in
+    let total : ℕ = length old in
+    let n : ℕ = c.loop-eight.eight in
+    let first : ℕ = 8 * n in
+    let count : ℕ = c.min-end.result - first in
+    let groups = div_ceil_times total 8 (omega arith) in
+    let low : first ≤ total = omega (arith, c.loop-eight-test.true, c.loop-eight.auto.eight-end, c.div_ceil-eight-end.ensures, groups.1) in
+    let within : first + count ≤ length now = omega (arith, low, c.min-end.ensures, c.loop-eight.auto.shares) in
+    let here : min first total ≡ first = omega (arith, low) in
+    let next : first + count ≡ min (8 * (n + 1)) total = omega (arith, low, c.min-end.ensures, c.loop-eight.auto.shares) in
+    let all : length c.args.wholes.now ≡ div_ceil total 8 = c.requires.wholes ∙ ap (λ m. div_ceil m 8) (sym c.requires.shares) in
+    let many : n < length c.loop-eight.wholes = omega (arith, c.loop-eight-test.true, c.loop-eight.auto.eight-end, c.div_ceil-eight-end.ensures, all, c.loop-eight.auto.wholes) in
+    let whole : WholeHashers = get_or c.loop-eight.wholes n c.index-wholes-eight.result in
     record {
-      shares = λ s held.
-          subst (λ (x : Gathered). HoldShares x c.add_blocks.new.shares) (sym (segments-more g i g.segment_size text s))
-          (gathered-shares g (gathered_segments g (pieces i g.segment_size text) s) size piece padded c.loop-i.shares c.add_blocks.new.shares some is long
-          (subst (λ k. HaveBlocksMore (λ j. share_block k j size padded) c.loop-i.shares c.add_blocks.new.shares) c.requires.needed c.in_ok-add_blocks.ensures.shares)
-          (c.loop-i.invariant.shares s held));
-      wholes = λ s given.
-          subst (λ (x : Gathered). AreGiven g.total x.written c.add_blocks.new.wholes) (sym (segments-more g i g.segment_size text s))
-          (gathered-wholes g (gathered_segments g (pieces i g.segment_size text) s) (length c.loop-i.shares) size piece padded c.loop-i.wholes c.add_blocks.new.wholes some is long
-          (c.loop-i.auto.shares ∙ c.requires.shares)
-          (subst (λ k. HaveWholesMore (length c.loop-i.shares) (λ j. share_block k j size padded) c.loop-i.wholes c.add_blocks.new.wholes) c.requires.needed c.in_ok-add_blocks.ensures.wholes)
-          (c.loop-i.invariant.wholes s given));
+      shares =
+          subst (HaveSoFar (HasBlocksMore leaves size rows) old _) next
+          (so_far-group leaves size rows old now c.add_rows.new.shares first count within (subst (HaveSoFar (HasBlocksMore leaves size rows) old now) here c.loop-eight.invariant.shares)
+          (same_blocks leaves size rows old now c.add_rows.new.shares first count within _ c.encode_rows.ensures c.in_ok-add_rows.ensures));
+      wholes =
+          so_far-more (HavePieceMore total rows) c.args.wholes.now c.loop-eight.wholes n whole c.update.new.self c.loop-eight.invariant.wholes many
+          (slice_get-get_or c.loop-eight.wholes n c.index-wholes-eight.result many)
+          (λ j given below inside was.
+          let lane : j < count = omega (arith, inside, below, c.min-end.ensures, c.loop-eight.auto.shares) in
+          subst (λ (piece : List ℕ). IsGivenAt c.update.new.self j (given ++ piece)) (c.all_lanes.ensures.blocks j below ∙ c.encode_rows.ensures j lane)
+          (c.update.ensures j given below was));
     }
+
+pub returns-clause-shares : goal.returns-clause-shares
+returns-clause-shares c = λ s held.
+    let g : Geometry = c.args.geometry.now in
+    let group : Group = c.args.group in
+    let at = has_place g group 0 c.requires.group (has_first g group c.requires.group) in
+    let text : List ℕ = take group.len c.args.segments.now in
+    let long : length text ≡ group.len = length-take-le group.len c.args.segments.now (omega (arith, at.fits, c.requires.segments)) in
+    let all = (div_ceil_times (length c.args.shares.now) 8 (omega arith)).0 in
+    rows-shares g group text s c.args.shares.now c.loop-eight.shares c.requires.group long
+    (subst (λ n. HaveBlocksMore group.count n (row_of g group text) c.args.shares.now c.loop-eight.shares) c.block_size-size.ensures.value
+    (so_far-all _ _ _ _ c.loop-eight.invariant.shares (omega (arith, c.loop-eight-test.false, c.loop-eight.auto.eight-end, c.div_ceil-eight-end.ensures, c.loop-eight.auto.shares, all))))
+    held
+
+pub returns-clause-wholes : goal.returns-clause-wholes
+returns-clause-wholes c = λ s given.
+    let g : Geometry = c.args.geometry.now in
+    let group : Group = c.args.group in
+    let all : length c.args.wholes.now ≡ div_ceil (length c.args.shares.now) 8 = c.requires.wholes ∙ ap (λ m. div_ceil m 8) (sym c.requires.shares) in
+    rows-wholes g group (take group.len c.args.segments.now) s (length c.args.shares.now) c.args.wholes.now c.loop-eight.wholes c.requires.shares
+    (so_far-all _ _ _ _ c.loop-eight.invariant.wholes (omega (arith, c.loop-eight-test.false, c.loop-eight.auto.eight-end, c.div_ceil-eight-end.ensures, c.loop-eight.auto.wholes, all)))
+    given

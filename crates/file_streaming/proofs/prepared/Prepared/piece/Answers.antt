@@ -1,14 +1,18 @@
-use Rattle.std.proofs.Common.{rules, ◌≡◌, ℕ, ◌+◌, ◌<◌, ◌≤◌, List, ◌++◌, length, ap, subst, sym, ◌∙◌, arith}
+use Rattle.std.proofs.Common.{rules, ◌≡◌, ℕ, ◌+◌, ◌*◌, ◌<◌, ◌≤◌, List, ◌++◌, length, ap, subst, sym, ◌∙◌, arith}
+use Rattle.std.specs.Vec.{with_items}
 use Rattle.std.proofs.lemmas.List.{length-replicate}
-use Rattle.share_layout.specs.Geometry.{share_data_size, tree_size}
+use Rattle.share_layout.specs.Geometry.{block_size, share_data_size, tree_size}
 use Rattle.share_layout.specs.Layout.{header_size, layout_of}
 use Rattle.share_verify.specs.Pieces.{joined}
-use Rattle.block_making.specs.Making.{ArePut, HaveBlocks, IsMaking, IsPieceOf, Making}
+use Rattle.block_making.specs.Making.{ArePut, AreSlots, HaveBlocks, IsMaking, IsPieceOf, Making}
+use Rattle.file_streaming.specs.Gathering.{at_once}
+use Rattle.file_streaming.specs.Kept.{IsKept}
 use Rattle.file_streaming.specs.Piece.{GivesPiece}
 use Rattle.file_streaming.specs.Prepared.{PreparedFile, share_length}
 use Rattle.file_streaming.specs.declared.prepared.Prepared.TheInside.{Inside}
 use Rattle.block_making.proofs.MadeBlocks.{same_error}
 use Rattle.block_making.proofs.PieceTexts.{piece-zeros, zeros}
+use Rattle.file_streaming.proofs.GroupSteps.{eight_lanes}
 use Rattle.file_streaming.proofs.Sections.{blocks_of_any, is_making, kept_digests, share_short, texts_of}
 use Rattle.file_streaming.proofs.prepared.Prepared.piece.Goals as goal
 
@@ -35,6 +39,49 @@ new-maker-requires g c =
     omega (arith, c.requires.number, kept_digests (seen i) (texts_of i.share_hashes.items) i.encoder i.buffers kept, ap (λ (p : PreparedFile). length p.digests) c.self.view_is) in
     subst (λ (l : List (List (List ℕ))). IsMaking (making i c.args.share l) i.encoder.code) (sym c.deref.ensures.value)
     (is_making (seen i) (texts_of i.share_hashes.items) i.encoder i.buffers kept c.args.share low)
+
+-- buffers keep their lengths when bytes are written into them
+kept_again : (i : Inside) (segment lanes : List ℕ) → IsKept (seen i) (texts_of i.share_hashes.items) i.encoder i.buffers
+    → IsKept (seen i) (texts_of i.share_hashes.items) i.encoder (record { segments = with_items i.buffers.segments segment; lanes = with_items i.buffers.lanes lanes })
+kept_again i segment lanes kept = record {
+  file = kept.file;
+  long = kept.long;
+  shape = kept.shape;
+  is = kept.is;
+  hashes_are = kept.hashes_are;
+  needed = kept.needed;
+  total = kept.total;
+  buffers = record {
+    segments = sym (with_items i.buffers.segments segment).ok.0 ∙ i.buffers.segments.ok.0 ∙ kept.buffers.segments;
+    lanes = sym (with_items i.buffers.lanes lanes).ok.0 ∙ i.buffers.lanes.ok.0 ∙ kept.buffers.lanes;
+  };
+}
+
+pub put_blocks-requires-clause-lanes : goal.put_blocks-requires-clause-lanes
+put_blocks-requires-clause-lanes g c =
+    let i : Inside = c.self.inside in
+    let lanes : List ℕ = c.deref_mut-2.result.now in
+    let same : c.new-maker.result ≡ making i c.args.share i.block_trees.items = c.new-maker.ensures ∙ ap (making i c.args.share) c.deref.ensures.value in
+    let long : length lanes ≡ 8 * (at_once i.geometry * block_size i.geometry) = ap length c.deref_mut-2.ensures.value ∙ c.self.invariant.kept.buffers.lanes in
+    subst (λ (m : Making). 8 * block_size m.geometry ≤ length lanes) (sym same) (subst (λ n. 8 * block_size i.geometry ≤ n) (sym long) (eight_lanes i.geometry))
+
+pub invariant_of-self : goal.invariant_of-self
+invariant_of-self g c =
+    let i : Inside = c.self.inside in
+    let same : c.new-maker.result ≡ making i c.args.share i.block_trees.items = c.new-maker.ensures ∙ ap (making i c.args.share) c.deref.ensures.value in
+    record {
+      kept = kept_again i c.put_blocks.new.segment c.put_blocks.new.lanes c.self.invariant.kept;
+      verified = subst (λ (m : Making). AreSlots m.geometry m.leaves c.put_blocks.new.slots) same c.put_blocks.ensures.slots;
+    }
+
+pub invariant_of-self-2 : goal.invariant_of-self-2
+invariant_of-self-2 g c =
+    let i : Inside = c.self.inside in
+    let same : c.new-maker.result ≡ making i c.args.share i.block_trees.items = c.new-maker.ensures ∙ ap (making i c.args.share) c.deref.ensures.value in
+    record {
+      kept = kept_again i c.put_blocks.new.segment c.put_blocks.new.lanes c.self.invariant.kept;
+      verified = subst (λ (m : Making). AreSlots m.geometry m.leaves c.put_blocks.new.slots) same c.put_blocks.ensures.slots;
+    }
 
 pub put_blocks-requires-clause-inside : goal.put_blocks-requires-clause-inside
 put_blocks-requires-clause-inside g c =

@@ -1,9 +1,8 @@
 use Rattle.std.proofs.Common.{◌≡◌, ℕ, List, ◌++◌, length, drop, replicate, ap, ◌∙◌, arith}
 use Rattle.std.proofs.lemmas.List.{length-take-le, take_at}
 use Rattle.tagged_hash.specs.TaggedHash.{tagged_hash}
-use Rattle.tagged_hash.specs.declared.tag.Tag.TheVariants.{CiphertextSegment}
 use Rattle.file_encoding.proofs.Pieces.{values_of_pieces}
-use Rattle.file_streaming.proofs.gathering.add_leaves.Goals as goal
+use Rattle.file_streaming.proofs.shares.add_leaves.Goals as goal
 
 pub returns : goal.returns
 returns c =
@@ -13,5 +12,5 @@ returns c =
     c.in_ok-extend_from_slice.ensures.items
     ∙ ap (λ (l : List (List ℕ)). c.args.leaves.now.items ++ l)
     (take_at hashes (drop n (replicate 8 (replicate 32 0))) n count
-    ∙ values_of_pieces (tagged_hash CiphertextSegment) n c.args.size c.args.text.now hashes count
+    ∙ values_of_pieces (tagged_hash c.args.tag) n c.args.size c.args.text.now hashes count
     (λ i below. c.tagged_pieces.ensures i (omega (arith, below, c.tagged_pieces.auto.hashes))))
