@@ -2,7 +2,6 @@ pub mod OwnBlocks
 pub mod Drafting
 pub mod OwnHashes
 pub mod OwnShares
-pub mod FileGeometry
 pub mod Numbers
 pub mod Padding
 pub mod Pieces

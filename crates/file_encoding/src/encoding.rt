@@ -138,10 +138,7 @@ fn write_extension_block(
         ciphertext_root,
         share_root,
     );
-    match block.write(alloc) {
-        Ok(text) => Ok(text),
-        Err(_) => Err(AllocError),
-    }
+    block.write(alloc).map_err(|_| AllocError)
 }
 
 // The cap of a file.
@@ -316,9 +313,8 @@ fn file_geometry(size: u64, params: &Params) -> Result<Geometry, EncodeError>
     if size > MAX_FILE_SIZE {
         return Err(EncodeError::TooLarge);
     }
-    match Geometry::of(size, params.needed(), params.total(), params.max_segment()) {
-        Ok(geometry) => Ok(geometry),
-        // The parameters are in their ranges.
-        Err(_) => Err(EncodeError::TooManySegments),
-    }
+    // The parameters are in their ranges.
+    Geometry::of(size, params.needed(), params.total(), params.max_segment()).map_err(
+        |_| EncodeError::TooManySegments,
+    )
 }

@@ -43,10 +43,7 @@ pub(crate) fn build_tree(alloc: Global, leaves: &[[u8; 32]]) -> Result<Tree, All
     requires few { length leaves.now ≤ 2 ^ 20 }
     ensures { IfOk result (λ tree. tree ≡ leaves.now) }
 {
-    match Tree::build(alloc, leaves) {
-        Ok(tree) => Ok(tree),
-        Err(_) => Err(AllocError),
-    }
+    Tree::build(alloc, leaves).map_err(|_| AllocError)
 }
 
 impl<'a> Common<'a> {
@@ -241,10 +238,7 @@ fn needed_nodes(alloc: Global, tree: &Tree, leaf: u16) -> Result<Vec<u32>, Alloc
     ensures numbers { IfOk result (λ numbers. numbers.items ≡ needed_numbers
         (height (length tree.now)) leaf) }
 {
-    match tree.needed(alloc, u32::from(leaf)) {
-        Ok(numbers) => Ok(numbers),
-        Err(_) => Err(AllocError),
-    }
+    tree.needed(alloc, u32::from(leaf)).map_err(|_| AllocError)
 }
 
 // Writes the nodes of these numbers, each behind its number in two bytes.
