@@ -114,10 +114,7 @@ fn needed_nodes(alloc: Global, tree: &Tree, leaf: u16) -> Result<Vec<u32>, Alloc
     ensures numbers { IfOk result (λ numbers. numbers.items ≡ needed_numbers
         (height (length tree.now)) leaf) }
 {
-    match tree.needed(alloc, u32::from(leaf)) {
-        Ok(numbers) => Ok(numbers),
-        Err(_) => Err(AllocError),
-    }
+    tree.needed(alloc, u32::from(leaf)).map_err(|_| AllocError)
 }
 
 // The nodes of these numbers, each behind its number in two bytes.

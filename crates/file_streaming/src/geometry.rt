@@ -32,11 +32,10 @@ pub(crate) fn file_geometry(size: u64, params: &Params) -> Result<Geometry, Prep
     if size > MAX_FILE_SIZE {
         return Err(PrepareError::TooLarge);
     }
-    match Geometry::of(size, params.needed(), params.total(), params.max_segment()) {
-        Ok(geometry) => Ok(geometry),
-        // The parameters are in their ranges.
-        Err(_) => Err(PrepareError::TooManySegments),
-    }
+    // The parameters are in their ranges.
+    Geometry::of(size, params.needed(), params.total(), params.max_segment()).map_err(
+        |_| PrepareError::TooManySegments,
+    )
 }
 
 /// The code of a file.
@@ -59,10 +58,7 @@ pub(crate) fn build_tree(alloc: Global, leaves: &[[u8; 32]]) -> Result<Tree, All
     requires few { length leaves.now ≤ 2 ^ 20 }
     ensures { IfOk result (λ tree. tree ≡ leaves.now) }
 {
-    match Tree::build(alloc, leaves) {
-        Ok(tree) => Ok(tree),
-        Err(_) => Err(AllocError),
-    }
+    Tree::build(alloc, leaves).map_err(|_| AllocError)
 }
 
 /// The extension block of a file.
@@ -99,10 +95,7 @@ pub(crate) fn write_extension_block(
         ciphertext_root,
         share_root,
     );
-    match block.write(alloc) {
-        Ok(text) => Ok(text),
-        Err(_) => Err(AllocError),
-    }
+    block.write(alloc).map_err(|_| AllocError)
 }
 
 /// The cap of a file.
