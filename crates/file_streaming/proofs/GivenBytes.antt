@@ -1,5 +1,5 @@
 -- What the hashers of whole shares were given.
-use Rattle.std.proofs.Common.{◌≡◌, ℕ, ◌+◌, ◌*◌, ◌<◌, ◌≤◌, List, [], ◌∷◌, ◌++◌, length, get_or, Some, inl, inr, ap, sym, subst, ◌∙◌, arith}
+use Rattle.std.proofs.Common.{◌≡◌, ℕ, ◌+◌, ◌*◌, ◌<◌, List, [], ◌∷◌, ◌++◌, length, get_or, Some, inl, inr, ap, sym, subst, ◌∙◌, arith}
 use Rattle.std.specs.Prelude.{slice_get}
 use Rattle.std.proofs.lemmas.Option.{slice_get-get_or, slice_get_within}
 use Rattle.lemmas.proofs.Places.{get_of, get_pushed}
@@ -9,7 +9,7 @@ use Rattle.merkle.proofs.TreeLemmas.{length-tree_nodes}
 use Rattle.tagged_hash.specs.TaggedHasher.{Holds}
 use Rattle.tagged_hash.specs.declared.hasher.TaggedHasher.{TaggedHasher}
 use Rattle.tagged_hash.specs.declared.tag.Tag.TheVariants.{WholeShare}
-use Rattle.file_streaming.specs.Shares.{HaveBecome, HaveWholesMore}
+use Rattle.file_streaming.specs.Shares.{HaveWholesMore}
 use Rattle.file_streaming.specs.Wholes.{AreGiven, IsGivenAlone, IsGivenAt}
 use Rattle.file_streaming.specs.declared.wholes.WholeHashers.{WholeHashers}
 

@@ -1,4 +1,4 @@
-use Rattle.std.proofs.Common.{◌≡◌, ℕ, ◌+◌, ◌*◌, ◌<◌, List, [], ◌∷◌, length, map, get_or, slice_index_or, ap, ◌∙◌, arith}
+use Rattle.std.proofs.Common.{◌≡◌, ℕ, ◌+◌, ◌<◌, List, [], ◌∷◌, length, map, get_or, slice_index_or, ap, ◌∙◌, arith}
 use Rattle.lemmas.proofs.Eights.{by_eight}
 use Rattle.sha2_lanes.specs.Lanes.{text}
 use Rattle.file_streaming.proofs.finishing.eight_hashes.Goals as goal

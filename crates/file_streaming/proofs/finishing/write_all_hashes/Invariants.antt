@@ -1,4 +1,4 @@
-use Rattle.std.proofs.Common.{◌≡◌, ◌<◌, ℕ, length, map, slice_index_or, All}
+use Rattle.std.proofs.Common.{◌≡◌, length, map, All}
 use Rattle.std.specs.List.{range_with_len}
 use Rattle.file_encoding.specs.Encoding.{share_hashes}
 use Rattle.file_streaming.specs.Finishing.{hashes_length}

@@ -1,4 +1,4 @@
-use Rattle.std.proofs.Common.{◌≡◌, ℕ, [], length}
+use Rattle.std.proofs.Common.{◌≡◌, length}
 use Rattle.file_streaming.proofs.GivenBytes.{AreFresh}
 use Rattle.file_streaming.proofs.wholes.begin_each.Given as goal
 

@@ -8,11 +8,9 @@ use Rattle.std.proofs.lemmas.List.{length_push}
 use Rattle.std.proofs.lemmas.Option.{same_Some, slice_get_within}
 use Rattle.lemmas.proofs.Places.{got}
 use Rattle.std.proofs.Common.{get_or-set_other, get_or-set_same}
-use Rattle.tagged_hash.specs.TaggedHash.{tagged_hash}
 use Rattle.tagged_hash.specs.TaggedHasher.{Holds}
 use Rattle.tagged_hash.specs.declared.hasher.TaggedHasher.{TaggedHasher}
 use Rattle.tagged_hash.specs.declared.tag.Tag.TheVariants.{WholeShare}
-use Rattle.file_streaming.specs.Wholes.{IsGivenAlone}
 use Rattle.file_streaming.proofs.wholes.finish_each.Goals as goal
 
 pub loop-hasher-preserved-then-count-lt8 : goal.loop-hasher-preserved-then-count-lt8
