@@ -16,13 +16,13 @@ use Rattle.share_verify.specs.Verify.{IsSound}
 use Rattle.share_verify.specs.declared.check.Check.{Check}
 use Rattle.share_verify.proofs.Faults.{first_fails}
 use Rattle.share_verify.proofs.Passing.{sound_passes}
-use Rattle.share_opening.specs.Blame.{HasReads}
-use Rattle.share_opening.specs.Opening as opening
-use Rattle.share_opening.specs.Reads.{Brought, IsLedToBy}
-use Rattle.share_opening.specs.declared.block.Opened.{Opened}
-use Rattle.share_opening.specs.declared.block.PendingBlock.{PendingBlock}
-use Rattle.share_opening.specs.declared.opening.Opening.TheVariants.{Start, Second, Header, Block}
-use Rattle.share_opening.specs.declared.opening.Progress.TheVariants as progress
+use Rattle.share_reading.specs.Blame.{HasReads}
+use Rattle.share_reading.specs.Opening as opening
+use Rattle.share_reading.specs.OpeningReads.{Brought, IsLedToBy}
+use Rattle.share_reading.specs.declared.block.Opened.{Opened}
+use Rattle.share_reading.specs.declared.block.PendingBlock.{PendingBlock}
+use Rattle.share_reading.specs.declared.opening.Opening.TheVariants.{Start, Second, Header, Block}
+use Rattle.share_reading.specs.declared.opening.Progress.TheVariants as progress
 use Rattle.share_reading.specs.Reading.{Advances, IsStop, next_length, next_place}
 use Rattle.share_reading.specs.Reads.{IsReadBy, IsRestBy}
 use Rattle.share_reading.specs.Verdict.{FailsFirst, IsLost, IsStopped, IsVerdict, Settled, brought_of}

@@ -3,7 +3,7 @@ use Rattle.std.proofs.Common.{◌≡◌, ℕ, ◌+◌, ◌≤◌, Bool, true, fa
 use Rattle.std.specs.Prelude.{Contains, slice_get}
 use Rattle.std.proofs.lemmas.List.Elements.{Contains-append_left, Contains-append_right, Contains-append_cases, Contains-push, Contains-push_cases}
 use Rattle.std.proofs.lemmas.Option.{same_Some}
-use Rattle.share_opening.proofs.ReadLemmas.{more_led}
+use Rattle.share_reading.proofs.ReadLemmas.{more_led}
 use Rattle.lemmas.proofs.Members.{contains_cases, contains_head, contains_none, contains_tail}
 use Rattle.lemmas.proofs.Places.{get_pushed, get_last}
 use Rattle.cap_text.specs.Cap.{VerifyCapValue}
@@ -17,8 +17,8 @@ use Rattle.request_record.specs.declared.requests.Request.{Request}
 use Rattle.request_record.specs.Kept.{IsDataAt}
 use Rattle.request_record.specs.Record.{first_request, is_outstanding}
 use Rattle.share_verify.specs.declared.check.Check.{Check}
-use Rattle.share_opening.specs.Reads.{Brought}
-use Rattle.share_opening.specs.declared.opening.Opening.TheVariants.{Start, Second, Header, Block}
+use Rattle.share_reading.specs.OpeningReads.{Brought}
+use Rattle.share_reading.specs.declared.opening.Opening.TheVariants.{Start, Second, Header, Block}
 use Rattle.share_reading.specs.Reading as reading
 use Rattle.share_reading.specs.Reads.{AsksNone, IsAsked, IsReadBy, more_back, more_front}
 use Rattle.share_reading.specs.Verdict.{AreAnswered, AreFull, HasLed, IsJudged, IsVerdict, Settled, brought_of}

@@ -17,7 +17,7 @@ use Rattle.request_record.specs.declared.requests.Asked.TheVariants.{Holdings, A
 use Rattle.request_record.specs.declared.requests.Outcome.{Outcome}
 use Rattle.request_record.specs.declared.requests.Outcome.TheVariants.{Unawaited, Outstanding, Answered, Lost}
 use Rattle.request_record.specs.declared.requests.Request.{Request}
-use Rattle.share_opening.specs.Reads.{Brought}
+use Rattle.share_reading.specs.OpeningReads.{Brought}
 use Rattle.share_reading.specs.Verdict.{IsVerdict, brought_of}
 use Rattle.share_reading.specs.Whole.{joined}
 use Rattle.share_reading.specs.declared.verdict.Verdict.TheVariants as verdicts

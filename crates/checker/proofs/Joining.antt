@@ -5,7 +5,7 @@ use Rattle.std.proofs.lemmas.List.Concat.{flat_map-append}
 use Rattle.std.proofs.lemmas.List.Elements.{All-nil, All-push, filter_more}
 use Rattle.placement.specs.Matching.{Pair}
 use Rattle.wire.specs.declared.message.HeldShare.{HeldShare}
-use Rattle.share_opening.specs.Reads.{Brought}
+use Rattle.share_reading.specs.OpeningReads.{Brought}
 use Rattle.share_reading.specs.Whole.{joined}
 use Rattle.checker.specs.Offers.{IsNew, key_of}
 use Rattle.checker.specs.Book.{ArePushed}

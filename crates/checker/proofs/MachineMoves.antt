@@ -15,7 +15,7 @@ use Rattle.request_record.specs.Kept.{IsDataAt}
 use Rattle.request_record.specs.Record.{RequestsState, is_outstanding}
 use Rattle.request_record.specs.Asking.{AsksOnce}
 use Rattle.share_verify.specs.declared.check.Check.{Check}
-use Rattle.share_opening.specs.declared.opening.Opening.TheVariants.{Start}
+use Rattle.share_reading.specs.declared.opening.Opening.TheVariants.{Start}
 use Rattle.share_reading.specs.Reading as reading
 use Rattle.share_reading.specs.Judged.{IsJudgedBy}
 use Rattle.share_reading.specs.Reads.{more_back, more_front}

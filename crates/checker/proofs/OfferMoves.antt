@@ -13,7 +13,7 @@ use Rattle.request_record.specs.declared.requests.Outcome.{Outcome}
 use Rattle.request_record.specs.declared.requests.Outcome.TheVariants.{Answered}
 use Rattle.request_record.specs.declared.requests.Request.{Request}
 use Rattle.request_record.specs.Record.{is_outstanding}
-use Rattle.share_opening.specs.Reads.{Brought}
+use Rattle.share_reading.specs.OpeningReads.{Brought}
 use Rattle.share_reading.specs.Reading as reading
 use Rattle.share_reading.specs.Verdict.{IsVerdict, Settled, brought_of}
 use Rattle.share_reading.specs.Whole.{IsWhole, joined}

@@ -25,7 +25,7 @@ use Rattle.request_record.specs.Record.{RequestsState, age_of, answered_in, at, 
 use Rattle.request_record.specs.Asking.{AreApart, AsksOnce, after_message, after_tick, lost_by_tick}
 use Rattle.request_record.proofs.RecordLaws.{counts_is}
 use Rattle.request_record.proofs.AskingLaws.{once_asked, once_ticked}
-use Rattle.share_opening.specs.Reads.{Brought}
+use Rattle.share_reading.specs.OpeningReads.{Brought}
 use Rattle.share_reading.specs.Reading as reading
 use Rattle.share_reading.specs.Reads.{IsAsked}
 use Rattle.share_reading.specs.Verdict.{Settled, brought_of}

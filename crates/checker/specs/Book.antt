@@ -14,7 +14,7 @@ use Rattle.request_record.specs.declared.requests.Asked.{Asked}
 use Rattle.request_record.specs.declared.requests.Asked.TheVariants.{Holdings, Reading}
 use Rattle.request_record.specs.declared.requests.Outcome.TheVariants.{Answered, Lost, Outstanding}
 use Rattle.request_record.specs.declared.requests.Request.{Request}
-use Rattle.share_opening.specs.Reads.{Brought}
+use Rattle.share_reading.specs.OpeningReads.{Brought}
 use Rattle.share_reading.specs.Reading as reading
 use Rattle.share_reading.specs.declared.reading.Reading as readings
 use Rattle.share_reading.specs.Judged.{IsJudgedBy}

@@ -2,8 +2,8 @@
 use Rattle.std.specs.Prelude.{◌≡◌, ℕ, Bool, List, [], ◌∷◌, ◌++◌, if◌then◌else◌}
 use Rattle.cap_text.specs.Cap.{VerifyCapValue}
 use Rattle.placement.specs.Matching.{Pair}
-use Rattle.share_opening.specs.Reads.{Brought}
-use Rattle.share_opening.specs.declared.opening.Opening.TheVariants.{Start}
+use Rattle.share_reading.specs.OpeningReads.{Brought}
+use Rattle.share_reading.specs.declared.opening.Opening.TheVariants.{Start}
 use Rattle.share_reading.specs.Judged.{Comes, IsJudgedBy, IsJudgedOn}
 use Rattle.share_reading.specs.Reading.{is_behind}
 use Rattle.share_reading.specs.Reads.{IsReadBy}

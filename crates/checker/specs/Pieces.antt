@@ -1,6 +1,6 @@
 -- The bytes that a check keeps of a share.
 use Rattle.std.specs.Prelude.{◌≡◌, ℕ, Bool, true, List, [], ◌++◌, if◌then◌else◌}
-use Rattle.share_opening.specs.Reads.{Brought}
+use Rattle.share_reading.specs.OpeningReads.{Brought}
 use Rattle.share_reading.specs.Whole.{joined}
 use Rattle.checker.specs.declared.pieces.Pieces.{Pieces}
 

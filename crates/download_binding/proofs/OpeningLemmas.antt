@@ -15,15 +15,15 @@ use Rattle.share_layout.proofs.ShareLemmas.{located_tail}
 use Rattle.share_verify.specs.CapBlock.{geometry_by}
 use Rattle.share_verify.specs.Verify.{IsSoundShare, ReadsAs}
 use Rattle.share_verify.proofs.Passing.{sound_passes}
-use Rattle.share_opening.specs.Blame.{HasAt, HasReads}
-use Rattle.share_opening.specs.Opening.{Agrees, next_length, next_place, text_of}
-use Rattle.share_opening.specs.Reads.{Brought, IsLedToBy}
-use Rattle.share_opening.specs.Refusal.{IsRefused, check_of}
-use Rattle.share_opening.specs.declared.error.OpeningError.{OpeningError}
-use Rattle.share_opening.specs.declared.header.ShareHeader.{ShareHeader}
-use Rattle.share_opening.specs.declared.opening.Opening.{Opening}
-use Rattle.share_opening.specs.declared.opening.Opening.TheVariants.{Start, Second, Header, Block}
-use Rattle.share_opening.proofs.BlameLemmas.{refused_fail}
+use Rattle.share_reading.specs.Blame.{HasAt, HasReads}
+use Rattle.share_reading.specs.Opening.{Agrees, next_length, next_place, text_of}
+use Rattle.share_reading.specs.OpeningReads.{Brought, IsLedToBy}
+use Rattle.share_reading.specs.Refusal.{IsRefused, check_of}
+use Rattle.share_reading.specs.declared.error.OpeningError.{OpeningError}
+use Rattle.share_reading.specs.declared.header.ShareHeader.{ShareHeader}
+use Rattle.share_reading.specs.declared.opening.Opening.{Opening}
+use Rattle.share_reading.specs.declared.opening.Opening.TheVariants.{Start, Second, Header, Block}
+use Rattle.share_reading.proofs.BlameLemmas.{refused_fail}
 use Rattle.download_binding.proofs.OpeningCopies.{Begins, header_begins, known, layout_take, told_length}
 
 -- bytes of a share, as many as were asked for where it has them

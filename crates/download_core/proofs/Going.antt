@@ -23,7 +23,7 @@ use Rattle.share_beginnings.proofs.Caused.{reads_none, reads_trans}
 use Rattle.share_beginnings.proofs.Opened.{goes_none, goes_trans}
 use Rattle.download_segments.specs.declared.piece.Piece.{Piece}
 use Rattle.download_segments.specs.State.{HandoutState}
-use Rattle.share_opening.specs.declared.block.Opened.{Opened}
+use Rattle.share_reading.specs.declared.block.Opened.{Opened}
 use Rattle.download_file.specs.Answers as file
 use Rattle.download_file.specs.Answers.{AnsweredWith, IsRead}
 use Rattle.download_file.specs.Hashed.{IsHashedWith}

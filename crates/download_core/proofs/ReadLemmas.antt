@@ -18,8 +18,8 @@ use Rattle.share_holdings.specs.Table.{IsHolding}
 use Rattle.share_holdings.specs.declared.holding.Blame.{Blame}
 use Rattle.share_holdings.specs.declared.holding.Holding.{Holding}
 use Rattle.share_holdings.proofs.Goes.{gone_stays}
-use Rattle.share_opening.specs.Reads.{IsLedToBy}
-use Rattle.share_opening.specs.declared.opening.Opening.{Opening}
+use Rattle.share_reading.specs.OpeningReads.{IsLedToBy}
+use Rattle.share_reading.specs.declared.opening.Opening.{Opening}
 use Rattle.share_beginnings.specs.Opening.{nobody}
 use Rattle.share_beginnings.specs.Reads.{IsBeginning, IsInBeginning, IsReadAt, brought_of}
 use Rattle.share_beginnings.specs.State.{BeginningsState, IsBegun, unbegun}

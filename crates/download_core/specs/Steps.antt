@@ -1,7 +1,7 @@
 -- How the parts of a download go on.
 use Rattle.std.specs.Prelude.{◌≡◌, ◌≢◌, ℕ, ◌<◌, ◌≤◌, Option, Some, None, List, length, ⊤}
 use Rattle.cap_text.specs.Cap.{VerifyCapValue, verify_cap_of}
-use Rattle.share_opening.specs.declared.opening.Opening.{Opening}
+use Rattle.share_reading.specs.declared.opening.Opening.{Opening}
 use Rattle.request_record.specs.declared.requests.Request.{Request}
 use Rattle.request_record.specs.Record.{outstanding_count}
 use Rattle.share_holdings.specs.Left.{FewAreLeft}

@@ -71,8 +71,9 @@ impl Download {
         if to < from || cap.size() < to {
             return Err(DownloadError::BadRange);
         }
-        Download::begin(alloc, cap, from, to, servers, session, now)
-            .map_err(|_| DownloadError::OutOfMemory)
+        Download::begin(alloc, cap, from, to, servers, session, now).map_err(
+            |_| DownloadError::OutOfMemory,
+        )
     }
 
     fn begin(

@@ -28,7 +28,7 @@ use cap_text::{ReadCap, VerifyCap};
 use download_reading::{Reading, Settled};
 use proved_parts::{Bytes, Evidence, PartList};
 use share_beginnings::{Beginnings, News, bytes_at};
-use share_opening::Opened;
+use share_reading::Opened;
 use std::alloc::{AllocError, Global};
 use wire::message::{Message, NodeId};
 

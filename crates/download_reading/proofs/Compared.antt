@@ -5,7 +5,7 @@ use Rattle.std.proofs.lemmas.Bool.{cases_eq}
 use Rattle.lemmas.proofs.Places.{get_set, get_other, set_cases}
 use Rattle.lemmas.proofs.Options.{one_there}
 use Rattle.request_record.specs.Record.{RequestsState}
-use Rattle.share_opening.specs.declared.opening.Opening.{Opening}
+use Rattle.share_reading.specs.declared.opening.Opening.{Opening}
 use Rattle.share_holdings.specs.State.{HoldingsState}
 use Rattle.share_holdings.specs.Table.{IsHolding}
 use Rattle.share_holdings.specs.declared.holding.Holding.{Holding}

@@ -10,7 +10,7 @@ use Rattle.request_record.specs.declared.requests.Request.{Request}
 use Rattle.request_record.specs.Record.{RequestsState, counts_at, is_outstanding}
 use Rattle.request_record.specs.Asking.{after_message}
 use Rattle.wire.specs.declared.message.Message.{Message}
-use Rattle.share_opening.specs.declared.opening.Opening.{Opening}
+use Rattle.share_reading.specs.declared.opening.Opening.{Opening}
 use Rattle.share_holdings.specs.Moves.{Brings, HearsAt}
 use Rattle.share_holdings.specs.State.{TableState}
 use Rattle.share_holdings.specs.Table.{IsHolding}

@@ -2,7 +2,8 @@
 
 use cap_text::{CapError, ReadCap, VerifyCap};
 use share_layout::{Geometry, Layout, LayoutError};
-use share_opening::{Opened, Opening, OpeningError, Progress};
+use share_reading::opening::Progress;
+use share_reading::{Opened, Opening, OpeningError};
 use share_verify::{Check, ShareFault};
 use std::test::Fail;
 

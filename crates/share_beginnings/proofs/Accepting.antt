@@ -5,8 +5,8 @@ use Rattle.std.proofs.lemmas.List.{length-set}
 use Rattle.lemmas.proofs.Places.{get_set}
 use Rattle.lemmas.proofs.Options.{one_there}
 use Rattle.share_layout.specs.Geometry.{Geometry, IsGeometry}
-use Rattle.share_opening.specs.Opening.{Agrees}
-use Rattle.share_opening.specs.declared.opening.Opening.{Opening}
+use Rattle.share_reading.specs.Opening.{Agrees}
+use Rattle.share_reading.specs.declared.opening.Opening.{Opening}
 use Rattle.share_holdings.specs.Moves.{Blames}
 use Rattle.share_holdings.specs.Right.{IsRight}
 use Rattle.share_holdings.specs.Numbers.{released}

@@ -6,12 +6,12 @@ use Rattle.std.proofs.lemmas.List.{length-set}
 use Rattle.lemmas.proofs.Places.{get_set, get_other, set_cases, get_last}
 use Rattle.lemmas.proofs.Options.{one_there}
 use Rattle.cap_text.specs.Cap.{VerifyCapValue}
-use Rattle.share_opening.specs.Opening.{Advances, next_length, next_place}
-use Rattle.share_opening.specs.Reads.{IsLedToBy}
-use Rattle.share_opening.specs.declared.opening.Opening.{Opening}
-use Rattle.share_opening.specs.declared.opening.Opening.TheVariants.{Start}
-use Rattle.share_opening.specs.declared.opening.Progress.TheVariants.{Next}
-use Rattle.share_opening.proofs.ReadLemmas.{rise}
+use Rattle.share_reading.specs.Opening.{Advances, next_length, next_place}
+use Rattle.share_reading.specs.OpeningReads.{IsLedToBy}
+use Rattle.share_reading.specs.declared.opening.Opening.{Opening}
+use Rattle.share_reading.specs.declared.opening.Opening.TheVariants.{Start}
+use Rattle.share_reading.specs.declared.opening.Progress.TheVariants.{Next}
+use Rattle.share_reading.proofs.ReadLemmas.{rise}
 use Rattle.request_record.specs.declared.requests.Asked.{Asked}
 use Rattle.request_record.specs.declared.requests.Asked.TheVariants.{Holdings, Allocation, Writing, Closing, Reading, Aborting}
 use Rattle.request_record.specs.declared.requests.Request.{Request}

@@ -13,12 +13,12 @@ use Rattle.request_record.specs.declared.requests.Request.{Request}
 use Rattle.request_record.specs.Record.{first_request, is_outstanding}
 use Rattle.share_layout.specs.Geometry.{Geometry}
 use Rattle.share_verify.specs.declared.check.Check.{Check}
-use Rattle.share_opening.specs.Opening.{next_length, next_place}
-use Rattle.share_opening.specs.Reads.{IsLedToBy}
-use Rattle.share_opening.specs.Refusal.{IsRefused, check_of}
-use Rattle.share_opening.specs.declared.error.OpeningError.{OpeningError}
-use Rattle.share_opening.specs.declared.opening.Opening.{Opening}
-use Rattle.share_opening.proofs.ReadLemmas.{lead_on, more_led}
+use Rattle.share_reading.specs.Opening.{next_length, next_place}
+use Rattle.share_reading.specs.OpeningReads.{IsLedToBy}
+use Rattle.share_reading.specs.Refusal.{IsRefused, check_of}
+use Rattle.share_reading.specs.declared.error.OpeningError.{OpeningError}
+use Rattle.share_reading.specs.declared.opening.Opening.{Opening}
+use Rattle.share_reading.proofs.ReadLemmas.{lead_on, more_led}
 use Rattle.share_holdings.specs.Table.{IsHolding, IsTable}
 use Rattle.share_holdings.specs.declared.holding.Blame.{Blame}
 use Rattle.share_holdings.specs.declared.holding.Holding.{Holding}

@@ -6,8 +6,8 @@ use Rattle.std.proofs.lemmas.Option.{slice_get_within}
 use Rattle.lemmas.proofs.Places.{get_set, get_other, set_cases}
 use Rattle.lemmas.proofs.Options.{one_there}
 use Rattle.share_layout.specs.Geometry.{Geometry, IsGeometry}
-use Rattle.share_opening.specs.Opening.{Agrees}
-use Rattle.share_opening.specs.declared.opening.Opening.{Opening}
+use Rattle.share_reading.specs.Opening.{Agrees}
+use Rattle.share_reading.specs.declared.opening.Opening.{Opening}
 use Rattle.request_record.specs.declared.requests.Asked.TheVariants.{Reading}
 use Rattle.request_record.specs.Record.{RequestsState}
 use Rattle.share_holdings.specs.Numbers.{released, without_place}

@@ -15,7 +15,7 @@ use Rattle.request_record.specs.declared.requests.Outcome.TheVariants.{Answered}
 use Rattle.request_record.specs.declared.requests.Request.{Request}
 use Rattle.request_record.specs.Record.{RequestsState, counts_at, is_outstanding}
 use Rattle.request_record.specs.Asking.{after_message}
-use Rattle.share_opening.specs.declared.opening.Opening.{Opening}
+use Rattle.share_reading.specs.declared.opening.Opening.{Opening}
 use Rattle.share_holdings.specs.Left.{IsOffered}
 use Rattle.share_holdings.specs.Moves.{Brings, Hears, HearsAt, Tells, held_by}
 use Rattle.share_holdings.specs.Right.{AreAllHeld, IsRight}

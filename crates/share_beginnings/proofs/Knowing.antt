@@ -5,10 +5,10 @@ use Rattle.std.proofs.lemmas.Bool.{cases_eq}
 use Rattle.std.proofs.lemmas.List.{length-set}
 use Rattle.lemmas.proofs.Places.{get_set, get_other, set_cases}
 use Rattle.lemmas.proofs.Options.{one_there}
-use Rattle.share_opening.specs.Opening.{next_length, next_place}
-use Rattle.share_opening.specs.Reads.{IsLedToBy}
-use Rattle.share_opening.specs.declared.opening.Opening.{Opening}
-use Rattle.share_opening.proofs.ReadLemmas.{more_led}
+use Rattle.share_reading.specs.Opening.{next_length, next_place}
+use Rattle.share_reading.specs.OpeningReads.{IsLedToBy}
+use Rattle.share_reading.specs.declared.opening.Opening.{Opening}
+use Rattle.share_reading.proofs.ReadLemmas.{more_led}
 use Rattle.share_verify.specs.declared.check.Check.{Check}
 use Rattle.request_record.specs.declared.requests.Asked.TheVariants.{Reading}
 use Rattle.request_record.specs.declared.requests.Request.{Request}

@@ -10,16 +10,16 @@ use Rattle.share_layout.specs.Places.{layout_in}
 use Rattle.share_layout.specs.Reading.{HasHeader}
 use Rattle.share_layout.proofs.LawLemmas.{tells_places}
 use Rattle.share_layout.proofs.LayoutLemmas.{length-header}
-use Rattle.share_opening.specs.Header.{IsSecond}
-use Rattle.share_opening.specs.Opening.{Advances, Agrees, next_length, next_place, text_of}
-use Rattle.share_opening.specs.Reads.{end_of}
-use Rattle.share_opening.specs.declared.header.ShareHeader.{ShareHeader}
-use Rattle.share_opening.specs.declared.opening.Opening.{Opening}
-use Rattle.share_opening.specs.declared.opening.Opening.TheVariants.{Start, Second, Header, Block}
-use Rattle.share_opening.specs.declared.opening.Progress.TheVariants.{Next}
-use Rattle.share_opening.proofs.ReadLemmas.{behind, rise}
-use Rattle.share_opening.proofs.BlameLemmas.{layout_take}
-use Rattle.share_opening.proofs.ListLemmas.{header_long}
+use Rattle.share_reading.specs.Header.{IsSecond}
+use Rattle.share_reading.specs.Opening.{Advances, Agrees, next_length, next_place, text_of}
+use Rattle.share_reading.specs.OpeningReads.{end_of}
+use Rattle.share_reading.specs.declared.header.ShareHeader.{ShareHeader}
+use Rattle.share_reading.specs.declared.opening.Opening.{Opening}
+use Rattle.share_reading.specs.declared.opening.Opening.TheVariants.{Start, Second, Header, Block}
+use Rattle.share_reading.specs.declared.opening.Progress.TheVariants.{Next}
+use Rattle.share_reading.proofs.ReadLemmas.{behind, rise}
+use Rattle.share_reading.proofs.BlameLemmas.{layout_take}
+use Rattle.share_reading.proofs.ListLemmas.{header_long}
 use Rattle.share_beginnings.specs.Reads.{IsBeside, IsReadUpTo}
 
 -- the next read is one

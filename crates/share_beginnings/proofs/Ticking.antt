@@ -10,7 +10,7 @@ use Rattle.request_record.specs.declared.requests.Outcome.TheVariants.{Answered,
 use Rattle.request_record.specs.declared.requests.Request.{Request}
 use Rattle.request_record.specs.Record.{RequestsState, is_lost_at, is_outstanding, is_resent_at, resent_one, ticked_one, with_outcome}
 use Rattle.request_record.specs.Asking.{after_tick, lost_by_tick}
-use Rattle.share_opening.specs.declared.opening.Opening.{Opening}
+use Rattle.share_reading.specs.declared.opening.Opening.{Opening}
 use Rattle.share_holdings.specs.Left.{IsOffered}
 use Rattle.share_holdings.specs.Moves.{IsAmong, Ticks}
 use Rattle.share_holdings.specs.Right.{IsRight}

@@ -8,13 +8,13 @@ use Rattle.request_record.specs.declared.requests.Request.{Request}
 use Rattle.share_layout.specs.Geometry.{Geometry}
 use Rattle.share_verify.specs.declared.check.Check.{Check}
 use Rattle.share_verify.specs.declared.check.Check.TheVariants as checks
-use Rattle.share_opening.specs.Opening.{Advances, Agrees, next_length, next_place}
-use Rattle.share_opening.specs.Reads.{IsLedToBy}
-use Rattle.share_opening.specs.Refusal.{IsRefused, check_of}
-use Rattle.share_opening.specs.declared.block.Opened.{Opened}
-use Rattle.share_opening.specs.declared.error.OpeningError.{OpeningError}
-use Rattle.share_opening.specs.declared.opening.Opening.{Opening}
-use Rattle.share_opening.specs.declared.opening.Progress.TheVariants.{Next, Done}
+use Rattle.share_reading.specs.Opening.{Advances, Agrees, next_length, next_place}
+use Rattle.share_reading.specs.OpeningReads.{IsLedToBy}
+use Rattle.share_reading.specs.Refusal.{IsRefused, check_of}
+use Rattle.share_reading.specs.declared.block.Opened.{Opened}
+use Rattle.share_reading.specs.declared.error.OpeningError.{OpeningError}
+use Rattle.share_reading.specs.declared.opening.Opening.{Opening}
+use Rattle.share_reading.specs.declared.opening.Progress.TheVariants.{Next, Done}
 use Rattle.share_holdings.specs.declared.holding.Blame.{Blame}
 use Rattle.share_beginnings.specs.Reads.{brought_of}
 use Rattle.share_beginnings.specs.State.{BeginningsState}

@@ -1,8 +1,8 @@
 -- What is kept of the beginnings of shares is as the record says.
 use Rattle.std.specs.Prelude.{◌≡◌, ℕ, List, Option, Some, None, length}
-use Rattle.share_opening.specs.Opening.{next_length, next_place}
-use Rattle.share_opening.specs.Reads.{IsLedToBy}
-use Rattle.share_opening.specs.declared.opening.Opening.{Opening}
+use Rattle.share_reading.specs.Opening.{next_length, next_place}
+use Rattle.share_reading.specs.OpeningReads.{IsLedToBy}
+use Rattle.share_reading.specs.declared.opening.Opening.{Opening}
 use Rattle.request_record.specs.declared.requests.Request.{Request}
 use Rattle.share_holdings.specs.Right.{AreAllHeld, IsRight}
 use Rattle.share_holdings.specs.Table.{IsHolding}

@@ -4,9 +4,9 @@ use Rattle.std.specs.Prelude.{length, replicate, slice_get, slice_set}
 use Rattle.cap_text.specs.Cap.{VerifyCapValue}
 use Rattle.share_verify.specs.CapBlock.{IsUebFor, geometry_by}
 use Rattle.share_verify.specs.declared.check.Check.{Check}
-use Rattle.share_opening.specs.Opening.{next_length, next_place}
-use Rattle.share_opening.specs.declared.block.Opened.{Opened}
-use Rattle.share_opening.specs.declared.opening.Opening.{Opening}
+use Rattle.share_reading.specs.Opening.{next_length, next_place}
+use Rattle.share_reading.specs.declared.block.Opened.{Opened}
+use Rattle.share_reading.specs.declared.opening.Opening.{Opening}
 use Rattle.wire.specs.declared.message.Body.TheVariants.{Data}
 use Rattle.wire.specs.declared.message.Message.{Message}
 use Rattle.request_record.specs.Record.{asked_all}

@@ -4,10 +4,10 @@ use Rattle.std.specs.Prelude.{Option, Some, None, if◌then◌else◌, length, s
 use Rattle.std.specs.List.{flat_map}
 use Rattle.share_layout.specs.Geometry.{Geometry}
 use Rattle.share_layout.specs.Layout.{header_size, layout_of, places_of}
-use Rattle.share_opening.specs.Opening.{next_length, next_place}
-use Rattle.share_opening.specs.Reads.{Brought, IsLedToBy}
-use Rattle.share_opening.specs.declared.opening.Opening.{Opening}
-use Rattle.share_opening.specs.declared.opening.Opening.TheVariants.{Start, Second, Header, Block}
+use Rattle.share_reading.specs.Opening.{next_length, next_place}
+use Rattle.share_reading.specs.OpeningReads.{Brought, IsLedToBy}
+use Rattle.share_reading.specs.declared.opening.Opening.{Opening}
+use Rattle.share_reading.specs.declared.opening.Opening.TheVariants.{Start, Second, Header, Block}
 use Rattle.wire.specs.declared.message.Body.TheVariants.{Data}
 use Rattle.request_record.specs.Record.{is_outstanding}
 use Rattle.request_record.specs.declared.requests.Asked.{Asked}

@@ -3,7 +3,7 @@
 ghost use Rattle.std.specs.Prelude.{◌≡◌};
 ghost use Rattle.share_beginnings.specs.State.{unbegun};
 
-use share_opening::Opening;
+use share_reading::Opening;
 
 /// How far the beginning of a share at a server is read, and who reads it.
 #[derive(Clone, Copy, PartialEq, Eq)]

@@ -5,8 +5,8 @@ use Rattle.std.proofs.lemmas.Bool.{cases_lt}
 use Rattle.std.proofs.lemmas.List.{get_or-take, get_or-drop, length-append, length-take, length-drop, ext_get_or}
 use Rattle.std.proofs.Math.Seq.{take-append_seam, drop-append_seam}
 use Rattle.lemmas.proofs.Members.{contains_head, contains_tail, contains_cases, contains_none}
-use Rattle.share_opening.specs.Reads.{Brought}
-use Rattle.share_opening.specs.Blame.{HasAt, HasReads}
+use Rattle.share_reading.specs.OpeningReads.{Brought}
+use Rattle.share_reading.specs.Blame.{HasAt, HasReads}
 use Rattle.share_reading.specs.Whole.{AreConsecutive, AreOne, IsWhole, joined}
 
 -- ---- members of a list

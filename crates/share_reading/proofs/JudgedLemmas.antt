@@ -18,16 +18,16 @@ use Rattle.share_verify.specs.Judging.{HasTaken, IsWhole, between_size, share_wi
 use Rattle.share_verify.specs.Verify.{IsFirstFault, IsSoundShare}
 use Rattle.share_verify.specs.declared.fault.ShareFault.{ShareFault}
 use Rattle.share_verify.specs.declared.judging.Judging.{Judging}
-use Rattle.share_opening.specs.Opening as opening
-use Rattle.share_opening.specs.Opening.{text_of}
-use Rattle.share_opening.specs.Reads.{Brought}
-use Rattle.share_opening.specs.declared.block.Opened.{Opened}
-use Rattle.share_opening.specs.declared.block.PendingBlock.{PendingBlock}
-use Rattle.share_opening.specs.declared.header.ShareHeader.{ShareHeader}
-use Rattle.share_opening.specs.declared.opening.Opening.TheVariants.{Start, Second, Header, Block}
-use Rattle.share_opening.specs.declared.opening.Progress.TheVariants as progress
-use Rattle.share_opening.proofs.BlameLemmas.{text_begins}
-use Rattle.share_opening.proofs.ReadLemmas.{length-text_of}
+use Rattle.share_reading.specs.Opening as opening
+use Rattle.share_reading.specs.Opening.{text_of}
+use Rattle.share_reading.specs.OpeningReads.{Brought}
+use Rattle.share_reading.specs.declared.block.Opened.{Opened}
+use Rattle.share_reading.specs.declared.block.PendingBlock.{PendingBlock}
+use Rattle.share_reading.specs.declared.header.ShareHeader.{ShareHeader}
+use Rattle.share_reading.specs.declared.opening.Opening.TheVariants.{Start, Second, Header, Block}
+use Rattle.share_reading.specs.declared.opening.Progress.TheVariants as progress
+use Rattle.share_reading.proofs.BlameLemmas.{text_begins}
+use Rattle.share_reading.proofs.ReadLemmas.{length-text_of}
 use Rattle.share_reading.specs.Reading.{Advances, next_place}
 use Rattle.share_reading.specs.Reads.{HasHeaderBy, IsReadBy, more_back, more_front}
 use Rattle.share_reading.specs.Judged.{GoesOn, HasJudged, HasRest, IsAtEnd, IsVerdictOn}

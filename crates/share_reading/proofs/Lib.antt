@@ -1,3 +1,7 @@
+pub mod ListLemmas
+pub mod RefusalLemmas
+pub mod ReadLemmas
+pub mod BlameLemmas
 pub mod ConsecutiveLemmas
 pub mod ReadingLemmas
 pub mod StopLemmas

@@ -16,18 +16,18 @@ use Rattle.share_verify.specs.CapBlock.{geometry_by}
 use Rattle.share_verify.specs.Checks.{Passes}
 use Rattle.share_verify.specs.declared.check.Check.{Check}
 use Rattle.share_verify.proofs.GeometryOfUeb.{is_geometry}
-use Rattle.share_opening.specs.Opening.{IsOpened, text_of}
-use Rattle.share_opening.specs.Opening as opening
-use Rattle.share_opening.specs.Reads.{Brought, IsLedToBy}
-use Rattle.share_opening.specs.declared.block.Opened.{Opened}
-use Rattle.share_opening.specs.declared.block.PendingBlock.{PendingBlock}
-use Rattle.share_opening.specs.declared.header.ShareHeader.{ShareHeader}
-use Rattle.share_opening.specs.declared.header.HeaderStart.{HeaderStart}
-use Rattle.share_opening.specs.declared.opening.Opening.{Opening}
-use Rattle.share_opening.specs.declared.opening.Opening.TheVariants.{Start, Second, Header, Block}
-use Rattle.share_opening.specs.declared.opening.Progress.TheVariants as progress
-use Rattle.share_opening.proofs.ReadLemmas.{lead_on, rise, behind, more_header, more_led, more_length}
-use Rattle.share_opening.proofs.BlameLemmas.{refused_fail}
+use Rattle.share_reading.specs.Opening.{IsOpened, text_of}
+use Rattle.share_reading.specs.Opening as opening
+use Rattle.share_reading.specs.OpeningReads.{Brought, IsLedToBy}
+use Rattle.share_reading.specs.declared.block.Opened.{Opened}
+use Rattle.share_reading.specs.declared.block.PendingBlock.{PendingBlock}
+use Rattle.share_reading.specs.declared.header.ShareHeader.{ShareHeader}
+use Rattle.share_reading.specs.declared.header.HeaderStart.{HeaderStart}
+use Rattle.share_reading.specs.declared.opening.Opening.{Opening}
+use Rattle.share_reading.specs.declared.opening.Opening.TheVariants.{Start, Second, Header, Block}
+use Rattle.share_reading.specs.declared.opening.Progress.TheVariants as progress
+use Rattle.share_reading.proofs.ReadLemmas.{lead_on, rise, behind, more_header, more_led, more_length}
+use Rattle.share_reading.proofs.BlameLemmas.{refused_fail}
 use Rattle.share_reading.specs.Reading.{next_length, next_place}
 use Rattle.share_reading.specs.Reads.{Ask, AsksNone, End, GoOn, HasHeaderBy, IsAsked, IsOpenedBy, IsReadBy, IsRest, IsRestBy, Stop}
 use Rattle.share_reading.specs.Whole.{AreConsecutive}

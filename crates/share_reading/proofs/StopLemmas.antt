@@ -21,19 +21,19 @@ use Rattle.share_verify.specs.declared.check.Check.TheVariants as checks
 use Rattle.share_verify.specs.declared.fault.ShareFault.{ShareFault}
 use Rattle.share_verify.proofs.Faults.{one_contents}
 use Rattle.share_verify.proofs.UebFaults.{ueb_refusal}
-use Rattle.share_opening.specs.Header.{IsReachable}
-use Rattle.share_opening.specs.Opening.{next_place, text_of}
-use Rattle.share_opening.specs.Reads.{Brought, IsHeaderBy, IsLedToBy}
-use Rattle.share_opening.specs.Refusal.{IsBlockRefusal, IsHeaderRefusal, IsLengthRefusal, IsRefused, check_of}
-use Rattle.share_opening.specs.declared.block.PendingBlock.{PendingBlock}
-use Rattle.share_opening.specs.declared.error.OpeningError.{OpeningError}
-use Rattle.share_opening.specs.declared.error.OpeningError.TheVariants as errors
-use Rattle.share_opening.specs.declared.header.HeaderStart.{HeaderStart}
-use Rattle.share_opening.specs.declared.header.ShareHeader.{ShareHeader}
-use Rattle.share_opening.specs.declared.opening.Opening.{Opening}
-use Rattle.share_opening.specs.declared.opening.Opening.TheVariants.{Start, Second, Header, Block}
-use Rattle.share_opening.proofs.BlameLemmas.{layout_take}
-use Rattle.share_opening.proofs.ReadLemmas.{length-text_of}
+use Rattle.share_reading.specs.Header.{IsReachable}
+use Rattle.share_reading.specs.Opening.{next_place, text_of}
+use Rattle.share_reading.specs.OpeningReads.{Brought, IsHeaderBy, IsLedToBy}
+use Rattle.share_reading.specs.Refusal.{IsBlockRefusal, IsHeaderRefusal, IsLengthRefusal, IsRefused, check_of}
+use Rattle.share_reading.specs.declared.block.PendingBlock.{PendingBlock}
+use Rattle.share_reading.specs.declared.error.OpeningError.{OpeningError}
+use Rattle.share_reading.specs.declared.error.OpeningError.TheVariants as errors
+use Rattle.share_reading.specs.declared.header.HeaderStart.{HeaderStart}
+use Rattle.share_reading.specs.declared.header.ShareHeader.{ShareHeader}
+use Rattle.share_reading.specs.declared.opening.Opening.{Opening}
+use Rattle.share_reading.specs.declared.opening.Opening.TheVariants.{Start, Second, Header, Block}
+use Rattle.share_reading.proofs.BlameLemmas.{layout_take}
+use Rattle.share_reading.proofs.ReadLemmas.{length-text_of}
 use Rattle.share_reading.specs.Reads.{IsOpenedBy}
 
 -- ---- refusals

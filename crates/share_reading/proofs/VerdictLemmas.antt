@@ -15,11 +15,11 @@ use Rattle.share_verify.specs.declared.fault.ShareFault.TheVariants.{Layout, Unu
 use Rattle.share_layout.specs.Share.{Sections}
 use Rattle.ueb.specs.Shape.{Contents}
 use Rattle.share_verify.specs.declared.check.Check.{Check}
-use Rattle.share_opening.specs.Reads.{Brought, IsLedToBy}
-use Rattle.share_opening.specs.Blame.{HasReads}
-use Rattle.share_opening.specs.declared.opening.Opening.{Opening}
-use Rattle.share_opening.specs.declared.opening.Opening.TheVariants.{Start, Second, Header, Block}
-use Rattle.share_opening.proofs.ReadLemmas.{more_led}
+use Rattle.share_reading.specs.OpeningReads.{Brought, IsLedToBy}
+use Rattle.share_reading.specs.Blame.{HasReads}
+use Rattle.share_reading.specs.declared.opening.Opening.{Opening}
+use Rattle.share_reading.specs.declared.opening.Opening.TheVariants.{Start, Second, Header, Block}
+use Rattle.share_reading.proofs.ReadLemmas.{more_led}
 use Rattle.share_reading.specs.Reading.{Advances, IsStop, next_place}
 use Rattle.share_reading.specs.Reads.{IsOpenedBy}
 use Rattle.share_reading.specs.declared.reading.Progress.TheVariants.{Whole}

@@ -6,8 +6,8 @@ use Rattle.share_layout.specs.Layout.{header, layout_of, places_of, spelled}
 use Rattle.share_verify.specs.CapBlock.{IsUebFor, geometry_by}
 use Rattle.share_verify.specs.Judging.{HasTaken, between_size, share_with}
 use Rattle.share_verify.specs.declared.judging.Judging.{Judging}
-use Rattle.share_opening.specs.Reads.{Brought}
-use Rattle.share_opening.specs.declared.opening.Opening.TheVariants.{Start, Second, Header, Block}
+use Rattle.share_reading.specs.OpeningReads.{Brought}
+use Rattle.share_reading.specs.declared.opening.Opening.TheVariants.{Start, Second, Header, Block}
 use Rattle.share_reading.specs.Reading.{Advances, IsStop}
 use Rattle.share_reading.specs.Reads.{IsReadBy, more_back, more_front}
 use Rattle.share_reading.specs.Verdict.{IsJudged}

@@ -1,4 +1,9 @@
 -- what public contracts rest on
+pub mod Header
+pub mod Opening
+pub mod Refusal
+pub mod OpeningReads
+pub mod Blame
 pub mod Reading
 pub mod Whole
 pub mod Reads

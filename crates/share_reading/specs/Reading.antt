@@ -7,12 +7,12 @@ use Rattle.cap_text.specs.Cap.{VerifyCapValue}
 use Rattle.share_layout.specs.Layout.{header_size}
 use Rattle.share_verify.specs.declared.check.Check.{Check}
 use Rattle.share_verify.specs.declared.check.Check.TheVariants.{Layout}
-use Rattle.share_opening.specs.Opening as opening
-use Rattle.share_opening.specs.Refusal.{IsRefused, check_of}
-use Rattle.share_opening.specs.declared.block.Opened.{Opened}
-use Rattle.share_opening.specs.declared.error.OpeningError.{OpeningError}
-use Rattle.share_opening.specs.declared.opening.Opening.TheVariants.{Header, Block}
-use Rattle.share_opening.specs.declared.opening.Progress.TheVariants as progress
+use Rattle.share_reading.specs.Opening as opening
+use Rattle.share_reading.specs.Refusal.{IsRefused, check_of}
+use Rattle.share_reading.specs.declared.block.Opened.{Opened}
+use Rattle.share_reading.specs.declared.error.OpeningError.{OpeningError}
+use Rattle.share_reading.specs.declared.opening.Opening.TheVariants.{Header, Block}
+use Rattle.share_reading.specs.declared.opening.Progress.TheVariants as progress
 use Rattle.share_reading.specs.declared.reading.Reading.{Reading}
 use Rattle.share_reading.specs.declared.reading.Reading.TheVariants.{Beginning, Remaining}
 use Rattle.share_reading.specs.declared.reading.Progress.{Progress}

@@ -9,15 +9,15 @@ use Rattle.share_layout.specs.Layout.{header_size, places_of, width}
 use Rattle.share_verify.specs.CapBlock.{IsUebFor, geometry_by}
 use Rattle.share_verify.specs.Checks.{Passes}
 use Rattle.share_verify.specs.declared.check.Check.{Check}
-use Rattle.share_opening.specs.Blame.{HasAt, HasReads}
-use Rattle.share_opening.specs.Opening as opening
-use Rattle.share_opening.specs.Opening.{text_of}
-use Rattle.share_opening.specs.Reads.{Brought, IsHeaderBy, IsLedToBy, IsLengthBy, IsOpening}
-use Rattle.share_opening.specs.declared.block.Opened.{Opened}
-use Rattle.share_opening.specs.declared.block.PendingBlock.{PendingBlock}
-use Rattle.share_opening.specs.declared.header.ShareHeader.{ShareHeader}
-use Rattle.share_opening.specs.declared.opening.Opening.TheVariants.{Start, Second, Header, Block}
-use Rattle.share_opening.specs.declared.opening.Progress.TheVariants as progress
+use Rattle.share_reading.specs.Blame.{HasAt, HasReads}
+use Rattle.share_reading.specs.Opening as opening
+use Rattle.share_reading.specs.Opening.{text_of}
+use Rattle.share_reading.specs.OpeningReads.{Brought, IsHeaderBy, IsLedToBy, IsLengthBy, IsOpening}
+use Rattle.share_reading.specs.declared.block.Opened.{Opened}
+use Rattle.share_reading.specs.declared.block.PendingBlock.{PendingBlock}
+use Rattle.share_reading.specs.declared.header.ShareHeader.{ShareHeader}
+use Rattle.share_reading.specs.declared.opening.Opening.TheVariants.{Start, Second, Header, Block}
+use Rattle.share_reading.specs.declared.opening.Progress.TheVariants as progress
 use Rattle.share_reading.specs.Reading.{Advances, IsStop, is_behind, next_length}
 use Rattle.share_reading.specs.Reading.{next_place}
 use Rattle.share_reading.specs.Whole.{AreConsecutive, IsWhole, joined}

@@ -7,7 +7,7 @@ use Rattle.share_verify.specs.Checks.{check_of}
 use Rattle.share_verify.specs.Verify.{IsFirstFault, IsSoundShare}
 use Rattle.share_verify.specs.declared.check.Check.{Check}
 use Rattle.share_verify.specs.declared.fault.ShareFault.{ShareFault}
-use Rattle.share_opening.specs.Reads.{Brought}
+use Rattle.share_reading.specs.OpeningReads.{Brought}
 use Rattle.share_reading.specs.Reading.{Advances, IsStop, next_length, next_place}
 use Rattle.share_reading.specs.Reads.{IsReadBy}
 use Rattle.share_reading.specs.Whole.{IsWhole}

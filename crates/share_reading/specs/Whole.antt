@@ -1,8 +1,8 @@
 -- When reads bring all bytes of a share.
 use Rattle.std.specs.Prelude.{◌≡◌, ℕ, ◌+◌, ◌<◌, ◌≤◌, List, [], ◌∷◌, length, Contains}
 use Rattle.std.specs.List.{flat_map}
-use Rattle.share_opening.specs.Reads.{Brought}
-use Rattle.share_opening.specs.Blame.{HasReads}
+use Rattle.share_reading.specs.OpeningReads.{Brought}
+use Rattle.share_reading.specs.Blame.{HasReads}
 
 -- the share has the bytes that the reads brought, each at its place, and no others
 pub record IsWhole (reads : List Brought) (share : List ℕ) : Type 0 where

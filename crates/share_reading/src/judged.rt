@@ -2,8 +2,8 @@
 
 ghost use Rattle.std.specs.Prelude.{◌≡◌, [], IfOk, List, None, OnOk, ℕ};
 ghost use Rattle.cap_text.specs.Cap.{VerifyCapValue};
-ghost use Rattle.share_opening.specs.Reads.{Brought};
-ghost use Rattle.share_opening.specs.declared.opening.Opening.TheVariants as openings;
+ghost use Rattle.share_reading.specs.OpeningReads.{Brought};
+ghost use Rattle.share_reading.specs.declared.opening.Opening.TheVariants as openings;
 ghost use Rattle.share_reading.specs.Judged.{Comes, GoesOn, IsAtEnd, IsJudgedBy, IsJudgedOn};
 ghost use Rattle.share_reading.specs.Judged.{IsUnderway, IsVerdictOn};
 ghost use Rattle.share_reading.specs.Reads.{IsReadBy};

@@ -6,9 +6,10 @@ ghost use Rattle.share_verify.specs.declared.check.Check.{Check};
 ghost use Rattle.share_reading.specs.Reading.{Advances, IsStop};
 ghost use Rattle.share_reading.specs.Reading.{is_behind, next_length, next_place};
 
+use crate::block::Opened;
+use crate::opening::{Opening, Progress as OpeningProgress};
 use crate::rest::Rest;
 use cap_text::VerifyCap;
-use share_opening::{Opened, Opening, Progress as OpeningProgress};
 use share_verify::Check;
 
 /// How far a share is read.

@@ -8,9 +8,9 @@ ghost use Rattle.share_verify.specs.CapBlock.{geometry_by};
 ghost use Rattle.share_verify.specs.declared.check.Check.{Check};
 ghost use Rattle.wire.specs.Limits.{most_data};
 
+use crate::block::Opened;
 use crate::reading::{Progress, Reading};
 use share_layout::Places;
-use share_opening::Opened;
 use share_verify::{Check, geometry_of};
 use ueb::Ueb;
 use wire::message::MAX_PIECE;

@@ -1,7 +1,7 @@
 use Rattle.std.proofs.Common.{[], ◌+◌, ◌∙◌, length, ap, subst, arith}
 use Rattle.std.proofs.lemmas.List.{length-set}
 use Rattle.lemmas.proofs.Places.{get_of}
-use Rattle.share_opening.specs.declared.opening.Opening.TheVariants.{Start}
+use Rattle.share_reading.specs.declared.opening.Opening.TheVariants.{Start}
 use Rattle.share_reading.specs.declared.reading.Reading.TheVariants.{Beginning}
 use Rattle.share_reading.specs.declared.reading.Reading.{Reading}
 use Rattle.checker.specs.Book.{HasAsked}

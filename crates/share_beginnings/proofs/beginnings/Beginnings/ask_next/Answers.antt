@@ -1,7 +1,7 @@
 use Rattle.std.proofs.Common.{rules, ◌<◌, length, Some, subst, ap}
 use Rattle.std.specs.Prelude.{slice_set}
 use Rattle.lemmas.proofs.Places.{got}
-use Rattle.share_opening.specs.Opening.{next_place}
+use Rattle.share_reading.specs.Opening.{next_place}
 use Rattle.share_holdings.specs.Moves.{Asks}
 use Rattle.share_beginnings.specs.Moves.{AsksNext}
 use Rattle.share_beginnings.specs.State.{BeginningsState}

@@ -1,7 +1,7 @@
 use Rattle.std.proofs.Common.{◌≡◌, ◌∙◌, ◌<◌, List, length, get_or, Some, true, false, true≢false, refl, sym, subst, ap}
 use Rattle.std.specs.Prelude.{slice_get}
-use Rattle.share_opening.specs.Opening.{Agrees}
-use Rattle.share_opening.specs.declared.opening.Opening.{Opening}
+use Rattle.share_reading.specs.Opening.{Agrees}
+use Rattle.share_reading.specs.declared.opening.Opening.{Opening}
 use Rattle.share_holdings.specs.State.{HoldingsState}
 use Rattle.share_holdings.specs.declared.holding.Holding.{Holding}
 use Rattle.share_verify.specs.declared.check.Check.TheVariants as checks

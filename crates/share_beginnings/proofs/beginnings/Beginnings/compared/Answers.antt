@@ -1,5 +1,5 @@
 use Rattle.std.proofs.Common.{inl, inr, refl, sym, subst, true≢false}
-use Rattle.share_opening.specs.Opening.{Advances}
+use Rattle.share_reading.specs.Opening.{Advances}
 use Rattle.share_beginnings.proofs.beginnings.Beginnings.compared.Goals as goal
 
 pub returns-else-agrees-clause-fails : goal.returns-else-agrees-clause-fails

@@ -1,8 +1,8 @@
 use Rattle.std.proofs.Common.{◌≡◌, ◌∙◌, ◌+◌, List, OnOk, refl, sym, subst, ap}
 use Rattle.lemmas.proofs.Results.{on_ok_then, by_result}
-use Rattle.share_opening.specs.Opening.{next_length, next_place}
-use Rattle.share_opening.specs.declared.opening.Opening.{Opening}
-use Rattle.share_opening.specs.declared.opening.Opening.TheVariants.{Start}
+use Rattle.share_reading.specs.Opening.{next_length, next_place}
+use Rattle.share_reading.specs.declared.opening.Opening.{Opening}
+use Rattle.share_reading.specs.declared.opening.Opening.TheVariants.{Start}
 use Rattle.share_holdings.specs.Moves.{IsUnasked}
 use Rattle.share_holdings.specs.Numbers.{read_count}
 use Rattle.share_holdings.specs.State.{HoldingsState}

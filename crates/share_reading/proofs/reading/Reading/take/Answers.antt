@@ -2,10 +2,10 @@ use Rattle.std.proofs.Common.{◌≡◌, ◌↔◌, List, ℕ, Result, Err, ap, 
 use Rattle.std.specs.Result.{IfOk}
 use Rattle.cap_text.specs.Cap.{VerifyCapValue}
 use Rattle.share_verify.specs.declared.check.Check.{Check}
-use Rattle.share_opening.specs.Refusal.{IsRefused, check_of}
-use Rattle.share_opening.specs.declared.error.OpeningError.{OpeningError}
-use Rattle.share_opening.specs.declared.opening.Opening.{Opening}
-use Rattle.share_opening.specs.declared.opening.Progress as opening
+use Rattle.share_reading.specs.Refusal.{IsRefused, check_of}
+use Rattle.share_reading.specs.declared.error.OpeningError.{OpeningError}
+use Rattle.share_reading.specs.declared.opening.Opening.{Opening}
+use Rattle.share_reading.specs.declared.opening.Progress as opening
 use Rattle.share_reading.specs.Reading.{Advances, IsStop}
 use Rattle.share_reading.specs.declared.reading.Reading.{Reading}
 use Rattle.share_reading.specs.declared.reading.Progress.{Progress}

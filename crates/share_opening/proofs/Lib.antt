@@ -1,4 +1,0 @@
-pub mod ListLemmas
-pub mod RefusalLemmas
-pub mod ReadLemmas
-pub mod BlameLemmas
