@@ -20,7 +20,7 @@ use Rattle.share_layout.specs.Pieces.{segments_of}
 use Rattle.share_layout.specs.Share.{Sections}
 use Rattle.share_verify.specs.Pieces.{block_hashes}
 use Rattle.share_verify.specs.ShareHashes.{entries_in}
-use Rattle.download_trees.specs.Offers.{numbered, share_hashes_offered}
+use Rattle.download_parts.specs.Offers.{numbered, share_hashes_offered}
 use Rattle.proved_parts.specs.FileOf.{segment_hashes}
 use Rattle.file_encoding.specs.Encoding.{ciphertext_encoding, sections_of, share_hashes, share_leaves, share_of}
 use Rattle.file_encoding.specs.Inputs.{ciphertext_inputs}

@@ -15,7 +15,7 @@ use Rattle.ueb.specs.Shape.{Contents}
 use Rattle.share_layout.specs.Geometry.{Geometry, block_size, segment_count}
 use Rattle.share_layout.specs.Share.{IsShare, Sections}
 use Rattle.share_verify.proofs.SectionLemmas.{length-block_hashes}
-use Rattle.download_trees.specs.Trees.{IsBlockTree, KnowsAllOf, known_leaf, share_places}
+use Rattle.download_parts.specs.Trees.{IsBlockTree, KnowsAllOf, known_leaf, share_places}
 use Rattle.download_file.specs.Changes.{IsSameFile}
 use Rattle.download_file.specs.Right.{IsFile, IsReaderOf}
 use Rattle.download_file.specs.State.{CopyState, FileState, IsReader, ReaderState, copy, copy_of}

@@ -9,7 +9,7 @@ use Rattle.merkle.specs.Tree.{height, needed_numbers, node_number, sibling}
 use Rattle.merkle.proofs.NumberLemmas.{length-needed_numbers, needed_above, needed_left, needed_right}
 use Rattle.share_verify.specs.ShareHashes.{entries_in}
 use Rattle.share_verify.proofs.ChunkLemmas.{length-first_chunks}
-use Rattle.download_trees.specs.Offers.{numbered}
+use Rattle.download_parts.specs.Offers.{numbered}
 use Rattle.download_binding.specs.Siblings.{ShareHashesHaveSiblings}
 use Rattle.download_binding.proofs.NodeLemmas.{ancestor_is, left_is, parent_is, right_is}
 

@@ -15,15 +15,15 @@ use Rattle.share_layout.proofs.ShareLemmas.{parts_of}
 use Rattle.share_verify.specs.TreeSection.{HoldsTree, hashes_in}
 use Rattle.share_verify.proofs.ChunkLemmas.{get_or-first_chunks, length-first_chunks}
 use Rattle.share_verify.proofs.SectionLemmas.{hashes_in_tree}
-use Rattle.download_plan.specs.Laws.{section_end}
-use Rattle.download_plan.specs.Plan.{IsNodePiece, length_of, nodes_of, place_of}
-use Rattle.download_plan.specs.Range.{IsRange}
-use Rattle.download_plan.specs.declared.part.NodePiece.{NodePiece}
-use Rattle.download_plan.specs.declared.part.Nodes.{Nodes}
-use Rattle.download_plan.specs.declared.part.Part.{Part}
-use Rattle.download_plan.specs.declared.part.Part.TheVariants.{ShareHashes, BlockTree, CiphertextTree, Data}
-use Rattle.download_plan.proofs.PartLemmas.{Lie, lie_inside, piece_lies}
-use Rattle.download_trees.specs.Offers.{nodes_offered}
+use Rattle.download_parts.specs.PlanLaws.{section_end}
+use Rattle.download_parts.specs.Plan.{IsNodePiece, length_of, nodes_of, place_of}
+use Rattle.download_parts.specs.Range.{IsRange}
+use Rattle.download_parts.specs.declared.part.NodePiece.{NodePiece}
+use Rattle.download_parts.specs.declared.part.Nodes.{Nodes}
+use Rattle.download_parts.specs.declared.part.Part.{Part}
+use Rattle.download_parts.specs.declared.part.Part.TheVariants.{ShareHashes, BlockTree, CiphertextTree, Data}
+use Rattle.download_parts.proofs.PartLemmas.{Lie, lie_inside, piece_lies}
+use Rattle.download_parts.specs.Offers.{nodes_offered}
 use Rattle.download_binding.specs.OwnParts.{DoGoOn, HoldsLeaves, OwnPartsHaveLengths, OwnPiecesGoOn, own_part}
 use Rattle.download_binding.proofs.PieceSiblings.{offered_what, pieces_have_siblings}
 

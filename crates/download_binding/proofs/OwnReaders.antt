@@ -21,14 +21,14 @@ use Rattle.share_layout.proofs.ShareLemmas.{parts_of}
 use Rattle.share_verify.proofs.SectionLemmas.{get_or-block_hashes, length-block_hashes}
 use Rattle.share_verify.specs.declared.check.Check.{Check}
 use Rattle.share_verify.specs.declared.check.Check.TheVariants as checks
-use Rattle.download_plan.specs.Plan.{IsNodePiece, IsPart, length_of, nodes_of, place_of}
-use Rattle.download_plan.specs.Range.{IsRange}
-use Rattle.download_plan.specs.declared.part.Nodes.{Nodes}
-use Rattle.download_plan.specs.declared.part.Part.{Part}
-use Rattle.download_plan.specs.declared.part.Part.TheVariants.{ShareHashes, BlockTree, CiphertextTree, Data}
-use Rattle.download_trees.specs.Offers.{nodes_offered, share_hashes_offered}
-use Rattle.download_trees.specs.Refusal.{IsHashesRefusal}
-use Rattle.download_trees.specs.Trees.{FileTreesState, IsBlockTree, known_leaf, share_places}
+use Rattle.download_parts.specs.Plan.{IsNodePiece, IsPart, length_of, nodes_of, place_of}
+use Rattle.download_parts.specs.Range.{IsRange}
+use Rattle.download_parts.specs.declared.part.Nodes.{Nodes}
+use Rattle.download_parts.specs.declared.part.Part.{Part}
+use Rattle.download_parts.specs.declared.part.Part.TheVariants.{ShareHashes, BlockTree, CiphertextTree, Data}
+use Rattle.download_parts.specs.Offers.{nodes_offered, share_hashes_offered}
+use Rattle.download_parts.specs.Refusal.{IsHashesRefusal}
+use Rattle.download_parts.specs.Trees.{FileTreesState, IsBlockTree, known_leaf, share_places}
 use Rattle.download_source.specs.Asking.{IsReadOf}
 use Rattle.download_source.specs.Blocks.{block_end, block_first}
 use Rattle.download_source.specs.Source.{IsSource, SourceState, first_of}

@@ -16,12 +16,12 @@ use Rattle.merkle.proofs.StateLemmas.{number_place, number_row}
 use Rattle.share_layout.specs.Geometry.{segment_count}
 use Rattle.share_verify.specs.TreeSection.{hashes_in}
 use Rattle.share_verify.proofs.ChunkLemmas.{length-first_chunks}
-use Rattle.download_plan.specs.Level.{end_node, tree_height}
-use Rattle.download_plan.specs.Level as level
-use Rattle.download_plan.specs.Plan.{nodes_of}
-use Rattle.download_plan.proofs.NumberLemmas.{div_le, piece_begins}
-use Rattle.download_plan.proofs.PartLemmas.{are_groups, piece_lies}
-use Rattle.download_trees.specs.Offers.{offered_nodes}
+use Rattle.download_parts.specs.Level.{end_node, tree_height}
+use Rattle.download_parts.specs.Level as level
+use Rattle.download_parts.specs.Plan.{nodes_of}
+use Rattle.download_parts.proofs.NumberLemmas.{div_le, piece_begins}
+use Rattle.download_parts.proofs.PartLemmas.{are_groups, piece_lies}
+use Rattle.download_parts.specs.Offers.{offered_nodes}
 use Rattle.download_binding.specs.Siblings.{PiecesHaveSiblings}
 use Rattle.download_binding.proofs.NodeLemmas.{ancestor_is, ancestor_more, ancestor_top, left_is, right_is}
 

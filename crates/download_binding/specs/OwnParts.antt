@@ -8,14 +8,14 @@ use Rattle.share_layout.specs.Geometry.{Geometry, segment_count}
 use Rattle.share_layout.specs.Pieces.{block_at}
 use Rattle.share_layout.specs.Share.{IsShare, Sections}
 use Rattle.share_verify.specs.TreeSection.{HoldsTree}
-use Rattle.download_plan.specs.Plan.{IsNodePiece, IsPart, length_of, nodes_of, place_of}
-use Rattle.download_plan.specs.Range.{IsRange}
-use Rattle.download_plan.specs.declared.part.NodePiece.{NodePiece}
-use Rattle.download_plan.specs.declared.part.Part.{Part}
-use Rattle.download_plan.specs.declared.part.Part.TheVariants.{BlockTree, CiphertextTree, Data}
+use Rattle.download_parts.specs.Plan.{IsNodePiece, IsPart, length_of, nodes_of, place_of}
+use Rattle.download_parts.specs.Range.{IsRange}
+use Rattle.download_parts.specs.declared.part.NodePiece.{NodePiece}
+use Rattle.download_parts.specs.declared.part.Part.{Part}
+use Rattle.download_parts.specs.declared.part.Part.TheVariants.{BlockTree, CiphertextTree, Data}
 use Rattle.download_source.specs.Blocks.{block_end, block_first, joined_block}
 use Rattle.download_source.specs.Upper.{KnowsTops}
-use Rattle.download_trees.specs.Offers.{nodes_offered}
+use Rattle.download_parts.specs.Offers.{nodes_offered}
 
 -- the share's own bytes of a part of the plan for the segments `a` to before `b`
 abbrev pub own_part : Geometry → ℕ → ℕ → List ℕ → Part → List ℕ

@@ -10,8 +10,8 @@ use Rattle.share_layout.specs.Share.{IsShare, Sections}
 use Rattle.share_verify.specs.Pieces.{block_hashes, pieces}
 use Rattle.share_verify.specs.TreeSection.{HoldsTree}
 use Rattle.share_verify.specs.declared.check.Check.{Check}
-use Rattle.download_trees.specs.Offers.{share_hashes_offered}
-use Rattle.download_trees.specs.Trees.{share_places}
+use Rattle.download_parts.specs.Offers.{share_hashes_offered}
+use Rattle.download_parts.specs.Trees.{share_places}
 use Rattle.download_segments.specs.State.{HandoutState}
 use Rattle.download_file.specs.Answers.{IsRead}
 use Rattle.download_file.specs.Making.{RefutesReader}

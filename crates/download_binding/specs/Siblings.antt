@@ -4,10 +4,10 @@ use Rattle.merkle.specs.Offers.{AreWithSiblings}
 use Rattle.merkle.specs.Partial.{IsPartial, PartialState}
 use Rattle.merkle.specs.Tree.{height}
 use Rattle.share_layout.specs.Geometry.{Geometry, segment_count}
-use Rattle.download_plan.specs.Plan.{IsNodePiece, nodes_of}
-use Rattle.download_plan.specs.Range.{IsRange}
-use Rattle.download_plan.specs.declared.part.NodePiece.{NodePiece}
-use Rattle.download_trees.specs.Offers.{nodes_offered, share_hashes_offered}
+use Rattle.download_parts.specs.Plan.{IsNodePiece, nodes_of}
+use Rattle.download_parts.specs.Range.{IsRange}
+use Rattle.download_parts.specs.declared.part.NodePiece.{NodePiece}
+use Rattle.download_parts.specs.Offers.{nodes_offered, share_hashes_offered}
 use Rattle.download_source.specs.Upper.{KnowsTops}
 
 -- a law: what the bytes of a piece of a tree offer comes with its siblings, where what proves the

@@ -17,7 +17,7 @@ use Rattle.share_beginnings.specs.Moves.{GoesOn}
 use Rattle.share_beginnings.specs.Reads.{AddsReads, IsInBeginning}
 use Rattle.share_beginnings.specs.State.{BeginningsState}
 use Rattle.share_beginnings.proofs.Caused.{beginning_stays, fault_stays, opening_fault_stays, reads_none}
-use Rattle.download_plan.specs.Plan.{IsPlanned}
+use Rattle.download_parts.specs.Plan.{IsPlanned}
 use Rattle.download_file.specs.Asked.{IsPlannedRead}
 use Rattle.download_file.specs.State.{FileState}
 use Rattle.download_reading.specs.Causes.{HasCause, IsBlockFault}

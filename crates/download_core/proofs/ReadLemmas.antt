@@ -5,9 +5,9 @@ use Rattle.std.proofs.lemmas.Bool.{cases_lt}
 use Rattle.std.proofs.lemmas.Option.{slice_get-get_or, slice_get_within}
 use Rattle.lemmas.proofs.Options.{one_there}
 use Rattle.share_layout.specs.Geometry.{Geometry}
-use Rattle.download_plan.specs.Plan.{IsPlanned}
-use Rattle.download_plan.specs.declared.part.Part.{Part}
-use Rattle.download_plan.specs.declared.part.Part.TheVariants.{ShareHashes, BlockTree, CiphertextTree, Data}
+use Rattle.download_parts.specs.Plan.{IsPlanned}
+use Rattle.download_parts.specs.declared.part.Part.{Part}
+use Rattle.download_parts.specs.declared.part.Part.TheVariants.{ShareHashes, BlockTree, CiphertextTree, Data}
 use Rattle.download_source.specs.Source.{IsSource, SourceState, first_of}
 use Rattle.request_record.specs.declared.requests.Asked.TheVariants.{Holdings, Reading}
 use Rattle.request_record.specs.declared.requests.Request.{Request}

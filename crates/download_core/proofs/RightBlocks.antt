@@ -7,7 +7,7 @@ use Rattle.request_record.specs.declared.requests.Request.{Request}
 use Rattle.share_layout.specs.Geometry.{Geometry, segment_count}
 use Rattle.share_layout.specs.Pieces.{block_length}
 use Rattle.share_verify.specs.CapBlock.{geometry_by}
-use Rattle.download_trees.specs.Trees.{IsBlockTree, LeadTo, known_leaf, share_places}
+use Rattle.download_parts.specs.Trees.{IsBlockTree, LeadTo, known_leaf, share_places}
 use Rattle.download_segments.specs.NoCodeWord.{IsBlockIn}
 use Rattle.download_segments.proofs.LawLemmas.{blocks_lead_in}
 use Rattle.download_file.specs.Answers.{HasRightBlock, IsRead, block_of}

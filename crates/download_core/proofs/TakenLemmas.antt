@@ -15,7 +15,7 @@ use Rattle.download_core.specs.declared.machine.Machine.{Machine}
 use Rattle.download_core.specs.declared.status.DownloadStatus.{DownloadStatus}
 use Rattle.download_core.specs.Ends.{HasNoCodeWord}
 use Rattle.download_core.specs.Given.{IsFileIfFound, IsHead}
-use Rattle.download_plan.specs.Plan.{IsPlanned}
+use Rattle.download_parts.specs.Plan.{IsPlanned}
 use Rattle.share_beginnings.specs.Reads.{IsBeside}
 use Rattle.download_segments.specs.declared.piece.Piece.{Piece}
 use Rattle.download_segments.specs.Handout.{TakesPiece}

@@ -10,7 +10,7 @@ use Rattle.request_record.specs.declared.requests.Asked.TheVariants.{Reading}
 use Rattle.request_record.specs.declared.requests.Request.{Request}
 use Rattle.request_record.specs.Record.{RequestsState}
 use Rattle.share_beginnings.specs.Reads.{AddsReads, IsInBeginning}
-use Rattle.download_plan.specs.Laws.{IsInBlock, LiesIn}
+use Rattle.download_parts.specs.PlanLaws.{IsInBlock, LiesIn}
 use Rattle.download_core.specs.Moves.{GoesOn}
 use Rattle.download_core.specs.Right.{IsRight}
 use Rattle.download_core.specs.State.{DownloadState, Found}

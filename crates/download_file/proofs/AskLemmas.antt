@@ -3,8 +3,8 @@ use Rattle.std.proofs.Common.{◌≡◌, ◌↔◌, ℕ, suc, ◌+◌, ◌<◌, 
 use Rattle.std.specs.Option.{SomeIff}
 use Rattle.std.proofs.lemmas.List.{append_assoc, map-append, take_more, length-take-le}
 use Rattle.std.proofs.lemmas.List.Elements.{All-append, All-weaker, Contains-append_cases, Contains-append_left, Contains-append_right}
-use Rattle.download_plan.specs.declared.part.Part.{Part}
-use Rattle.download_plan.specs.declared.part.Part.TheVariants.{CiphertextTree}
+use Rattle.download_parts.specs.declared.part.Part.{Part}
+use Rattle.download_parts.specs.declared.part.Part.TheVariants.{CiphertextTree}
 use Rattle.download_source.specs.Asking.{AsksNow, IsAsked, IsReadOf, IsWanted, IsWantedCiphertext, OnlyAsks, parts_of}
 use Rattle.download_source.specs.Cursors.{LeadOn}
 use Rattle.download_source.specs.Source.{SourceState, first_of}

@@ -8,11 +8,11 @@ use Rattle.lemmas.proofs.Options.{one_there}
 use Rattle.download_file.proofs.PatienceLemmas.{asks_two}
 use Rattle.lemmas.proofs.Places.{get_set, get_other, set_cases}
 use Rattle.share_layout.specs.Geometry.{Geometry}
-use Rattle.download_plan.specs.Plan.{IsNodePiece}
-use Rattle.download_plan.specs.Range.{IsRange}
-use Rattle.download_plan.specs.declared.part.NodePiece.{NodePiece}
-use Rattle.download_plan.specs.declared.part.Part.{Part}
-use Rattle.download_plan.specs.declared.part.Part.TheVariants.{ShareHashes, BlockTree, CiphertextTree, Data}
+use Rattle.download_parts.specs.Plan.{IsNodePiece}
+use Rattle.download_parts.specs.Range.{IsRange}
+use Rattle.download_parts.specs.declared.part.NodePiece.{NodePiece}
+use Rattle.download_parts.specs.declared.part.Part.{Part}
+use Rattle.download_parts.specs.declared.part.Part.TheVariants.{ShareHashes, BlockTree, CiphertextTree, Data}
 use Rattle.download_source.specs.Asking.{IsAsked, IsReadOf, OnlyAsks}
 use Rattle.download_source.specs.Cursors.{LeadOn, cursor_at}
 use Rattle.download_source.specs.Laws.{KnowsPiece}
@@ -23,7 +23,7 @@ use Rattle.download_source.proofs.SourceLemmas.{gives_source}
 use Rattle.download_segments.specs.Handout.{next_segment}
 use Rattle.download_segments.specs.State.{IsHandout}
 use Rattle.download_segments.proofs.TreeLemmas.{grow_none}
-use Rattle.download_trees.proofs.TreeLemmas.{knows_itself}
+use Rattle.download_parts.proofs.TreeLemmas.{knows_itself}
 use Rattle.download_file.specs.State.{FileState, IsLive, IsReader, ReaderState, copy, copy_of, giver, copies, waiting_at, waiting_in, waiting_parts, without}
 use Rattle.download_file.specs.Answers.{HoldsAnswers, HoldsFor}
 use Rattle.download_file.specs.Asked.{AsksNoMore}

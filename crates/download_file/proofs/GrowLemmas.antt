@@ -17,16 +17,16 @@ use Rattle.download_source.specs.Blocks.{IsHeld, block_end, block_first, joined_
 use Rattle.download_source.proofs.PlanLemmas.{block_order}
 use Rattle.download_source.specs.Source.{SourceState}
 use Rattle.download_source.specs.Taking.{known_hash}
-use Rattle.download_trees.specs.Trees.{KnowsAllOf, known_leaf}
-use Rattle.download_trees.proofs.TreeLemmas.{knows_itself, knows_two, leaf_stays}
+use Rattle.download_parts.specs.Trees.{KnowsAllOf, known_leaf}
+use Rattle.download_parts.proofs.TreeLemmas.{knows_itself, knows_two, leaf_stays}
 use Rattle.download_segments.specs.Decoding.{blocks_in}
 use Rattle.download_segments.specs.Pieces.{IsSlice}
 use Rattle.download_segments.specs.State.{HandoutState, TreesGrow}
 use Rattle.download_segments.specs.declared.piece.Piece.{Piece}
 use Rattle.download_segments.proofs.TreeLemmas.{grow_none, grow_two as grow_trees, proved_stays}
 use Rattle.segment_groups.specs.State.{GroupState}
-use Rattle.download_plan.specs.Plan.{length_of}
-use Rattle.download_plan.specs.declared.part.Part.TheVariants.{Data}
+use Rattle.download_parts.specs.Plan.{length_of}
+use Rattle.download_parts.specs.declared.part.Part.TheVariants.{Data}
 use Rattle.download_file.specs.State.{FileState, ReaderState, numbers_of, share_in}
 use Rattle.download_file.specs.Answers.{AnsweredWith, HasRightBlock, HoldsAnswers, HoldsFor, IsAnswerOf, IsGivenBy, IsMade, IsMadeSegment, IsRead, KeepsAnswers, answer_at, block_in, block_of, blocks_of, bytes_in, bytes_of}
 use Rattle.download_file.specs.Changes.{GoesOn, IsSameFile, ReadersGoOn, StaysGiven, StaysMade, TreeStays}

@@ -18,7 +18,7 @@ use Rattle.share_layout.specs.Pieces.{block_length}
 use Rattle.share_layout.proofs.CutLemmas as cut
 use Rattle.share_verify.specs.CapBlock.{geometry_by}
 use Rattle.proved_parts.specs.Decoding.{DecodesBlocks}
-use Rattle.download_trees.specs.Trees.{IsBlockTree, LeadTo, known_leaf, share_places}
+use Rattle.download_parts.specs.Trees.{IsBlockTree, LeadTo, known_leaf, share_places}
 use Rattle.download_source.specs.Blocks.{IsHeld, IsReady}
 use Rattle.download_source.specs.Taking.{IsProved}
 use Rattle.download_segments.specs.Decoding.{AreShareNumbers, blocks_in}

@@ -7,15 +7,15 @@ use Rattle.lemmas.proofs.Members.{contains_tail, contains_none}
 use Rattle.request_record.specs.declared.requests.Request.{Request}
 use Rattle.ueb.specs.Shape.{Contents}
 use Rattle.share_layout.specs.Geometry.{Geometry, IsGeometry}
-use Rattle.download_plan.proofs.NumberLemmas.{div_le}
-use Rattle.download_plan.specs.declared.part.NodePiece.{NodePiece}
+use Rattle.download_parts.proofs.NumberLemmas.{div_le}
+use Rattle.download_parts.specs.declared.part.NodePiece.{NodePiece}
 use Rattle.download_source.specs.Cursors.{cursor_at}
 use Rattle.download_segments.specs.declared.piece.Piece.{Piece}
 use Rattle.download_segments.specs.Handout.{TakesPiece}
 use Rattle.download_segments.specs.State.{HandoutState, IsHandout, starting_handout}
 use Rattle.download_segments.proofs.HandoutLemmas.{next_is, valid_of}
 use Rattle.download_segments.proofs.TreeLemmas.{grow_none}
-use Rattle.download_trees.proofs.TreeLemmas.{knows_itself}
+use Rattle.download_parts.proofs.TreeLemmas.{knows_itself}
 use Rattle.download_file.specs.State.{FileState, new_file}
 use Rattle.download_file.specs.Answers.{IsRead}
 use Rattle.download_file.specs.Asked.{AsksNoMore}

@@ -3,7 +3,7 @@ use Rattle.std.proofs.Common.{◌≡◌, ◌⊎◌, ◌∙◌, ℕ, ◌+◌, ◌
 use Rattle.std.specs.Prelude.{slice_get}
 use Rattle.request_record.specs.declared.requests.Request.{Request}
 use Rattle.share_layout.specs.Pieces.{block_length}
-use Rattle.download_trees.specs.Trees.{known_leaf}
+use Rattle.download_parts.specs.Trees.{known_leaf}
 use Rattle.download_segments.specs.Handout.{IsRowWanted, handed_out, next_segment}
 use Rattle.download_segments.specs.State.{HandoutState, ProvesSegment}
 use Rattle.download_file.specs.State.{FileState, IsComplete, ReaderState, first_place, waiting_in}

@@ -1,7 +1,7 @@
 -- The segments that a range touches.
 use Rattle.std.proofs.Common.{ℕ, ◌+◌, ◌-◌, ◌/◌, ◌^◌, ◌<◌, ◌≤◌, arith}
 use Rattle.share_layout.specs.Geometry.{Geometry, IsGeometry, segment_count}
-use Rattle.download_plan.proofs.NumberLemmas.{below_ceil}
+use Rattle.download_parts.proofs.NumberLemmas.{below_ceil}
 
 pub few_segments : (g : Geometry) → IsGeometry g → segment_count g ≤ 2 ^ 20
 few_segments g valid = valid.few

@@ -21,7 +21,7 @@ use Rattle.download_segments.proofs.HandoutLemmas.{next_is, next_follows, next_s
 use Rattle.download_segments.proofs.TreeLemmas.{grow_none}
 use Rattle.segment_groups.specs.Making.{MakesSegment}
 use Rattle.segment_groups.specs.State.{GroupState, IsLast, new_group, with_end}
-use Rattle.download_trees.proofs.TreeLemmas.{knows_itself}
+use Rattle.download_parts.proofs.TreeLemmas.{knows_itself}
 use Rattle.download_file.specs.State.{FileState, numbers_of}
 use Rattle.download_file.specs.Answers.{HaveRightBlocks, IsGivenBy, IsMade, IsMadeSegment, IsRead, blocks_of}
 use Rattle.download_file.specs.Changes.{IsSameFile, StaysAskedUp, StaysGiven, StaysMade}

@@ -3,11 +3,11 @@ use Rattle.std.proofs.Common.{◌≡◌, ◌↔◌, ℕ, zero, suc, ◌+◌, ◌
 use Rattle.std.specs.Prelude.{slice_get}
 use Rattle.std.proofs.lemmas.Bool.{false≢true}
 use Rattle.share_layout.specs.Geometry.{Geometry}
-use Rattle.download_plan.specs.Plan.{IsNodePiece, data_pieces, length_of, place_of}
-use Rattle.download_plan.specs.declared.part.NodePiece.{NodePiece}
-use Rattle.download_plan.specs.declared.part.Part.{Part}
-use Rattle.download_plan.specs.declared.part.Part.TheVariants.{ShareHashes, BlockTree, CiphertextTree, Data}
-use Rattle.download_trees.specs.Trees.{KnowsAllOf}
+use Rattle.download_parts.specs.Plan.{IsNodePiece, data_pieces, length_of, place_of}
+use Rattle.download_parts.specs.declared.part.NodePiece.{NodePiece}
+use Rattle.download_parts.specs.declared.part.Part.{Part}
+use Rattle.download_parts.specs.declared.part.Part.TheVariants.{ShareHashes, BlockTree, CiphertextTree, Data}
+use Rattle.download_parts.specs.Trees.{KnowsAllOf}
 use Rattle.download_source.specs.Asking.{IsAsked, IsWanted, IsWantedCiphertext, IsWithin}
 use Rattle.download_source.specs.Cursors.{IsPassed, cursor_at}
 use Rattle.download_source.specs.Source.{IsSource, SourceState, first_of, new_source}

@@ -8,11 +8,11 @@ use Rattle.lemmas.proofs.Options.{one_there}
 use Rattle.lemmas.proofs.Places.{get_set, get_other, set_cases}
 use Rattle.request_record.specs.declared.requests.Request.{Request}
 use Rattle.share_layout.specs.Geometry.{Geometry}
-use Rattle.download_plan.specs.Plan.{IsNodePiece, length_of, place_of}
-use Rattle.download_plan.specs.declared.part.NodePiece.{NodePiece}
-use Rattle.download_plan.specs.declared.part.Part.{Part}
-use Rattle.download_plan.specs.declared.part.Part.TheVariants.{ShareHashes, BlockTree, CiphertextTree, Data}
-use Rattle.download_trees.specs.Trees.{FileTreesState}
+use Rattle.download_parts.specs.Plan.{IsNodePiece, length_of, place_of}
+use Rattle.download_parts.specs.declared.part.NodePiece.{NodePiece}
+use Rattle.download_parts.specs.declared.part.Part.{Part}
+use Rattle.download_parts.specs.declared.part.Part.TheVariants.{ShareHashes, BlockTree, CiphertextTree, Data}
+use Rattle.download_parts.specs.Trees.{FileTreesState}
 use Rattle.download_source.specs.Asking.{IsAsked, IsReadOf}
 use Rattle.download_source.specs.Cursors.{IsNextPiece, LeadOn, cursor_at, passed}
 use Rattle.download_source.specs.Source.{SourceState, first_of}

@@ -3,14 +3,14 @@ use Rattle.std.proofs.Common.{◌≡◌, ℕ, ◌*◌, List, [], ◌∷◌, ◌+
 use Rattle.std.proofs.lemmas.Bool.{false≢true}
 use Rattle.lemmas.proofs.Options.{one_there}
 use Rattle.merkle.specs.Partial.{PartialState, Takes, known_at}
-use Rattle.download_plan.specs.Plan.{length_of, nodes_of}
-use Rattle.download_plan.specs.declared.part.NodePiece.{NodePiece}
-use Rattle.download_plan.specs.declared.part.Part.{Part}
-use Rattle.download_plan.specs.declared.part.Nodes.{Nodes}
-use Rattle.download_plan.specs.declared.part.Part.TheVariants.{ShareHashes, BlockTree, CiphertextTree, Data}
-use Rattle.download_trees.specs.Offers.{nodes_offered}
-use Rattle.download_trees.specs.Trees.{KnowsAllOf, known_leaf}
-use Rattle.download_trees.proofs.TreeLemmas.{knows_taken}
+use Rattle.download_parts.specs.Plan.{length_of, nodes_of}
+use Rattle.download_parts.specs.declared.part.NodePiece.{NodePiece}
+use Rattle.download_parts.specs.declared.part.Part.{Part}
+use Rattle.download_parts.specs.declared.part.Nodes.{Nodes}
+use Rattle.download_parts.specs.declared.part.Part.TheVariants.{ShareHashes, BlockTree, CiphertextTree, Data}
+use Rattle.download_parts.specs.Offers.{nodes_offered}
+use Rattle.download_parts.specs.Trees.{KnowsAllOf, known_leaf}
+use Rattle.download_parts.proofs.TreeLemmas.{knows_taken}
 use Rattle.download_source.specs.Cursors.{passed, piece_passed}
 use Rattle.download_source.specs.Source.{IsSource, SourceState, first_of}
 use Rattle.download_source.specs.Taking.{IsDue, TakesPiece, holds_more, with_taken}

@@ -7,7 +7,7 @@ use Rattle.merkle.specs.Known.{IsKnownInput}
 use Rattle.merkle.specs.Partial.{PartialState}
 use Rattle.share_layout.specs.Geometry.{segment_count}
 use Rattle.share_layout.specs.Pieces.{block_length}
-use Rattle.download_trees.specs.Trees.{KnowsAllOf}
+use Rattle.download_parts.specs.Trees.{KnowsAllOf}
 use Rattle.download_source.specs.Taking.{IsProved}
 use Rattle.download_segments.proofs.HandoutLemmas.{next_within}
 use Rattle.download_file.specs.State.{numbers_of}

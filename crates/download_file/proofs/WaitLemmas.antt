@@ -4,10 +4,10 @@ use Rattle.std.specs.Prelude.{slice_get, nat_lt, if◌then◌else◌}
 use Rattle.std.proofs.lemmas.List.Elements.{All-contains}
 use Rattle.std.proofs.lemmas.Bool.{cases_lt, false≢true, ltb-false}
 use Rattle.share_layout.specs.Geometry.{Geometry, segment_count}
-use Rattle.download_plan.specs.Plan.{IsNodePiece}
-use Rattle.download_plan.specs.declared.part.Part.{Part}
-use Rattle.download_plan.specs.declared.part.Part.TheVariants.{CiphertextTree}
-use Rattle.download_trees.specs.Trees.{LeadTo, known_leaf}
+use Rattle.download_parts.specs.Plan.{IsNodePiece}
+use Rattle.download_parts.specs.declared.part.Part.{Part}
+use Rattle.download_parts.specs.declared.part.Part.TheVariants.{CiphertextTree}
+use Rattle.download_parts.specs.Trees.{LeadTo, known_leaf}
 use Rattle.download_source.specs.Asking.{IsAsked}
 use Rattle.download_source.specs.Blocks.{IsReady}
 use Rattle.download_source.specs.Cursors.{IsPassed, LeadOn, cursor_at}

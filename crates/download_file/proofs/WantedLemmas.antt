@@ -8,10 +8,10 @@ use Rattle.lemmas.proofs.Options.{one_there}
 use Rattle.lemmas.proofs.Places.{get_set, get_other, set_cases}
 use Rattle.lemmas.proofs.Members.{contains_head, contains_tail, contains_map, contains_cases, contains_none}
 use Rattle.share_layout.specs.Geometry.{Geometry}
-use Rattle.download_plan.specs.Laws.{AreApart}
-use Rattle.download_plan.specs.Plan.{IsPlanned, length_of, max_read, place_of}
-use Rattle.download_plan.specs.declared.part.Part.{Part}
-use Rattle.download_plan.specs.declared.part.Part.TheVariants.{ShareHashes, BlockTree, CiphertextTree, Data}
+use Rattle.download_parts.specs.PlanLaws.{AreApart}
+use Rattle.download_parts.specs.Plan.{IsPlanned, length_of, max_read, place_of}
+use Rattle.download_parts.specs.declared.part.Part.{Part}
+use Rattle.download_parts.specs.declared.part.Part.TheVariants.{ShareHashes, BlockTree, CiphertextTree, Data}
 use Rattle.download_source.specs.Asking.{IsAsked, IsReadOf, IsWanted, IsWantedCiphertext, OnlyAsks, parts_of}
 use Rattle.download_source.specs.Cursors.{IsPassed, LeadOn}
 use Rattle.download_source.specs.Source.{IsPartOf, IsSource, SourceState, first_of}
@@ -22,7 +22,7 @@ use Rattle.download_source.proofs.LawLemmas.{lead_append, parts_apart, plans_gro
 use Rattle.download_source.proofs.UpperLemmas.{upper_append}
 use Rattle.download_segments.specs.Handout.{next_segment}
 use Rattle.download_segments.proofs.TreeLemmas.{grow_none}
-use Rattle.download_trees.proofs.TreeLemmas.{knows_itself}
+use Rattle.download_parts.proofs.TreeLemmas.{knows_itself}
 use Rattle.download_file.specs.State.{FileState, IsLive, IsReader, ReaderState, copy, copy_of, giver, placed, copies, waiting_at, waiting_in, waiting_parts}
 use Rattle.download_file.specs.Answers.{HoldsAnswers, HoldsFor}
 use Rattle.download_file.specs.Asked.{AsksParts, HasAsked, IsAskedUp, IsOneOf, IsPlannedRead}

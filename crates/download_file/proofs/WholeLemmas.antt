@@ -21,7 +21,7 @@ use Rattle.share_layout.specs.Pieces.{segment_at, segment_length, segments_of}
 use Rattle.share_layout.proofs.CutLemmas.{piece_at, whole_segments}
 use Rattle.share_verify.specs.CapBlock.{geometry_by}
 use Rattle.proved_parts.specs.FileOf.{segment_hashes}
-use Rattle.download_trees.specs.Trees.{known_leaf}
+use Rattle.download_parts.specs.Trees.{known_leaf}
 use Rattle.download_segments.specs.Decoding.{AreShareNumbers, blocks_in}
 use Rattle.download_segments.specs.Pieces.{AreConsecutive}
 use Rattle.download_segments.specs.declared.piece.Piece.{Piece}

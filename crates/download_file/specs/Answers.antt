@@ -9,8 +9,8 @@ use Rattle.request_record.specs.declared.requests.Outcome.{Outcome}
 use Rattle.request_record.specs.declared.requests.Outcome.TheVariants.{Answered}
 use Rattle.request_record.specs.declared.requests.Request.{Request}
 use Rattle.proved_parts.specs.Decoding.{DecodesBlocks}
-use Rattle.download_plan.specs.Plan.{length_of, place_of}
-use Rattle.download_plan.specs.declared.part.Part.TheVariants as parts
+use Rattle.download_parts.specs.Plan.{length_of, place_of}
+use Rattle.download_parts.specs.declared.part.Part.TheVariants as parts
 use Rattle.download_source.specs.Blocks.{IsReady, block_places, joined_block}
 use Rattle.download_source.specs.Source.{SourceState}
 use Rattle.download_source.specs.Taking.{IsProved}

@@ -1,8 +1,8 @@
 -- What was asked of the readers of a file.
 use Rattle.std.specs.Prelude.{◌≡◌, ◌⊎◌, ◌↔◌, ℕ, ◌<◌, ◌≤◌, List, All, AllPairs, Contains, Some}
-use Rattle.download_plan.specs.Laws.{AreApart}
-use Rattle.download_plan.specs.Plan.{IsPlanned, length_of, max_read, place_of}
-use Rattle.download_plan.specs.declared.part.Part.{Part}
+use Rattle.download_parts.specs.PlanLaws.{AreApart}
+use Rattle.download_parts.specs.Plan.{IsPlanned, length_of, max_read, place_of}
+use Rattle.download_parts.specs.declared.part.Part.{Part}
 use Rattle.download_source.specs.Asking.{IsAsked, IsWanted, IsWantedCiphertext}
 use Rattle.download_source.specs.Source.{first_of}
 use Rattle.download_source.specs.declared.wanted.Wanted.{Wanted}

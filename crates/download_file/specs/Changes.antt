@@ -2,7 +2,7 @@
 use Rattle.std.specs.Prelude.{◌≡◌, ◌≢◌, ◌++◌, ℕ, List, Option, Some, slice_get}
 use Rattle.request_record.specs.declared.requests.Request.{Request}
 use Rattle.merkle.specs.Partial.{PartialState}
-use Rattle.download_trees.specs.Trees.{KnowsAllOf}
+use Rattle.download_parts.specs.Trees.{KnowsAllOf}
 use Rattle.download_source.specs.Source.{SourceState}
 use Rattle.download_segments.specs.State.{TreesGrow, with_trees}
 use Rattle.download_segments.specs.declared.piece.Piece.{Piece}

@@ -5,7 +5,7 @@ use Rattle.request_record.specs.declared.requests.Request.{Request}
 use Rattle.share_layout.specs.Geometry.{Geometry}
 use Rattle.share_layout.specs.Pieces.{block_length}
 use Rattle.merkle.specs.Partial.{PartialState}
-use Rattle.download_trees.specs.Trees.{RefutesBlock, known_leaf}
+use Rattle.download_parts.specs.Trees.{RefutesBlock, known_leaf}
 use Rattle.proved_parts.specs.Decoding.{DecodesBlocks}
 use Rattle.download_source.specs.Blocks.{IsHeld, IsReady}
 use Rattle.download_segments.specs.Decoding.{blocks_in}

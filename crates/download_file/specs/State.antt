@@ -3,7 +3,7 @@ use Rattle.std.specs.Prelude.{◌≡◌, ℕ, ◌+◌, ◌-◌, ◌/◌, List, [
 use Rattle.std.specs.Prelude.{Option, Some, None, slice_get, filter, not, ◌==◌, Contains}
 use Rattle.ueb.specs.Shape.{Contents}
 use Rattle.share_layout.specs.Geometry.{Geometry}
-use Rattle.download_plan.specs.declared.part.Part.{Part}
+use Rattle.download_parts.specs.declared.part.Part.{Part}
 use Rattle.download_source.specs.Source.{SourceState}
 use Rattle.download_source.specs.declared.wanted.Wanted.{Wanted}
 use Rattle.download_segments.specs.State.{HandoutState, starting_handout}

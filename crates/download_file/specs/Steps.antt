@@ -9,11 +9,11 @@ use Rattle.share_layout.specs.Geometry.{Geometry, segment_count}
 use Rattle.share_layout.specs.Pieces.{block_length}
 use Rattle.proved_parts.specs.Parts.{IsSegmentBy}
 use Rattle.proved_parts.specs.declared.evidence.EvidencePart.{EvidencePart}
-use Rattle.download_plan.specs.Plan.{IsNodePiece}
-use Rattle.download_plan.specs.declared.part.NodePiece.{NodePiece}
-use Rattle.download_plan.specs.declared.part.Part.{Part}
-use Rattle.download_plan.specs.declared.part.Part.TheVariants.{CiphertextTree, Data}
-use Rattle.download_trees.specs.Trees.{known_leaf}
+use Rattle.download_parts.specs.Plan.{IsNodePiece}
+use Rattle.download_parts.specs.declared.part.NodePiece.{NodePiece}
+use Rattle.download_parts.specs.declared.part.Part.{Part}
+use Rattle.download_parts.specs.declared.part.Part.TheVariants.{CiphertextTree, Data}
+use Rattle.download_parts.specs.Trees.{known_leaf}
 use Rattle.download_source.specs.Asking.{AsksNow, IsAsked, IsReadOf, IsWanted}
 use Rattle.download_source.specs.Asking.{IsWantedCiphertext}
 use Rattle.download_source.specs.Blocks.{IsHeld, IsReady}

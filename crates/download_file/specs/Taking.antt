@@ -3,12 +3,12 @@ use Rattle.std.specs.Prelude.{◌≡◌, ◌≢◌, ◌⊎◌, ℕ, List, ◌∷
 use Rattle.merkle.specs.Partial.{IsNotConsistent, PartialState}
 use Rattle.share_verify.specs.declared.check.Check.{Check}
 use Rattle.share_verify.specs.declared.check.Check.TheVariants as checks
-use Rattle.download_plan.specs.Plan.{nodes_of}
-use Rattle.download_plan.specs.declared.part.Part.{Part}
-use Rattle.download_plan.specs.declared.part.Part.TheVariants.{ShareHashes, BlockTree}
-use Rattle.download_plan.specs.declared.part.Part.TheVariants.{CiphertextTree, Data}
-use Rattle.download_trees.specs.Offers.{nodes_offered}
-use Rattle.download_trees.specs.Refusal.{IsHashesRefusal}
+use Rattle.download_parts.specs.Plan.{nodes_of}
+use Rattle.download_parts.specs.declared.part.Part.{Part}
+use Rattle.download_parts.specs.declared.part.Part.TheVariants.{ShareHashes, BlockTree}
+use Rattle.download_parts.specs.declared.part.Part.TheVariants.{CiphertextTree, Data}
+use Rattle.download_parts.specs.Offers.{nodes_offered}
+use Rattle.download_parts.specs.Refusal.{IsHashesRefusal}
 use Rattle.download_source.specs.Taking.{RefutesPiece}
 use Rattle.download_source.specs.Upper.{KnowsTops}
 use Rattle.download_segments.specs.State.{HandoutState}

@@ -4,8 +4,8 @@ ghost use Rattle.std.specs.Prelude.{◌≡◌, ◌<◌, ◌≤◌, ◌↔◌, �
 ghost use Rattle.std.specs.Prelude.{Err, IfOk, IfSome, None, OnErr, OnOk, Some, drop, length};
 ghost use Rattle.std.specs.Prelude.{slice_get, slice_set};
 ghost use Rattle.share_layout.specs.Geometry.{segment_count};
-ghost use Rattle.download_plan.specs.Plan.{IsNodePiece, length_of};
-ghost use Rattle.download_trees.specs.Trees.{IsBlockTree};
+ghost use Rattle.download_parts.specs.Plan.{IsNodePiece, length_of};
+ghost use Rattle.download_parts.specs.Trees.{IsBlockTree};
 ghost use Rattle.download_source.specs.Asking.{IsAsked, OnlyAsks};
 ghost use Rattle.download_source.specs.Cursors.{cursor_at};
 ghost use Rattle.download_source.specs.Source.{IsSource, gives_from, new_source};
@@ -15,9 +15,8 @@ ghost use Rattle.download_file.specs.State.{ReaderState, first_place, placed, wi
 ghost use Rattle.download_file.specs.Steps.{Asks, AsksNoTree, CanGive, EndsReader, IsBegun};
 ghost use Rattle.download_file.specs.Steps.{giving};
 
-use download_plan::{NodePiece, Part, Plan};
+use download_parts::{BlockTree, NodePiece, Part, Plan, TreeFault};
 use download_source::{Source, Wanted};
-use download_trees::{BlockTree, TreeFault};
 use share_verify::Check;
 use std::alloc::{AllocError, Global};
 use std::collections::VecDeque;

@@ -5,9 +5,8 @@ ghost use Rattle.download_file.specs.Steps.{IsTaker, TakesPart};
 ghost use Rattle.download_file.specs.Taking.{RefutesPart};
 
 use crate::reader::{Reader, Waiting};
-use download_plan::{NodePiece, Part, Plan};
+use download_parts::{NodePiece, Part, Plan, TreeFault};
 use download_segments::Handout;
-use download_trees::TreeFault;
 use share_verify::Check;
 use std::alloc::Global;
 

@@ -3,7 +3,7 @@
 ghost use Rattle.std.specs.Prelude.{◌≡◌, ◌-◌, ◌/◌, ◌+◌, ◌<◌, ◌≤◌, ◌↔◌, IsTrue};
 ghost use Rattle.download_file.specs.Making.{AreRowsAsked};
 
-use download_plan::Plan;
+use download_parts::Plan;
 use share_layout::Geometry;
 
 /// How many bytes of segments are asked ahead.

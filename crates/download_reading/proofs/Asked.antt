@@ -15,12 +15,12 @@ use Rattle.share_beginnings.specs.Reads.{IsBeside, IsReadAt}
 use Rattle.share_beginnings.specs.State.{BeginningsState, IsBegun}
 use Rattle.share_beginnings.specs.declared.begun.Begun.{Begun}
 use Rattle.share_beginnings.proofs.Asking.{distinct_places, unasked_by}
-use Rattle.download_plan.specs.Laws.{AreApart, section_end, section_start}
-use Rattle.download_plan.specs.Plan.{IsPlanned, length_of, place_of}
-use Rattle.download_plan.specs.Range.{IsRange}
-use Rattle.download_plan.specs.declared.part.Part.{Part}
-use Rattle.download_plan.specs.declared.part.Part.TheVariants.{ShareHashes, BlockTree, CiphertextTree, Data}
-use Rattle.download_plan.proofs.PartLemmas.{lie_inside}
+use Rattle.download_parts.specs.PlanLaws.{AreApart, section_end, section_start}
+use Rattle.download_parts.specs.Plan.{IsPlanned, length_of, place_of}
+use Rattle.download_parts.specs.Range.{IsRange}
+use Rattle.download_parts.specs.declared.part.Part.{Part}
+use Rattle.download_parts.specs.declared.part.Part.TheVariants.{ShareHashes, BlockTree, CiphertextTree, Data}
+use Rattle.download_parts.proofs.PartLemmas.{lie_inside}
 use Rattle.download_source.specs.declared.wanted.Wanted.{Wanted}
 use Rattle.download_file.specs.Asked.{AsksParts, HasAsked, IsOneOf, IsPlannedRead}
 use Rattle.download_file.specs.Changes.{StaysRead}

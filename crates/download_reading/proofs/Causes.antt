@@ -18,8 +18,8 @@ use Rattle.share_beginnings.proofs.Caused.{adds_as, adds_trans}
 use Rattle.share_beginnings.specs.Reads.{IsAnsweredBy}
 use Rattle.share_beginnings.specs.State.{BeginningsState}
 use Rattle.share_layout.specs.Geometry.{Geometry}
-use Rattle.download_plan.specs.Plan.{length_of, place_of}
-use Rattle.download_plan.specs.declared.part.Part.TheVariants.{Data}
+use Rattle.download_parts.specs.Plan.{length_of, place_of}
+use Rattle.download_parts.specs.declared.part.Part.TheVariants.{Data}
 use Rattle.download_file.specs.Answers.{AnswersFirst}
 use Rattle.download_file.specs.Changes.{IsSameFile}
 use Rattle.download_file.specs.Making.{RefutesReader}

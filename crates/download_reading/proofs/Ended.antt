@@ -20,7 +20,7 @@ use Rattle.share_beginnings.specs.State.{BeginningsState}
 use Rattle.share_beginnings.specs.declared.begun.Begun.{Begun}
 use Rattle.share_beginnings.proofs.Caused.{reads_none, reads_trans}
 use Rattle.share_beginnings.proofs.Opened.{goes_none, goes_trans}
-use Rattle.download_plan.specs.Plan.{IsPlanned}
+use Rattle.download_parts.specs.Plan.{IsPlanned}
 use Rattle.download_file.specs.Asked.{AsksNoMore, IsOneOf, IsPlannedRead}
 use Rattle.download_file.specs.Changes.{IsSameFile, StaysRead}
 use Rattle.download_source.specs.declared.wanted.Wanted.{Wanted}

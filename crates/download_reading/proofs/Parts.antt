@@ -21,7 +21,7 @@ use Rattle.share_beginnings.specs.Reads.{IsReadAt}
 use Rattle.share_beginnings.specs.State.{BeginningsState}
 use Rattle.share_beginnings.proofs.Asking.{unasked_by}
 use Rattle.share_beginnings.proofs.Entries.{read_pushed}
-use Rattle.download_plan.specs.Laws.{AreApart}
+use Rattle.download_parts.specs.PlanLaws.{AreApart}
 use Rattle.download_source.specs.declared.wanted.Wanted.{Wanted}
 use Rattle.download_file.specs.Asked.{IsOneOf}
 use Rattle.download_file.specs.State.{placed}

@@ -1,8 +1,8 @@
 //! Parts of a share are asked for, one after another.
 
 ghost use Rattle.std.specs.Prelude.{◌≡◌, ◌<◌, ◌≤◌, All, AllPairs, OnOk, length};
-ghost use Rattle.download_plan.specs.Laws.{AreApart};
-ghost use Rattle.download_plan.specs.Plan.{max_read};
+ghost use Rattle.download_parts.specs.PlanLaws.{AreApart};
+ghost use Rattle.download_parts.specs.Plan.{max_read};
 ghost use Rattle.share_holdings.specs.Moves.{IsUnasked};
 ghost use Rattle.share_beginnings.specs.Known.{AreBegun};
 ghost use Rattle.share_beginnings.specs.Moves.{GoesOn};

@@ -16,7 +16,7 @@ ghost use Rattle.download_reading.specs.Steps.{IsTold, left_count};
 
 use crate::reading::Reading;
 use cap_text::VerifyCap;
-use download_trees::TreeFault;
+use download_parts::TreeFault;
 use share_beginnings::{Beginnings, News, bytes_at};
 use share_verify::Check;
 use std::alloc::AllocError;

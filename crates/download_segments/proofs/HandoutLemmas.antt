@@ -12,7 +12,7 @@ use Rattle.aes_ctr.proofs.StreamLemmas.{length-xored_from}
 use Rattle.merkle.proofs.PaddingLemmas.{lt_from_true}
 use Rattle.share_layout.specs.Geometry.{Geometry, IsGeometry, segment_count}
 use Rattle.share_layout.specs.Pieces.{segment_length}
-use Rattle.download_plan.proofs.NumberLemmas.{below_ceil}
+use Rattle.download_parts.proofs.NumberLemmas.{below_ceil}
 use Rattle.proved_parts.specs.Parts.{IsSegmentBy}
 use Rattle.download_segments.specs.declared.piece.Piece.{Piece}
 use Rattle.download_segments.specs.Pieces.{AreConsecutive, IsGiven, IsSlice}

@@ -15,8 +15,8 @@ use Rattle.share_layout.specs.Pieces.{block_length}
 use Rattle.ueb.specs.Shape.{Contents}
 use Rattle.share_verify.specs.CapBlock.{geometry_by}
 use Rattle.proved_parts.specs.Decoding.{DecodesBlocks}
-use Rattle.download_trees.proofs.TreeLemmas.{height-share_places, leaves_lead}
-use Rattle.download_trees.specs.Trees.{IsBlockTree, LeadTo, ProvesBlock, known_leaf, share_places}
+use Rattle.download_parts.proofs.TreeLemmas.{height-share_places, leaves_lead}
+use Rattle.download_parts.specs.Trees.{IsBlockTree, LeadTo, ProvesBlock, known_leaf, share_places}
 use Rattle.download_segments.specs.Decoding.{AreShareNumbers, blocks_in}
 use Rattle.download_segments.specs.Laws.{BlocksLead, NoCodeWords}
 use Rattle.download_segments.specs.NoCodeWord.{IsAnyInput, IsBlockIn, IsNoCodeWordIn, LeadsIn}

@@ -8,8 +8,8 @@ use Rattle.std.proofs.Math.Nat.{mul-div_cancel, mul-le-mul_right}
 use Rattle.merkle.specs.Partial.{known_siblings}
 use Rattle.share_layout.specs.Geometry.{Geometry, segment_count}
 use Rattle.share_layout.specs.Pieces.{segment_length}
-use Rattle.download_plan.proofs.NumberLemmas.{below_ceil}
-use Rattle.download_trees.specs.Trees.{FileTreesState, known_leaf}
+use Rattle.download_parts.proofs.NumberLemmas.{below_ceil}
+use Rattle.download_parts.specs.Trees.{FileTreesState, known_leaf}
 use Rattle.download_segments.specs.Handout.{IsRowWanted, ProvesRow, first_handed_out, handed_out, next_end, next_segment}
 use Rattle.download_segments.specs.State.{HandoutState, IsHandout, ProvesSegment}
 use Rattle.download_segments.proofs.HandoutLemmas.{next_follows, next_is, next_within, right_handed, valid_of}

@@ -8,8 +8,8 @@ use Rattle.merkle.specs.Path.{LeadsBy}
 use Rattle.share_layout.specs.Geometry.{Geometry, segment_count}
 use Rattle.share_layout.specs.Pieces.{segment_length}
 use Rattle.proved_parts.specs.Parts.{IsSegmentBy}
-use Rattle.download_trees.specs.Trees.{AreTrees, FileTreesState, HaveSameRoots, known_leaf}
-use Rattle.download_trees.proofs.TreeLemmas.{knows_itself, knows_same, knows_taken, knows_two, leaf_stays}
+use Rattle.download_parts.specs.Trees.{AreTrees, FileTreesState, HaveSameRoots, known_leaf}
+use Rattle.download_parts.proofs.TreeLemmas.{knows_itself, knows_same, knows_taken, knows_two, leaf_stays}
 use Rattle.download_segments.specs.Laws.{ProvedSegmentsStay}
 use Rattle.download_segments.specs.State.{HandoutState, IsHandout, ProvesSegment, RefutesSegment, TreesGrow, with_trees}
 

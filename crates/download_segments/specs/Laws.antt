@@ -8,8 +8,8 @@ use Rattle.share_layout.specs.Geometry.{Geometry, IsGeometry, segment_count}
 use Rattle.share_layout.specs.Pieces.{block_length}
 use Rattle.share_verify.specs.CapBlock.{geometry_by}
 use Rattle.proved_parts.specs.Decoding.{DecodesBlocks}
-use Rattle.download_trees.specs.Trees.{FileTreesState, IsBlockTree, LeadTo, ProvesBlock}
-use Rattle.download_trees.specs.Trees.{known_leaf, share_places}
+use Rattle.download_parts.specs.Trees.{FileTreesState, IsBlockTree, LeadTo, ProvesBlock}
+use Rattle.download_parts.specs.Trees.{known_leaf, share_places}
 use Rattle.download_segments.specs.State.{HandoutState, IsHandout, ProvesSegment, RefutesSegment}
 use Rattle.download_segments.specs.State.{TreesGrow}
 use Rattle.download_segments.specs.Handout.{handed_out, next_end, next_segment}

@@ -6,8 +6,8 @@ use Rattle.ueb.specs.Shape.{Contents}
 use Rattle.share_layout.specs.Geometry.{Geometry}
 use Rattle.share_layout.specs.Pieces.{segment_length}
 use Rattle.share_verify.specs.CapBlock.{geometry_by}
-use Rattle.download_trees.specs.Trees.{AreTrees, FileTreesState, HaveSameRoots, KnowsAllOf}
-use Rattle.download_trees.specs.Trees.{known_leaf, starting_trees}
+use Rattle.download_parts.specs.Trees.{AreTrees, FileTreesState, HaveSameRoots, KnowsAllOf}
+use Rattle.download_parts.specs.Trees.{known_leaf, starting_trees}
 use Rattle.download_segments.specs.declared.piece.Piece.{Piece}
 use Rattle.download_segments.specs.Pieces.{AreConsecutive, IsGiven}
 

@@ -3,12 +3,12 @@ use Rattle.std.proofs.Common.{◌≡◌, ◌⊎◌, ◌↔◌, ℕ, ◌+◌, ◌
 use Rattle.std.specs.Prelude.{Contains}
 use Rattle.std.proofs.lemmas.Bool.{cases_lt}
 use Rattle.share_layout.specs.Geometry.{Geometry}
-use Rattle.download_plan.specs.Level.{level_count, tree_height}
-use Rattle.download_plan.specs.Plan.{IsNodePiece, data_pieces}
-use Rattle.download_plan.specs.declared.part.NodePiece.{NodePiece}
-use Rattle.download_plan.specs.declared.part.Nodes.{Nodes}
-use Rattle.download_plan.specs.declared.part.Part.{Part}
-use Rattle.download_plan.specs.declared.part.Part.TheVariants.{ShareHashes, BlockTree, CiphertextTree, Data}
+use Rattle.download_parts.specs.Level.{level_count, tree_height}
+use Rattle.download_parts.specs.Plan.{IsNodePiece, data_pieces}
+use Rattle.download_parts.specs.declared.part.NodePiece.{NodePiece}
+use Rattle.download_parts.specs.declared.part.Nodes.{Nodes}
+use Rattle.download_parts.specs.declared.part.Part.{Part}
+use Rattle.download_parts.specs.declared.part.Part.TheVariants.{ShareHashes, BlockTree, CiphertextTree, Data}
 use Rattle.download_source.specs.Asking.{AsksNow, IsAsked, IsWanted, IsWantedCiphertext, IsWithin, parts_of}
 use Rattle.download_source.specs.Batch.{AreRaised, IsCiphertextUpTo, IsStep}
 use Rattle.download_source.specs.Cursors.{IsPassed, cursor_at}

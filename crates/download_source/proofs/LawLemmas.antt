@@ -12,15 +12,15 @@ use Rattle.merkle.proofs.HeightLemmas.{height_room}
 use Rattle.share_layout.specs.Geometry.{Geometry, IsGeometry, block_size, segment_count}
 use Rattle.share_layout.specs.Layout.{places_of}
 use Rattle.share_layout.specs.Pieces.{block_length}
-use Rattle.download_plan.specs.Laws.{AreApart, LiesIn, section_end, section_start}
-use Rattle.download_plan.specs.Level.{IsAbove, first_node, level_at, level_count, row_of, tree_height}
-use Rattle.download_plan.specs.Plan.{IsAmong, IsNodePiece, IsPart, block_place, data_end, data_place, length_of, max_nodes, nodes_of, place_of}
-use Rattle.download_plan.specs.Range.{IsRange}
-use Rattle.download_plan.specs.declared.part.NodePiece.{NodePiece}
-use Rattle.download_plan.specs.declared.part.Part.{Part}
-use Rattle.download_plan.specs.declared.part.Part.TheVariants.{ShareHashes, BlockTree, CiphertextTree, Data}
-use Rattle.download_plan.proofs.PartLemmas.{above_holds, above_there, are_apart, block_within, data_before, data_begins, data_more, data_rest, data_rise, data_rises, lie_inside}
-use Rattle.download_trees.specs.Trees.{IsBlockTree}
+use Rattle.download_parts.specs.PlanLaws.{AreApart, LiesIn, section_end, section_start}
+use Rattle.download_parts.specs.Level.{IsAbove, first_node, level_at, level_count, row_of, tree_height}
+use Rattle.download_parts.specs.Plan.{IsAmong, IsNodePiece, IsPart, block_place, data_end, data_place, length_of, max_nodes, nodes_of, place_of}
+use Rattle.download_parts.specs.Range.{IsRange}
+use Rattle.download_parts.specs.declared.part.NodePiece.{NodePiece}
+use Rattle.download_parts.specs.declared.part.Part.{Part}
+use Rattle.download_parts.specs.declared.part.Part.TheVariants.{ShareHashes, BlockTree, CiphertextTree, Data}
+use Rattle.download_parts.proofs.PartLemmas.{above_holds, above_there, are_apart, block_within, data_before, data_begins, data_more, data_rest, data_rise, data_rises, lie_inside}
+use Rattle.download_parts.specs.Trees.{IsBlockTree}
 use Rattle.download_source.specs.Asking.{IsAsked}
 use Rattle.download_source.specs.Blocks.{block_end, block_first, block_offset}
 use Rattle.download_source.specs.Laws.{FirstIsDue, JoinedHasLength, KnowsPiece, LeadOnGiving, LeadOnTogether, LeavesAreKnown, LongerPlansHoldMore, SourcePartsAreApart, TakenIsReady, TakenNodesAreKnown}

@@ -6,9 +6,9 @@ use Rattle.std.proofs.lemmas.Grind.{get_or-set_at}
 use Rattle.std.proofs.lemmas.List.{get_or-set_other, length-set, map-append, set-get_or, set-set}
 use Rattle.std.proofs.lemmas.List.Elements.{All-push}
 use Rattle.share_layout.specs.Geometry.{Geometry}
-use Rattle.download_plan.specs.Level.{level_at}
-use Rattle.download_plan.specs.Plan.{IsNodePiece, IsPart, pieces_of}
-use Rattle.download_plan.specs.declared.part.Part.{Part}
+use Rattle.download_parts.specs.Level.{level_at}
+use Rattle.download_parts.specs.Plan.{IsNodePiece, IsPart, pieces_of}
+use Rattle.download_parts.specs.declared.part.Part.{Part}
 use Rattle.download_source.specs.Asking.{IsReadBy, parts_of}
 use Rattle.download_source.specs.Batch.{AreRaised, BatchState, IsBatch, IsMore, IsOpen, levels_of, part_of, raised, with_levels}
 use Rattle.download_source.specs.Cursors.{IsNext, LeadOn, cursor_at, index_of, passed}

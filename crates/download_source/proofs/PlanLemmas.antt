@@ -6,14 +6,14 @@ use Rattle.std.proofs.lemmas.Bool.{cases_lt}
 use Rattle.std.proofs.lemmas.Nat.{pow_pos}
 use Rattle.lemmas.proofs.Numbers.{div_ceil_le}
 use Rattle.share_layout.specs.Geometry.{Geometry, block_size, segment_count}
-use Rattle.download_plan.proofs.PartLemmas.{pieces_grow, pieces_step}
-use Rattle.download_plan.specs.Level.{end_node, group_size, leaves_below, level_at, row_of, tree_height}
-use Rattle.download_plan.specs.Plan.{IsNodePiece, IsPart, block_place, data_end, data_pieces, max_nodes, piece_at, pieces_of}
+use Rattle.download_parts.proofs.PartLemmas.{pieces_grow, pieces_step}
+use Rattle.download_parts.specs.Level.{end_node, group_size, leaves_below, level_at, row_of, tree_height}
+use Rattle.download_parts.specs.Plan.{IsNodePiece, IsPart, block_place, data_end, data_pieces, max_nodes, piece_at, pieces_of}
 use Rattle.share_layout.specs.Pieces.{block_length}
 use Rattle.download_source.specs.Blocks.{block_end, block_first}
-use Rattle.download_plan.specs.declared.part.NodePiece.{NodePiece}
-use Rattle.download_plan.specs.declared.part.Part.{Part}
-use Rattle.download_plan.specs.declared.part.Part.TheVariants.{ShareHashes, BlockTree, CiphertextTree, Data}
+use Rattle.download_parts.specs.declared.part.NodePiece.{NodePiece}
+use Rattle.download_parts.specs.declared.part.Part.{Part}
+use Rattle.download_parts.specs.declared.part.Part.TheVariants.{ShareHashes, BlockTree, CiphertextTree, Data}
 
 pub end_grows : (m row b c count : ℕ) → b ≤ c → end_node m row b count ≤ end_node m row c count
 unfolding end_node

@@ -4,10 +4,10 @@ use Rattle.std.specs.Prelude.{All, Contains}
 use Rattle.std.proofs.lemmas.List.{get_or-map, length-map}
 use Rattle.std.proofs.lemmas.List.Elements.{Contains-get_or}
 use Rattle.share_layout.specs.Geometry.{Geometry}
-use Rattle.download_plan.specs.Level.{level_count, tree_height}
-use Rattle.download_plan.specs.Plan.{data_pieces}
-use Rattle.download_plan.specs.declared.part.Part.{Part}
-use Rattle.download_plan.specs.declared.part.Part.TheVariants.{ShareHashes, BlockTree, CiphertextTree, Data}
+use Rattle.download_parts.specs.Level.{level_count, tree_height}
+use Rattle.download_parts.specs.Plan.{data_pieces}
+use Rattle.download_parts.specs.declared.part.Part.{Part}
+use Rattle.download_parts.specs.declared.part.Part.TheVariants.{ShareHashes, BlockTree, CiphertextTree, Data}
 use Rattle.download_source.specs.Asking.{AsksNow, IsAsked, IsReadBy, IsReadOf, IsWanted, IsWantedCiphertext, IsWithin, parts_of}
 use Rattle.download_source.specs.Batch.{AreRaised, BatchState, IsBatch, IsCiphertextUpTo, IsStep, with_levels}
 use Rattle.download_source.specs.Cursors.{IsPassed, LeadOn, cursor_at}

@@ -9,13 +9,13 @@ use Rattle.merkle.specs.Tree.{node_number}
 use Rattle.share_layout.specs.Geometry.{segment_count}
 use Rattle.share_verify.specs.TreeSection.{hashes_in}
 use Rattle.share_verify.proofs.ChunkLemmas.{length-first_chunks}
-use Rattle.download_plan.specs.Plan.{IsAmong, nodes_of}
-use Rattle.download_plan.specs.declared.part.NodePiece.{NodePiece}
-use Rattle.download_plan.specs.declared.part.Nodes.{Nodes}
-use Rattle.download_plan.specs.declared.part.Part.{Part}
-use Rattle.download_plan.specs.declared.part.Part.TheVariants.{ShareHashes, BlockTree, CiphertextTree, Data}
-use Rattle.download_trees.specs.Offers.{nodes_offered, offered_nodes}
-use Rattle.download_trees.specs.Trees.{IsBlockTree}
+use Rattle.download_parts.specs.Plan.{IsAmong, nodes_of}
+use Rattle.download_parts.specs.declared.part.NodePiece.{NodePiece}
+use Rattle.download_parts.specs.declared.part.Nodes.{Nodes}
+use Rattle.download_parts.specs.declared.part.Part.{Part}
+use Rattle.download_parts.specs.declared.part.Part.TheVariants.{ShareHashes, BlockTree, CiphertextTree, Data}
+use Rattle.download_parts.specs.Offers.{nodes_offered, offered_nodes}
+use Rattle.download_parts.specs.Trees.{IsBlockTree}
 use Rattle.download_source.specs.Cursors.{IsPassed, cursor_at, passed}
 use Rattle.download_source.specs.Source.{IsPartOf, IsSource, KnowsNodes, SourceState}
 use Rattle.download_source.specs.Taking.{IsDue, with_taken}

@@ -9,15 +9,15 @@ use Rattle.lemmas.proofs.Options.{one_there}
 use Rattle.merkle.specs.Partial.{PartialState, known_at}
 use Rattle.merkle.specs.Tree.{node_number}
 use Rattle.share_layout.specs.Geometry.{Geometry, segment_count}
-use Rattle.download_plan.specs.Laws.{piece_over}
-use Rattle.download_plan.specs.Level.{level_count, row_of, tree_height}
-use Rattle.download_plan.specs.Plan.{IsAmong, IsNodePiece, nodes_of}
-use Rattle.download_plan.specs.Range.{IsRange}
-use Rattle.download_plan.specs.declared.part.NodePiece.{NodePiece}
-use Rattle.download_plan.specs.declared.part.Part.{Part}
-use Rattle.download_plan.specs.declared.part.Part.TheVariants.{ShareHashes, BlockTree, CiphertextTree, Data}
-use Rattle.download_plan.proofs.PartLemmas.{piece_lies, under_pieces}
-use Rattle.download_trees.specs.Trees.{IsBlockTree}
+use Rattle.download_parts.specs.PlanLaws.{piece_over}
+use Rattle.download_parts.specs.Level.{level_count, row_of, tree_height}
+use Rattle.download_parts.specs.Plan.{IsAmong, IsNodePiece, nodes_of}
+use Rattle.download_parts.specs.Range.{IsRange}
+use Rattle.download_parts.specs.declared.part.NodePiece.{NodePiece}
+use Rattle.download_parts.specs.declared.part.Part.{Part}
+use Rattle.download_parts.specs.declared.part.Part.TheVariants.{ShareHashes, BlockTree, CiphertextTree, Data}
+use Rattle.download_parts.proofs.PartLemmas.{piece_lies, under_pieces}
+use Rattle.download_parts.specs.Trees.{IsBlockTree}
 use Rattle.download_source.specs.Batch.{AreRaised, levels_of, part_of, with_levels}
 use Rattle.download_source.specs.Cursors.{LeadOn, cursor_at, passed}
 use Rattle.download_source.specs.Laws.{DueIsProved, OverProves, UpperFirstGiving, UpperFirstTogether}

@@ -2,9 +2,9 @@
 use Rattle.std.specs.Prelude.{◌≡◌, ◌≢◌, ◌⊎◌, ◌↔◌, ℕ, ◌+◌, ◌<◌, ◌≤◌, List, map, All, AllPairs}
 use Rattle.std.specs.Prelude.{Contains}
 use Rattle.share_layout.specs.Geometry.{Geometry}
-use Rattle.download_plan.specs.Plan.{IsNodePiece, IsPart, length_of, max_read, place_of}
-use Rattle.download_plan.specs.declared.part.Part.{Part}
-use Rattle.download_plan.specs.declared.part.Part.TheVariants.{CiphertextTree}
+use Rattle.download_parts.specs.Plan.{IsNodePiece, IsPart, length_of, max_read, place_of}
+use Rattle.download_parts.specs.declared.part.Part.{Part}
+use Rattle.download_parts.specs.declared.part.Part.TheVariants.{CiphertextTree}
 use Rattle.download_source.specs.Cursors.{IsPassed, LeadOn, cursor_at}
 use Rattle.download_source.specs.Source.{SourceState, first_of}
 use Rattle.download_source.specs.Upper.{UpperComeFirst}

@@ -2,10 +2,10 @@
 use Rattle.std.specs.Prelude.{◌≡◌, ℕ, ◌+◌, ◌<◌, ◌≤◌, List, max, length, slice_set, All}
 use Rattle.std.specs.Prelude.{true}
 use Rattle.share_layout.specs.Geometry.{Geometry}
-use Rattle.download_plan.specs.Level.{level_at}
-use Rattle.download_plan.specs.Plan.{IsNodePiece, pieces_of}
-use Rattle.download_plan.specs.declared.part.Part.{Part}
-use Rattle.download_plan.specs.declared.part.Part.TheVariants.{BlockTree, CiphertextTree}
+use Rattle.download_parts.specs.Level.{level_at}
+use Rattle.download_parts.specs.Plan.{IsNodePiece, pieces_of}
+use Rattle.download_parts.specs.declared.part.Part.{Part}
+use Rattle.download_parts.specs.declared.part.Part.TheVariants.{BlockTree, CiphertextTree}
 use Rattle.download_source.specs.Cursors.{LeadOn, cursor_at}
 use Rattle.download_source.specs.Asking.{IsReadBy, IsReadOf, parts_of}
 use Rattle.download_source.specs.Source.{HaveLevels, SourceState, first_of}

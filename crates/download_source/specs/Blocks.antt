@@ -4,7 +4,7 @@ use Rattle.std.specs.Prelude.{drop, take, true}
 use Rattle.std.specs.List.{concat}
 use Rattle.share_layout.specs.Geometry.{Geometry}
 use Rattle.share_layout.specs.Pieces.{block_length}
-use Rattle.download_plan.specs.Plan.{block_place, offset_at, piece_at}
+use Rattle.download_parts.specs.Plan.{block_place, offset_at, piece_at}
 use Rattle.download_source.specs.Asking.{IsWithin}
 use Rattle.download_source.specs.Source.{SourceState}
 use Rattle.download_source.specs.Taking.{known_hash}

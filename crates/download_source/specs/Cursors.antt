@@ -2,10 +2,10 @@
 -- the cursor are passed.
 use Rattle.std.specs.Prelude.{◌≡◌, ℕ, ◌+◌, ◌<◌, List, [], ◌∷◌, length, slice_index_or}
 use Rattle.std.specs.Prelude.{slice_set, true, false}
-use Rattle.download_plan.specs.declared.part.NodePiece.{NodePiece}
-use Rattle.download_plan.specs.declared.part.Part.{Part}
-use Rattle.download_plan.specs.declared.part.Part.TheVariants.{ShareHashes, BlockTree}
-use Rattle.download_plan.specs.declared.part.Part.TheVariants.{CiphertextTree, Data}
+use Rattle.download_parts.specs.declared.part.NodePiece.{NodePiece}
+use Rattle.download_parts.specs.declared.part.Part.{Part}
+use Rattle.download_parts.specs.declared.part.Part.TheVariants.{ShareHashes, BlockTree}
+use Rattle.download_parts.specs.declared.part.Part.TheVariants.{CiphertextTree, Data}
 use Rattle.download_source.specs.declared.cursors.Cursors.{Cursors}
 
 -- no part is passed

@@ -5,16 +5,16 @@ use Rattle.merkle.specs.Partial.{IsPartial, PartialState, Takes, known_at}
 use Rattle.merkle.specs.Tree.{node_number}
 use Rattle.share_layout.specs.Geometry.{Geometry, segment_count}
 use Rattle.share_layout.specs.Pieces.{block_length}
-use Rattle.download_plan.specs.Laws.{AreApart, piece_over}
-use Rattle.download_plan.specs.Plan.{IsAmong, IsNodePiece, IsPart, length_of, nodes_of}
-use Rattle.download_plan.specs.Plan.{place_of}
-use Rattle.download_plan.specs.Range.{IsRange}
-use Rattle.download_plan.specs.declared.part.NodePiece.{NodePiece}
-use Rattle.download_plan.specs.declared.part.Nodes.{Nodes}
-use Rattle.download_plan.specs.declared.part.Part.{Part}
-use Rattle.download_plan.specs.declared.part.Part.TheVariants.{BlockTree, CiphertextTree, Data}
-use Rattle.download_trees.specs.Offers.{nodes_offered}
-use Rattle.download_trees.specs.Trees.{LeadTo, known_leaf}
+use Rattle.download_parts.specs.PlanLaws.{AreApart, piece_over}
+use Rattle.download_parts.specs.Plan.{IsAmong, IsNodePiece, IsPart, length_of, nodes_of}
+use Rattle.download_parts.specs.Plan.{place_of}
+use Rattle.download_parts.specs.Range.{IsRange}
+use Rattle.download_parts.specs.declared.part.NodePiece.{NodePiece}
+use Rattle.download_parts.specs.declared.part.Nodes.{Nodes}
+use Rattle.download_parts.specs.declared.part.Part.{Part}
+use Rattle.download_parts.specs.declared.part.Part.TheVariants.{BlockTree, CiphertextTree, Data}
+use Rattle.download_parts.specs.Offers.{nodes_offered}
+use Rattle.download_parts.specs.Trees.{LeadTo, known_leaf}
 use Rattle.download_source.specs.Asking.{IsAsked, IsWanted, IsWithin}
 use Rattle.download_source.specs.Blocks.{IsReady, block_end, block_first, joined_block}
 use Rattle.download_source.specs.Cursors.{IsPassed, LeadOn}

@@ -4,13 +4,13 @@ use Rattle.std.specs.Prelude.{IfSome, true}
 use Rattle.merkle.specs.Partial.{PartialState, known_at}
 use Rattle.merkle.specs.Tree.{node_number}
 use Rattle.share_layout.specs.Geometry.{Geometry, segment_count}
-use Rattle.download_plan.specs.Plan.{IsAmong, IsPart, nodes_of}
-use Rattle.download_plan.specs.Range.{IsRange}
-use Rattle.download_plan.specs.declared.part.NodePiece.{NodePiece}
-use Rattle.download_plan.specs.declared.part.Nodes.{Nodes}
-use Rattle.download_plan.specs.declared.part.Part.{Part}
-use Rattle.download_plan.specs.declared.part.Part.TheVariants.{BlockTree, CiphertextTree}
-use Rattle.download_trees.specs.Trees.{IsBlockTree}
+use Rattle.download_parts.specs.Plan.{IsAmong, IsPart, nodes_of}
+use Rattle.download_parts.specs.Range.{IsRange}
+use Rattle.download_parts.specs.declared.part.NodePiece.{NodePiece}
+use Rattle.download_parts.specs.declared.part.Nodes.{Nodes}
+use Rattle.download_parts.specs.declared.part.Part.{Part}
+use Rattle.download_parts.specs.declared.part.Part.TheVariants.{BlockTree, CiphertextTree}
+use Rattle.download_parts.specs.Trees.{IsBlockTree}
 use Rattle.download_source.specs.Cursors.{IsPassed, cursor_at, no_parts}
 use Rattle.download_source.specs.declared.cursors.Cursors.{Cursors}
 

@@ -3,12 +3,12 @@ use Rattle.std.specs.Prelude.{◌≡◌, ℕ, List, [], ◌∷◌, ◌++◌, Opt
 use Rattle.tagged_hash.specs.TaggedHash.{tagged_hash}
 use Rattle.tagged_hash.specs.declared.tag.Tag.TheVariants.{Block}
 use Rattle.merkle.specs.Partial.{IsNotConsistent, PartialState, Takes}
-use Rattle.download_plan.specs.Plan.{nodes_of}
-use Rattle.download_plan.specs.declared.part.NodePiece.{NodePiece}
-use Rattle.download_plan.specs.declared.part.Part.{Part}
-use Rattle.download_plan.specs.declared.part.Part.TheVariants.{BlockTree, Data}
-use Rattle.download_trees.specs.Offers.{nodes_offered}
-use Rattle.download_trees.specs.Trees.{known_leaf}
+use Rattle.download_parts.specs.Plan.{nodes_of}
+use Rattle.download_parts.specs.declared.part.NodePiece.{NodePiece}
+use Rattle.download_parts.specs.declared.part.Part.{Part}
+use Rattle.download_parts.specs.declared.part.Part.TheVariants.{BlockTree, Data}
+use Rattle.download_parts.specs.Offers.{nodes_offered}
+use Rattle.download_parts.specs.Trees.{known_leaf}
 use Rattle.download_source.specs.Cursors.{IsNext, IsPassed, passed}
 use Rattle.download_source.specs.Source.{SourceState}
 

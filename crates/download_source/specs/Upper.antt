@@ -3,13 +3,13 @@ use Rattle.std.specs.Prelude.{◌≡◌, ℕ, ◌-◌, ◌/◌, ◌<◌, List, [
 use Rattle.merkle.specs.Partial.{PartialState, known_at}
 use Rattle.merkle.specs.Tree.{node_number}
 use Rattle.share_layout.specs.Geometry.{Geometry}
-use Rattle.download_plan.specs.Laws.{piece_over}
-use Rattle.download_plan.specs.Level.{group_size}
-use Rattle.download_plan.specs.Plan.{IsAmong}
-use Rattle.download_plan.specs.declared.part.Nodes.{Nodes}
-use Rattle.download_plan.specs.declared.part.Part.{Part}
-use Rattle.download_plan.specs.declared.part.Part.TheVariants.{ShareHashes, BlockTree}
-use Rattle.download_plan.specs.declared.part.Part.TheVariants.{CiphertextTree, Data}
+use Rattle.download_parts.specs.PlanLaws.{piece_over}
+use Rattle.download_parts.specs.Level.{group_size}
+use Rattle.download_parts.specs.Plan.{IsAmong}
+use Rattle.download_parts.specs.declared.part.Nodes.{Nodes}
+use Rattle.download_parts.specs.declared.part.Part.{Part}
+use Rattle.download_parts.specs.declared.part.Part.TheVariants.{ShareHashes, BlockTree}
+use Rattle.download_parts.specs.declared.part.Part.TheVariants.{CiphertextTree, Data}
 use Rattle.download_source.specs.Cursors.{IsPassed, passed}
 use Rattle.download_source.specs.declared.cursors.Cursors.{Cursors}
 

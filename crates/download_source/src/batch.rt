@@ -1,8 +1,8 @@
 //! Parts of a plan that are asked together.
 
 ghost use Rattle.std.specs.Prelude.{◌≡◌, ℕ, ◌+◌, ◌^◌, ◌<◌, ◌≤◌, OnOk, [], length, max, true};
-ghost use Rattle.download_plan.specs.Level.{level_count, tree_height};
-ghost use Rattle.download_plan.specs.Plan.{IsPart, data_pieces};
+ghost use Rattle.download_parts.specs.Level.{level_count, tree_height};
+ghost use Rattle.download_parts.specs.Plan.{IsPart, data_pieces};
 ghost use Rattle.download_source.specs.Batch.{AreRaised, IsBatch, IsMore, IsOpen, levels_of};
 ghost use Rattle.download_source.specs.Batch.{part_of, raised, with_levels};
 ghost use Rattle.download_source.specs.Cursors.{IsNext, index_of, passed};
@@ -11,7 +11,7 @@ ghost use Rattle.download_source.specs.Upper.{HasOverPassed};
 use crate::cursors::Cursors;
 use crate::tree::Tree;
 use crate::wanted::Wanted;
-use download_plan::{Part, Plan};
+use download_parts::{Part, Plan};
 use std::alloc::{AllocError, Global};
 use std::marker::Model;
 

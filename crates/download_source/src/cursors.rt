@@ -5,7 +5,7 @@ ghost use Rattle.download_source.specs.Batch.{levels_of};
 ghost use Rattle.download_source.specs.Cursors.{IsNext, cursor_at, index_of, no_parts, passed};
 
 use crate::tree::Tree;
-use download_plan::Part;
+use download_parts::Part;
 
 /// How far the parts of a plan are passed, section by section, and of a tree level by level: of
 /// each the parts before the cursor are.

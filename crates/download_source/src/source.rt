@@ -3,8 +3,8 @@
 ghost use Rattle.std.specs.Prelude.{◌≡◌, ◌⊎◌, ◌↔◌, ◌+◌, ◌<◌, ◌≤◌, Err, IfOk, IsTrue, OnErr, OnOk};
 ghost use Rattle.std.specs.Prelude.{Some, length};
 ghost use Rattle.share_layout.specs.Geometry.{segment_count};
-ghost use Rattle.download_plan.specs.Plan.{IsNodePiece, length_of, max_read};
-ghost use Rattle.download_trees.specs.Trees.{IsBlockTree};
+ghost use Rattle.download_parts.specs.Plan.{IsNodePiece, length_of, max_read};
+ghost use Rattle.download_parts.specs.Trees.{IsBlockTree};
 ghost use Rattle.download_source.specs.Asking.{AsksNow, IsAsked, IsWanted, IsWantedCiphertext};
 ghost use Rattle.download_source.specs.Asking.{IsWithin, OnlyAsks};
 ghost use Rattle.download_source.specs.Batch.{IsCiphertextUpTo, IsStep};
@@ -18,8 +18,7 @@ use crate::batch::Batch;
 use crate::cursors::Cursors;
 use crate::tree::Tree;
 use crate::wanted::Wanted;
-use download_plan::{NodePiece, Part, Plan};
-use download_trees::{BlockTree, TreeFault};
+use download_parts::{BlockTree, NodePiece, Part, Plan, TreeFault};
 use share_verify::Check;
 use std::alloc::{AllocError, Global};
 use std::marker::Model;
@@ -249,7 +248,7 @@ impl Source {
     }
 
     /// Where the block of a segment begins in the first of those answers: below
-    /// `download_plan::MAX_READ` bytes.
+    /// `download_parts::MAX_READ` bytes.
     pub fn block_offset(&self, segment: u32) -> u32
         requires { IsWithin self.now segment }
         ensures value { result ≡ block_offset self.now.geometry self.now.first segment }

@@ -3,7 +3,7 @@
 ghost use Rattle.std.specs.Prelude.{◌≡◌};
 ghost use Rattle.download_source.specs.Batch.{part_of};
 
-use download_plan::{NodePiece, Part};
+use download_parts::{NodePiece, Part};
 
 /// A hash tree over the segments, which a share has a copy of.
 #[derive(Clone, Copy, PartialEq, Eq)]

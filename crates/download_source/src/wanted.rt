@@ -1,6 +1,6 @@
 //! A part of a plan that is asked.
 
-use download_plan::{Part, Read};
+use download_parts::{Part, Read};
 
 /// A part of a plan that is asked, and where it is in the share.
 #[derive(Clone, Copy, Debug, PartialEq, Eq)]

@@ -1,6 +1,6 @@
 // How many reads a plan makes, and of how many bytes.
 
-use download_plan::{MAX_READ, NodePiece, Part, Plan, Read};
+use download_parts::{MAX_READ, NodePiece, Part, Plan, Read};
 use share_layout::Geometry;
 use std::test::Fail;
 

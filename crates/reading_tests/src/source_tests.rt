@@ -1,7 +1,7 @@
 // What a source is asked for.
 
 use crate::plan_tests::{COUNTS, Count};
-use download_plan::{Part, Plan};
+use download_parts::{Part, Plan};
 use download_source::{Source, Wanted};
 use share_layout::Geometry;
 use std::test::Fail;

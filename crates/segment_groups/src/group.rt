@@ -6,7 +6,7 @@ ghost use Rattle.std.specs.Prelude.{map, true};
 ghost use Rattle.share_layout.specs.Geometry.{segment_count};
 ghost use Rattle.share_layout.specs.Pieces.{block_length, segment_length};
 ghost use Rattle.proved_parts.specs.Decoding.{DecodesBlocks};
-ghost use Rattle.download_trees.specs.Trees.{known_leaf};
+ghost use Rattle.download_parts.specs.Trees.{known_leaf};
 ghost use Rattle.download_segments.specs.Decoding.{AreShareNumbers, blocks_in};
 ghost use Rattle.download_segments.specs.Handout.{IsRowWanted, next_segment};
 ghost use Rattle.download_segments.specs.State.{IsHandout, TreesGrow};

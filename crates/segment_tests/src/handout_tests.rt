@@ -3,7 +3,7 @@
 
 ghost use Rattle.std.specs.Prelude.{◌≤◌};
 
-use download_plan::Nodes;
+use download_parts::Nodes;
 use download_segments::Handout;
 use share_verify::geometry_of;
 use std::alloc::{AllocError, Global};

@@ -4,7 +4,7 @@
 ghost use Rattle.std.specs.Prelude.{◌≡◌, ◌+◌, ◌<◌, All, IfOk, length};
 
 use crate::handout_tests::{KEY, hand_out};
-use download_plan::Nodes;
+use download_parts::Nodes;
 use download_segments::Handout;
 use share_verify::geometry_of;
 use std::alloc::{AllocError, Global};

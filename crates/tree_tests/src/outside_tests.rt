@@ -3,8 +3,7 @@
 // 32 ones behind the last share.
 
 use crate::taking::{take_block_nodes, take_ciphertext_nodes, take_hashes};
-use download_plan::Nodes;
-use download_trees::{FileTrees, TreeFault};
+use download_parts::{FileTrees, Nodes, TreeFault};
 use share_verify::{Check, geometry_of};
 use std::test::Fail;
 use ueb::{Expect, Ueb};

@@ -2,12 +2,11 @@
 
 ghost use Rattle.std.specs.Prelude.{◌≡◌, ◌<◌};
 ghost use Rattle.share_layout.specs.Geometry.{segment_count};
-ghost use Rattle.download_plan.specs.Plan.{IsNodePiece};
+ghost use Rattle.download_parts.specs.Plan.{IsNodePiece};
 
 use crate::taking::{part_of, take_block_nodes, take_ciphertext_nodes, take_hashes, take_pieces};
 use cap_text::Cap;
-use download_plan::{NodePiece, Part, Plan};
-use download_trees::{BlockTree, FileTrees, TreeFault};
+use download_parts::{BlockTree, FileTrees, NodePiece, Part, Plan, TreeFault};
 use file_encoding::{Encoded, Params, Share, encode_all};
 use merkle::check_path;
 use share_layout::{Geometry, locate_ueb};

@@ -2,10 +2,9 @@
 
 ghost use Rattle.std.specs.Prelude.{◌≡◌, ◌+◌, ◌*◌, ◌^◌, ◌≤◌, IfOk};
 ghost use Rattle.share_layout.specs.Geometry.{segment_count};
-ghost use Rattle.download_plan.specs.Plan.{IsNodePiece};
+ghost use Rattle.download_parts.specs.Plan.{IsNodePiece};
 
-use download_plan::{NodePiece, Nodes, Part, Plan, Read};
-use download_trees::{BlockTree, FileTrees, TreeFault};
+use download_parts::{BlockTree, FileTrees, NodePiece, Nodes, Part, Plan, Read, TreeFault};
 use share_layout::Geometry;
 use std::alloc::Global;
 

@@ -1,6 +1,6 @@
 use Rattle.std.proofs.Common.{◌≡◌, ◌∙◌, ◌*◌, ◌+◌, ℕ, List, length, ap, subst, sym, slice_set}
-use Rattle.download_plan.specs.Plan.{nodes_of}
-use Rattle.download_plan.specs.declared.part.Part.{Part}
+use Rattle.download_parts.specs.Plan.{nodes_of}
+use Rattle.download_parts.specs.declared.part.Part.{Part}
 use Rattle.share_layout.specs.Geometry.{Geometry}
 use Rattle.download_file.specs.Steps.{TakesPart}
 use Rattle.download_file.proofs.TakingLemmas.{read_long, took_ciphertext}

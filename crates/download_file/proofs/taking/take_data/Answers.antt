@@ -1,6 +1,6 @@
 use Rattle.std.proofs.Common.{ℕ, List, subst, sym}
-use Rattle.download_plan.specs.declared.part.Part.{Part}
-use Rattle.download_plan.specs.declared.part.Part.TheVariants.{Data}
+use Rattle.download_parts.specs.declared.part.Part.{Part}
+use Rattle.download_parts.specs.declared.part.Part.TheVariants.{Data}
 use Rattle.download_source.specs.Taking.{IsDue}
 use Rattle.download_file.specs.Steps.{TakesPart}
 use Rattle.download_file.proofs.TakingLemmas.{took_data}

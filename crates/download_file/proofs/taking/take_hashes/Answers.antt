@@ -1,10 +1,10 @@
 use Rattle.std.proofs.Common.{◌≡◌, ◌∙◌, ℕ, Some, ap, subst, sym, Err, rules}
-use Rattle.download_plan.specs.declared.part.Part.{Part}
-use Rattle.download_trees.specs.Trees.{known_leaf}
-use Rattle.download_trees.specs.declared.error.TreeFault.TheVariants as faults
+use Rattle.download_parts.specs.declared.part.Part.{Part}
+use Rattle.download_parts.specs.Trees.{known_leaf}
+use Rattle.download_parts.specs.declared.error.TreeFault.TheVariants as faults
 use Rattle.download_file.specs.Steps.{TakesPart}
 use Rattle.download_file.specs.Taking.{RefutesPart}
-use Rattle.download_trees.specs.Refusal.{IsHashesRefusal}
+use Rattle.download_parts.specs.Refusal.{IsHashesRefusal}
 use Rattle.download_file.proofs.TakingLemmas.{took_hashes}
 use Rattle.download_file.proofs.taking.take_hashes.Goals as goal
 

@@ -1,5 +1,5 @@
 use Rattle.std.proofs.Common.{ℕ, List, subst, sym, Result, Ok, Err, OnOk}
-use Rattle.download_plan.specs.declared.part.Part.{Part}
+use Rattle.download_parts.specs.declared.part.Part.{Part}
 use Rattle.download_file.specs.Steps.{TakesPart}
 use Rattle.download_file.proofs.TakingLemmas.{took_nodes}
 use Rattle.download_file.proofs.taking.take_nodes.Goals as goal

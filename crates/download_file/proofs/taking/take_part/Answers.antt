@@ -1,5 +1,5 @@
 use Rattle.std.proofs.Common.{◌≡◌, ℕ, List, OnErr, OnOk, Result, Ok, Err, refl}
-use Rattle.download_trees.specs.declared.error.TreeFault.{TreeFault}
+use Rattle.download_parts.specs.declared.error.TreeFault.{TreeFault}
 use Rattle.download_file.specs.Steps.{TakesPart}
 use Rattle.download_file.proofs.taking.take_part.Goals as goal
 

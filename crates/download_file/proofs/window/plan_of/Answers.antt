@@ -1,5 +1,5 @@
 use Rattle.std.proofs.Common.{◌≡◌, ◌-◌, ◌/◌, ℕ, arith, ap, ◌∙◌}
-use Rattle.download_plan.proofs.NumberLemmas.{div_le}
+use Rattle.download_parts.proofs.NumberLemmas.{div_le}
 use Rattle.download_file.proofs.RangeLemmas.{end_within, few_segments}
 use Rattle.download_file.proofs.window.plan_of.Goals as goal
 

@@ -2,7 +2,7 @@ use Rattle.share_holdings.specs.State.{HoldingsState}
 use Rattle.std.proofs.Common.{ap, ◌∙◌, get_or, refl, sym, subst}
 use Rattle.share_holdings.specs.Moves.{Asks, IsUnasked}
 use Rattle.share_beginnings.proofs.Opened.{goes_asked, goes_none, goes_trans}
-use Rattle.download_plan.specs.declared.part.Part.TheVariants.{ShareHashes}
+use Rattle.download_parts.specs.declared.part.Part.TheVariants.{ShareHashes}
 use Rattle.download_source.specs.declared.wanted.Wanted.{Wanted}
 use Rattle.share_beginnings.proofs.Caused.{reads_asked, reads_none, reads_trans}
 use Rattle.download_file.specs.Asked.{IsOneOf}

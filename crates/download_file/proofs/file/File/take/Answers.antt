@@ -3,7 +3,7 @@ use Rattle.std.proofs.lemmas.List.Elements.{All-contains}
 use Rattle.lemmas.proofs.Options.{one_there}
 use Rattle.lemmas.proofs.Places.{got}
 use Rattle.request_record.specs.declared.requests.Request.{Request}
-use Rattle.download_trees.specs.declared.error.TreeFault.TheVariants as faults
+use Rattle.download_parts.specs.declared.error.TreeFault.TheVariants as faults
 use Rattle.download_segments.specs.State.{HandoutState}
 use Rattle.download_file.specs.State.{FileState, IsLive, ReaderState, copies, waiting_at}
 use Rattle.download_file.specs.Answers.{AnswersFirst, IsRead}

@@ -11,7 +11,7 @@ use Rattle.download_source.specs.declared.wanted.Wanted.{Wanted}
 use Rattle.download_file.specs.State.{IsLive, placed, waiting_at}
 use Rattle.download_reading.specs.Reading.{AreLinked, AreReading, IsOf}
 use Rattle.download_reading.specs.State.{ReadingState}
-use Rattle.download_plan.specs.Laws.{AreApart}
+use Rattle.download_parts.specs.PlanLaws.{AreApart}
 use Rattle.download_file.specs.Asked.{IsAskedUp, IsOneOf}
 use Rattle.download_file.specs.Changes.{StaysAskedUp}
 use Rattle.download_file.proofs.GrowLemmas.{reads_keep}

@@ -2,7 +2,7 @@ use Rattle.std.proofs.Common.{◌≡◌, List, ℕ, Some, refl, subst}
 use Rattle.merkle.specs.Inputs.{AreHashes}
 use Rattle.merkle.specs.Path.{LeadsBy}
 use Rattle.share_layout.specs.Geometry.{segment_count}
-use Rattle.download_trees.specs.Trees.{known_leaf}
+use Rattle.download_parts.specs.Trees.{known_leaf}
 use Rattle.download_segments.specs.State.{HandoutState, ProvesSegment}
 use Rattle.download_segments.proofs.TreeLemmas.{at_some, segment_by}
 use Rattle.download_segments.proofs.handout.Handout.path_by_hash.Goals as goal

@@ -1,5 +1,5 @@
 use Rattle.std.proofs.Common.{subst}
-use Rattle.download_trees.specs.Offers.{nodes_offered}
+use Rattle.download_parts.specs.Offers.{nodes_offered}
 use Rattle.download_segments.specs.State.{HandoutState, TreesGrow}
 use Rattle.download_segments.proofs.TreeLemmas.{grown_ciphertext}
 use Rattle.download_segments.proofs.handout.Handout.take_nodes.Goals as goal

@@ -1,8 +1,8 @@
 use Rattle.std.proofs.Common.{◌≡◌, Err, subst}
 use Rattle.share_verify.specs.declared.check.Check.{Check}
-use Rattle.download_trees.specs.declared.error.TreeFault.TheVariants as faults
-use Rattle.download_trees.specs.Offers.{share_hashes_offered}
-use Rattle.download_trees.specs.Refusal.{IsHashesRefusal}
+use Rattle.download_parts.specs.declared.error.TreeFault.TheVariants as faults
+use Rattle.download_parts.specs.Offers.{share_hashes_offered}
+use Rattle.download_parts.specs.Refusal.{IsHashesRefusal}
 use Rattle.download_segments.specs.State.{HandoutState, TreesGrow}
 use Rattle.download_segments.proofs.TreeLemmas.{grown_shares}
 use Rattle.download_segments.proofs.handout.Handout.take_share_hashes.Goals as goal

@@ -1,5 +1,5 @@
 use Rattle.std.proofs.Common.{subst, sym, rules}
-use Rattle.download_plan.specs.Plan.{IsPart}
+use Rattle.download_parts.specs.Plan.{IsPart}
 use Rattle.download_source.specs.Batch.{BatchState}
 use Rattle.download_source.specs.Cursors.{IsNext}
 use Rattle.download_source.specs.Upper.{HasOverPassed}

@@ -1,6 +1,6 @@
 use Rattle.std.proofs.Common.{◌∙◌, ◌<◌, subst, sym, arith}
 use Rattle.std.specs.Prelude.{slice_set}
-use Rattle.download_plan.specs.declared.part.Part.{Part}
+use Rattle.download_parts.specs.declared.part.Part.{Part}
 use Rattle.download_source.specs.Batch.{levels_of, part_of, with_levels}
 use Rattle.download_source.specs.Cursors.{passed}
 use Rattle.download_source.specs.Upper.{HasOverPassed}

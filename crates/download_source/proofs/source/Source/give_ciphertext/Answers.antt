@@ -1,6 +1,6 @@
 use Rattle.std.proofs.Common.{◌<◌, subst, sym, rules}
-use Rattle.download_plan.specs.Plan.{IsNodePiece}
-use Rattle.download_plan.specs.declared.part.NodePiece.{NodePiece}
+use Rattle.download_parts.specs.Plan.{IsNodePiece}
+use Rattle.download_parts.specs.declared.part.NodePiece.{NodePiece}
 use Rattle.download_source.specs.Cursors.{cursor_at}
 use Rattle.download_source.specs.Source.{SourceState}
 use Rattle.download_source.proofs.SourceLemmas.{gives_source}

@@ -1,5 +1,5 @@
 use Rattle.std.proofs.Common.{◌≡◌, ◌∙◌, ◌≤◌, ap, subst, arith}
-use Rattle.download_plan.specs.Plan.{data_pieces}
+use Rattle.download_parts.specs.Plan.{data_pieces}
 use Rattle.download_source.specs.Asking.{IsWithin}
 use Rattle.download_source.specs.Source.{HaveLevels, SourceState}
 use Rattle.download_source.proofs.LevelLemmas.{more_still}

@@ -1,5 +1,5 @@
 use Rattle.std.proofs.Common.{subst, sym}
-use Rattle.download_plan.specs.declared.part.Part.TheVariants.{CiphertextTree}
+use Rattle.download_parts.specs.declared.part.Part.TheVariants.{CiphertextTree}
 use Rattle.download_source.specs.Source.{SourceState}
 use Rattle.download_source.specs.Taking.{IsDue}
 use Rattle.download_source.proofs.TakingLemmas.{ciphertext_taken}

@@ -1,11 +1,11 @@
 use Rattle.std.proofs.Common.{◌≡◌, ◌∙◌, Option, IfSome, length, refl, subst, sym}
 use Rattle.merkle.specs.Partial.{PartialState, Takes}
 use Rattle.share_layout.specs.Geometry.{segment_count}
-use Rattle.download_plan.specs.Plan.{length_of}
-use Rattle.download_plan.specs.declared.part.Nodes.{Nodes}
-use Rattle.download_plan.specs.declared.part.Part.TheVariants.{BlockTree}
-use Rattle.download_trees.specs.Offers.{nodes_offered}
-use Rattle.download_trees.specs.Trees.{IsBlockTree}
+use Rattle.download_parts.specs.Plan.{length_of}
+use Rattle.download_parts.specs.declared.part.Nodes.{Nodes}
+use Rattle.download_parts.specs.declared.part.Part.TheVariants.{BlockTree}
+use Rattle.download_parts.specs.Offers.{nodes_offered}
+use Rattle.download_parts.specs.Trees.{IsBlockTree}
 use Rattle.download_source.specs.Source.{SourceState}
 use Rattle.download_source.specs.Taking.{IsDue}
 use Rattle.download_source.proofs.TakingLemmas.{nodes_taken}

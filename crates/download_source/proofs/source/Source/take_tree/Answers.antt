@@ -1,7 +1,7 @@
 use Rattle.std.proofs.Common.{subst, sym}
 use Rattle.share_layout.specs.Geometry.{segment_count}
-use Rattle.download_plan.specs.declared.part.Part.TheVariants.{ShareHashes}
-use Rattle.download_trees.specs.Trees.{IsBlockTree}
+use Rattle.download_parts.specs.declared.part.Part.TheVariants.{ShareHashes}
+use Rattle.download_parts.specs.Trees.{IsBlockTree}
 use Rattle.download_source.specs.Source.{SourceState}
 use Rattle.download_source.specs.Taking.{IsDue}
 use Rattle.download_source.proofs.TakingLemmas.{tree_taken}

@@ -1,0 +1,6 @@
+pub mod NumberLemmas
+pub mod PartLemmas
+pub mod RunLemmas
+pub mod EndLemmas
+pub mod OfferLemmas
+pub mod TreeLemmas

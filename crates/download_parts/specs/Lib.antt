@@ -1,0 +1,9 @@
+-- what public contracts rest on
+pub mod Range
+pub mod Level
+pub mod Plan
+pub mod PlanLaws
+pub mod Offers
+pub mod Trees
+pub mod Refusal
+pub mod TreeLaws

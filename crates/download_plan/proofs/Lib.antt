@@ -1,4 +1,0 @@
-pub mod NumberLemmas
-pub mod PartLemmas
-pub mod RunLemmas
-pub mod EndLemmas

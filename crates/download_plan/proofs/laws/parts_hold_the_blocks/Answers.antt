@@ -1,5 +1,0 @@
-use Rattle.download_plan.proofs.PartLemmas.{hold_the_blocks}
-use Rattle.download_plan.proofs.laws.parts_hold_the_blocks.Goals as goal
-
-pub returns : goal.returns
-returns c = hold_the_blocks

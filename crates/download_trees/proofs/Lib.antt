@@ -1,2 +1,0 @@
-pub mod OfferLemmas
-pub mod TreeLemmas
