@@ -17,7 +17,7 @@ use Rattle.download_source.proofs.PlanLemmas.{block_order}
 use Rattle.download_segments.specs.Decoding.{AreShareNumbers, blocks_in}
 use Rattle.download_segments.specs.State.{HandoutState, ProvesSegment}
 use Rattle.download_segments.proofs.DecodingLemmas.{unique}
-use Rattle.segment_groups.specs.State.{GroupState, segments_in}
+use Rattle.download_segments.specs.GroupState.{GroupState, segments_in}
 use Rattle.download_file.specs.State.{FileState, ReaderState, share_in}
 use Rattle.download_file.specs.Answers.{AnsweredWith, IsMade, IsMadeSegment, IsRead, answer_at, block_in, block_of, blocks_of}
 use Rattle.download_segments.specs.Handout.{next_segment}

@@ -5,7 +5,7 @@ use Rattle.share_layout.specs.Geometry.{segment_count}
 use Rattle.download_segments.specs.Pieces.{IsSlice}
 use Rattle.download_segments.specs.State.{ProvesSegment}
 use Rattle.download_segments.proofs.KnownLemmas.{known_inputs, known_segment}
-use Rattle.segment_groups.specs.State.{GroupState}
+use Rattle.download_segments.specs.GroupState.{GroupState}
 use Rattle.download_file.specs.State.{FileState}
 use Rattle.download_file.specs.Hashed.{GivenAreHashed, HashedStays, node, segment}
 use Rattle.download_file.specs.Right.{IsFile, made_end}

@@ -24,7 +24,7 @@ use Rattle.download_segments.specs.Pieces.{IsSlice}
 use Rattle.download_segments.specs.State.{HandoutState, TreesGrow}
 use Rattle.download_segments.specs.declared.piece.Piece.{Piece}
 use Rattle.download_segments.proofs.TreeLemmas.{grow_none, grow_two as grow_trees, proved_stays}
-use Rattle.segment_groups.specs.State.{GroupState}
+use Rattle.download_segments.specs.GroupState.{GroupState}
 use Rattle.download_parts.specs.Plan.{length_of}
 use Rattle.download_parts.specs.declared.part.Part.TheVariants.{Data}
 use Rattle.download_file.specs.State.{FileState, ReaderState, numbers_of, share_in}

@@ -26,8 +26,8 @@ use Rattle.download_segments.specs.Handout.{next_segment}
 use Rattle.download_segments.specs.NoCodeWord.{IsAnyInput, IsBlockIn, IsNoCodeWord, IsNoCodeWordIn}
 use Rattle.download_segments.specs.State.{HandoutState, RefutesSegment}
 use Rattle.download_segments.proofs.LawLemmas.{blocks_lead_in, no_code_words_in}
-use Rattle.segment_groups.specs.Making.{nth_block}
-use Rattle.segment_groups.specs.State.{GroupState}
+use Rattle.download_segments.specs.GroupMaking.{nth_block}
+use Rattle.download_segments.specs.GroupState.{GroupState}
 use Rattle.download_file.specs.State.{FileState, IsLive, ReaderState, numbers_of, share_in}
 use Rattle.download_file.specs.Answers.{HaveRightBlocks, IsRead, block_in, block_of, blocks_of}
 use Rattle.download_file.specs.Making.{IsInconsistent, RefutesReader}

@@ -14,8 +14,8 @@ use Rattle.download_segments.specs.Handout.{IsRowWanted, first_handed_out, next_
 use Rattle.download_segments.specs.State.{HandoutState, IsHandout}
 use Rattle.download_segments.proofs.HandoutLemmas.{valid_of}
 use Rattle.download_segments.proofs.RowLemmas.{IsRowState, row_length, row_state, row_there, still_proved}
-use Rattle.segment_groups.specs.Making.{MakesRow, MakesSegment, nth}
-use Rattle.segment_groups.specs.State.{GroupState, IsLast, with_end}
+use Rattle.download_segments.specs.GroupMaking.{MakesRow, MakesSegment, nth}
+use Rattle.download_segments.specs.GroupState.{GroupState, IsLast, with_end}
 use Rattle.download_file.specs.State.{FileState}
 use Rattle.download_file.specs.Answers.{HaveRightBlocks, IsRead}
 use Rattle.download_file.specs.Changes.{IsSameFile, StaysAskedUp}

@@ -7,7 +7,7 @@ use Rattle.std.specs.Prelude.{IsSome}
 use Rattle.lemmas.proofs.Options.{one_there}
 use Rattle.download_source.specs.Taking.{IsProved}
 use Rattle.download_segments.specs.State.{HandoutState}
-use Rattle.segment_groups.specs.Making.{nth_block}
+use Rattle.download_segments.specs.GroupMaking.{nth_block}
 use Rattle.download_file.specs.State.{ReaderState}
 use Rattle.download_file.specs.Steps.{AreProved, HasAll, LacksSome}
 use Rattle.download_file.specs.Steps.LacksSome.{lacks_block, lacks_hash, lacks_readers}

@@ -19,8 +19,8 @@ use Rattle.download_segments.specs.State.{HandoutState, IsHandout}
 use Rattle.download_segments.specs.declared.piece.Piece.{Piece}
 use Rattle.download_segments.proofs.HandoutLemmas.{next_is, next_follows, next_slice, valid_of}
 use Rattle.download_segments.proofs.TreeLemmas.{grow_none}
-use Rattle.segment_groups.specs.Making.{MakesSegment}
-use Rattle.segment_groups.specs.State.{GroupState, IsLast, new_group, with_end}
+use Rattle.download_segments.specs.GroupMaking.{MakesSegment}
+use Rattle.download_segments.specs.GroupState.{GroupState, IsLast, new_group, with_end}
 use Rattle.download_parts.proofs.TreeLemmas.{knows_itself}
 use Rattle.download_file.specs.State.{FileState, numbers_of}
 use Rattle.download_file.specs.Answers.{HaveRightBlocks, IsGivenBy, IsMade, IsMadeSegment, IsRead, blocks_of}

@@ -27,7 +27,7 @@ use Rattle.download_segments.specs.Pieces.{AreConsecutive}
 use Rattle.download_segments.specs.declared.piece.Piece.{Piece}
 use Rattle.download_segments.proofs.DecodingLemmas.{unique}
 use Rattle.download_segments.proofs.PieceLemmas.{taken_within}
-use Rattle.segment_groups.specs.State.{GroupState}
+use Rattle.download_segments.specs.GroupState.{GroupState}
 use Rattle.download_file.specs.State.{FileState}
 use Rattle.download_file.specs.Answers.{IsGivenBy, IsMade, IsMadeSegment, blocks_of}
 use Rattle.download_file.specs.Right as right

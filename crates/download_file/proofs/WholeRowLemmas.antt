@@ -17,8 +17,8 @@ use Rattle.download_segments.specs.State.{HandoutState, ProvesSegment}
 use Rattle.download_segments.proofs.DecodingLemmas.{unique}
 use Rattle.download_segments.proofs.HandoutLemmas.{valid_of}
 use Rattle.download_segments.proofs.RowLemmas.{row_there}
-use Rattle.segment_groups.specs.Making.{DecodesRow, MakesRow, RefutesRow, nth, nth_block}
-use Rattle.segment_groups.specs.State.{GroupState, IsLast}
+use Rattle.download_segments.specs.GroupMaking.{DecodesRow, MakesRow, RefutesRow, nth, nth_block}
+use Rattle.download_segments.specs.GroupState.{GroupState, IsLast}
 use Rattle.download_file.specs.State.{FileState, IsReader, ReaderState, numbers_of}
 use Rattle.download_file.specs.Answers.{block_of, blocks_of}
 use Rattle.download_file.specs.Making.{CanMakeRow, IsWholeRow}

@@ -18,7 +18,7 @@ use Rattle.download_segments.specs.Decoding.{blocks_in}
 use Rattle.download_segments.specs.Pieces.{IsSlice}
 use Rattle.download_segments.specs.State.{HandoutState, ProvesSegment}
 use Rattle.download_segments.specs.declared.piece.Piece.{Piece}
-use Rattle.segment_groups.specs.State.{GroupState}
+use Rattle.download_segments.specs.GroupState.{GroupState}
 use Rattle.download_file.specs.State.{FileState, IsReader, ReaderState}
 use Rattle.download_file.specs.declared.reader.Waiting.{Waiting}
 

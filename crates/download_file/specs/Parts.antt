@@ -3,7 +3,7 @@ use Rattle.std.specs.Prelude.{◌≡◌, ℕ, ◌<◌, ◌≤◌, List, All, Con
 use Rattle.request_record.specs.declared.requests.Request.{Request}
 use Rattle.proved_parts.specs.declared.evidence.EvidencePart.{EvidencePart}
 use Rattle.download_segments.specs.State.{HandoutState}
-use Rattle.segment_groups.specs.State.{GroupState}
+use Rattle.download_segments.specs.GroupState.{GroupState}
 use Rattle.download_file.specs.State.{ReaderState}
 use Rattle.download_file.specs.Answers.{IsMade}
 

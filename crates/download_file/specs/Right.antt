@@ -15,7 +15,7 @@ use Rattle.download_source.specs.Upper.{UpperComeFirst}
 use Rattle.download_segments.specs.Decoding.{IsDecoding}
 use Rattle.download_segments.specs.Handout.{next_segment}
 use Rattle.download_segments.specs.State.{HandoutState, IsHandout}
-use Rattle.segment_groups.specs.State.{GroupState}
+use Rattle.download_segments.specs.GroupState.{GroupState}
 use Rattle.download_file.specs.State.{FileState, IsLive, IsReader, ReaderState}
 use Rattle.download_file.specs.State.{giver, numbers_of, waiting_parts}
 

@@ -5,7 +5,7 @@ use Rattle.download_source.specs.Source.{SourceState}
 use Rattle.download_source.specs.Taking.{IsProved}
 use Rattle.download_segments.specs.Handout.{IsRowWanted}
 use Rattle.download_segments.specs.State.{HandoutState}
-use Rattle.segment_groups.specs.Making.{nth, nth_block}
+use Rattle.download_segments.specs.GroupMaking.{nth, nth_block}
 use Rattle.download_file.specs.State.{ReaderState}
 use Rattle.download_file.specs.Answers.{blocks_of}
 use Rattle.download_file.specs.Steps.{AreProved, HasAll, HasBlock}

@@ -7,7 +7,7 @@ use Rattle.download_parts.specs.declared.part.Part.{Part}
 use Rattle.download_source.specs.Source.{SourceState}
 use Rattle.download_source.specs.declared.wanted.Wanted.{Wanted}
 use Rattle.download_segments.specs.State.{HandoutState, starting_handout}
-use Rattle.segment_groups.specs.State.{GroupState}
+use Rattle.download_segments.specs.GroupState.{GroupState}
 use Rattle.download_file.specs.declared.reader.Waiting.{Waiting}
 
 -- A share at a server that is read. What waits are the parts that were asked of it and not taken

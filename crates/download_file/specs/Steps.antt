@@ -24,8 +24,8 @@ use Rattle.download_source.specs.Taking.{IsDue, IsProved}
 use Rattle.download_source.specs.declared.wanted.Wanted.{Wanted}
 use Rattle.download_segments.specs.State.{HandoutState, IsHandout}
 use Rattle.download_segments.specs.State.{TreesGrow, with_trees}
-use Rattle.segment_groups.specs.Making.{nth_block}
-use Rattle.segment_groups.specs.State.{GroupState, IsLast, new_group}
+use Rattle.download_segments.specs.GroupMaking.{nth_block}
+use Rattle.download_segments.specs.GroupState.{GroupState, IsLast, new_group}
 use Rattle.download_file.specs.State.{ReaderState, numbers_of, without}
 use Rattle.download_file.specs.Answers.{HoldsAnswers, IsMade}
 use Rattle.download_file.specs.Changes.{TreeStays}

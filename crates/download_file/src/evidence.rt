@@ -4,7 +4,7 @@ ghost use Rattle.std.specs.Prelude.{◌≡◌, ◌<◌, ◌++◌, ◌-◌, List,
 ghost use Rattle.std.specs.List.{flat_map};
 ghost use Rattle.share_layout.specs.Geometry.{segment_count};
 ghost use Rattle.proved_parts.specs.Parts.{IsSegmentBy};
-ghost use Rattle.segment_groups.specs.State.{GroupState, segments_in};
+ghost use Rattle.download_segments.specs.GroupState.{GroupState, segments_in};
 ghost use Rattle.download_file.specs.Answers.{IsMade};
 ghost use Rattle.download_file.specs.Parts.{AreMadeAmong};
 ghost use Rattle.download_file.specs.Right.{IsGroup};
@@ -12,10 +12,9 @@ ghost use Rattle.download_file.specs.Steps.{AreOfFile, AreSegmentsBy, IsMadeGrou
 
 use crate::blocks::join_blocks;
 use crate::reader::Reader;
-use download_segments::Handout;
+use download_segments::{Group, Handout};
 use proved_parts::EvidencePart;
 use request_record::requests::Requests;
-use segment_groups::Group;
 use std::alloc::{AllocError, Global};
 
 /// What proves the segments of these groups, one after another.

@@ -6,7 +6,7 @@ ghost use Rattle.download_file.specs.State.{numbers_of};
 ghost use Rattle.download_file.specs.Steps.{BeginsGroup};
 
 use crate::reader::Reader;
-use segment_groups::{Group, is_last_of, push_group};
+use download_segments::{Group, is_last_of, push_group};
 use share_layout::Geometry;
 use std::alloc::{AllocError, Global};
 

@@ -8,10 +8,9 @@ ghost use Rattle.download_file.specs.Steps.{AreReady};
 
 use crate::blocks::{has_all, join_blocks};
 use crate::reader::Reader;
-use download_segments::Handout;
+use download_segments::{Handout, block_hashes};
 use download_source::Source;
 use request_record::requests::Requests;
-use segment_groups::block_hashes;
 use std::alloc::{AllocError, Global};
 
 /// Whether eight segments from this one on are wanted to their ends, as many shares as are needed

@@ -7,3 +7,4 @@ pub mod AgreementLemmas
 pub mod GivenLemmas
 pub mod KnownLemmas
 pub mod RowLemmas
+pub mod GroupRowLemmas

@@ -6,3 +6,5 @@ pub mod Decoding
 pub mod NoCodeWord
 pub mod Laws
 pub mod Agreement
+pub mod GroupState
+pub mod GroupMaking

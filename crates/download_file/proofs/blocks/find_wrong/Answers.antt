@@ -7,7 +7,7 @@ use Rattle.lemmas.proofs.Options.{one_there}
 use Rattle.lemmas.proofs.Places.{got}
 use Rattle.download_source.specs.Source.{SourceState}
 use Rattle.download_source.specs.Taking.{IsProved}
-use Rattle.segment_groups.specs.Making.{nth_block}
+use Rattle.download_segments.specs.GroupMaking.{nth_block}
 use Rattle.download_file.specs.State.{ReaderState}
 use Rattle.download_file.proofs.blocks.find_wrong.Goals as goal
 

@@ -1,6 +1,6 @@
 use Rattle.std.proofs.Common.{◌≡◌, take}
 use Rattle.std.specs.List.{flat_map}
-use Rattle.segment_groups.specs.State.{segments_in}
+use Rattle.download_segments.specs.GroupState.{segments_in}
 use Rattle.download_file.specs.Parts.{AreMadeAmong}
 use Rattle.download_file.specs.Steps.{AreSegmentsBy, part_numbers}
 use Rattle.download_file.proofs.evidence.evidence_of.Given as goal

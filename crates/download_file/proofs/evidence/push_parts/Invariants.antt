@@ -1,6 +1,6 @@
 use Rattle.std.proofs.Common.{◌≡◌, ◌-◌, ◌++◌, Contains, List}
 use Rattle.std.specs.List.{range_with_len}
-use Rattle.segment_groups.specs.State.{GroupState}
+use Rattle.download_segments.specs.GroupState.{GroupState}
 use Rattle.download_file.specs.Parts.{AreMadeAmong}
 use Rattle.download_file.specs.Steps.{AreSegmentsBy, part_numbers}
 use Rattle.download_file.proofs.evidence.push_parts.Given as goal

@@ -1,7 +1,7 @@
 use Rattle.std.proofs.Common.{◌≡◌, ◌+◌, ℕ, inl, inr, List, Some, map, ap, subst, sym, ◌∙◌, refl, arith}
 use Rattle.std.proofs.lemmas.Bool.{cases_lt, true≢false}
 use Rattle.download_source.specs.Taking.{IsProved, known_hash}
-use Rattle.segment_groups.specs.Making.{nth, nth_block}
+use Rattle.download_segments.specs.GroupMaking.{nth, nth_block}
 use Rattle.download_file.proofs.row.are_proved.Goals as goal
 
 pub proves_hash-requires : goal.proves_hash-requires

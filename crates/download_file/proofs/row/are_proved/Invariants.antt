@@ -1,6 +1,6 @@
 use Rattle.std.proofs.Common.{◌≡◌, ◌+◌, ◌<◌, ℕ, map}
 use Rattle.download_source.specs.Taking.{IsProved}
-use Rattle.segment_groups.specs.Making.{nth, nth_block}
+use Rattle.download_segments.specs.GroupMaking.{nth, nth_block}
 use Rattle.download_file.proofs.row.are_proved.Given as goal
 
 abbrev pub invariant-loop-hash : goal.invariant-loop-hash

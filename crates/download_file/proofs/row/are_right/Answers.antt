@@ -5,7 +5,7 @@ use Rattle.std.proofs.lemmas.List.Elements.{Contains-get_or}
 use Rattle.std.proofs.lemmas.Option.{slice_get-get_or}
 use Rattle.lemmas.proofs.Places.{got}
 use Rattle.download_source.specs.Source.{SourceState}
-use Rattle.segment_groups.specs.Making.{nth}
+use Rattle.download_segments.specs.GroupMaking.{nth}
 use Rattle.download_file.specs.State.{ReaderState}
 use Rattle.download_file.specs.Rows.{ProvesBlocks}
 use Rattle.download_file.proofs.RowLemmas.{proved_more}

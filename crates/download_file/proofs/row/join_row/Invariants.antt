@@ -1,5 +1,5 @@
 use Rattle.std.proofs.Common.{◌≡◌, ◌+◌, ◌<◌, ℕ, length, map}
-use Rattle.segment_groups.specs.Making.{nth}
+use Rattle.download_segments.specs.GroupMaking.{nth}
 use Rattle.download_file.specs.Answers.{blocks_of}
 use Rattle.download_file.proofs.row.join_row.Given as goal
 

@@ -1,7 +1,7 @@
 use Rattle.std.proofs.Common.{refl, IfOk, ◌≡◌, ◌∙◌, ◌-◌, All, List, ap, subst, sym}
 use Rattle.std.specs.List.{flat_map, range_with_len}
 use Rattle.lemmas.proofs.Results.{if_ok_then}
-use Rattle.segment_groups.specs.State.{GroupState, segments_in}
+use Rattle.download_segments.specs.GroupState.{GroupState, segments_in}
 use Rattle.download_file.specs.State.{FileState, ReaderState}
 use Rattle.proved_parts.specs.Parts.{IsSegmentBy}
 use Rattle.proved_parts.specs.declared.evidence.EvidencePart.{EvidencePart}

@@ -10,8 +10,8 @@ use Rattle.download_segments.specs.Handout.{next_segment}
 use Rattle.download_segments.specs.NoCodeWord.{IsNoCodeWord}
 use Rattle.download_segments.specs.State.{HandoutState}
 use Rattle.download_segments.proofs.HandoutLemmas.{next_within}
-use Rattle.segment_groups.specs.Making.{RefutesBlocks}
-use Rattle.segment_groups.specs.State.{GroupState}
+use Rattle.download_segments.specs.GroupMaking.{RefutesBlocks}
+use Rattle.download_segments.specs.GroupState.{GroupState}
 use Rattle.download_file.specs.State.{FileState, IsComplete, ReaderState, numbers_of}
 use Rattle.download_file.specs.Answers.{IsRead, blocks_of}
 use Rattle.download_file.specs.Asked.{AsksNoMore}

@@ -8,9 +8,9 @@ use Rattle.share_layout.specs.Geometry.{Geometry}
 use Rattle.share_layout.specs.Pieces.{block_length}
 use Rattle.download_segments.specs.Decoding.{AreShareNumbers}
 use Rattle.download_segments.specs.Handout.{next_segment}
-use Rattle.segment_groups.specs.Making.{nth}
-use Rattle.segment_groups.specs.State.{GroupState}
-use Rattle.segment_groups.proofs.RowLemmas.{from_nth}
+use Rattle.download_segments.specs.GroupMaking.{nth}
+use Rattle.download_segments.specs.GroupState.{GroupState}
+use Rattle.download_segments.proofs.GroupRowLemmas.{from_nth}
 use Rattle.download_file.specs.State.{FileState, ReaderState, numbers_of}
 use Rattle.download_file.specs.declared.file.File.TheInside.{Inside}
 use Rattle.download_file.specs.Answers.{IsRead, blocks_of}

@@ -6,9 +6,9 @@ use Rattle.share_layout.specs.Geometry.{Geometry, segment_count}
 use Rattle.share_layout.specs.Pieces.{block_length, segment_length}
 use Rattle.download_segments.proofs.HandoutLemmas.{valid_of}
 use Rattle.download_segments.proofs.RowLemmas.{row_length, row_there}
-use Rattle.segment_groups.proofs.group.make_segments.Goals as goal
-use Rattle.segment_groups.specs.State.{GroupState, IsLast, with_end}
-use Rattle.segment_groups.proofs.RowLemmas.{from_nth}
+use Rattle.download_segments.proofs.group.make_segments.Goals as goal
+use Rattle.download_segments.specs.GroupState.{GroupState, IsLast, with_end}
+use Rattle.download_segments.proofs.GroupRowLemmas.{from_nth}
 
 last_is : (c : goal.After-index) → IsLast c.args.groups.now.items c.index.result.now
 last_is c =

@@ -10,11 +10,12 @@ ghost use Rattle.download_parts.specs.Trees.{known_leaf};
 ghost use Rattle.download_segments.specs.Decoding.{AreShareNumbers, blocks_in};
 ghost use Rattle.download_segments.specs.Handout.{IsRowWanted, next_segment};
 ghost use Rattle.download_segments.specs.State.{IsHandout, TreesGrow};
-ghost use Rattle.segment_groups.specs.Making.{AreLong, DecodesRow, MakesRow, MakesSegment};
-ghost use Rattle.segment_groups.specs.Making.{RefutesBlocks, RefutesRow, nth};
-ghost use Rattle.segment_groups.specs.State.{GroupState, IsLast, new_group, with_end};
+ghost use Rattle.download_segments.specs.GroupMaking.{AreLong, DecodesRow, MakesRow, MakesSegment};
+ghost use Rattle.download_segments.specs.GroupMaking.{RefutesBlocks, RefutesRow, nth};
+ghost use Rattle.download_segments.specs.GroupState.{GroupState, IsLast, new_group, with_end};
 
-use download_segments::{Decoding, Handout};
+use crate::decoding::Decoding;
+use crate::handout::Handout;
 use share_layout::Geometry;
 use std::alloc::{AllocError, Global};
 use std::marker::Model;
@@ -30,7 +31,7 @@ pub struct Group {
 }
 
 impl Model for Group {
-    ghost use Rattle.segment_groups.specs.State.{GroupState};
+    ghost use Rattle.download_segments.specs.GroupState.{GroupState};
 
     ghost Value = { GroupState };
 

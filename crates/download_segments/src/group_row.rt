@@ -4,7 +4,7 @@ ghost use Rattle.std.specs.Prelude.{◌≡◌, ◌+◌, ◌*◌, ◌^◌, ◌<�
 ghost use Rattle.std.specs.Prelude.{slice_index_or};
 ghost use Rattle.tagged_hash.specs.TaggedHash.{tagged_hash};
 ghost use Rattle.tagged_hash.specs.declared.tag.Tag.TheVariants.{Block};
-ghost use Rattle.segment_groups.specs.Making.{nth, nth_block};
+ghost use Rattle.download_segments.specs.GroupMaking.{nth, nth_block};
 
 use tagged_hash::{Tag, tagged_eight};
 

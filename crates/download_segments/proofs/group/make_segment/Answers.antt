@@ -4,8 +4,8 @@ use Rattle.lemmas.proofs.Places.{got}
 use Rattle.share_layout.specs.Geometry.{Geometry, IsGeometry, segment_count}
 use Rattle.share_layout.specs.Pieces.{block_length, segment_length}
 use Rattle.download_segments.proofs.HandoutLemmas.{next_within}
-use Rattle.segment_groups.proofs.group.make_segment.Goals as goal
-use Rattle.segment_groups.specs.State.{GroupState, IsLast, with_end}
+use Rattle.download_segments.proofs.group.make_segment.Goals as goal
+use Rattle.download_segments.specs.GroupState.{GroupState, IsLast, with_end}
 
 last_is : (c : goal.After-index) → IsLast c.args.groups.now.items c.index.result.now
 last_is c =

@@ -1,9 +1,9 @@
 use Rattle.std.proofs.Common.{◌≡◌, ◌+◌, ◌*◌, ◌<◌, ◌++◌, ◌∷◌, [], ℕ, List, Vec, Global, length, length-append, map, ap, subst, sym, ◌∙◌, arith}
 use Rattle.proved_parts.specs.Decoding.{DecodesBlocks}
 use Rattle.download_segments.specs.Decoding.{DecodingState, blocks_in}
-use Rattle.segment_groups.proofs.group.decode_row.Goals as goal
-use Rattle.segment_groups.specs.Making.{nth}
-use Rattle.segment_groups.proofs.RowLemmas.{nth_item, nth_pushed}
+use Rattle.download_segments.proofs.group.decode_row.Goals as goal
+use Rattle.download_segments.specs.GroupMaking.{nth}
+use Rattle.download_segments.proofs.GroupRowLemmas.{nth_item, nth_pushed}
 
 pub loop-row-preserved : goal.loop-row-preserved
 loop-row-preserved c =

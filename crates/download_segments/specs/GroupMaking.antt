@@ -6,7 +6,7 @@ use Rattle.proved_parts.specs.Decoding.{DecodesBlocks}
 use Rattle.download_segments.specs.Decoding.{DecodingState, blocks_in}
 use Rattle.download_segments.specs.Handout.{ProvesRow, first_handed_out, handed_out}
 use Rattle.download_segments.specs.State.{HandoutState, ProvesSegment, RefutesSegment}
-use Rattle.segment_groups.specs.State.{GroupState, IsLast, with_end}
+use Rattle.download_segments.specs.GroupState.{GroupState, IsLast, with_end}
 
 -- The last group has one segment more, which is handed out: what its blocks decode to, and proved.
 pub record MakesSegment (h : HandoutState) (groups : List GroupState) (number : ℕ)

@@ -1,8 +1,8 @@
 use Rattle.std.proofs.Common.{◌≡◌, ◌+◌, ◌<◌, ℕ, length, map}
 use Rattle.proved_parts.specs.Decoding.{DecodesBlocks}
 use Rattle.download_segments.specs.Decoding.{blocks_in}
-use Rattle.segment_groups.proofs.group.decode_row.Given as goal
-use Rattle.segment_groups.specs.Making.{nth}
+use Rattle.download_segments.proofs.group.decode_row.Given as goal
+use Rattle.download_segments.specs.GroupMaking.{nth}
 
 abbrev pub invariant-loop-row : goal.invariant-loop-row
 invariant-loop-row l =

@@ -1,3 +1,0 @@
--- what public contracts rest on
-pub mod State
-pub mod Making
