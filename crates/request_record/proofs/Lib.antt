@@ -3,3 +3,5 @@ pub mod RecordLaws
 pub mod QueueLaws
 pub mod AskingLaws
 pub mod KeptLaws
+pub mod EntryLaws
+pub mod EntrySteps

@@ -3,10 +3,10 @@ use Rattle.std.proofs.Common.{◌≡◌, ℕ, zero, suc, ◌+◌, ◌-◌, ◌<�
 use Rattle.std.specs.Prelude.{◌==◌, ◌&&◌, not, slice_get, slice_set, nat_lt, nat_le, filter, option_map}
 use Rattle.std.specs.List.{All}
 use Rattle.std.proofs.lemmas.Bool.{ltb-true, cases_lt, eq-eqb}
-use Rattle.std.proofs.lemmas.List.{take_all, drop_all, take_at, take-append-le, take-set-le, take_more, length-append, length-map, length-take, length-drop, length-set, map-append, append-nil}
+use Rattle.std.proofs.lemmas.List.{take_all, drop_all, take_at, take-append-le, take-set-le, take_more, length-append, length-map, length-take, length-set, map-append, append-nil}
 use Rattle.std.proofs.Math.Seq.{take-set-lt}
 use Rattle.std.proofs.lemmas.List.Sums.{sum_by-append, sum_by-set}
-use Rattle.std.proofs.lemmas.List.Elements.{All-nil, All-cons, All-head, All-tail, All-push, All-weaker, All-append, All-set, All-map, All-more, All-same}
+use Rattle.std.proofs.lemmas.List.Elements.{All-nil, All-cons, All-head, All-tail, All-push, All-weaker, All-append, All-set, All-map, All-same}
 use Rattle.std.proofs.lemmas.Option.{get_or_from_slice_get, slice_get-map}
 use Rattle.lemmas.proofs.Options.{chosen}
 pub use Rattle.lemmas.proofs.Places.{get_push, get_last}
@@ -25,7 +25,7 @@ use Rattle.request_record.specs.Asking.{asks_of, begun, fresh}
 
 -- ---- lists
 
-abbrev IsQuiet : Request → Type 0
+abbrev pub IsQuiet : Request → Type 0
 IsQuiet r = is_outstanding r.outcome ≡ false
 
 abbrev IsCurrentIn : List Request → ℕ → Type 0
@@ -45,6 +45,15 @@ all_kept P Q test from (x ∷ xs) all = go (test x) refl (all_kept P Q test from
 pub count_push : (entries : List Request) (r : Request) → outstanding_count (entries ++ r ∷ []) ≡ outstanding_count entries + cond (is_outstanding r.outcome) 1 0
 count_push entries r = sum_by-append (λ (q : Request). cond (is_outstanding q.outcome) 1 0) entries (r ∷ []) ∙ omega arith
 
+-- no more wait than there are
+pub count_le : (entries : List Request) → outstanding_count entries ≤ length entries
+count_le [] = omega arith
+count_le (r ∷ rs) = omega (arith, count_cons r rs, one_at_most (is_outstanding r.outcome), count_le rs)
+  where
+    one_at_most : (b : Bool) → cond b 1 0 ≤ 1
+    one_at_most true = omega arith
+    one_at_most false = omega arith
+
 few_push : (server now : ℕ) (asked : Asked) (entries : List Request) → All IsSentFew entries → All IsSentFew (entries ++ first_request server asked now ∷ [])
 few_push server now asked entries few = All-push IsSentFew entries (first_request server asked now) few (omega arith, omega arith)
 
@@ -55,7 +64,7 @@ there_push entries r outgoing there =
     (All-weaker (λ place. place < length entries) (λ place. place < length (entries ++ r ∷ [])) (λ place lt. omega (arith, lt, len)) outgoing there)
     (omega (arith, len))
 
-first_current : (asked : Asked) → is_current (first_outcome asked) ≡ true
+pub first_current : (asked : Asked) → is_current (first_outcome asked) ≡ true
 first_current Holdings = refl
 first_current (Allocation share len) = refl
 first_current (Writing share offset len) = refl
@@ -267,13 +276,13 @@ count_ticked now place (r ∷ rs) = go (is_lost_at now r) (is_resent_at now r) r
 
 -- ---- those that are settled before a place
 
-lost_quiet : (now : ℕ) (r : Request) → IsQuiet r → is_lost_at now r ≡ false
+pub lost_quiet : (now : ℕ) (r : Request) → IsQuiet r → is_lost_at now r ≡ false
 lost_quiet now r quiet = rw quiet refl
 
-resent_quiet : (now : ℕ) (r : Request) → IsQuiet r → is_resent_at now r ≡ false
+pub resent_quiet : (now : ℕ) (r : Request) → IsQuiet r → is_resent_at now r ≡ false
 resent_quiet now r quiet = rw quiet refl
 
-ticked_quiet : (now : ℕ) (r : Request) → IsQuiet r → ticked_one now r ≡ r
+pub ticked_quiet : (now : ℕ) (r : Request) → IsQuiet r → ticked_one now r ≡ r
 ticked_quiet now r quiet = rw (lost_quiet now r quiet, resent_quiet now r quiet) refl
 
 pub ticked_behind : (now n : ℕ) (entries : List Request) → All IsQuiet (take n entries) → take n entries ++ map (ticked_one now) (drop n entries) ≡ map (ticked_one now) entries
@@ -296,10 +305,6 @@ resent_behind now n entries s = ap (λ (p : ℕ). places_from (is_resent_at now)
 pub lost_behind : (now n : ℕ) (entries : List Request) → AreSettled n entries → places_from (is_lost_at now) n (drop n entries) ≡ lost_places now entries
 lost_behind now n entries s = ap (λ (p : ℕ). places_from (is_lost_at now) p (drop n entries)) (omega arith) ∙ places_behind (is_lost_at now) (lost_quiet now) n 0 entries s.settled
 
--- all that is left behind a place
-pub rest_whole : (n : ℕ) (entries : List Request) → take (length entries - n) (drop n entries) ≡ drop n entries
-rest_whole n entries = take_all (length entries - n) (drop n entries) (omega (arith, length-drop n entries))
-
 pub settled_front : (n : ℕ) (entries others : List Request) → AreSettled n entries → AreSettled n (take n entries ++ others)
 settled_front n entries others s =
     let len : length (take n entries) ≡ n = omega (arith, length-take n entries, s.within) in
@@ -308,13 +313,11 @@ settled_front n entries others s =
       settled = All-same IsQuiet (take n (take n entries ++ others)) (take n entries) (take_at (take n entries) others n len) s.settled;
     }
 
-pub settled_more : (n : ℕ) (entries : List Request) (r : Request) → AreSettled n entries → n < length entries → r ≡ get_or entries n r → IsQuiet r → AreSettled (n + 1) entries
-settled_more n entries r s lt is quiet = record {
-  within = omega (arith, lt);
-  settled = All-more IsQuiet entries n r lt s.settled (subst IsQuiet is quiet);
-}
+-- those that are settled are so after a tick
+pub settled_ticked : (now n : ℕ) (entries : List Request) → AreSettled n entries → AreSettled n (map (ticked_one now) entries)
+settled_ticked now n entries s = subst (AreSettled n) (ticked_behind now n entries s.settled) (settled_front n entries (map (ticked_one now) (drop n entries)) s)
 
 -- what was written through a borrow of a whole list
-pub lent_whole : (old new : List Request) (len : ℕ) → length old ≡ len → length new ≡ length old → take len (new ++ drop (length new) old) ≡ new
-lent_whole old new len old-len new-len =
-    ap (λ (r : List Request). take len (new ++ r)) (drop_all (length new) old (omega (arith, new-len))) ∙ ap (take len) (append-nil new) ∙ take_all len new (omega (arith, old-len, new-len))
+pub lent_whole : {X : Type 0} (old new : List X) (len : ℕ) → length old ≡ len → length new ≡ length old → take len (new ++ drop (length new) old) ≡ new
+lent_whole {X = X} old new len old-len new-len =
+    ap (λ (r : List X). take len (new ++ r)) (drop_all (length new) old (omega (arith, new-len))) ∙ ap (take len) (append-nil new) ∙ take_all len new (omega (arith, old-len, new-len))

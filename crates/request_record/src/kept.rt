@@ -4,7 +4,9 @@ ghost use Rattle.std.specs.Prelude.{◌≡◌, ℕ, List, None, IfNone, IfSome, 
 ghost use Rattle.std.specs.Prelude.{false, option_map};
 ghost use Rattle.wire.specs.declared.message.Body.TheVariants.{Data};
 ghost use Rattle.request_record.specs.Kept.{data_in};
+ghost use Rattle.request_record.specs.Written.{wrote_all};
 
+use crate::requests::{Asked, Outcome};
 use std::marker::Model;
 use std::snapshot::Snapshot;
 use wire::message::Body;
@@ -72,6 +74,19 @@ impl Kept {
         match &self.answer {
             Answer::Whole(body) => Some(body),
             Answer::Seen(_) => None,
+        }
+    }
+
+    /// Does it tell that so many bytes were written from an offset on, and no more?
+    pub(crate) fn tells_written(&self, offset: u64, len: u32) -> bool
+        ensures { (share : ℕ) → result
+            ≡ wrote_all (Asked.Writing share offset len) (Outcome.Answered self.now) }
+    {
+        match self.told() {
+            Some(Body::Wrote(next) | Body::WrongOffset(next)) => {
+                offset <= *next && *next - offset == u64::from(len)
+            }
+            _ => false,
         }
     }
 }

@@ -1,17 +1,17 @@
 //! The record of what one operation asked of servers, in which no bytes of shares are kept.
 
 ghost use Rattle.std.specs.Prelude.{◌≡◌, ◌<◌, ◌↔◌, length, slice_get, option_map};
-ghost use Rattle.std.specs.Prelude.{IfOk, IfSome, IsTrue, OnOk, OnErr};
+ghost use Rattle.std.specs.Prelude.{IfOk, IfSome, IsTrue, OnOk, OnErr, All, Some, map, drop};
 ghost use Rattle.request_record.specs.Record.{at, asked_more, counts_at, IsRecord, TakesNext};
 ghost use Rattle.request_record.specs.Record.{outstanding_count};
 ghost use Rattle.request_record.specs.Asking.{fresh, begun, after_message, after_tick};
 ghost use Rattle.request_record.specs.Asking.{lost_by_tick, HasWork, message_at};
 ghost use Rattle.request_record.specs.Kept.{data_in};
+ghost use Rattle.request_record.specs.Written.{kept, kept_of, IsKeptAt};
 
+use crate::entries::{Entries, Entry};
 use crate::kept::Kept;
-use crate::places::{
-    drop_lost, find_lost, find_resent, first_waiting, sent_to, settle, tick_from, unqueue,
-};
+use crate::places::{drop_lost, sent_to, unqueue};
 use crate::requests::{Asked, Outcome, Request};
 use std::alloc::{AllocError, Global};
 use std::collections::VecDeque;
@@ -26,15 +26,18 @@ pub struct Counted {
 }
 
 /// The record of one operation: what it asked in order, and which requests are still to be sent. It
-/// keeps no bytes of shares.
+/// keeps no bytes of shares, and lets each `Writing` go that was written: only contracts see it
+/// from then on.
 ///
-/// A message costs nothing more than its own request, but where its request was sent again or was
-/// not yet sent: then what is to send. A tick costs what was asked since the first request that
-/// still waits, and what is to send. Neither grows with all that was asked.
+/// A request is found by halving among those in memory. Beyond that a message costs nothing, but
+/// where its request was sent again or was not yet sent: then what is to send; and where its
+/// request is let go: then what is in memory of those asked after it. A tick costs what is in
+/// memory since the first request that still waits, and what is to send. None of them grows with
+/// all that was asked.
 #[derive(Drop)]
 pub struct Ledger {
     session: u64,
-    entries: Vec<Request>,
+    entries: Entries,
     outgoing: VecDeque<usize>,
     clock: u64,
     /// How many requests wait for their answers.
@@ -53,7 +56,7 @@ impl Model for Ledger {
 
     ghost view = { λ r. record {
       session = r.session;
-      entries = r.entries.items;
+      entries = r.entries;
       outgoing = r.outgoing.items;
       clock = r.clock;
     } };
@@ -61,11 +64,11 @@ impl Model for Ledger {
     ghost invariant = { λ r.
         IsRecord (record {
           session = r.session;
-          entries = r.entries.items;
+          entries = r.entries;
           outgoing = r.outgoing.items;
           clock = r.clock;
         })
-        × IsIndexed r.outstanding r.settled r.sent r.entries.items r.outgoing.items };
+        × IsIndexed r.outstanding r.settled r.sent r.entries r.outgoing.items };
 }
 
 impl Ledger {
@@ -75,7 +78,7 @@ impl Ledger {
     {
         Ledger {
             session,
-            entries: Vec::new(alloc),
+            entries: Entries::new(alloc),
             outgoing: VecDeque::new(alloc),
             clock: now,
             outstanding: 0,
@@ -114,12 +117,34 @@ impl Ledger {
         self.clock
     }
 
-    /// The requests in order: request `n` is at place `n - 1`.
-    pub fn entries(&self) -> &[Request]
-        ensures value { result.now ≡ self.now.entries }
+    /// How many requests were asked: request `n` is at place `n - 1`.
+    pub fn len(&self) -> usize
+        ensures value { result ≡ length self.now.entries }
         ensures right { IsRecord self.now }
     {
-        self.entries.as_slice()
+        self.entries.len()
+    }
+
+    /// The request at a place, while it is in memory: what was written is not.
+    pub fn request_at(&self, place: usize) -> Option<&Request>
+        ensures { option_map (λ r. r.now) result ≡ kept (slice_get self.now.entries place) }
+    {
+        self.entries.get(place)
+    }
+
+    /// The request at a place, which is in memory.
+    pub fn request(&self, place: usize) -> &Request
+        requires { IsKeptAt self.now.entries place }
+        ensures { slice_get self.now.entries place ≡ Some result.now }
+    {
+        self.entries.request(place)
+    }
+
+    /// The requests from a place on that are in memory, in order: all but those that were written.
+    pub fn kept_since(&self, place: usize) -> &[Entry]
+        ensures { map (λ e. e.request) result.now ≡ kept_of (drop place self.now.entries) }
+    {
+        self.entries.kept_since(place)
     }
 
     /// Records a request, and puts it at the end of those to send.
@@ -129,11 +154,11 @@ impl Ledger {
     {
         let place = self.entries.len();
         let request = Request::new(server, asked, self.clock);
-        let outstanding = self.outstanding + usize::from(request.is_outstanding());
-        self.entries.reserve(1)?;
-        self.outgoing.push_back(place)?;
-        self.entries.push_reserved(request);
-        self.outstanding = outstanding;
+        let waiting = usize::from(request.is_outstanding());
+        self.outgoing.reserve(1)?;
+        self.entries.push(request)?;
+        self.outgoing.push_back_reserved(place);
+        self.outstanding += waiting;
         Ok(())
     }
 
@@ -153,7 +178,7 @@ impl Ledger {
     }
 
     /// Takes note of the time.
-    fn pass(&mut self, now: u64)
+    pub fn pass(&mut self, now: u64)
         ensures { self.new ≡ at now self.old }
     {
         self.clock = self.clock.max(now);
@@ -172,14 +197,9 @@ impl Ledger {
             self.pass(now);
             return None;
         };
-        unqueue(
-            &mut self.outgoing,
-            self.entries.as_slice(),
-            self.sent,
-            place,
-        );
+        unqueue(&mut self.outgoing, &self.entries, self.sent, place);
         let (kept, bytes) = Kept::of(message.body);
-        settle(&mut self.entries, place, Outcome::Answered(kept));
+        self.entries.settle(place, Outcome::Answered(kept));
         self.outstanding -= 1;
         self.clock = self.clock.max(now);
         Some(Counted { place, bytes })
@@ -191,16 +211,15 @@ impl Ledger {
         ensures lost { IfOk result (λ places. places.items ≡ lost_by_tick now self.old) }
         ensures ok { OnOk result (self.new ≡ after_tick now self.old) }
         ensures err { OnErr result (self.new ≡ self.old) }
+        ensures kept { IfOk result (λ places. All (IsKeptAt self.new.entries) places.items) }
     {
         let now = self.clock.max(now);
-        let alloc = *self.entries.allocator();
-        let waiting = &self.entries.as_slice()[self.settled..];
-        let mut resent = find_resent(alloc, waiting, self.settled, now)?;
-        let lost = find_lost(alloc, waiting, self.settled, now)?;
+        let mut resent = self.entries.find_resent(self.settled, now)?;
+        let lost = self.entries.find_lost(self.settled, now)?;
         self.outgoing.append(&mut resent)?;
-        drop_lost(&mut self.outgoing, self.entries.as_slice(), now);
-        tick_from(self.entries.as_mut_slice(), self.settled, now);
-        self.settled = first_waiting(self.entries.as_slice(), self.settled);
+        drop_lost(&mut self.outgoing, &self.entries, now);
+        self.entries.tick(self.settled, now);
+        self.settled = self.entries.first_waiting(self.settled);
         self.outstanding -= lost.len();
         self.clock = now;
         Ok(lost)
@@ -224,6 +243,7 @@ impl Ledger {
     pub fn first(&self) -> Option<usize>
         ensures value { result ≡ slice_get self.now.outgoing 0 }
         ensures there { IfSome result (λ place. place < length self.now.entries) }
+        ensures kept { IfSome result (IsKeptAt self.now.entries) }
     {
         self.outgoing.front().copied()
     }
@@ -233,7 +253,7 @@ impl Ledger {
         ensures { TakesNext self.old result self.new }
     {
         let place = self.outgoing.pop_front()?;
-        self.sent = sent_to(self.entries.as_slice(), place, self.sent);
+        self.sent = sent_to(&self.entries, place, self.sent);
         Some(place)
     }
 
@@ -249,6 +269,7 @@ impl Ledger {
         requires { place < length self.now.entries }
         ensures { result ≡ message_at place body self.now }
     {
+        let _len = self.entries.len();
         Message {
             session: self.session,
             number: place as u64 + 1,

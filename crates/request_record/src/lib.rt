@@ -2,8 +2,10 @@
 //! answer counts, and what is lost.
 #![tactic(auto)]
 
+pub mod entries;
 pub mod kept;
 pub mod laws;
 pub mod ledger;
+mod past;
 mod places;
 pub mod requests;

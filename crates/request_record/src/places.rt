@@ -1,103 +1,143 @@
-//! What a record of requests does by the places of its requests: which a tick finds due, and which
-//! are not to be sent any more.
+//! Requests in memory with their places: which a tick finds due, and which are not to be sent any
+//! more.
 
-ghost use Rattle.std.specs.Prelude.{◌≡◌, ◌≤◌, ◌<◌, ◌^◌, ◌+◌, ◌++◌, length, map, take, drop};
-ghost use Rattle.std.specs.Prelude.{slice_get, slice_set, Some, vec_len, All, IfOk};
-ghost use Rattle.request_record.specs.Record.{with_outcome, is_lost_at, is_resent_at, is_lost_in};
-ghost use Rattle.request_record.specs.Record.{ticked_one};
-ghost use Rattle.request_record.specs.Record.{places_from, without, without_lost, IsSentFew};
-ghost use Rattle.request_record.specs.Record.{AreSettled};
+ghost use Rattle.std.specs.Prelude.{◌≡◌, ◌≤◌, ◌<◌, ◌++◌, length, map, take, drop};
+ghost use Rattle.std.specs.Prelude.{slice_get, slice_set, Some, vec_len, option_map};
+ghost use Rattle.std.specs.Prelude.{if◌then◌else◌, All, IfOk, false, IsTrue, ◌↔◌};
+ghost use Rattle.std.specs.List.{remove};
+ghost use Rattle.std.specs.List.Sorted.{IsNonDecreasingBy};
+ghost use Rattle.request_record.specs.Record.{is_lost_at, is_resent_at, is_lost_in};
+ghost use Rattle.request_record.specs.Record.{without, without_lost, IsSentFew};
 ghost use Rattle.request_record.specs.Record.{was_sent_again_in, sent_to, AreInOrder};
-ghost use Rattle.request_record.specs.declared.requests.Request.{Request};
+ghost use Rattle.request_record.specs.Written.{IsKeptAt, is_written};
+ghost use Rattle.request_record.specs.Entries.{IsCut, request_here, places_of, first_place};
+ghost use Rattle.request_record.specs.Entries.{ticked_entry, settled_entry, IsHere};
+ghost use Rattle.request_record.specs.declared.entries.Entry.{Entry};
 
+use crate::entries::{Entries, Entry};
 use crate::requests::{Outcome, Request};
 use std::alloc::{AllocError, Global};
 use std::collections::VecDeque;
 
-/// The places of the requests that a tick at this second sends again, the first of these requests
-/// at this place.
+/// How many requests have a smaller place.
+pub(crate) fn index_of(entries: &[Entry], place: usize) -> usize
+    requires { IsNonDecreasingBy (λ e. e.place) entries.now }
+    ensures { IsCut place entries.now result }
+{
+    entries.partition_point(|entry| entry.place < place)
+}
+
+/// Does the request at this index have this place?
+pub(crate) fn has_place(entries: &[Entry], at: usize, place: usize) -> bool
+    ensures { IsTrue result ↔ IsHere place (slice_get entries.now at) }
+{
+    match entries.get(at) {
+        Some(entry) => entry.place == place,
+        None => false,
+    }
+}
+
+/// The request at this index, where its place is this one.
+pub(crate) fn request_here(entries: &[Entry], at: usize, place: usize) -> Option<&Request>
+    ensures { option_map (λ r. r.now) result ≡ request_here place (slice_get entries.now at) }
+{
+    match entries.get(at) {
+        Some(entry) if entry.place == place => Some(&entry.request),
+        _ => None,
+    }
+}
+
+/// The places of the requests that a tick at this second sends again.
 pub(crate) fn find_resent(
     alloc: Global,
-    entries: &[Request],
-    from: usize,
+    entries: &[Entry],
     now: u64,
 ) -> Result<VecDeque<usize>, AllocError>
-    requires { from + length entries.now < 2 ^ 64 }
     ensures { IfOk result
-        (λ places. places.items ≡ places_from (is_resent_at now) from entries.now) }
+        (λ places. places.items ≡ places_of (is_resent_at now) entries.now) }
 {
     let mut places = VecDeque::new(alloc);
-    for (at, request) in entries.iter().enumerate() {
-        if request.is_resent_at(now) {
-            places.push_back(from + at)?;
+    for entry in entries {
+        if entry.request.is_resent_at(now) {
+            places.push_back(entry.place)?;
         }
     }
     Ok(places)
 }
 
-/// The places of the requests that a tick at this second finds lost, the first of these requests at
-/// this place.
+/// The places of the requests that a tick at this second finds lost.
 pub(crate) fn find_lost(
     alloc: Global,
-    entries: &[Request],
-    from: usize,
+    entries: &[Entry],
     now: u64,
 ) -> Result<Vec<usize>, AllocError>
-    requires { from + length entries.now < 2 ^ 64 }
     ensures { IfOk result
-        (λ places. places.items ≡ places_from (is_lost_at now) from entries.now) }
+        (λ places. places.items ≡ places_of (is_lost_at now) entries.now) }
 {
     let mut places = Vec::new(alloc);
-    for (at, request) in entries.iter().enumerate() {
-        if request.is_lost_at(now) {
-            places.push(from + at)?;
+    for entry in entries {
+        if entry.request.is_lost_at(now) {
+            places.push(entry.place)?;
         }
     }
     Ok(places)
 }
 
 /// Each request takes note of a tick at this second.
-fn tick_each(entries: &mut [Request], now: u64)
-    requires { All IsSentFew entries.old }
-    ensures { entries.new ≡ map (ticked_one now) entries.old }
+fn tick_each(entries: &mut [Entry], now: u64)
+    requires { All (λ e. IsSentFew e.request) entries.old }
+    ensures { entries.new ≡ map (ticked_entry now) entries.old }
 {
-    for request in entries.iter_mut() {
-        request.tick(now);
+    for entry in entries.iter_mut() {
+        entry.request.tick(now);
     }
 }
 
-/// Each request from this place on takes note of a tick at this second.
-pub(crate) fn tick_from(entries: &mut [Request], from: usize, now: u64)
-    requires few { All IsSentFew entries.old }
-    requires there { from ≤ length entries.old }
-    ensures { entries.new ≡ take from entries.old ++ map (ticked_one now) (drop from entries.old) }
+/// Each request from this index on takes note of a tick at this second.
+pub(crate) fn tick_from(entries: &mut [Entry], at: usize, now: u64)
+    requires few { All (λ e. IsSentFew e.request) entries.old }
+    requires there { at ≤ length entries.old }
+    ensures { entries.new ≡ take at entries.old ++ map (ticked_entry now) (drop at entries.old) }
 {
-    tick_each(&mut entries[from..], now);
+    tick_each(&mut entries[at..], now);
 }
 
-/// The first place from this one on whose request waits for an answer, or the end.
-pub(crate) fn first_waiting(entries: &[Request], from: usize) -> usize
-    requires { AreSettled from entries.now }
-    ensures { AreSettled result entries.now }
+/// The request at this index is settled so.
+pub(crate) fn settle(entries: &mut Vec<Entry>, at: usize, outcome: Outcome)
+    requires { at < vec_len entries.old }
+    ensures { (e : Entry) → slice_get entries.old.items at ≡ Some e
+        → entries.new.items ≡ slice_set entries.old.items at (settled_entry outcome e) }
 {
-    let mut place = from;
-    while place < entries.len() && !entries[place].is_outstanding() {
-        place += 1;
+    entries[at].request.outcome = outcome;
+}
+
+/// The request at this index is let go, if it was written.
+pub(crate) fn let_go(entries: &mut Vec<Entry>, at: usize)
+    requires { at < vec_len entries.old }
+    ensures { (e : Entry) → slice_get entries.old.items at ≡ Some e
+        → entries.new.items ≡ if is_written e.request
+        then remove entries.old.items at
+        else entries.old.items }
+{
+    if entries[at].request.is_written() {
+        entries.remove(at);
     }
-    place
 }
 
-/// The request at this place is settled so.
-pub(crate) fn settle(entries: &mut Vec<Request>, place: usize, outcome: Outcome)
-    requires { place < vec_len entries.old }
-    ensures { (r : Request) → slice_get entries.old.items place ≡ Some r
-        → entries.new.items ≡ slice_set entries.old.items place (with_outcome r outcome) }
+/// The place of the first request that waits for an answer, or the end.
+pub(crate) fn first_waiting(entries: &[Entry], end: usize) -> usize
+    ensures { result ≡ first_place entries.now end }
 {
-    entries[place].outcome = outcome;
+    for entry in entries {
+        if entry.request.is_outstanding() {
+            return entry.place;
+        }
+    }
+    end
 }
 
 /// Is the request at this place lost at a tick at this second?
-fn is_lost_in(entries: &[Request], place: usize, now: u64) -> bool
+fn is_lost_in(entries: &Entries, place: usize, now: u64) -> bool
     ensures { result ≡ is_lost_in now (slice_get entries.now place) }
 {
     match entries.get(place) {
@@ -106,23 +146,26 @@ fn is_lost_in(entries: &[Request], place: usize, now: u64) -> bool
     }
 }
 
-/// Was the request at this place sent again?
-fn was_sent_again_in(entries: &[Request], place: usize) -> bool
-    ensures { result ≡ was_sent_again_in (slice_get entries.now place) }
+/// May the request at this place have been sent again? Of one that is not in memory that is not
+/// known.
+fn may_be_again(entries: &Entries, place: usize) -> bool
+    ensures { result ≡ false → was_sent_again_in (slice_get entries.now place) ≡ false }
 {
     match entries.get(place) {
         Some(request) => request.was_sent_again(),
-        None => false,
+        None => true,
     }
 }
 
 /// The place before which only requests that were sent again are to send, once the request at this
 /// place is sent.
-pub(crate) fn sent_to(entries: &[Request], place: usize, sent: usize) -> usize
-    requires { place < length entries.now }
+pub(crate) fn sent_to(entries: &Entries, place: usize, sent: usize) -> usize
+    requires there { place < length entries.now }
+    requires kept { IsKeptAt entries.now place }
     ensures { result ≡ sent_to (slice_get entries.now place) place sent }
 {
-    if was_sent_again_in(entries, place) {
+    let _len = entries.len();
+    if entries.request(place).was_sent_again() {
         sent
     } else {
         place + 1
@@ -131,16 +174,11 @@ pub(crate) fn sent_to(entries: &[Request], place: usize, sent: usize) -> usize
 
 /// A place is not to be sent any more. What is to send is looked through only where the place may
 /// stand there.
-pub(crate) fn unqueue(
-    outgoing: &mut VecDeque<usize>,
-    entries: &[Request],
-    sent: usize,
-    place: usize,
-)
+pub(crate) fn unqueue(outgoing: &mut VecDeque<usize>, entries: &Entries, sent: usize, place: usize)
     requires { AreInOrder sent entries.now outgoing.old.items }
     ensures { outgoing.new.items ≡ without place outgoing.old.items }
 {
-    if sent <= place || was_sent_again_in(entries, place) {
+    if sent <= place || may_be_again(entries, place) {
         drop_place(outgoing, place);
     }
 }
@@ -153,7 +191,7 @@ fn drop_place(outgoing: &mut VecDeque<usize>, place: usize)
 }
 
 /// What is lost at a tick at this second is not to be sent any more.
-pub(crate) fn drop_lost(outgoing: &mut VecDeque<usize>, entries: &[Request], now: u64)
+pub(crate) fn drop_lost(outgoing: &mut VecDeque<usize>, entries: &Entries, now: u64)
     ensures { outgoing.new.items ≡ without_lost now entries.now outgoing.old.items }
 {
     outgoing.retain(|place| !is_lost_in(entries, *place, now));

@@ -1,7 +1,8 @@
 //! What one operation asks of servers, what becomes of it, and the record that keeps all answers.
 
 ghost use Rattle.std.specs.Prelude.{◌≡◌, ◌≤◌, ◌<◌, ◌↔◌, ℕ, List, length, slice_get};
-ghost use Rattle.std.specs.Prelude.{IfOk, IfSome, IfNone, IsTrue, OnOk, OnErr};
+ghost use Rattle.std.specs.Prelude.{IfOk, IfSome, IfNone, IsTrue, OnOk, OnErr, All, Some, map};
+ghost use Rattle.std.specs.Prelude.{drop, option_map};
 ghost use Rattle.request_record.specs.Record.{is_outstanding, fits, first_request, awaits, age_of};
 ghost use Rattle.request_record.specs.Record.{passed, is_lost_at, is_resent_at, ticked_one};
 ghost use Rattle.request_record.specs.Record.{was_sent_again, IsSentFew, IsRecord, TakesNext};
@@ -10,7 +11,9 @@ ghost use Rattle.request_record.specs.Asking.{fresh, begun, after_message, after
 ghost use Rattle.request_record.specs.Asking.{lost_by_tick, HasWork};
 ghost use Rattle.request_record.specs.Asking.{Spells, IsWriting, message_at};
 ghost use Rattle.request_record.specs.Kept.{IsDataAt};
+ghost use Rattle.request_record.specs.Written.{is_written, kept, kept_of, IsKeptAt};
 
+use crate::entries::Entry;
 use crate::kept::Kept;
 use crate::ledger::{Counted, Ledger};
 use std::alloc::{AllocError, Global};
@@ -62,13 +65,13 @@ pub enum Outcome {
 pub struct Request {
     /// The server asked.
     pub server: NodeId,
-    pub asked: Asked,
-    /// The second at which it was first sent.
-    pub first_sent: u64,
     /// How often it was sent.
     pub sendings: u8,
     /// How many of the marks 5, 10 and 15 seconds its sendings have used up.
     pub marks: u8,
+    pub asked: Asked,
+    /// The second at which it was first sent.
+    pub first_sent: u64,
     pub outcome: Outcome,
 }
 
@@ -178,6 +181,18 @@ impl Request {
         self.is_outstanding() && age < PATIENCE && self.marks < passed(age)
     }
 
+    /// Is it a `Writing` whose bytes were all written, by its answer?
+    pub fn is_written(&self) -> bool
+        ensures { result ≡ is_written self.now }
+    {
+        match (self.asked, &self.outcome) {
+            (Asked::Writing(_, offset, len), Outcome::Answered(answer)) => {
+                answer.tells_written(offset, len)
+            }
+            _ => false,
+        }
+    }
+
     /// Was it sent again, after its first sending?
     pub(crate) fn was_sent_again(&self) -> bool
         ensures { result ≡ was_sent_again self.now }
@@ -269,12 +284,34 @@ impl Requests {
         self.ledger.clock()
     }
 
-    /// The requests in order: request `n` is at place `n - 1`.
-    pub fn entries(&self) -> &[Request]
-        ensures value { result.now ≡ self.now.entries }
+    /// How many requests were asked: request `n` is at place `n - 1`.
+    pub fn len(&self) -> usize
+        ensures value { result ≡ length self.now.entries }
         ensures right { IsRecord self.now }
     {
-        self.ledger.entries()
+        self.ledger.len()
+    }
+
+    /// The request at a place, while it is in memory: what was written is not.
+    pub fn request_at(&self, place: usize) -> Option<&Request>
+        ensures { option_map (λ r. r.now) result ≡ kept (slice_get self.now.entries place) }
+    {
+        self.ledger.request_at(place)
+    }
+
+    /// The request at a place, which is in memory.
+    pub fn request(&self, place: usize) -> &Request
+        requires { IsKeptAt self.now.entries place }
+        ensures { slice_get self.now.entries place ≡ Some result.now }
+    {
+        self.ledger.request(place)
+    }
+
+    /// The requests from a place on that are in memory, in order: all but those that were written.
+    pub fn kept_since(&self, place: usize) -> &[Entry]
+        ensures { map (λ e. e.request) result.now ≡ kept_of (drop place self.now.entries) }
+    {
+        self.ledger.kept_since(place)
     }
 
     /// The bytes of the `Data` that answered the request at a place.
@@ -325,6 +362,7 @@ impl Requests {
         ensures lost { IfOk result (λ places. places.items ≡ lost_by_tick now self.old) }
         ensures ok { OnOk result (self.new ≡ after_tick now self.old) }
         ensures err { OnErr result (self.new ≡ self.old) }
+        ensures kept { IfOk result (λ places. All (IsKeptAt self.new.entries) places.items) }
     {
         self.ledger.tick(now)
     }
@@ -347,6 +385,7 @@ impl Requests {
     pub fn first(&self) -> Option<usize>
         ensures value { result ≡ slice_get self.now.outgoing 0 }
         ensures there { IfSome result (λ place. place < length self.now.entries) }
+        ensures kept { IfSome result (IsKeptAt self.now.entries) }
     {
         self.ledger.first()
     }

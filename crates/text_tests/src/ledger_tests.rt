@@ -2,6 +2,7 @@
 //! keeps them.
 
 use crate::requests_tests::{have, tells_holdings};
+use request_record::entries::Entry;
 use request_record::ledger::{Counted, Ledger};
 use request_record::requests::{Asked, Outcome, Request, Requests};
 use std::alloc::Global;
@@ -72,8 +73,8 @@ fn hands_out(alloc: Global) -> Option<bool> {
     let again = ledger.take_answer(9, data(alloc, 2)?, 104);
     let mut is_right = is_without_bytes(&held, 0) && is_with_bytes(&bytes, 1);
     is_right &= is_without_bytes(&gone, 2) && again.is_none();
-    is_right &= tells_holdings(ledger.entries().get(0)) && is_untold(ledger.entries().get(1));
-    is_right &= !is_untold(ledger.entries().get(2));
+    is_right &= tells_holdings(ledger.request_at(0)) && is_untold(ledger.request_at(1));
+    is_right &= !is_untold(ledger.request_at(2));
     Some(is_right && ledger.clock() == 104 && ledger.outstanding() == 0)
 }
 
@@ -104,6 +105,103 @@ fn a_ledger_sends_and_loses(rt: HostRuntime) {
 fn refused_memory_in_a_ledger(rt: HostRuntime) {
     assert!(rt; hands_out(rt.alloc()) != Some(false));
     assert!(rt; sends_and_loses(rt.alloc()) != Some(false));
+}
+
+// What this server answers to the request of this number.
+fn answered(number: u64, body: Body) -> Message {
+    Message {
+        session: 7,
+        number,
+        body,
+    }
+}
+
+// An operation of session 7 that writes 30 bytes of share 4 at server 9 in six requests from second
+// 100 on, and gives the share up.
+fn writing(alloc: Global) -> Option<Ledger> {
+    let mut ledger = Ledger::new(alloc, 7, 100);
+    for part in 0..6 {
+        ledger.ask(9, Asked::Writing(4, part * 5, 5)).ok()?;
+    }
+    ledger.ask(9, Asked::Aborting(4)).ok()?;
+    Some(ledger)
+}
+
+// Whether the requests in memory from a place on are the Writings at these offsets, and then the
+// Aborting.
+fn are_kept(entries: &[Entry], offsets: &[u64]) -> bool {
+    let mut are = entries.len() == offsets.len() + 1;
+    for (entry, offset) in entries.iter().zip(offsets) {
+        are &= entry.request.asked == Asked::Writing(4, *offset, 5);
+    }
+    match entries.last() {
+        Some(entry) => are && entry.request.asked == Asked::Aborting(4),
+        None => false,
+    }
+}
+
+// Whether the request at this place is in memory.
+fn is_kept(ledger: &Ledger, place: usize) -> bool {
+    ledger.request_at(place).is_some()
+}
+
+// Whether the request at this place was lost.
+fn is_lost(ledger: &Ledger, place: usize) -> bool {
+    match ledger.request_at(place) {
+        Some(request) => matches!(request.outcome, Outcome::Lost),
+        None => false,
+    }
+}
+
+// Whether Writings that were written are let go, by a Wrote or a WrongOffset at their end, and no
+// other: not one that was lost, one of which fewer bytes were written, or one refused.
+fn lets_go(alloc: Global) -> Option<bool> {
+    let mut ledger = writing(alloc)?;
+    let written = ledger.take_answer(9, answered(2, Body::Wrote(10)), 101)?;
+    let again = ledger.take_answer(9, answered(2, Body::Wrote(10)), 101);
+    let late = ledger.take_answer(9, answered(1, Body::WrongOffset(5)), 102)?;
+    let short = ledger.take_answer(9, answered(4, Body::WrongOffset(18)), 103)?;
+    let refused = ledger.take_answer(9, answered(5, Body::NoShare), 104)?;
+    let mut is_right = is_without_bytes(&written, 1) && is_without_bytes(&late, 0);
+    is_right &= again.is_none() && short.place == 3 && refused.place == 4;
+    is_right &= ledger.len() == 7 && ledger.outstanding() == 2;
+    is_right &= are_kept(ledger.kept_since(0), &[10, 15, 20, 25]);
+    is_right &= are_kept(ledger.kept_since(3), &[15, 20, 25]);
+    is_right &= !is_kept(&ledger, 0) && !is_kept(&ledger, 1) && is_kept(&ledger, 2);
+    is_right &= is_kept(&ledger, 6) && !is_kept(&ledger, 7) && ledger.outgoing_len() == 3;
+    Some(is_right && is_ended(&mut ledger)?)
+}
+
+// Whether the last of the Writings is written after it was sent again, a late answer does not
+// count, and the one that is left is lost.
+fn is_ended(ledger: &mut Ledger) -> Option<bool> {
+    let mut is_right = ledger.tick(105).ok()?.is_empty() && ledger.outgoing_len() == 5;
+    is_right &= ledger
+        .take_answer(9, answered(6, Body::Wrote(30)), 106)?
+        .place
+        == 5;
+    is_right &= ledger
+        .take_answer(9, answered(6, Body::Wrote(30)), 107)
+        .is_none();
+    is_right &= ledger.outgoing_len() == 3 && !is_kept(ledger, 5);
+    is_right &= ledger.tick(120).ok()?.as_slice() == &[2usize][..];
+    is_right &= is_lost(ledger, 2) && ledger.outstanding() == 0;
+    is_right &= ledger
+        .take_answer(9, answered(3, Body::Wrote(15)), 121)
+        .is_none();
+    is_right &= are_kept(ledger.kept_since(0), &[10, 15, 20]);
+    is_right &= ledger.take_next() == Some(6) && ledger.take_next() == None && ledger.len() == 7;
+    Some(is_right && ledger.kept_since(7).is_empty() && !ledger.has_work())
+}
+
+#[test]
+fn written_requests_are_let_go(rt: HostRuntime) {
+    assert!(rt; lets_go(rt.alloc()) == Some(true));
+}
+
+#[test]
+fn refused_memory_where_requests_are_let_go(rt: HostRuntime) {
+    assert!(rt; lets_go(rt.alloc()) != Some(false));
 }
 
 // Asks server 9 for bytes of share 4, and once more where memory was refused.

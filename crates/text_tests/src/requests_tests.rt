@@ -35,7 +35,7 @@ fn closed(session: u64, number: u64) -> Message {
 }
 
 fn is_lost(requests: &Requests, place: usize) -> bool {
-    match requests.entries().get(place) {
+    match requests.request_at(place) {
         Some(request) => matches!(request.outcome, Outcome::Lost),
         None => false,
     }
@@ -290,7 +290,7 @@ fn told_of(request: Option<&Request>) -> Option<&Body> {
 fn is_done_once_answered(alloc: Global) -> Option<bool> {
     let mut requests = asked_again(alloc)?;
     let place = requests.take_answer(9, have(alloc)?, 6);
-    let is_kept = tells_holdings(requests.entries().get(0));
+    let is_kept = tells_holdings(requests.request_at(0));
     Some(place == Some(0) && is_kept && requests.clock() == 6 && is_done(&requests))
 }
 
@@ -333,7 +333,7 @@ fn begins(alloc: Global) -> Option<bool> {
     let mut requests = Requests::begin(alloc, &[3, 9, 5], 7, 100).ok()?;
     let mut is_right = requests.session() == 7 && requests.clock() == 100;
     for (place, server) in [3u16, 9, 5].iter().enumerate() {
-        is_right &= is_first_of(requests.entries().get(place), *server);
+        is_right &= is_first_of(requests.request_at(place), *server);
         is_right &= requests.take_next() == Some(place);
     }
     let mut message = have(alloc)?;
@@ -342,7 +342,7 @@ fn begins(alloc: Global) -> Option<bool> {
     is_right &= requests.take_answer(9, message, 101) == Some(1);
     let lost = requests.tick(120).ok()?;
     is_right &= lost.as_slice() == &[0usize, 2][..];
-    Some(is_right && requests.entries().len() == 3 && is_done(&requests))
+    Some(is_right && requests.len() == 3 && is_done(&requests))
 }
 
 #[test]

@@ -1,8 +1,9 @@
-use Rattle.std.proofs.Common.{◌≡◌, ◌+◌, ◌++◌, drop}
-use Rattle.request_record.specs.Record.{is_resent_at, places_from}
+use Rattle.std.proofs.Common.{◌≡◌, ◌++◌, drop}
+use Rattle.request_record.specs.Record.{is_resent_at}
+use Rattle.request_record.specs.Entries.{places_of}
 use Rattle.request_record.proofs.places.find_resent.Given as goal
 
 -- the places found, and those that the rest gives
-abbrev pub invariant-loop-at : goal.invariant-loop-at
-invariant-loop-at l =
-    l.places.items ++ places_from (is_resent_at l.now) (l.from + l.at) (drop l.at l.entries) ≡ places_from (is_resent_at l.now) l.from l.entries
+abbrev pub invariant-loop-entry : goal.invariant-loop-entry
+invariant-loop-entry l =
+    l.places.items ++ places_of (is_resent_at l.now) (drop l.entry-index l.entries) ≡ places_of (is_resent_at l.now) l.entries

@@ -1,9 +1,7 @@
-use Rattle.std.proofs.Common.{◌-◌, length}
-use Rattle.request_record.specs.Record.{AreSettled}
+use Rattle.std.proofs.Common.{◌≡◌, drop}
+use Rattle.request_record.specs.Entries.{first_place}
 use Rattle.request_record.proofs.places.first_waiting.Given as goal
 
-abbrev pub invariant-loop-place : goal.invariant-loop-place
-invariant-loop-place l = AreSettled l.place l.entries
-
-abbrev pub decreases-loop-place : goal.decreases-loop-place
-decreases-loop-place l = length l.entries - l.place
+-- none before this one waits
+abbrev pub invariant-loop-entry : goal.invariant-loop-entry
+invariant-loop-entry l = first_place (drop l.entry-index l.entries) l.end ≡ first_place l.entries l.end
