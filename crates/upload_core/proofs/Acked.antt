@@ -1,5 +1,5 @@
 -- Each acknowledged pair is of a server that answered.
-use Rattle.std.proofs.Common.{◌≡◌, ℕ, zero, suc, ◌+◌, ◌<◌, ◌∙◌, ap, append_assoc, drop, drop-cons, inl, inr, Bool, true, false, cond, ◌&&◌, ◌||◌, List, [], ◌∷◌, ◌++◌, All, Contains, length, get_or, eqb, refl, sym, subst, arith, true≢false}
+use Rattle.std.proofs.Common.{◌≡◌, ℕ, zero, suc, ◌+◌, ◌<◌, ◌∙◌, ap, append_assoc, drop, drop-cons, inl, inr, Bool, true, false, cond, ◌&&◌, ◌||◌, List, [], ◌∷◌, ◌++◌, All, Contains, length, get_or, eqb, map, refl, sym, subst, arith, true≢false}
 use Rattle.std.specs.List.{list_any}
 use Rattle.std.specs.Prelude.{nat_lt}
 use Rattle.std.proofs.lemmas.Bool.{eq-eqb, ltb-true, or_left, or_right}
@@ -191,13 +191,14 @@ acked_told g es of-told = acked_each g es es of-told (told_each es)
 pub acked_known : (g : Goal) (es : List Request) → All (IsOfTold es) es → All (λ (p : Pair). Contains (readonly_servers g es ++ writable_servers g es) p.0 × (p.1 < length g.digests)) (acked_pairs g es)
 acked_known g es of-told = All-weaker (IsToldPair g es) (λ (p : Pair). Contains (readonly_servers g es ++ writable_servers g es) p.0 × (p.1 < length g.digests)) (λ p h. (told_there g es p.0 h.0, h.1)) (acked_pairs g es) (acked_told g es of-told)
 
--- one more request of the record
-pub acked_on : (g : Goal) (es : List Request) (i : ℕ) (r : Request) (old new : List Pair) → i < length es → r ≡ get_or es i r → new ≡ old ++ acked_by g r → old ++ acked_pairs g (drop i es) ≡ acked_pairs g es
-    → new ++ acked_pairs g (drop (i + 1) es) ≡ acked_pairs g es
-acked_on g es i r old new lt is more before =
-    let next : suc i ≡ i + 1 = omega arith in
-    let first : drop i es ≡ r ∷ drop (i + 1) es = drop-cons es i r lt ∙ ap (λ (x : Request). x ∷ drop (suc i) es) (sym is) ∙ ap (λ (n : ℕ). r ∷ drop n es) next in
-    ap (λ (ps : List Pair). ps ++ acked_pairs g (drop (i + 1) es)) more
-    ∙ append_assoc old (acked_by g r) (acked_pairs g (drop (i + 1) es))
-    ∙ ap (λ (l : List Request). old ++ acked_pairs g l) (sym first)
-    ∙ before
+-- one more request of those that entries hold
+module _ {E : Type 0} (request : E → Request) where
+  pub acked_on : (g : Goal) (es : List E) (i : ℕ) (e : E) (old new : List Pair) → i < length es → e ≡ get_or es i e → new ≡ old ++ acked_by g (request e) → old ++ acked_pairs g (map request (drop i es)) ≡ acked_pairs g (map request es)
+      → new ++ acked_pairs g (map request (drop (i + 1) es)) ≡ acked_pairs g (map request es)
+  acked_on g es i e old new lt is more before =
+      let next : suc i ≡ i + 1 = omega arith in
+      let first : drop i es ≡ e ∷ drop (i + 1) es = drop-cons es i e lt ∙ ap (λ (x : E). x ∷ drop (suc i) es) (sym is) ∙ ap (λ (n : ℕ). e ∷ drop n es) next in
+      ap (λ (ps : List Pair). ps ++ acked_pairs g (map request (drop (i + 1) es))) more
+      ∙ append_assoc old (acked_by g (request e)) (acked_pairs g (map request (drop (i + 1) es)))
+      ∙ ap (λ (l : List E). old ++ acked_pairs g (map request l)) (sym first)
+      ∙ before

@@ -3,8 +3,8 @@ use Rattle.std.proofs.Common.{◌≡◌, ℕ, zero, suc, ◌+◌, ◌-◌, ◌<�
 use Rattle.std.specs.Prelude.{slice_get, nat_le, option_map}
 use Rattle.std.specs.List.{AllByRecursion, IsDistinct}
 use Rattle.std.proofs.lemmas.Bool.{cases_lt, eq-eqb}
-use Rattle.std.proofs.lemmas.List.Elements.{All-contains, Contains-get_or}
-use Rattle.std.proofs.lemmas.Option.{slice_get-map}
+use Rattle.std.proofs.lemmas.List.Elements.{All-contains, All-weaker, Contains-get_or}
+use Rattle.std.proofs.lemmas.Option.{slice_get-map, slice_get_within}
 use Rattle.lemmas.proofs.Bools.{both}
 use Rattle.wire.specs.declared.message.Message.{Message}
 use Rattle.request_record.specs.declared.requests.Asked.{Asked}
@@ -16,14 +16,14 @@ use Rattle.placement.specs.Matching.{Pair}
 use Rattle.upload_core.specs.State.{Goal}
 use Rattle.upload_core.specs.Moves.{all_follow_ups, follow_ups_at}
 use Rattle.upload_core.specs.Course.{IsInside}
-use Rattle.upload_core.specs.Trails.{AreTrails, IsAbout, IsAtEnd, share_of}
+use Rattle.upload_core.specs.Trails.{AreTrails, IsAbout, IsAtEnd, IsLostAt, share_of}
 use Rattle.upload_core.proofs.Follow.{follow_onward}
 use Rattle.upload_core.proofs.Lists.{all_of, contains_at, from_flat, get_either, get_front, get_mapped, taken_from}
 use Rattle.request_record.proofs.RecordLaws.{counts_is}
 use Rattle.placement.proofs.Best.{each_absent}
 use Rattle.placement.proofs.Members.{Contains-nil, Contains-uncons}
 use Rattle.upload_core.proofs.Records.{Goes, about_was, was_goes}
-use Rattle.upload_core.proofs.Goes.{message_goes, tick_goes}
+use Rattle.upload_core.proofs.Goes.{get_asked_all, message_goes, tick_goes}
 use Rattle.upload_core.proofs.Followed.{asked_after, entries_all, inside_at, message_there, new_of}
 
 -- what waited at a place and waits no more
@@ -102,18 +102,45 @@ lost_waits now r p q c e =
     let same : w.request ≡ q = cc in
     ap (λ (x : Request). is_outstanding x.outcome) (sym same) ∙ (both (is_outstanding w.request.outcome) (nat_le 20 (time - w.request.first_sent)) w.passes).0
 
+-- what a tick finds lost, and what became of it
+record WasLost (now : ℕ) (r : RequestsState) (p : ℕ) : Type 0 where
+  pub request : Request
+  pub there : slice_get r.entries p ≡ Some request
+  pub waited : is_outstanding request.outcome ≡ true
+  pub after : slice_get (after_tick now r).entries p ≡ Some (with_outcome request Lost)
+
+was_lost : (now : ℕ) (r : RequestsState) (p : ℕ) → Contains (lost_by_tick now r) p → WasLost now r p
+was_lost now r p c =
+    let time : ℕ = max r.clock now in
+    let w = place_from (is_lost_at time) 0 r.entries p c in
+    let at : p - 0 ≡ p = omega arith in
+    let there : slice_get r.entries p ≡ Some w.request = ap (slice_get r.entries) (sym at) ∙ w.there in
+    record {
+      request = w.request;
+      there = there;
+      waited = (both (is_outstanding w.request.outcome) (nat_le 20 (time - w.request.first_sent)) w.passes).0;
+      after = slice_get-map (ticked_one time) r.entries p ∙ ap (option_map (ticked_one time)) there ∙ ap Some (lost_one time w.request w.passes);
+    }
+
+pub lost_are : (now : ℕ) (r : RequestsState) → All (IsLostAt (after_tick now r).entries) (lost_by_tick now r)
+lost_are now r = all_of (IsLostAt (after_tick now r).entries) (lost_by_tick now r) (λ p c. let w = was_lost now r p c in record { request = with_outcome w.request Lost; there = w.after; lost = refl })
+
+pub lost_within : (es : List Request) (places : List ℕ) → All (IsLostAt es) places → All (λ (p : ℕ). p < length es) places
+lost_within es places all = All-weaker (IsLostAt es) (λ (p : ℕ). p < length es) (λ p l. slice_get_within es p l.request l.there) places all
+
+-- and it is so while what follows others is asked
+pub lost_after : (g : Goal) (r : RequestsState) (lost : List ℕ) (i : ℕ) → i < length lost → All (IsLostAt r.entries) lost → IsLostAt (asked_all (all_follow_ups g r.entries (take i lost)) r).entries (get_or lost i 0)
+lost_after g r lost i lt all =
+    let l = all i 0 lt in
+    record { request = l.request; there = get_asked_all (all_follow_ups g r.entries (take i lost)) r (get_or lost i 0) (slice_get_within r.entries (get_or lost i 0) l.request l.there) ∙ l.there; lost = l.lost }
+
 pub lost_ends : (g : Goal) (now : ℕ) (r : RequestsState) → AreTrails g r.entries → All (IsAtEnd (after_tick now r).entries) (lost_by_tick now r)
 lost_ends g now r trails = all_of (IsAtEnd (after_tick now r).entries) (lost_by_tick now r) each
   where
     each : (p : ℕ) → Contains (lost_by_tick now r) p → IsAtEnd (after_tick now r).entries p
     each p c =
-        let time : ℕ = max r.clock now in
-        let w = place_from (is_lost_at time) 0 r.entries p c in
-        let at : p - 0 ≡ p = omega arith in
-        let there : slice_get r.entries p ≡ Some w.request = ap (slice_get r.entries) (sym at) ∙ w.there in
-        let waiting : is_outstanding w.request.outcome ≡ true = (both (is_outstanding w.request.outcome) (nat_le 20 (time - w.request.first_sent)) w.passes).0 in
-        let now-there : slice_get (after_tick now r).entries p ≡ Some (with_outcome w.request Lost) = slice_get-map (ticked_one time) r.entries p ∙ ap (option_map (ticked_one time)) there ∙ ap Some (lost_one time w.request w.passes) in
-        end_goes g r.entries (after_tick now r).entries (tick_goes now r) trails p w.request (with_outcome w.request Lost) there waiting now-there refl
+        let w = was_lost now r p c in
+        end_goes g r.entries (after_tick now r).entries (tick_goes now r) trails p w.request (with_outcome w.request Lost) w.there w.waited w.after refl
 
 -- ---- one of several is followed up
 

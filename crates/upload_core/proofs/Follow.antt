@@ -10,7 +10,7 @@ use Rattle.request_record.specs.declared.requests.Outcome.{Outcome}
 use Rattle.request_record.specs.declared.requests.Outcome.TheVariants.{Unawaited, Outstanding, Answered, Lost}
 use Rattle.request_record.specs.declared.requests.Request.{Request}
 use Rattle.upload_core.specs.State.{Goal}
-use Rattle.upload_core.specs.Transfers.{after_piece, carried, carried_on, follow_up, given_up, has_failed, next_of}
+use Rattle.upload_core.specs.Transfers.{after_piece, carried, carried_on, fails, follow_up, given_up, has_failed, is_transfer, next_of}
 use Rattle.upload_core.specs.Course.{IsInside, is_holdings}
 use Rattle.upload_core.specs.Trails.{rank_of, share_of}
 
@@ -103,3 +103,15 @@ follow_none g r x is = by (has_failed g r)
     by : (b : Bool) → cond b (given_up r.asked) (carried_on g r.asked r.outcome) ≡ Some x → ⊥
     by true e = let t : given_up Holdings ≡ Some x = sym (ap given_up is) ∙ e in absurd cc
     by false e = on r.outcome (sym (ap (λ (a : Asked). carried_on g a r.outcome) is) ∙ e)
+
+-- after a loss its transfer is given up
+pub lost_follow : (g : Goal) (r : Request) → r.outcome ≡ Lost → follow_up g r ≡ given_up r.asked
+lost_follow g r e = ap (λ (o : Outcome). cond (fails g r.asked o) (given_up r.asked) (carried_on g r.asked o)) e ∙ by r.asked
+  where
+    by : (a : Asked) → cond (is_transfer a) (given_up a) None ≡ given_up a
+    by Holdings = refl
+    by (Allocation share len) = refl
+    by (Writing share offset len) = refl
+    by (Closing share) = refl
+    by (Reading share offset len) = refl
+    by (Aborting share) = refl

@@ -1,6 +1,6 @@
 -- How an upload goes on from its record.
 use Rattle.std.proofs.Common.{◌≡◌, ◌≢◌, ℕ, zero, suc, ◌+◌, ◌<◌, ◌≤◌, inl, inr, Bool, true, false, ◌&&◌, List, [], ◌∷◌, ◌++◌, All, Option, Some, None, Result, Ok, Err, length, take, map, get_or, eqb, nat_lt, IsPermutation, refl, sym, ap, subst, ◌∙◌, arith, true≢false}
-use Rattle.std.specs.Prelude.{max, slice_get}
+use Rattle.std.specs.Prelude.{IfSome, MatchOption, max, slice_get}
 use Rattle.std.specs.Result.{IfOk}
 use Rattle.std.specs.List.{AllByRecursion, IsDistinct, range_with_len}
 use Rattle.std.specs.Cmp.{nat_eq_equiv}
@@ -19,9 +19,9 @@ use Rattle.wire.specs.declared.message.Message.{Message}
 use Rattle.request_record.specs.declared.requests.Asked.{Asked}
 use Rattle.request_record.specs.declared.requests.Asked.TheVariants.{Holdings, Allocation, Writing, Closing, Reading, Aborting}
 use Rattle.request_record.specs.declared.requests.Request.{Request}
-use Rattle.request_record.specs.Record.{RequestsState, TakesNext, answered_in, asked_all, asked_more, at, counted_at, counts_at, first_request, is_lost_at, is_outstanding}
-use Rattle.request_record.specs.Asking.{after_message, after_tick, asks_of, begun, fresh, lost_by_tick}
-use Rattle.request_record.proofs.RecordLaws.{Awaits, asked_snoc, counts_is, places_there}
+use Rattle.request_record.specs.Record.{RequestsState, TakesNext, answered_in, asked_all, asked_more, at, counted_at, counts_at, first_request, is_outstanding}
+use Rattle.request_record.specs.Asking.{after_message, after_tick, asks_of, begun, fresh}
+use Rattle.request_record.proofs.RecordLaws.{Awaits, asked_snoc, counts_is}
 use Rattle.placement.specs.Matching.{IsLargestMatching, Pair, shares_of}
 use Rattle.placement.specs.Plan.{IsPlan}
 use Rattle.upload_core.specs.declared.status.ServerInfo.{ServerInfo}
@@ -33,7 +33,7 @@ use Rattle.upload_core.specs.Moves.{AreInOrder, GoesOn, Stops, TicksWith, all_fo
 use Rattle.upload_core.specs.Course.{IsCourse, IsInside, IsOfTold, IsWaitedFor, MayPlace, allocations, asked_servers, is_holdings}
 use Rattle.upload_core.specs.Trails.{AreFollowed, AreTrails, IsAbout, IsAtEnd, IsBefore, IsNew, rank_of, share_of}
 use Rattle.upload_core.proofs.Follow.{IsOnward, follow_none, follow_onward}
-use Rattle.upload_core.proofs.Records.{Goes, MayAsk, course_asked, course_goes, told_push, goes_refl, goes_settled, goes_ticked, length_goes}
+use Rattle.upload_core.proofs.Records.{Goes, MayAsk, course_asked, course_goes, told_push, goes_refl, goes_settled, goes_ticked}
 
 holdings_is : (a : Asked) → is_holdings a ≡ true → a ≡ Holdings
 holdings_is Holdings h = refl
@@ -91,6 +91,16 @@ module _ (u : UploadState) (place : ℕ) (r : Request) (is : r ≡ get_or u.requ
   pub follow_nothing : follow_up u.goal r ≡ None → u ≡ with_record u (asked_all (follow_ups_at u.goal (slice_get u.requests.entries place)) u.requests)
   follow_nothing e = ap (with_record u) (sym (ap (λ (asks : List (ℕ × Asked)). asked_all asks u.requests) (follows None e)))
 
+  -- what follows may be asked
+  pub next_may : (next : Option Asked) → next ≡ follow_up u.goal r → IsCourse u → IsAtEnd u.requests.entries place → IfSome next (λ asked. IsCourse (with_record u (asked_more r.server asked u.requests)))
+  next_may None e c end = tt
+  next_may (Some asked) e c end = course_asked u (r.server, asked) (may_follow asked c end (sym e)) c
+
+  pub next_follows : (next : Option Asked) (new : UploadState) → next ≡ follow_up u.goal r → MatchOption next (new ≡ u) (λ asked. new ≡ with_record u (asked_more r.server asked u.requests))
+      → new ≡ with_record u (asked_all (follow_ups_at u.goal (slice_get u.requests.entries place)) u.requests)
+  next_follows None new e n = n ∙ follow_nothing (sym e)
+  next_follows (Some asked) new e n = n ∙ follow_asks asked (asked_more r.server asked u.requests) (sym e) refl
+
 -- ---- the record
 
 pub length_asked : (asks : List (ℕ × Asked)) (r : RequestsState) → length r.entries ≤ length (asked_all asks r).entries
@@ -114,12 +124,6 @@ message_goes from m now r = counted_goes from m (at now r) (counts_at from m (at
 
 pub tick_goes : (now : ℕ) (r : RequestsState) → Goes r.entries (after_tick now r).entries
 tick_goes now r = goes_ticked (max r.clock now) r.entries
-
-pub counted_there : (from : ℕ) (m : Message) (now : ℕ) (r : RequestsState) (place : ℕ) → counts_at from m r ≡ Some place → place < length (after_message from m now r).entries
-counted_there from m now r place e =
-    let a = counts_is from m r place e in
-    let lt : place < length r.entries = slice_get_within r.entries place a.request a.there in
-    omega (arith, lt, length_goes r.entries (after_message from m now r).entries (message_goes from m now r))
 
 pub message_course : (u : UploadState) (from : ℕ) (m : Message) (now : ℕ) (new : RequestsState) → new ≡ after_message from m now u.requests → IsCourse u → IsCourse (with_record u new)
 message_course u from m now new e c = subst (λ (r : RequestsState). IsCourse (with_record u r)) (sym e) (course_goes u (after_message from m now u.requests) (message_goes from m now u.requests) c)
@@ -255,7 +259,7 @@ module _ (u : UploadState) (chosen : List Pair) (largest : IsLargestMatching (ac
 
 -- ---- what was lost
 
-get_asked_all : (asks : List (ℕ × Asked)) (r : RequestsState) (p : ℕ) → p < length r.entries → slice_get (asked_all asks r).entries p ≡ slice_get r.entries p
+pub get_asked_all : (asks : List (ℕ × Asked)) (r : RequestsState) (p : ℕ) → p < length r.entries → slice_get (asked_all asks r).entries p ≡ slice_get r.entries p
 get_asked_all [] r p lt = refl
 get_asked_all (ask ∷ asks) r p lt =
     let new : RequestsState = asked_more ask.0 ask.1 r in
@@ -275,12 +279,6 @@ follow_more g r lost i lt there =
     ap (λ (o : Option Request). asked_all (follow_ups_at g o) (asked_all before r)) old
     ∙ sym (asked_joined before (f p) r)
     ∙ ap (λ (asks : List (ℕ × Asked)). asked_all asks r) (sym split)
-
-pub follow_there : (g : Goal) (r : RequestsState) (lost : List ℕ) (i : ℕ) → i < length lost → All (λ (p : ℕ). p < length r.entries) lost → get_or lost i 0 < length (asked_all (all_follow_ups g r.entries (take i lost)) r).entries
-follow_there g r lost i lt there = omega (arith, there i 0 lt, length_asked (all_follow_ups g r.entries (take i lost)) r)
-
-pub lost_there : (now : ℕ) (r : RequestsState) → All (λ (p : ℕ). p < length (after_tick now r).entries) (lost_by_tick now r)
-lost_there now r = places_there (is_lost_at (max r.clock now)) 0 r.entries (length (after_tick now r).entries) (omega (arith, length_goes r.entries (after_tick now r).entries (tick_goes now r)))
 
 -- ---- the beginning
 

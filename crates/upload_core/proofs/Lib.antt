@@ -15,3 +15,5 @@ pub mod Stands
 pub mod Right
 pub mod Sends
 pub mod Telling
+pub mod Written
+pub mod Answering

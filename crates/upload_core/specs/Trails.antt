@@ -5,6 +5,7 @@ use Rattle.request_record.specs.declared.requests.Asked.{Asked}
 use Rattle.request_record.specs.declared.requests.Asked.TheVariants.{Holdings, Allocation, Writing}
 use Rattle.request_record.specs.declared.requests.Asked.TheVariants.{Closing}
 use Rattle.request_record.specs.declared.requests.Asked.TheVariants.{Reading, Aborting}
+use Rattle.request_record.specs.declared.requests.Outcome.TheVariants.{Lost}
 use Rattle.request_record.specs.declared.requests.Request.{Request}
 use Rattle.request_record.specs.Record.{is_outstanding}
 use Rattle.placement.specs.Matching.{Pair}
@@ -62,6 +63,12 @@ pub record IsAtEnd (entries : List Request) (place : ℕ) : Type 0 where
   pub quiet : is_outstanding request.outcome ≡ false
   pub last : (i : ℕ) (r : Request) (pair : Pair) → place < i → slice_get entries i ≡ Some r
       → IsAbout pair request → IsAbout pair r → ⊥
+
+-- the request at this place was lost
+pub record IsLostAt (entries : List Request) (place : ℕ) : Type 0 where
+  pub request : Request
+  pub there : slice_get entries place ≡ Some request
+  pub lost : request.outcome ≡ Lost
 
 -- what became of the transfer of a pair: its server failed, its share is acknowledged, or a request
 -- of it waits

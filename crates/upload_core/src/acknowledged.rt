@@ -1,10 +1,12 @@
 //! Which pairs of a server and a share the answers of a record acknowledge.
 
-ghost use Rattle.std.specs.Prelude.{◌≡◌, ◌++◌, IfOk, OnOk};
+ghost use Rattle.std.specs.Prelude.{◌≡◌, ◌++◌, IfOk, OnOk, map};
+ghost use Rattle.request_record.specs.declared.entries.Entry.{Entry};
 ghost use Rattle.upload_core.specs.Acknowledged.{acked_answer, acked_by, acked_held, acked_pairs};
 ghost use Rattle.upload_core.specs.Acknowledged.{acked_share};
 
 use crate::status::UploadGoal;
+use request_record::entries::Entry;
 use request_record::requests::{Asked, Outcome, Request};
 use std::alloc::{AllocError, Global};
 use wire::message::{Body, Digest, HeldShare, NodeId};
@@ -13,13 +15,14 @@ use wire::message::{Body, Digest, HeldShare, NodeId};
 pub(crate) fn acked_pairs(
     alloc: Global,
     goal: &UploadGoal,
-    entries: &[Request],
+    entries: &[Entry],
 ) -> Result<Vec<(NodeId, u16)>, AllocError>
-    ensures { IfOk result (λ pairs. pairs.items ≡ acked_pairs goal.now entries.now) }
+    ensures { IfOk result (λ pairs. pairs.items
+        ≡ acked_pairs goal.now (map (λ (e : Entry). e.request) entries.now)) }
 {
     let mut pairs = Vec::new(alloc);
-    for request in entries {
-        push_request(goal, request, &mut pairs)?;
+    for entry in entries {
+        push_request(goal, &entry.request, &mut pairs)?;
     }
     Ok(pairs)
 }

@@ -1,11 +1,12 @@
 //! The course of an upload: what it asks and how it ends, whatever the bytes of its shares are.
 
 ghost use Rattle.std.specs.Prelude.{◌≡◌, ◌≢◌, ◌⊎◌, ◌<◌, ◌==◌, ◌&&◌, ◌||◌, ◌↔◌, ℕ, All, IfOk};
-ghost use Rattle.std.specs.Prelude.{IfSome, IsOk, IsTrue, OnErr, OnOk, Some};
+ghost use Rattle.std.specs.Prelude.{IfSome, IsOk, IsTrue, MatchOption, OnErr, OnOk, Some};
 ghost use Rattle.std.specs.Prelude.{length, map, nat_eq, nat_lt, slice_get, take};
 ghost use Rattle.std.specs.List.{IsDistinct};
 ghost use Rattle.request_record.specs.Asking.{after_message, after_tick, message_at};
-ghost use Rattle.request_record.specs.Record.{IsRecord, asked_all};
+ghost use Rattle.request_record.specs.Record.{IsRecord, asked_all, asked_more};
+ghost use Rattle.request_record.specs.Written.{IsKeptAt};
 ghost use Rattle.placement.specs.Matching.{IsHappiness, shares_of};
 ghost use Rattle.upload_core.specs.declared.pieces.PieceFault.TheVariants.{OutOfMemory};
 ghost use Rattle.upload_core.specs.declared.status.ServerInfo.{ServerInfo};
@@ -17,13 +18,13 @@ ghost use Rattle.upload_core.specs.Moves.{all_follow_ups, follow_ups_at, node_at
 ghost use Rattle.upload_core.specs.Sending.{AsksAt, first_to_send, one_sent};
 ghost use Rattle.upload_core.specs.Rounds.{IsSettled, has_failed_since};
 ghost use Rattle.upload_core.specs.State.{with_record};
-ghost use Rattle.upload_core.specs.Trails.{AreFollowed, IsAtEnd};
+ghost use Rattle.upload_core.specs.Trails.{AreFollowed, IsAtEnd, IsLostAt};
 
 use crate::acknowledged::acked_pairs;
 use crate::pieces::PieceFault;
-use crate::rounds::{has_failed_since, servers_of};
+use crate::rounds::{has_failed_in, servers_of};
 use crate::status::{NodeList, PairList, ServerInfo, UploadGoal, UploadStatus};
-use crate::transfers::follow_up;
+use crate::transfers::{follow_up, given_up};
 use placement::{Matching, ServerId, happiness, order, place};
 use request_record::ledger::Ledger;
 use request_record::requests::Asked;
@@ -110,13 +111,17 @@ impl Course {
         ensures ended { self.old.status ≢ UploadStatus.Running → IsOk result }
         ensures goal { self.new.goal ≡ self.old.goal }
     {
-        let Some(counted) = self.requests.take_answer(from, message, now) else {
+        let Some(place) = self.requests.counts_at(from, &message) else {
+            self.requests.pass(now);
             return Ok(());
         };
+        // The record may let the request go once its answer is taken.
+        let next = follow_up(&self.goal, self.requests.request(place), &message.body);
+        self.requests.take_answer(from, message, now);
         if !self.is_running() {
             return Ok(());
         }
-        self.follow(counted.place)?;
+        self.ask_next(from, next)?;
         self.go_on()
     }
 
@@ -154,7 +159,7 @@ impl Course {
         ensures right { IsCourse self.now }
         ensures recorded { IsRecord self.now.requests }
     {
-        let _ = self.requests.entries();
+        let _ = self.requests.len();
         &self.status
     }
 
@@ -188,9 +193,10 @@ impl Course {
     pub(crate) fn first(&self) -> Option<usize>
         ensures value { result ≡ first_to_send self.now }
         ensures there { IfSome result (λ place. place < length self.now.requests.entries) }
+        ensures kept { IfSome result (IsKeptAt self.now.requests.entries) }
         ensures recorded { IsRecord self.now.requests }
     {
-        let _ = self.requests.entries();
+        let _ = self.requests.len();
         match self.status {
             UploadStatus::Failed(_) => None,
             _ => self.requests.first(),
@@ -199,11 +205,11 @@ impl Course {
 
     /// The server of the request at a place, and what it asks.
     pub(crate) fn request_at(&self, place: usize) -> (NodeId, Asked)
-        requires { place < length self.now.requests.entries }
+        requires { IsKeptAt self.now.requests.entries place }
         ensures value { AsksAt self.now place result.0 result.1 }
         ensures inside { IsInside self.now.goal result.1 }
     {
-        let request = &self.requests.entries()[place];
+        let request = self.requests.request(place);
         (request.server, request.asked)
     }
 
@@ -226,9 +232,24 @@ impl Course {
         *self.goal.cap().storage_index()
     }
 
-    // Asks what follows the answer to the request at a place, or its loss.
+    // Asks this of a server, if anything.
+    fn ask_next(&mut self, server: NodeId, next: Option<Asked>) -> Result<(), AllocError>
+        requires right { IfSome next (λ asked. IsCourse
+            (with_record self.old (asked_more server asked self.old.requests))) }
+        ensures ok { OnOk result (MatchOption next (self.new ≡ self.old) (λ asked.
+            self.new ≡ with_record self.old (asked_more server asked self.old.requests))) }
+        ensures err { OnErr result (self.new ≡ self.old) }
+        ensures goal { self.new.goal ≡ self.old.goal }
+    {
+        match next {
+            Some(asked) => self.requests.ask(server, asked),
+            None => Ok(()),
+        }
+    }
+
+    // Asks what follows the loss of the request at a place.
     fn follow(&mut self, place: usize) -> Result<(), AllocError>
-        requires there { place < length self.old.requests.entries }
+        requires lost { IsLostAt self.old.requests.entries place }
         requires at_end { IsAtEnd self.old.requests.entries place }
         ensures ok { OnOk result (self.new ≡ with_record self.old (asked_all
             (follow_ups_at self.old.goal (slice_get self.old.requests.entries place))
@@ -236,17 +257,15 @@ impl Course {
         ensures err { OnErr result (self.new ≡ self.old) }
         ensures goal { self.new.goal ≡ self.old.goal }
     {
-        let request = &self.requests.entries()[place];
+        let request = self.requests.request(place);
         let server = request.server;
-        match follow_up(&self.goal, request) {
-            Some(asked) => self.requests.ask(server, asked),
-            None => Ok(()),
-        }
+        let next = given_up(request.asked);
+        self.ask_next(server, next)
     }
 
-    // Asks what follows the requests at these places.
+    // Asks what follows the loss of the requests at these places.
     fn follow_all(&mut self, places: &[usize]) -> Result<(), AllocError>
-        requires there { All (λ place. place < length self.old.requests.entries) places.now }
+        requires lost { All (IsLostAt self.old.requests.entries) places.now }
         requires at_end { All (IsAtEnd self.old.requests.entries) places.now }
         requires once { IsDistinct nat_eq places.now }
         requires right { IsCourse self.old }
@@ -273,7 +292,7 @@ impl Course {
             return Ok(());
         }
         let alloc = *self.servers.allocator();
-        let acked = acked_pairs(alloc, &self.goal, self.requests.entries())?;
+        let acked = acked_pairs(alloc, &self.goal, self.requests.kept_since(0))?;
         self.place_or_end(alloc, &acked)
     }
 
@@ -308,7 +327,7 @@ impl Course {
             && has_failed_since self.now.goal self.now.round self.now.requests.entries }
     {
         reached < usize::from(self.wanted)
-            && has_failed_since(&self.goal, self.round, self.requests.entries())
+            && has_failed_in(&self.goal, self.requests.kept_since(self.round))
     }
 
     // The pairs that are to be transferred.
@@ -325,7 +344,7 @@ impl Course {
         ensures may { IfOk result (λ pairs. All (MayPlace self.now) pairs.items) }
         ensures once { IfOk result (λ pairs. IsDistinct nat_eq (shares_of pairs.items)) }
     {
-        let servers = servers_of(alloc, &self.goal, self.requests.entries())?;
+        let servers = servers_of(alloc, &self.goal, self.requests.kept_since(0))?;
         let count = self.goal.share_count() as u16;
         match place(alloc, &servers.readonly, &servers.writable, acked, count) {
             Ok(plan) => {
@@ -348,7 +367,7 @@ impl Course {
         ensures err { OnErr result (Stops self.old.requests self.old self.new) }
         ensures goal { self.new.goal ≡ self.old.goal }
     {
-        self.round = self.requests.entries().len();
+        self.round = self.requests.len();
         allocate(&mut self.requests, pairs, self.goal.share_length())
     }
 
@@ -391,10 +410,7 @@ fn largest(alloc: Global, pairs: &[(NodeId, u16)]) -> Result<Matching, AllocErro
     ensures { IfOk result
         (λ matching. IsHappiness pairs.now matching.pairs.items matching.blocking.items) }
 {
-    match happiness(alloc, pairs) {
-        Ok(matching) => Ok(matching),
-        Err(_) => Err(AllocError),
-    }
+    happiness(alloc, pairs).map_err(|_| AllocError)
 }
 
 // The nodes of the servers, in the order of the file.

@@ -1,15 +1,17 @@
 //! Rounds: which servers take shares, where shares are placed, and how an upload ends.
 
-ghost use Rattle.std.specs.Prelude.{◌≡◌, ◌≤◌, ◌∷◌, ◌++◌, [], IfOk, OnOk, drop, false, filter};
-ghost use Rattle.std.specs.Prelude.{if◌then◌else◌, length, nat_eq, not, true};
+ghost use Rattle.std.specs.Prelude.{◌≡◌, ◌∷◌, ◌++◌, [], IfOk, OnOk, false, filter};
+ghost use Rattle.std.specs.Prelude.{if◌then◌else◌, map, nat_eq, not, true};
+ghost use Rattle.std.specs.List.{list_any};
 ghost use Rattle.std.specs.Set.{is_member};
+ghost use Rattle.request_record.specs.declared.entries.Entry.{Entry};
 ghost use Rattle.upload_core.specs.Course.{server_where};
-ghost use Rattle.upload_core.specs.Rounds.{has_answered_as, has_failed_since};
-ghost use Rattle.upload_core.specs.Rounds.{readonly_servers, writable_servers};
+ghost use Rattle.upload_core.specs.Rounds.{has_answered_as, readonly_servers, writable_servers};
 ghost use Rattle.upload_core.specs.Transfers.{has_failed};
 
 use crate::status::UploadGoal;
 use crate::transfers::has_failed;
+use request_record::entries::Entry;
 use request_record::requests::{Asked, Outcome, Request};
 use std::alloc::{AllocError, Global};
 use wire::message::{Body, NodeId};
@@ -25,18 +27,20 @@ pub(crate) struct Servers {
 pub(crate) fn servers_of(
     alloc: Global,
     goal: &UploadGoal,
-    entries: &[Request],
+    entries: &[Entry],
 ) -> Result<Servers, AllocError>
-    ensures writable { IfOk result (λ s. s.writable.items ≡ writable_servers goal.now entries.now) }
-    ensures readonly { IfOk result (λ s. s.readonly.items ≡ readonly_servers goal.now entries.now) }
+    ensures writable { IfOk result (λ s. s.writable.items
+        ≡ writable_servers goal.now (map (λ (e : Entry). e.request) entries.now)) }
+    ensures readonly { IfOk result (λ s. s.readonly.items
+        ≡ readonly_servers goal.now (map (λ (e : Entry). e.request) entries.now)) }
 {
     let mut told = Told {
         failed: Vec::new(alloc),
         taking: Vec::new(alloc),
         closed: Vec::new(alloc),
     };
-    for request in entries {
-        told.note(goal, request)?;
+    for entry in entries {
+        told.note(goal, &entry.request)?;
     }
     told.into_servers(alloc)
 }
@@ -145,12 +149,10 @@ fn has_answered_as(readonly: bool, request: &Request) -> bool
     }
 }
 
-/// Did a transfer fail from this place of the record on?
-pub(crate) fn has_failed_since(goal: &UploadGoal, round: usize, entries: &[Request]) -> bool
-    requires { round ≤ length entries.now }
-    ensures { result ≡ has_failed_since goal.now round entries.now }
+/// Did the transfer of one of these requests fail?
+pub(crate) fn has_failed_in(goal: &UploadGoal, entries: &[Entry]) -> bool
+    ensures { result
+        ≡ list_any (has_failed goal.now) (map (λ (e : Entry). e.request) entries.now) }
 {
-    entries[round..]
-        .iter()
-        .any(|request| has_failed(goal, request))
+    entries.iter().any(|entry| has_failed(goal, &entry.request))
 }

@@ -2,11 +2,12 @@
 
 ghost use Rattle.std.specs.Prelude.{◌≡◌, ◌+◌, ◌<◌, ◌≤◌, ◌^◌};
 ghost use Rattle.upload_core.specs.Acknowledged.{is_digest_of};
-ghost use Rattle.upload_core.specs.Transfers.{after_piece, carried, carried_on, fails, follow_up};
+ghost use Rattle.upload_core.specs.Transfers.{after_piece, carried, fails, follow_up};
 ghost use Rattle.upload_core.specs.Transfers.{given_up, has_failed, is_acknowledged, is_transfer};
 ghost use Rattle.upload_core.specs.Transfers.{next_of};
 ghost use Rattle.upload_core.specs.State.{Goal};
 ghost use Rattle.request_record.specs.declared.requests.Outcome.TheVariants.{Answered};
+ghost use Rattle.request_record.specs.Record.{with_outcome};
 
 use crate::status::UploadGoal;
 use request_record::requests::{Asked, Outcome, Request};
@@ -15,17 +16,14 @@ use wire::message::{Body, ShareLength};
 /// The most bytes of a piece.
 pub(crate) const MAX_PIECE: u64 = 32_768;
 
-/// What is asked of a request's server at once after it was answered or lost.
-pub(crate) fn follow_up(goal: &UploadGoal, request: &Request) -> Option<Asked>
-    ensures { result ≡ follow_up goal.now request.now }
+/// What is asked of a request's server at once after this answer to it.
+pub(crate) fn follow_up(goal: &UploadGoal, request: &Request, body: &Body) -> Option<Asked>
+    ensures { result ≡ follow_up goal.now (with_outcome request.now (Answered body.now)) }
 {
-    if has_failed(goal, request) {
+    if is_refusal(goal, request, body) {
         given_up(request.asked)
     } else {
-        match &request.outcome {
-            Outcome::Answered(kept) => carried(goal, request.asked, kept.told()?),
-            _ => None,
-        }
+        carried(goal, request.asked, body)
     }
 }
 
@@ -74,8 +72,8 @@ fn is_acknowledged(goal: &UploadGoal, asked: Asked, body: &Body) -> bool
     }
 }
 
-// One Abort, where room was granted.
-fn given_up(asked: Asked) -> Option<Asked>
+/// What is asked where a transfer failed, as after a loss: one Abort, where room was granted.
+pub(crate) fn given_up(asked: Asked) -> Option<Asked>
     ensures { result ≡ given_up asked }
 {
     match asked {

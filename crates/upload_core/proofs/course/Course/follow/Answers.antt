@@ -1,49 +1,48 @@
-use Rattle.std.proofs.Common.{◌≡◌, ◌<◌, Some, None, inl, inr, get_or, length, sym, ap, subst, ◌∙◌, List}
-use Rattle.std.specs.Prelude.{slice_get}
-use Rattle.lemmas.proofs.Results.{settled_by, on_ok}
-use Rattle.upload_core.proofs.Records.{on_err}
+use Rattle.std.proofs.Common.{◌≡◌, ℕ, Option, Some, sym, ap, subst, ◌∙◌}
+use Rattle.std.specs.Prelude.{IfSome, slice_get}
+use Rattle.std.proofs.lemmas.Option.{get_or_from_slice_get, slice_get_within}
+use Rattle.lemmas.proofs.Results.{on_ok}
+use Rattle.request_record.specs.declared.requests.Asked.{Asked}
 use Rattle.request_record.specs.declared.requests.Request.{Request}
-use Rattle.request_record.specs.Record.{RequestsState, asked_all, asked_more}
+use Rattle.request_record.specs.Record.{asked_more}
 use Rattle.upload_core.specs.State.{UploadState, with_record}
-use Rattle.upload_core.specs.Transfers.{follow_up}
-use Rattle.upload_core.specs.Moves.{follow_ups_at}
+use Rattle.upload_core.specs.Transfers.{follow_up, given_up}
 use Rattle.upload_core.specs.Course.{IsCourse}
-use Rattle.upload_core.specs.Trails.{IsAtEnd}
-use Rattle.upload_core.proofs.Records.{course_asked}
-use Rattle.upload_core.proofs.Goes.{follow_asks, follow_nothing, may_follow}
+use Rattle.upload_core.specs.Trails.{IsAtEnd, IsLostAt}
+use Rattle.upload_core.proofs.Follow.{lost_follow}
+use Rattle.upload_core.proofs.Goes.{next_follows, next_may}
+use Rattle.upload_core.proofs.Written.{lost_kept}
 use Rattle.upload_core.proofs.course.Course.follow.Goals as goal
 
-pub invariant_of-self : goal.invariant_of-self
-invariant_of-self c =
-    let u : UploadState = record { goal = c.self.inside.goal; wanted = c.self.inside.wanted; servers = c.self.inside.servers.items; requests = c.self.inside.requests; round = c.self.inside.round; status = c.self.inside.status } in
-    let r : Request = c.index-entries-place.result in
-    let is : r ≡ get_or u.requests.entries c.args.place r = c.index-entries-place.is ∙ ap (λ (es : List Request). get_or es c.args.place r) c.entries.ensures.value in
-    let lt : c.args.place < length u.requests.entries = subst (λ (s : UploadState). c.args.place < length s.requests.entries) (sym c.self.view_is) c.requires.there in
-    let e : follow_up u.goal r ≡ Some c.in-Some.asked = sym c.follow_up.ensures ∙ c.in-Some.is in
-    elim (settled_by c.ask.result (c.ask.new.self ≡ asked_more r.server c.in-Some.asked u.requests) (c.ask.new.self ≡ u.requests) c.ask.ensures.ok c.ask.ensures.err) [
-      | inl n ↦ subst (λ (q : RequestsState). IsCourse (with_record u q)) (sym n) (course_asked u (r.server, c.in-Some.asked) (may_follow u c.args.place r is lt c.in-Some.asked c.self.invariant (subst (λ (s : UploadState). IsAtEnd s.requests.entries c.args.place) (sym c.self.view_is) c.requires.at_end) e) c.self.invariant)
-      | inr n ↦ subst (λ (q : RequestsState). IsCourse (with_record u q)) (sym n) c.self.invariant
-    ]
+pub request-request-requires : goal.request-request-requires
+request-request-requires c =
+    lost_kept c.self.inside.requests.entries c.args.place (subst (λ (s : UploadState). IsLostAt s.requests.entries c.args.place) (sym c.self.view_is) c.requires.lost)
 
-pub returns-in-Some-clause-ok : goal.returns-in-Some-clause-ok
-returns-in-Some-clause-ok c =
-    let u : UploadState = record { goal = c.self.inside.goal; wanted = c.self.inside.wanted; servers = c.self.inside.servers.items; requests = c.self.inside.requests; round = c.self.inside.round; status = c.self.inside.status } in
-    let r : Request = c.index-entries-place.result in
-    let is : r ≡ get_or u.requests.entries c.args.place r = c.index-entries-place.is ∙ ap (λ (es : List Request). get_or es c.args.place r) c.entries.ensures.value in
-    let lt : c.args.place < length u.requests.entries = subst (λ (s : UploadState). c.args.place < length s.requests.entries) (sym c.self.view_is) c.requires.there in
-    let e : follow_up u.goal r ≡ Some c.in-Some.asked = sym c.follow_up.ensures ∙ c.in-Some.is in
-    on_ok c.ask.result _ _ (λ n. follow_asks u c.args.place r is lt c.in-Some.asked c.ask.new.self e n ∙ ap (λ (s : UploadState). with_record s (asked_all (follow_ups_at s.goal (slice_get s.requests.entries c.args.place)) s.requests)) c.self.view_is) c.ask.ensures.ok
+-- what is asked is what follows the loss
+follows_loss : (u : UploadState) (place : ℕ) (r : Request) (next : Option Asked) → slice_get u.requests.entries place ≡ Some r → IsLostAt u.requests.entries place → next ≡ given_up r.asked → next ≡ follow_up u.goal r
+follows_loss u place r next there lost given =
+    let one : Some lost.request ≡ Some r = sym lost.there ∙ there in
+    let same : lost.request ≡ r = cc in
+    given ∙ sym (lost_follow u.goal r (ap (λ (q : Request). q.outcome) (sym same) ∙ lost.lost))
 
-pub returns-in-None-clause-ok : goal.returns-in-None-clause-ok
-returns-in-None-clause-ok c =
+pub ask_next-requires : goal.ask_next-requires
+ask_next-requires c =
     let u : UploadState = record { goal = c.self.inside.goal; wanted = c.self.inside.wanted; servers = c.self.inside.servers.items; requests = c.self.inside.requests; round = c.self.inside.round; status = c.self.inside.status } in
-    let r : Request = c.index-entries-place.result in
-    let is : r ≡ get_or u.requests.entries c.args.place r = c.index-entries-place.is ∙ ap (λ (es : List Request). get_or es c.args.place r) c.entries.ensures.value in
-    let lt : c.args.place < length u.requests.entries = subst (λ (s : UploadState). c.args.place < length s.requests.entries) (sym c.self.view_is) c.requires.there in
-    let e : follow_up u.goal r ≡ None = sym c.follow_up.ensures ∙ c.in-None.is in
-    subst (λ (s : UploadState). s ≡ with_record s (asked_all (follow_ups_at s.goal (slice_get s.requests.entries c.args.place)) s.requests)) c.self.view_is (follow_nothing u c.args.place r is lt e)
+    let v : UploadState = c.args.self.now in
+    let r : Request = c.request-request.result.now in
+    let there : slice_get u.requests.entries c.args.place ≡ Some r = c.request-request.ensures in
+    let lost : IsLostAt u.requests.entries c.args.place = subst (λ (s : UploadState). IsLostAt s.requests.entries c.args.place) (sym c.self.view_is) c.requires.lost in
+    let end : IsAtEnd u.requests.entries c.args.place = subst (λ (s : UploadState). IsAtEnd s.requests.entries c.args.place) (sym c.self.view_is) c.requires.at_end in
+    record {
+      right = subst (λ (s : UploadState). IfSome c.given_up-next.result (λ asked. IsCourse (with_record s (asked_more r.server asked s.requests)))) c.self.view_is
+          (next_may u c.args.place r (sym (get_or_from_slice_get u.requests.entries c.args.place r r there)) (slice_get_within u.requests.entries c.args.place r there) c.given_up-next.result
+          (follows_loss u c.args.place r c.given_up-next.result there lost c.given_up-next.ensures) c.self.invariant end);
+    }
 
-pub returns-in-Some-clause-err : goal.returns-in-Some-clause-err
-returns-in-Some-clause-err c =
-    let u : UploadState = record { goal = c.self.inside.goal; wanted = c.self.inside.wanted; servers = c.self.inside.servers.items; requests = c.self.inside.requests; round = c.self.inside.round; status = c.self.inside.status } in
-    on_err c.ask.result _ _ (λ n. ap (with_record u) n ∙ c.self.view_is) c.ask.ensures.err
+pub returns-clause-ok : goal.returns-clause-ok
+returns-clause-ok c =
+    let v : UploadState = c.args.self.now in
+    let r : Request = c.request-request.result.now in
+    let there : slice_get v.requests.entries c.args.place ≡ Some r = ap (λ (s : UploadState). slice_get s.requests.entries c.args.place) (sym c.self.view_is) ∙ c.request-request.ensures in
+    on_ok c.ask_next.result _ _ (λ n. next_follows v c.args.place r (sym (get_or_from_slice_get v.requests.entries c.args.place r r there)) (slice_get_within v.requests.entries c.args.place r there) c.given_up-next.result c.ask_next.new.self
+    (follows_loss v c.args.place r c.given_up-next.result there c.requires.lost c.given_up-next.ensures) n) c.ask_next.ensures.ok

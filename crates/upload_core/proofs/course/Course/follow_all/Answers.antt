@@ -1,25 +1,25 @@
-use Rattle.std.proofs.Common.{take, ◌<◌, ◌∙◌, ap, get_or, length, subst, sym}
+use Rattle.std.proofs.Common.{take, ◌∙◌, ap, get_or, subst, sym}
 use Rattle.std.specs.Prelude.{slice_get}
 use Rattle.request_record.specs.Record.{asked_all}
 use Rattle.upload_core.specs.State.{UploadState, with_record}
 use Rattle.upload_core.specs.Moves.{all_follow_ups, follow_ups_at}
-use Rattle.upload_core.specs.Trails.{IsAtEnd}
-use Rattle.upload_core.proofs.Ends.{end_after}
+use Rattle.upload_core.specs.Trails.{IsAtEnd, IsLostAt}
+use Rattle.upload_core.proofs.Ends.{end_after, lost_after, lost_within}
 use Rattle.upload_core.proofs.Records.{on_err_all}
-use Rattle.upload_core.proofs.Goes.{follow_more, follow_there, stops_none, stops_then}
+use Rattle.upload_core.proofs.Goes.{follow_more, stops_none, stops_then}
 use Rattle.upload_core.proofs.course.Course.follow_all.Goals as goal
 
-pub follow-requires-clause-there : goal.follow-requires-clause-there
-follow-requires-clause-there c =
+pub follow-requires-clause-lost : goal.follow-requires-clause-lost
+follow-requires-clause-lost c =
     let v : UploadState = c.args.self.now in
-    subst (λ (s : UploadState). get_or c.args.places.now c.loop-place.place-index 0 < length s.requests.entries) (sym c.loop-place.invariant) (follow_there v.goal v.requests c.args.places.now c.loop-place.place-index c.loop-place-test.true c.requires.there)
+    subst (λ (s : UploadState). IsLostAt s.requests.entries (get_or c.args.places.now c.loop-place.place-index 0)) (sym c.loop-place.invariant) (lost_after v.goal v.requests c.args.places.now c.loop-place.place-index c.loop-place-test.true c.requires.lost)
 
 pub loop-place-preserved : goal.loop-place-preserved
 loop-place-preserved c =
     let v : UploadState = c.args.self.now in
     c.in_ok-follow.ensures.ok
     ∙ ap (λ (s : UploadState). with_record s (asked_all (follow_ups_at s.goal (slice_get s.requests.entries (get_or c.args.places.now c.loop-place.place-index 0))) s.requests)) c.loop-place.invariant
-    ∙ ap (with_record v) (follow_more v.goal v.requests c.args.places.now c.loop-place.place-index c.loop-place-test.true c.requires.there)
+    ∙ ap (with_record v) (follow_more v.goal v.requests c.args.places.now c.loop-place.place-index c.loop-place-test.true (lost_within v.requests.entries c.args.places.now c.requires.lost))
 
 pub follow-requires-clause-at_end : goal.follow-requires-clause-at_end
 follow-requires-clause-at_end c =

@@ -1,4 +1,4 @@
-use Rattle.std.proofs.Common.{◌≡◌, ◌≢◌, ◌<◌, ◌∙◌, All, inl, inr, List, [], ℕ, ap, arith, eqb, length, subst, sym, true≢false}
+use Rattle.std.proofs.Common.{◌≡◌, ◌≢◌, ◌∙◌, All, inl, inr, List, [], ℕ, ap, arith, eqb, length, subst, sym, true≢false}
 use Rattle.std.proofs.lemmas.Bool.{eq-eqb}
 use Rattle.request_record.specs.Asking.{after_tick, lost_by_tick}
 use Rattle.request_record.specs.Record.{RequestsState, asked_all}
@@ -9,10 +9,10 @@ use Rattle.lemmas.proofs.Results.{on_ok}
 use Rattle.request_record.specs.declared.requests.Asked.{Asked}
 use Rattle.upload_core.proofs.Records.{on_err, on_err_all}
 use Rattle.upload_core.specs.Course.{CanGoOn}
-use Rattle.upload_core.specs.Trails.{AreFollowed, IsAtEnd}
-use Rattle.upload_core.proofs.Ends.{lost_ends, lost_once}
+use Rattle.upload_core.specs.Trails.{AreFollowed, IsAtEnd, IsLostAt}
+use Rattle.upload_core.proofs.Ends.{lost_are, lost_ends, lost_once}
 use Rattle.upload_core.proofs.Followed.{followed_tick}
-use Rattle.upload_core.proofs.Goes.{goes_on_from, lost_there, stops_then, tick_course, ticks_with}
+use Rattle.upload_core.proofs.Goes.{goes_on_from, stops_then, tick_course, ticks_with}
 use Rattle.upload_core.proofs.course.Course.pass.Goals as goal
 
 pub invariant_of-self-then-is_empty : goal.invariant_of-self-then-is_empty
@@ -24,12 +24,6 @@ pub invariant_of-self-2 : goal.invariant_of-self-2
 invariant_of-self-2 c =
     let u : UploadState = record { goal = c.self.inside.goal; wanted = c.self.inside.wanted; servers = c.self.inside.servers.items; requests = c.self.inside.requests; round = c.self.inside.round; status = c.self.inside.status } in
     tick_course u c.args.now c.tick.new.self c.in_ok-lost.ensures.ok c.self.invariant
-
-pub follow_all-requires-clause-there : goal.follow_all-requires-clause-there
-follow_all-requires-clause-there c =
-    let u : UploadState = record { goal = c.self.inside.goal; wanted = c.self.inside.wanted; servers = c.self.inside.servers.items; requests = c.self.inside.requests; round = c.self.inside.round; status = c.self.inside.status } in
-    subst (λ (xs : List ℕ). All (λ (p : ℕ). p < length c.tick.new.self.entries) xs) (sym (c.deref.ensures.value ∙ c.in_ok-lost.ensures.lost))
-    (subst (λ (r : RequestsState). All (λ (p : ℕ). p < length r.entries) (lost_by_tick c.args.now u.requests)) (sym c.in_ok-lost.ensures.ok) (lost_there c.args.now u.requests))
 
 pub returns-clause-ok : goal.returns-clause-ok
 returns-clause-ok c =
@@ -58,6 +52,12 @@ follow_all-requires-clause-at_end c =
     let u : UploadState = record { goal = c.self.inside.goal; wanted = c.self.inside.wanted; servers = c.self.inside.servers.items; requests = c.self.inside.requests; round = c.self.inside.round; status = c.self.inside.status } in
     subst (λ (xs : List ℕ). All (IsAtEnd c.tick.new.self.entries) xs) (sym (c.deref.ensures.value ∙ c.in_ok-lost.ensures.lost))
     (subst (λ (r : RequestsState). All (IsAtEnd r.entries) (lost_by_tick c.args.now u.requests)) (sym c.in_ok-lost.ensures.ok) (lost_ends u.goal c.args.now u.requests c.self.invariant.trails))
+
+pub follow_all-requires-clause-lost : goal.follow_all-requires-clause-lost
+follow_all-requires-clause-lost c =
+    let u : UploadState = record { goal = c.self.inside.goal; wanted = c.self.inside.wanted; servers = c.self.inside.servers.items; requests = c.self.inside.requests; round = c.self.inside.round; status = c.self.inside.status } in
+    subst (λ (xs : List ℕ). All (IsLostAt c.tick.new.self.entries) xs) (sym (c.deref.ensures.value ∙ c.in_ok-lost.ensures.lost))
+    (subst (λ (r : RequestsState). All (IsLostAt r.entries) (lost_by_tick c.args.now u.requests)) (sym c.in_ok-lost.ensures.ok) (lost_are c.args.now u.requests))
 
 pub follow_all-requires-clause-once : goal.follow_all-requires-clause-once
 follow_all-requires-clause-once c =

@@ -11,22 +11,23 @@ use Rattle.upload_core.proofs.Acked.{acked_known}
 use Rattle.upload_core.proofs.Placed.{placed_once, plan_may}
 use Rattle.upload_core.proofs.Servers.{servers_distinct}
 use Rattle.upload_core.proofs.Goes.{plan_at}
+use Rattle.upload_core.proofs.Written.{readonly_kept, writable_kept}
 use Rattle.upload_core.proofs.course.Course.placing.Goals as goal
 
 pub place-requires-clause-distinct : goal.place-requires-clause-distinct
 place-requires-clause-distinct c =
     let u : UploadState = record { goal = c.self.inside.goal; wanted = c.self.inside.wanted; servers = c.self.inside.servers.items; requests = c.self.inside.requests; round = c.self.inside.round; status = c.self.inside.status } in
     let es : List Request = u.requests.entries in
-    let ro : c.deref.result.now ≡ readonly_servers u.goal es = c.deref.ensures.value ∙ c.in_ok-servers.ensures.readonly ∙ ap (readonly_servers u.goal) c.entries.ensures.value in
-    let w : c.deref-2.result.now ≡ writable_servers u.goal es = c.deref-2.ensures.value ∙ c.in_ok-servers.ensures.writable ∙ ap (writable_servers u.goal) c.entries.ensures.value in
+    let ro : c.deref.result.now ≡ readonly_servers u.goal es = c.deref.ensures.value ∙ c.in_ok-servers.ensures.readonly ∙ ap (readonly_servers u.goal) c.kept_since.ensures ∙ readonly_kept u.goal u.requests.entries in
+    let w : c.deref-2.result.now ≡ writable_servers u.goal es = c.deref-2.ensures.value ∙ c.in_ok-servers.ensures.writable ∙ ap (writable_servers u.goal) c.kept_since.ensures ∙ writable_kept u.goal u.requests.entries in
     rw (ro, w) (servers_distinct u.goal es c.self.invariant.distinct)
 
 pub place-requires-clause-known : goal.place-requires-clause-known
 place-requires-clause-known c =
     let u : UploadState = record { goal = c.self.inside.goal; wanted = c.self.inside.wanted; servers = c.self.inside.servers.items; requests = c.self.inside.requests; round = c.self.inside.round; status = c.self.inside.status } in
     let es : List Request = u.requests.entries in
-    let ro : c.deref.result.now ≡ readonly_servers u.goal es = c.deref.ensures.value ∙ c.in_ok-servers.ensures.readonly ∙ ap (readonly_servers u.goal) c.entries.ensures.value in
-    let w : c.deref-2.result.now ≡ writable_servers u.goal es = c.deref-2.ensures.value ∙ c.in_ok-servers.ensures.writable ∙ ap (writable_servers u.goal) c.entries.ensures.value in
+    let ro : c.deref.result.now ≡ readonly_servers u.goal es = c.deref.ensures.value ∙ c.in_ok-servers.ensures.readonly ∙ ap (readonly_servers u.goal) c.kept_since.ensures ∙ readonly_kept u.goal u.requests.entries in
+    let w : c.deref-2.result.now ≡ writable_servers u.goal es = c.deref-2.ensures.value ∙ c.in_ok-servers.ensures.writable ∙ ap (writable_servers u.goal) c.kept_since.ensures ∙ writable_kept u.goal u.requests.entries in
     let acked : c.args.acked.now ≡ acked_pairs u.goal es = c.requires.acked ∙ sym (ap (λ (s : UploadState). acked_pairs s.goal s.requests.entries) c.self.view_is) in
     let n : c.share_count-count.result ≡ length u.goal.digests = c.share_count-count.ensures.count in
     let known : All (λ (p : Pair). Contains (readonly_servers u.goal es ++ writable_servers u.goal es) p.0 × (p.1 < length u.goal.digests)) (acked_pairs u.goal es) = acked_known u.goal es c.self.invariant.of_told in
@@ -42,8 +43,8 @@ is_plan : (c : goal.After-drop-servers-in-Ok-2) → IsPlan (readonly_servers c.a
 is_plan c =
     let u : UploadState = record { goal = c.self.inside.goal; wanted = c.self.inside.wanted; servers = c.self.inside.servers.items; requests = c.self.inside.requests; round = c.self.inside.round; status = c.self.inside.status } in
     let v : UploadState = c.args.self.now in
-    let ro : c.deref.result.now ≡ readonly_servers v.goal v.requests.entries = c.deref.ensures.value ∙ c.in_ok-servers.ensures.readonly ∙ ap (readonly_servers u.goal) c.entries.ensures.value ∙ ap (λ (s : UploadState). readonly_servers s.goal s.requests.entries) c.self.view_is in
-    let w : c.deref-2.result.now ≡ writable_servers v.goal v.requests.entries = c.deref-2.ensures.value ∙ c.in_ok-servers.ensures.writable ∙ ap (writable_servers u.goal) c.entries.ensures.value ∙ ap (λ (s : UploadState). writable_servers s.goal s.requests.entries) c.self.view_is in
+    let ro : c.deref.result.now ≡ readonly_servers v.goal v.requests.entries = c.deref.ensures.value ∙ c.in_ok-servers.ensures.readonly ∙ ap (readonly_servers u.goal) c.kept_since.ensures ∙ readonly_kept u.goal u.requests.entries ∙ ap (λ (s : UploadState). readonly_servers s.goal s.requests.entries) c.self.view_is in
+    let w : c.deref-2.result.now ≡ writable_servers v.goal v.requests.entries = c.deref-2.ensures.value ∙ c.in_ok-servers.ensures.writable ∙ ap (writable_servers u.goal) c.kept_since.ensures ∙ writable_kept u.goal u.requests.entries ∙ ap (λ (s : UploadState). writable_servers s.goal s.requests.entries) c.self.view_is in
     let n : c.share_count-count.result ≡ length v.goal.digests = c.share_count-count.ensures.count ∙ ap (λ (s : UploadState). length s.goal.digests) c.self.view_is in
     plan_at c.deref.result.now (readonly_servers v.goal v.requests.entries) c.deref-2.result.now (writable_servers v.goal v.requests.entries) c.args.acked.now (acked_pairs v.goal v.requests.entries) c.share_count-count.result (length v.goal.digests)
     c.in-Ok.plan.m1.items c.in-Ok.plan.m2.items c.in-Ok.plan.m3.items c.in-Ok.plan.leftovers.items c.in-Ok.plan.unplaced.items ro w c.requires.acked n
