@@ -174,7 +174,7 @@ impl Machine {
     {
         let requests = self.beginnings.holdings().requests();
         let place = requests.first()?;
-        let request = &requests.entries()[place];
+        let request = requests.request(place);
         let server = request.server;
         let body = request.asked.body(*self.verify.storage_index())?;
         let message = requests.message_at(place, body);
@@ -233,7 +233,7 @@ impl Machine {
         ensures once { AsksOnce (entries_of self.now) }
         ensures recorded { IsRecord self.now.beginnings.holdings.requests }
     {
-        let _ = self.beginnings.holdings().requests().entries();
+        let _ = self.beginnings.holdings().requests().len();
         if let Some(found) = &self.found {
             let _ = found.reading.file().geometry();
         }

@@ -299,7 +299,7 @@ impl Reading {
         ensures table { OnOk result (beginnings.new.holdings.table
             ≡ beginnings.old.holdings.table) }
     {
-        let place = beginnings.holdings().requests().entries().len();
+        let place = beginnings.holdings().requests().len();
         self.asked_up = false;
         let wanted = self.file.wanted(reader, place)?;
         ask_parts(beginnings, self.holdings[reader], &wanted)

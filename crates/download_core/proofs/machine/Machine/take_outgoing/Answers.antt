@@ -1,6 +1,4 @@
-use Rattle.std.proofs.Common.{◌≡◌, ◌∙◌, ◌<◌, ℕ, List, length, Some, ap, get_or, subst, sym}
-use Rattle.std.proofs.lemmas.Option.{slice_get-get_or}
-use Rattle.request_record.specs.declared.requests.Request.{Request}
+use Rattle.std.proofs.Common.{◌≡◌, ◌∙◌, ℕ, Some, ap, subst, sym}
 use Rattle.request_record.specs.Asking.{message_at}
 use Rattle.request_record.specs.Record.{RequestsState}
 use Rattle.share_holdings.specs.Right.{IsRight}
@@ -17,22 +15,18 @@ pub returns-in_err-body-clause-takes : goal.returns-in_err-body-clause-takes
 returns-in_err-body-clause-takes c =
     let m = c.args.self.now in
     let at : ℕ = c.in_ok-place.place in
-    let r = c.index-entries-place.result in
+    let r = c.request-request.result.now in
     let requests : c.requests-requests.result.now ≡ m.beginnings.holdings.requests = c.requests-requests.ensures.value ∙ ap (λ (x : HoldingsState). x.requests) c.holdings.ensures in
-    let list = c.entries.ensures.value ∙ ap (λ (x : RequestsState). x.entries) requests in
-    let is : r ≡ get_or (entries_of m) at r = c.index-entries-place.is ∙ ap (λ (es : List Request). get_or es at r) list in
-    let there : slice_get (entries_of m) at ≡ Some r = slice_get-get_or (entries_of m) at r (subst (λ (x : RequestsState). at < length x.entries) requests c.in_ok-place.ensures.there) ∙ ap Some (sym is) in
+    let there : slice_get (entries_of m) at ≡ Some r = ap (λ (x : RequestsState). slice_get x.entries at) (sym requests) ∙ c.request-request.ensures in
     absurd (no_writing m.beginnings (subst IsRight c.holdings.ensures c.requests-requests.ensures.right) at r there c.in_err-body.ensures.none)
 
 pub returns-clause-takes : goal.returns-clause-takes
 returns-clause-takes c =
     let m = c.args.self.now in
     let at : ℕ = c.in_ok-place.place in
-    let r = c.index-entries-place.result in
+    let r = c.request-request.result.now in
     let requests : c.requests-requests.result.now ≡ m.beginnings.holdings.requests = c.requests-requests.ensures.value ∙ ap (λ (x : HoldingsState). x.requests) c.holdings.ensures in
-    let list = c.entries.ensures.value ∙ ap (λ (x : RequestsState). x.entries) requests in
-    let is : r ≡ get_or (entries_of m) at r = c.index-entries-place.is ∙ ap (λ (es : List Request). get_or es at r) list in
-    let there : slice_get (entries_of m) at ≡ Some r = slice_get-get_or (entries_of m) at r (subst (λ (x : RequestsState). at < length x.entries) requests c.in_ok-place.ensures.there) ∙ ap Some (sym is) in
+    let there : slice_get (entries_of m) at ≡ Some r = ap (λ (x : RequestsState). slice_get x.entries at) (sym requests) ∙ c.request-request.ensures in
     let first : slice_get m.beginnings.holdings.requests.outgoing 0 ≡ Some at = ap (λ (x : RequestsState). slice_get x.outgoing 0) (sym requests) ∙ sym c.in_ok-place.ensures.value in
     λ servers status runs.
     subst (λ (t : BeginningsState). Takes (state_of m servers status) (Some (r.server, c.message_at-message.result)) (state_of (record m { beginnings = t }) servers status)) (sym c.take_next.ensures.others)

@@ -81,7 +81,7 @@ returns-clause-reading c =
     let t = c.ask_parts.new.beginnings in
     let k = c.in_ok-wanted.ensures in
     let before : AreReading bs r = subst (AreReading bs) (sym c.self.view_is) c.requires.reading in
-    let place : length c.entries-place.result.now ≡ length bs.holdings.requests.entries = ap length (c.entries-place.ensures.value ∙ ap (λ (x : RequestsState). x.entries) (c.requests.ensures.value ∙ ap (λ (x : HoldingsState). x.requests) c.holdings.ensures)) in
+    let place : c.len-place.result ≡ length bs.holdings.requests.entries = c.len-place.ensures.value ∙ ap (λ (x : RequestsState). length x.entries) (c.requests.ensures.value ∙ ap (λ (x : HoldingsState). x.requests) c.holdings.ensures) in
     on_ok_then c.ask_parts.result _ (AreReading t q) c.ask_parts.ensures.asks
     (λ done.
     let asks = subst (λ (l : List Wanted). steps.AsksParts c.index.result.now l bs t) c.deref.ensures.value done in
