@@ -16,6 +16,9 @@ use Rattle.request_record.specs.declared.requests.Asked.{Asked}
 use Rattle.request_record.specs.declared.requests.Asked.TheVariants.{Holdings, Reading}
 use Rattle.request_record.specs.declared.requests.Outcome.TheVariants.{Answered}
 use Rattle.request_record.specs.declared.requests.Request.{Request}
+use Rattle.request_record.specs.Written.{IsKeptAt}
+use Rattle.request_record.proofs.EntrySteps.{holdings_kept}
+use Rattle.lemmas.proofs.Places.{get_of}
 use Rattle.request_record.specs.Record.{RequestsState, counts_at, is_outstanding, with_outcome}
 use Rattle.request_record.specs.Asking.{AreApart, after_message}
 use Rattle.request_record.proofs.AskingLaws.{once_answered}
@@ -341,13 +344,20 @@ pub record ToldNow (s : HoldingsState) (from : ℕ) (m : Message) (now place cou
   pub tells : TellsHeld place m s (record s { requests = r; table = u }) count
   pub same-held : held ≡ held_by (Answered m.body)
 
+-- The request that a server's telling answers is in memory.
+pub told_kept : (s : HoldingsState) → IsRight s → (from : ℕ) (m : Message) (now place : ℕ) → counts_at from m s.requests ≡ Some place → place < s.servers → place < length s.requests.entries
+    → (r : RequestsState) → r ≡ after_message from m now s.requests → IsKeptAt r.entries place
+told_kept s right from m now place counts low inside r re =
+    let q : (x : Request) × (slice_get s.requests.entries place ≡ Some x) = get_of s.requests.entries place inside in
+    let answered = answered_at from m now s.requests place q.0 counts q.1 in
+    subst (λ (x : RequestsState). IsKeptAt x.entries place) (sym re) (holdings_kept (after_message from m now s.requests).entries place (with_outcome q.0 (Answered m.body)) answered (right.first place q.0 q.1 low))
+
 pub told_by : (s : HoldingsState) → IsRight s → (from : ℕ) (m : Message) (now place : ℕ) → counts_at from m s.requests ≡ Some place → place < s.servers → place < length s.requests.entries
-    → (r : RequestsState) → r ≡ after_message from m now s.requests → (es : List Request) → es ≡ r.entries → (e : Request) → e ≡ slice_index_or es place e → (held : List HeldShare) → held ≡ held_by e.outcome → IsTrue (rises_from 0 held)
+    → (r : RequestsState) → r ≡ after_message from m now s.requests → (e : Request) → slice_get r.entries place ≡ Some e → (held : List HeldShare) → held ≡ held_by e.outcome → IsTrue (rises_from 0 held)
     → (count : ℕ) (u : TableState) → Tells e.server held count s.table u → ToldNow s from m now place count held r u
-told_by s right from m now place counts low inside r re es ese e ee held he rising count u tells =
+told_by s right from m now place counts low inside r re e stands held he rising count u tells =
     let q-there = slice_get-get_or s.requests.entries place e inside in
     let answered = answered_at from m now s.requests place _ counts q-there in
-    let stands : slice_get r.entries place ≡ Some e = slice_get-get_or r.entries place e (let long = (message_goes from m now s.requests).long in let same = ap (λ (x : RequestsState). length x.entries) re in omega (arith, inside, long, same)) ∙ ap Some (ap (λ (l : List Request). slice_index_or l place e) (sym ese) ∙ sym ee) in
     let e-is : e ≡ with_outcome (slice_index_or s.requests.entries place e) (Answered m.body) = let two : Some e ≡ Some (with_outcome (slice_index_or s.requests.entries place e) (Answered m.body)) = sym stands ∙ ap (λ (x : RequestsState). slice_get x.entries place) re ∙ answered in cc in
     let held-is : held ≡ held_by (Answered m.body) = he ∙ ap (λ (x : Request). held_by x.outcome) e-is in
     let server-is : e.server ≡ (slice_index_or s.requests.entries place e).server = ap (λ (x : Request). x.server) e-is in

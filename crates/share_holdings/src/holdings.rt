@@ -191,7 +191,7 @@ impl Holdings {
         ensures err { OnErr result (self.new ≡ self.old) }
         ensures right { IsRight self.new }
     {
-        let place = self.requests.entries().len();
+        let place = self.requests.len();
         let held = self.table.holdings()[holding];
         self.owners.reserve(1)?;
         self.requests
@@ -237,7 +237,7 @@ impl Holdings {
             return Ok(Heard::Nothing);
         };
         if place < self.servers {
-            let request = &self.requests.entries()[place];
+            let request = self.requests.request(place);
             tell_all(&mut self.table, request.server, held_by(&request.outcome))?;
             return Ok(Heard::Held);
         }

@@ -11,7 +11,7 @@ use Rattle.share_holdings.specs.Right.{IsRight}
 use Rattle.share_holdings.specs.State.{HoldingsState}
 use Rattle.share_holdings.specs.declared.holdings.Heard.TheVariants as heard
 use Rattle.share_holdings.proofs.Goes.{right_gone, right_message}
-use Rattle.share_holdings.proofs.Telling.{ToldNow, told_by}
+use Rattle.share_holdings.proofs.Telling.{ToldNow, told_by, told_kept}
 use Rattle.share_holdings.proofs.holdings.Holdings.take_answer.Goals as goal
 
 -- ---- it counts for nothing
@@ -25,8 +25,11 @@ returns-in_default-clause-right c = invariant_of-self c
 
 -- ---- a server tells
 
+pub request-request-requires : goal.request-request-requires
+request-request-requires c = told_kept (record { requests = c.self.inside.requests; servers = c.self.inside.servers; table = c.self.inside.table; owners = c.self.inside.owners.items; blamed = c.self.inside.blamed.items }) c.self.invariant c.args.from c.args.message c.args.now c.in-Some.place (sym c.in-Some.ensures.value) c.if-place-self.true c.in-Some.ensures.there c.take_answer.new.self c.take_answer.ensures.«record»
+
 told_some : (c : goal.After-from_residual) → IsRight (record { requests = c.take_answer.new.self; servers = c.self.inside.servers; table = c.tell_all.new.table; owners = c.self.inside.owners.items; blamed = c.self.inside.blamed.items })
-told_some c = (told_by (record { requests = c.self.inside.requests; servers = c.self.inside.servers; table = c.self.inside.table; owners = c.self.inside.owners.items; blamed = c.self.inside.blamed.items }) c.self.invariant c.args.from c.args.message c.args.now c.in-Some.place (sym c.in-Some.ensures.value) c.if-place-self.true c.in-Some.ensures.there c.take_answer.new.self c.take_answer.ensures.«record» c.entries.result.now c.entries.ensures.value c.index-entries-place.result c.index-entries-place.is c.held_by.result.now c.held_by.ensures.value c.held_by.ensures.rising c.in_err-tell_all.ensures.some.0 c.tell_all.new.table c.in_err-tell_all.ensures.some.1).right
+told_some c = (told_by (record { requests = c.self.inside.requests; servers = c.self.inside.servers; table = c.self.inside.table; owners = c.self.inside.owners.items; blamed = c.self.inside.blamed.items }) c.self.invariant c.args.from c.args.message c.args.now c.in-Some.place (sym c.in-Some.ensures.value) c.if-place-self.true c.in-Some.ensures.there c.take_answer.new.self c.take_answer.ensures.«record» c.request-request.result.now c.request-request.ensures c.held_by.result.now c.held_by.ensures.value c.held_by.ensures.rising c.in_err-tell_all.ensures.some.0 c.tell_all.new.table c.in_err-tell_all.ensures.some.1).right
 
 pub invariant_of-self-in_err-tell_all : goal.invariant_of-self-in_err-tell_all
 invariant_of-self-in_err-tell_all c = told_some c
@@ -35,7 +38,7 @@ pub returns-in_err-tell_all-clause-right : goal.returns-in_err-tell_all-clause-r
 returns-in_err-tell_all-clause-right c = told_some c
 
 told_all : (c : goal.In_ok-tell_all) → ToldNow (record { requests = c.self.inside.requests; servers = c.self.inside.servers; table = c.self.inside.table; owners = c.self.inside.owners.items; blamed = c.self.inside.blamed.items }) c.args.from c.args.message c.args.now c.in-Some.place (length c.held_by.result.now) c.held_by.result.now c.take_answer.new.self c.tell_all.new.table
-told_all c = told_by (record { requests = c.self.inside.requests; servers = c.self.inside.servers; table = c.self.inside.table; owners = c.self.inside.owners.items; blamed = c.self.inside.blamed.items }) c.self.invariant c.args.from c.args.message c.args.now c.in-Some.place (sym c.in-Some.ensures.value) c.if-place-self.true c.in-Some.ensures.there c.take_answer.new.self c.take_answer.ensures.«record» c.entries.result.now c.entries.ensures.value c.index-entries-place.result c.index-entries-place.is c.held_by.result.now c.held_by.ensures.value c.held_by.ensures.rising (length c.held_by.result.now) c.tell_all.new.table c.in_ok-tell_all.ensures.ok
+told_all c = told_by (record { requests = c.self.inside.requests; servers = c.self.inside.servers; table = c.self.inside.table; owners = c.self.inside.owners.items; blamed = c.self.inside.blamed.items }) c.self.invariant c.args.from c.args.message c.args.now c.in-Some.place (sym c.in-Some.ensures.value) c.if-place-self.true c.in-Some.ensures.there c.take_answer.new.self c.take_answer.ensures.«record» c.request-request.result.now c.request-request.ensures c.held_by.result.now c.held_by.ensures.value c.held_by.ensures.rising (length c.held_by.result.now) c.tell_all.new.table c.in_ok-tell_all.ensures.ok
 
 pub invariant_of-self-then-place-self : goal.invariant_of-self-then-place-self
 invariant_of-self-then-place-self c = (told_all c).right
