@@ -19,11 +19,11 @@ use Rattle.share_verify.specs.CapBlock.{geometry_by}
 use Rattle.share_verify.specs.Verify.{IsSound}
 use Rattle.share_reading.specs.Blame.{HasReads}
 use Rattle.share_reading.specs.OpeningReads.{Brought}
-use Rattle.share_holdings.specs.declared.holding.Blame.{Blame}
-use Rattle.share_beginnings.specs.Causes.{IsOpeningFault, IsOtherHeader}
+use Rattle.download_shares.specs.declared.holding.Blame.{Blame}
+use Rattle.download_shares.specs.Causes.{IsOpeningFault, IsOtherHeader}
 use Rattle.lemmas.proofs.Members.{contains_cases, contains_none, flat_map_from}
 use Rattle.share_reading.specs.Opening.{next_length, next_place}
-use Rattle.share_beginnings.specs.Reads.{brought_by, brought_in, brought_of, reads_share}
+use Rattle.download_shares.specs.Reads.{brought_by, brought_in, brought_of, reads_share}
 use Rattle.download_binding.specs.Answers.{AnsweredOther, AnswersOwn, OwnBeginningsGoOn}
 use Rattle.download_binding.proofs.OpeningLemmas.{own_at, own_header_agrees, own_not_refused}
 

@@ -6,8 +6,8 @@ use Rattle.ueb.specs.Shape.{Contents}
 use Rattle.request_record.specs.declared.requests.Request.{Request}
 use Rattle.share_layout.specs.Geometry.{Geometry}
 use Rattle.share_verify.specs.CapBlock.{geometry_by}
-use Rattle.share_holdings.specs.declared.holding.Blame.{Blame}
-use Rattle.share_beginnings.specs.Causes.{IsBeginningFault}
+use Rattle.download_shares.specs.declared.holding.Blame.{Blame}
+use Rattle.download_shares.specs.Causes.{IsBeginningFault}
 use Rattle.download_file.specs.State.{CopyState, FileState}
 use Rattle.download_reading.specs.Causes.{HasCause, IsBlockFault, IsPartFault}
 use Rattle.download_core.specs.Causes.{IsCause}

@@ -5,8 +5,8 @@ use Rattle.ueb.specs.Shape.{Contents}
 use Rattle.share_layout.specs.Share.{Sections}
 use Rattle.share_verify.specs.CapBlock.{geometry_by}
 use Rattle.share_verify.specs.Verify.{IsSound}
-use Rattle.share_holdings.specs.declared.holding.Blame.{Blame}
-use Rattle.share_beginnings.specs.Causes.{IsBeginningFault}
+use Rattle.download_shares.specs.declared.holding.Blame.{Blame}
+use Rattle.download_shares.specs.Causes.{IsBeginningFault}
 use Rattle.wire.specs.declared.message.Body.TheVariants.{Data}
 use Rattle.request_record.specs.declared.requests.Asked.TheVariants.{Reading}
 use Rattle.request_record.specs.declared.requests.Outcome.TheVariants.{Answered}

@@ -9,7 +9,7 @@ use Rattle.share_layout.specs.Pieces.{segments_of}
 use Rattle.share_layout.specs.Share.{Sections}
 use Rattle.share_verify.specs.CapBlock.{geometry_by}
 use Rattle.share_verify.specs.Verify.{IsSound}
-use Rattle.share_holdings.specs.declared.holding.Blame.{Blame}
+use Rattle.download_shares.specs.declared.holding.Blame.{Blame}
 use Rattle.file_encoding.specs.Encoding.{ciphertext_encoding, extension_block_contents}
 use Rattle.file_encoding.specs.Inputs.{ciphertext_inputs}
 use Rattle.download_core.specs.Right.{IsRight}

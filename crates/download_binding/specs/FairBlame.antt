@@ -7,7 +7,7 @@ use Rattle.request_record.specs.declared.requests.Request.{Request}
 use Rattle.ueb.specs.Shape.{Contents}
 use Rattle.share_layout.specs.Geometry.{Geometry}
 use Rattle.share_layout.specs.Share.{Sections}
-use Rattle.share_holdings.specs.declared.holding.Blame.{Blame}
+use Rattle.download_shares.specs.declared.holding.Blame.{Blame}
 use Rattle.download_file.specs.State.{FileState}
 use Rattle.download_file.specs.Tested.{IsTested}
 use Rattle.download_reading.specs.Causes.{IsBlockFault, IsPartFault}

@@ -10,15 +10,15 @@ use Rattle.request_record.specs.declared.requests.Request.{Request}
 use Rattle.request_record.specs.Record.{RequestsState, asked_all, asked_more, first_request, outstanding_count}
 use Rattle.request_record.specs.Asking.{asks_of, begun, fresh}
 use Rattle.request_record.proofs.RecordLaws.{count_push}
-use Rattle.share_holdings.specs.Left.{FewAreLeft}
-use Rattle.share_beginnings.specs.Opening.{nobody}
+use Rattle.download_shares.specs.Left.{FewAreLeft}
+use Rattle.download_shares.specs.Opening.{nobody}
 use Rattle.download_core.specs.declared.machine.FoundFile.{FoundFile}
 use Rattle.download_core.specs.declared.machine.Machine.{Machine}
 use Rattle.download_core.specs.declared.status.DownloadStatus.{DownloadStatus}
 use Rattle.download_core.specs.declared.status.DownloadStatus.TheVariants.{Running, Done, NotEnoughShares, Inconsistent}
 use Rattle.download_core.specs.Given.{IsFileIfFound}
 use Rattle.download_core.specs.Moves.{Begins, asked_servers}
-use Rattle.share_holdings.specs.declared.holding.Blame.{Blame}
+use Rattle.download_shares.specs.declared.holding.Blame.{Blame}
 use Rattle.download_core.specs.Reads.{ReadsBeside}
 use Rattle.download_core.specs.Steps.{AreOpened, IsComplete, IsFair, IsInPhase, IsKept, IsUnderWay, entries_of, found_of, state_of}
 use Rattle.download_core.proofs.ReadLemmas.{opened_reads}

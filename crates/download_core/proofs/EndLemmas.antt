@@ -4,14 +4,14 @@ use Rattle.cap_text.specs.Cap.{ReadCapValue, verify_cap_of}
 use Rattle.request_record.specs.declared.requests.Request.{Request}
 use Rattle.request_record.specs.Record.{IsRecord, outstanding_count}
 use Rattle.request_record.specs.Asking.{AsksOnce}
-use Rattle.share_holdings.specs.Left.{FewAreLeft}
-use Rattle.share_holdings.specs.declared.holding.Blame.{Blame}
-use Rattle.share_beginnings.specs.Causes.{AddsBlames}
-use Rattle.share_beginnings.specs.Opening.{nobody}
-use Rattle.share_beginnings.specs.State.{BeginningsState}
+use Rattle.download_shares.specs.Left.{FewAreLeft}
+use Rattle.download_shares.specs.declared.holding.Blame.{Blame}
+use Rattle.download_shares.specs.Causes.{AddsBlames}
+use Rattle.download_shares.specs.Opening.{nobody}
+use Rattle.download_shares.specs.BeginningState.{BeginningsState}
 use Rattle.share_layout.specs.Geometry.{Geometry}
-use Rattle.share_holdings.specs.Numbers.{read_count}
-use Rattle.share_holdings.specs.Table.{NoneIsFree}
+use Rattle.download_shares.specs.Numbers.{read_count}
+use Rattle.download_shares.specs.Table.{NoneIsFree}
 use Rattle.download_file.specs.State as file
 use Rattle.download_segments.specs.NoCodeWord.{IsNoCodeWord}
 use Rattle.download_file.specs.Making.{IsInconsistent}

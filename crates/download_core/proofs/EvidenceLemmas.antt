@@ -8,7 +8,7 @@ use Rattle.proved_parts.specs.Parts.{IsSegmentBy}
 use Rattle.proved_parts.specs.declared.evidence.EvidencePart.{EvidencePart}
 use Rattle.wire.specs.declared.message.Body.TheVariants.{Data}
 use Rattle.request_record.specs.declared.requests.Outcome.TheVariants.{Answered}
-use Rattle.share_beginnings.specs.Reads.{IsAnsweredBy}
+use Rattle.download_shares.specs.Reads.{IsAnsweredBy}
 use Rattle.download_file.specs.Answers.{IsMadeSegment}
 use Rattle.download_file.specs.Right.{made_end}
 use Rattle.download_file.specs.State.{FileState}

@@ -9,14 +9,14 @@ use Rattle.request_record.specs.declared.requests.Asked.TheVariants.{Reading}
 use Rattle.request_record.specs.declared.requests.Request.{Request}
 use Rattle.request_record.specs.Record.{RequestsState}
 use Rattle.share_layout.specs.Geometry.{Geometry}
-use Rattle.share_holdings.specs.declared.holding.Blame.{Blame}
-use Rattle.share_holdings.proofs.Records.{StaysTo}
-use Rattle.share_holdings.proofs.Telling.{append_cases}
-use Rattle.share_beginnings.specs.Causes.{AddsBlames, IsOpeningFault, IsOtherHeader}
-use Rattle.share_beginnings.specs.Moves.{GoesOn}
-use Rattle.share_beginnings.specs.Reads.{AddsReads, IsInBeginning}
-use Rattle.share_beginnings.specs.State.{BeginningsState}
-use Rattle.share_beginnings.proofs.Caused.{beginning_stays, fault_stays, opening_fault_stays, reads_none}
+use Rattle.download_shares.specs.declared.holding.Blame.{Blame}
+use Rattle.download_shares.proofs.Records.{StaysTo}
+use Rattle.download_shares.proofs.Telling.{append_cases}
+use Rattle.download_shares.specs.Causes.{AddsBlames, IsOpeningFault, IsOtherHeader}
+use Rattle.download_shares.specs.BeginningMoves.{GoesOn}
+use Rattle.download_shares.specs.Reads.{AddsReads, IsInBeginning}
+use Rattle.download_shares.specs.BeginningState.{BeginningsState}
+use Rattle.download_shares.proofs.Caused.{beginning_stays, fault_stays, opening_fault_stays, reads_none}
 use Rattle.download_parts.specs.Plan.{IsPlanned}
 use Rattle.download_file.specs.Asked.{IsPlannedRead}
 use Rattle.download_file.specs.State.{FileState}

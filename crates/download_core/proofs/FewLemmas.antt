@@ -4,13 +4,13 @@ use Rattle.std.specs.Prelude.{slice_get, slice_index_or, is_some}
 use Rattle.std.proofs.lemmas.List.Sums.{sum_by-cons}
 use Rattle.std.proofs.lemmas.Option.{slice_get-get_or}
 use Rattle.request_record.specs.Record.{outstanding_count}
-use Rattle.share_holdings.specs.Left.{FewAreLeft, IsBlamed, IsGone, IsLeft, IsOffered}
-use Rattle.share_holdings.specs.Numbers.{no_holding, read_count}
-use Rattle.share_holdings.specs.State.{NumberState}
-use Rattle.share_holdings.specs.Table.{IsHolding, IsNumber, NoneIsFree}
-use Rattle.share_holdings.specs.declared.holding.Holding.{Holding}
-use Rattle.share_beginnings.specs.Opening.{IsOut, nobody}
-use Rattle.share_beginnings.specs.State.{BeginningsState, unbegun}
+use Rattle.download_shares.specs.Left.{FewAreLeft, IsBlamed, IsGone, IsLeft, IsOffered}
+use Rattle.download_shares.specs.Numbers.{no_holding, read_count}
+use Rattle.download_shares.specs.HoldingState.{NumberState}
+use Rattle.download_shares.specs.Table.{IsHolding, IsNumber, NoneIsFree}
+use Rattle.download_shares.specs.declared.holding.Holding.{Holding}
+use Rattle.download_shares.specs.Opening.{IsOut, nobody}
+use Rattle.download_shares.specs.BeginningState.{BeginningsState, unbegun}
 use Rattle.download_core.specs.Steps.{AreOpened}
 use Rattle.download_core.proofs.ReadLemmas.{begun_at}
 use Rattle.download_core.proofs.Records.{some_waits}

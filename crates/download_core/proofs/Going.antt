@@ -9,18 +9,18 @@ use Rattle.ueb.specs.Shape.{Contents}
 use Rattle.share_layout.specs.Geometry.{Geometry}
 use Rattle.request_record.specs.declared.requests.Request.{Request}
 use Rattle.request_record.specs.Record.{RequestsState, asked_all}
-use Rattle.share_holdings.specs.declared.holding.Blame.{Blame}
-use Rattle.share_holdings.proofs.Records.{AskedAlike, StaysTo, stays_asked}
+use Rattle.download_shares.specs.declared.holding.Blame.{Blame}
+use Rattle.download_shares.proofs.Records.{AskedAlike, StaysTo, stays_asked}
 use Rattle.placement.proofs.Members.{Contains-nil}
-use Rattle.share_beginnings.specs.Causes.{AddsBlames, IsOpeningFault, IsOtherHeader}
-use Rattle.share_beginnings.specs.Moves.{GoesOn, IsBlockAt}
-use Rattle.share_beginnings.specs.Reads.{AddsReads, IsInBeginning}
-use Rattle.share_beginnings.specs.Opening.{IsToldOf, nobody}
-use Rattle.share_beginnings.specs.declared.beginnings.News.{News}
-use Rattle.share_beginnings.specs.declared.beginnings.News.TheVariants as news
-use Rattle.share_beginnings.specs.State.{BeginningsState}
-use Rattle.share_beginnings.proofs.Caused.{reads_none, reads_trans}
-use Rattle.share_beginnings.proofs.Opened.{goes_none, goes_trans}
+use Rattle.download_shares.specs.Causes.{AddsBlames, IsOpeningFault, IsOtherHeader}
+use Rattle.download_shares.specs.BeginningMoves.{GoesOn, IsBlockAt}
+use Rattle.download_shares.specs.Reads.{AddsReads, IsInBeginning}
+use Rattle.download_shares.specs.Opening.{IsToldOf, nobody}
+use Rattle.download_shares.specs.declared.beginnings.News.{News}
+use Rattle.download_shares.specs.declared.beginnings.News.TheVariants as news
+use Rattle.download_shares.specs.BeginningState.{BeginningsState}
+use Rattle.download_shares.proofs.Caused.{reads_none, reads_trans}
+use Rattle.download_shares.proofs.Opened.{goes_none, goes_trans}
 use Rattle.download_segments.specs.declared.piece.Piece.{Piece}
 use Rattle.download_segments.specs.State.{HandoutState}
 use Rattle.share_reading.specs.declared.block.Opened.{Opened}

@@ -2,16 +2,16 @@
 use Rattle.std.proofs.Common.{◌≡◌, ℕ, inl, inr, Option, Some, None, sym, subst, ◌∙◌}
 use Rattle.download_reading.proofs.Compared.{awaited}
 use Rattle.wire.specs.declared.message.Message.{Message}
-use Rattle.share_holdings.specs.Moves.{Ticks}
-use Rattle.share_holdings.specs.declared.holdings.Heard.{Heard}
-use Rattle.share_holdings.specs.declared.holdings.Heard.TheVariants as heard
-use Rattle.share_beginnings.specs.Known.{AreBegun}
-use Rattle.share_beginnings.specs.Moves.{BringsBytes, HearsNews, IsNewsOf, WaitsAt}
-use Rattle.share_beginnings.specs.Opening.{AreOpening, IsToldOf, nobody}
-use Rattle.share_beginnings.specs.State.{BeginningsState}
-use Rattle.share_beginnings.specs.declared.beginnings.News.{News}
-use Rattle.share_beginnings.specs.declared.beginnings.News.TheVariants as news
-use Rattle.share_beginnings.proofs.Hearing.{becomes}
+use Rattle.download_shares.specs.HoldingMoves.{Ticks}
+use Rattle.download_shares.specs.declared.holdings.Heard.{Heard}
+use Rattle.download_shares.specs.declared.holdings.Heard.TheVariants as heard
+use Rattle.download_shares.specs.Known.{AreBegun}
+use Rattle.download_shares.specs.BeginningMoves.{BringsBytes, HearsNews, IsNewsOf, WaitsAt}
+use Rattle.download_shares.specs.Opening.{AreOpening, IsToldOf, nobody}
+use Rattle.download_shares.specs.BeginningState.{BeginningsState}
+use Rattle.download_shares.specs.declared.beginnings.News.{News}
+use Rattle.download_shares.specs.declared.beginnings.News.TheVariants as news
+use Rattle.download_shares.proofs.Hearing.{becomes}
 use Rattle.download_core.specs.declared.machine.FoundFile.{FoundFile}
 use Rattle.download_core.specs.declared.machine.Machine.{Machine}
 use Rattle.download_core.specs.Steps.{AwaitsNews, HasNews, HasPassed, HearsOf, IsInPhase, IsUnderWay, PassesOn, entries_of, found_of}

@@ -11,19 +11,19 @@ use Rattle.download_parts.specs.declared.part.Part.TheVariants.{ShareHashes, Blo
 use Rattle.download_source.specs.Source.{IsSource, SourceState, first_of}
 use Rattle.request_record.specs.declared.requests.Asked.TheVariants.{Holdings, Reading}
 use Rattle.request_record.specs.declared.requests.Request.{Request}
-use Rattle.share_holdings.specs.Left.{IsBlamed, IsGone, IsLeft, IsOffered}
-use Rattle.share_holdings.specs.Right.{IsOwned, IsRight}
-use Rattle.share_holdings.specs.State.{HoldingsState}
-use Rattle.share_holdings.specs.Table.{IsHolding}
-use Rattle.share_holdings.specs.declared.holding.Blame.{Blame}
-use Rattle.share_holdings.specs.declared.holding.Holding.{Holding}
-use Rattle.share_holdings.proofs.Goes.{gone_stays}
+use Rattle.download_shares.specs.Left.{IsBlamed, IsGone, IsLeft, IsOffered}
+use Rattle.download_shares.specs.Right.{IsOwned, IsRight}
+use Rattle.download_shares.specs.HoldingState.{HoldingsState}
+use Rattle.download_shares.specs.Table.{IsHolding}
+use Rattle.download_shares.specs.declared.holding.Blame.{Blame}
+use Rattle.download_shares.specs.declared.holding.Holding.{Holding}
+use Rattle.download_shares.proofs.Goes.{gone_stays}
 use Rattle.share_reading.specs.OpeningReads.{IsLedToBy}
 use Rattle.share_reading.specs.declared.opening.Opening.{Opening}
-use Rattle.share_beginnings.specs.Opening.{nobody}
-use Rattle.share_beginnings.specs.Reads.{IsBeginning, IsInBeginning, IsReadAt, brought_of}
-use Rattle.share_beginnings.specs.State.{BeginningsState, IsBegun, unbegun}
-use Rattle.share_beginnings.specs.declared.begun.Begun.{Begun}
+use Rattle.download_shares.specs.Opening.{nobody}
+use Rattle.download_shares.specs.Reads.{IsBeginning, IsInBeginning, IsReadAt, brought_of}
+use Rattle.download_shares.specs.BeginningState.{BeginningsState, IsBegun, unbegun}
+use Rattle.download_shares.specs.declared.begun.Begun.{Begun}
 use Rattle.download_file.specs.Asked.{HasAsked, IsPlannedRead}
 use Rattle.download_file.specs.Right.{IsFile}
 use Rattle.download_file.specs.State.{FileState}

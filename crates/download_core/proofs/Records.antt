@@ -9,7 +9,7 @@ use Rattle.request_record.specs.declared.requests.Request.{Request}
 use Rattle.request_record.specs.Record.{RequestsState, counts_at, is_outstanding, outstanding_count, ticked_one}
 use Rattle.request_record.specs.Asking.{after_message, after_tick}
 use Rattle.request_record.proofs.RecordLaws.{counts_is}
-use Rattle.share_holdings.proofs.Records.{AskedAlike, StaysTo, alike_message, alike_tick, stays_message, stays_tick, uncounted}
+use Rattle.download_shares.proofs.Records.{AskedAlike, StaysTo, alike_message, alike_tick, stays_message, stays_tick, uncounted}
 use Rattle.download_file.specs.Answers.{KeepsAnswers}
 use Rattle.download_file.proofs.GrowLemmas.{inconsistent_keeps, reads_keep}
 use Rattle.download_core.specs.Ends.{HasNoCodeWord}

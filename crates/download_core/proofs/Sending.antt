@@ -7,9 +7,9 @@ use Rattle.wire.specs.declared.message.Message.{Message}
 use Rattle.request_record.specs.declared.requests.Request.{Request}
 use Rattle.request_record.specs.Record.{RequestsState, TakesNext}
 use Rattle.request_record.specs.Asking.{IsWriting, Spells, message_at}
-use Rattle.share_holdings.specs.Right.{IsRight}
-use Rattle.share_beginnings.specs.Opening.{nobody}
-use Rattle.share_beginnings.specs.State.{BeginningsState}
+use Rattle.download_shares.specs.Right.{IsRight}
+use Rattle.download_shares.specs.Opening.{nobody}
+use Rattle.download_shares.specs.BeginningState.{BeginningsState}
 use Rattle.download_reading.specs.Laws.{with_outgoing}
 use Rattle.download_reading.proofs.Sent.{sent}
 use Rattle.download_core.proofs.ReadLemmas.{asked_of}

@@ -4,7 +4,7 @@ use Rattle.lemmas.proofs.Members.{contains_tail}
 use Rattle.ueb.specs.Shape.{Contents}
 use Rattle.download_file.specs.State.{FileState}
 use Rattle.cap_text.specs.Cap.{verify_cap_of}
-use Rattle.share_beginnings.specs.State.{BeginningsState}
+use Rattle.download_shares.specs.BeginningState.{BeginningsState}
 use Rattle.share_layout.specs.Geometry.{Geometry}
 use Rattle.download_segments.specs.NoCodeWord.{IsNoCodeWord}
 use Rattle.download_reading.specs.Reading.{AreReading}
@@ -16,7 +16,7 @@ use Rattle.download_core.specs.declared.status.DownloadStatus.{DownloadStatus}
 use Rattle.download_core.specs.Ends.{HasNoCodeWord}
 use Rattle.download_core.specs.Given.{IsFileIfFound, IsHead}
 use Rattle.download_parts.specs.Plan.{IsPlanned}
-use Rattle.share_beginnings.specs.Reads.{IsBeside}
+use Rattle.download_shares.specs.Reads.{IsBeside}
 use Rattle.download_segments.specs.declared.piece.Piece.{Piece}
 use Rattle.download_segments.specs.Handout.{TakesPiece}
 use Rattle.download_segments.specs.State.{HandoutState}

@@ -2,7 +2,7 @@
 use Rattle.std.specs.Prelude.{◌≡◌, List, Option, Some, None}
 use Rattle.request_record.specs.declared.requests.Request.{Request}
 use Rattle.request_record.specs.Record.{outstanding_count}
-use Rattle.share_holdings.specs.Left.{FewAreLeft}
+use Rattle.download_shares.specs.Left.{FewAreLeft}
 use Rattle.download_segments.specs.NoCodeWord.{IsNoCodeWord}
 use Rattle.download_file.specs.Making.{IsInconsistent}
 use Rattle.download_core.specs.State.{DownloadState, Found}

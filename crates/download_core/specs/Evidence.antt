@@ -7,7 +7,7 @@ use Rattle.proved_parts.specs.Evidence.{IsProvedBy}
 use Rattle.proved_parts.specs.declared.evidence.Evidence.{Evidence}
 use Rattle.proved_parts.specs.declared.evidence.EvidencePart.{EvidencePart}
 use Rattle.request_record.specs.declared.requests.Request.{Request}
-use Rattle.share_beginnings.specs.Reads.{IsAnsweredBy}
+use Rattle.download_shares.specs.Reads.{IsAnsweredBy}
 use Rattle.download_file.specs.Answers.{IsMadeSegment}
 use Rattle.download_file.specs.Right.{made_end}
 use Rattle.download_file.specs.State.{FileState}

@@ -2,9 +2,9 @@
 use Rattle.std.specs.Prelude.{◌≡◌, ◌⊎◌, ℕ, List, Option, Some, None, slice_get, ⊤}
 use Rattle.request_record.specs.declared.requests.Asked.TheVariants.{Holdings, Reading}
 use Rattle.request_record.specs.declared.requests.Request.{Request}
-use Rattle.share_holdings.specs.Left.{IsLeft, IsOffered}
-use Rattle.share_holdings.specs.declared.holding.Blame.{Blame}
-use Rattle.share_beginnings.specs.Reads.{AddsReads, IsBeside, IsInBeginning}
+use Rattle.download_shares.specs.Left.{IsLeft, IsOffered}
+use Rattle.download_shares.specs.declared.holding.Blame.{Blame}
+use Rattle.download_shares.specs.Reads.{AddsReads, IsBeside, IsInBeginning}
 use Rattle.download_file.specs.Asked.{IsPlannedRead}
 use Rattle.download_file.specs.State.{FileState}
 use Rattle.download_core.specs.State.{Found}

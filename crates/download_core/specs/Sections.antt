@@ -9,7 +9,7 @@ use Rattle.wire.specs.declared.message.ShareId.{ShareId}
 use Rattle.request_record.specs.declared.requests.Asked.TheVariants.{Reading}
 use Rattle.request_record.specs.declared.requests.Request.{Request}
 use Rattle.request_record.specs.Record.{RequestsState}
-use Rattle.share_beginnings.specs.Reads.{AddsReads, IsInBeginning}
+use Rattle.download_shares.specs.Reads.{AddsReads, IsInBeginning}
 use Rattle.download_parts.specs.PlanLaws.{IsInBlock, LiesIn}
 use Rattle.download_core.specs.Moves.{GoesOn}
 use Rattle.download_core.specs.Right.{IsRight}

@@ -2,7 +2,7 @@
 use Rattle.std.specs.Prelude.{ℕ, List, [], Option, Some, None}
 use Rattle.cap_text.specs.Cap.{ReadCapValue}
 use Rattle.request_record.specs.Record.{RequestsState}
-use Rattle.share_holdings.specs.declared.holding.Blame.{Blame}
+use Rattle.download_shares.specs.declared.holding.Blame.{Blame}
 use Rattle.download_segments.specs.declared.piece.Piece.{Piece}
 use Rattle.download_file.specs.State.{FileState}
 use Rattle.download_core.specs.declared.status.DownloadStatus.{DownloadStatus}

@@ -4,13 +4,13 @@ use Rattle.cap_text.specs.Cap.{VerifyCapValue, verify_cap_of}
 use Rattle.share_reading.specs.declared.opening.Opening.{Opening}
 use Rattle.request_record.specs.declared.requests.Request.{Request}
 use Rattle.request_record.specs.Record.{outstanding_count}
-use Rattle.share_holdings.specs.Left.{FewAreLeft}
-use Rattle.share_beginnings.specs.Known.{AreBegun}
-use Rattle.share_beginnings.specs.Moves.{Awaits, BringsBytes, GoesOn}
-use Rattle.share_beginnings.specs.Opening.{AreOpening, IsToldOf, nobody}
-use Rattle.share_beginnings.specs.State.{BeginningsState}
-use Rattle.share_beginnings.specs.declared.beginnings.News.{News}
-use Rattle.share_beginnings.specs.declared.beginnings.News.TheVariants.{Beginning}
+use Rattle.download_shares.specs.Left.{FewAreLeft}
+use Rattle.download_shares.specs.Known.{AreBegun}
+use Rattle.download_shares.specs.BeginningMoves.{Awaits, BringsBytes, GoesOn}
+use Rattle.download_shares.specs.Opening.{AreOpening, IsToldOf, nobody}
+use Rattle.download_shares.specs.BeginningState.{BeginningsState}
+use Rattle.download_shares.specs.declared.beginnings.News.{News}
+use Rattle.download_shares.specs.declared.beginnings.News.TheVariants.{Beginning}
 use Rattle.download_file.specs.Changes.{IsSameFile}
 use Rattle.download_reading.specs.Reading.{AreReading}
 use Rattle.download_reading.specs.Steps.{AddsPieces, HasHeard, HasTicked}

@@ -4,7 +4,7 @@ ghost use Rattle.std.specs.Prelude.{◌≡◌};
 ghost use Rattle.download_core.specs.Refusals.{refusal_number};
 
 pub use download_segments::Piece;
-pub use share_holdings::holding::Blame;
+pub use download_shares::holding::Blame;
 
 /// Where a download stands.
 #[derive(Clone, Copy, PartialEq, Eq)]

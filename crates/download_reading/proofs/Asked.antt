@@ -6,15 +6,15 @@ use Rattle.std.proofs.lemmas.List.{length-map}
 use Rattle.lemmas.proofs.Options.{one_there}
 use Rattle.share_layout.specs.Geometry.{Geometry}
 use Rattle.share_layout.specs.Layout.{header_size, layout_of, places_of}
-use Rattle.share_holdings.specs.Moves.{IsUnasked}
-use Rattle.share_holdings.specs.State.{TableState}
-use Rattle.share_holdings.specs.Table.{IsHolding}
-use Rattle.share_holdings.specs.declared.holding.Holding.{Holding}
-use Rattle.share_beginnings.specs.Opening.{IsTaken}
-use Rattle.share_beginnings.specs.Reads.{IsBeside, IsReadAt}
-use Rattle.share_beginnings.specs.State.{BeginningsState, IsBegun}
-use Rattle.share_beginnings.specs.declared.begun.Begun.{Begun}
-use Rattle.share_beginnings.proofs.Asking.{distinct_places, unasked_by}
+use Rattle.download_shares.specs.HoldingMoves.{IsUnasked}
+use Rattle.download_shares.specs.HoldingState.{TableState}
+use Rattle.download_shares.specs.Table.{IsHolding}
+use Rattle.download_shares.specs.declared.holding.Holding.{Holding}
+use Rattle.download_shares.specs.Opening.{IsTaken}
+use Rattle.download_shares.specs.Reads.{IsBeside, IsReadAt}
+use Rattle.download_shares.specs.BeginningState.{BeginningsState, IsBegun}
+use Rattle.download_shares.specs.declared.begun.Begun.{Begun}
+use Rattle.download_shares.proofs.Asking.{distinct_places, unasked_by}
 use Rattle.download_parts.specs.PlanLaws.{AreApart, section_end, section_start}
 use Rattle.download_parts.specs.Plan.{IsPlanned, length_of, place_of}
 use Rattle.download_parts.specs.Range.{IsRange}

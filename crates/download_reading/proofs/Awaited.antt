@@ -12,13 +12,13 @@ use Rattle.request_record.specs.declared.requests.Asked.{Asked}
 use Rattle.request_record.specs.declared.requests.Asked.TheVariants.{Reading}
 use Rattle.request_record.specs.declared.requests.Request.{Request}
 use Rattle.request_record.specs.Record.{RequestsState, asked_all, asked_more, first_request}
-use Rattle.share_holdings.specs.State.{TableState}
-use Rattle.share_holdings.specs.Table.{IsHolding}
-use Rattle.share_holdings.specs.declared.holding.Holding.{Holding}
-use Rattle.share_holdings.proofs.Lists.{from_without}
-use Rattle.share_beginnings.specs.Moves.{GoesOn}
-use Rattle.share_beginnings.specs.Reads.{IsAnsweredBy, IsOutAt, IsReadAt}
-use Rattle.share_beginnings.specs.State.{BeginningsState}
+use Rattle.download_shares.specs.HoldingState.{TableState}
+use Rattle.download_shares.specs.Table.{IsHolding}
+use Rattle.download_shares.specs.declared.holding.Holding.{Holding}
+use Rattle.download_shares.proofs.Lists.{from_without}
+use Rattle.download_shares.specs.BeginningMoves.{GoesOn}
+use Rattle.download_shares.specs.Reads.{IsAnsweredBy, IsOutAt, IsReadAt}
+use Rattle.download_shares.specs.BeginningState.{BeginningsState}
 use Rattle.download_source.specs.declared.wanted.Wanted.{Wanted}
 use Rattle.download_file.specs.Changes.{OthersWait}
 use Rattle.download_file.specs.State.{FileState, IsLive, ReaderState, first_place, first_waiting, placed, waiting_at, waiting_in, without}

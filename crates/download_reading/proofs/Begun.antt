@@ -9,16 +9,16 @@ use Rattle.lemmas.proofs.Places.{get_pushed, get_set, get_other, set_cases, get_
 use Rattle.lemmas.proofs.Options.{one_there}
 use Rattle.placement.proofs.Members.{Contains-head, Contains-nil, Contains-uncons}
 use Rattle.request_record.specs.Record.{RequestsState}
-use Rattle.share_holdings.specs.Numbers.{taken_up}
-use Rattle.share_holdings.specs.State.{HoldingsState, NumberState, TableState}
-use Rattle.share_holdings.specs.Table.{IsFree, IsHolding, TakesUp}
-use Rattle.share_holdings.specs.declared.holding.Holding.{Holding}
-use Rattle.share_beginnings.specs.Known.{AreBegun}
-use Rattle.share_beginnings.specs.Moves as moves
-use Rattle.share_beginnings.specs.Opening.{IsTaken}
-use Rattle.share_beginnings.specs.Reads.{IsBeside, IsReadAt}
-use Rattle.share_beginnings.specs.State.{BeginningsState, IsBegun}
-use Rattle.share_beginnings.specs.declared.begun.Begun.{Begun}
+use Rattle.download_shares.specs.Numbers.{taken_up}
+use Rattle.download_shares.specs.HoldingState.{HoldingsState, NumberState, TableState}
+use Rattle.download_shares.specs.Table.{IsFree, IsHolding, TakesUp}
+use Rattle.download_shares.specs.declared.holding.Holding.{Holding}
+use Rattle.download_shares.specs.Known.{AreBegun}
+use Rattle.download_shares.specs.BeginningMoves as moves
+use Rattle.download_shares.specs.Opening.{IsTaken}
+use Rattle.download_shares.specs.Reads.{IsBeside, IsReadAt}
+use Rattle.download_shares.specs.BeginningState.{BeginningsState, IsBegun}
+use Rattle.download_shares.specs.declared.begun.Begun.{Begun}
 use Rattle.download_file.specs.Answers.{IsRead}
 use Rattle.download_file.specs.Asked.{AsksNoMore}
 use Rattle.download_file.specs.Changes.{StaysRead}

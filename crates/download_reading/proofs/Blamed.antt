@@ -5,13 +5,13 @@ use Rattle.std.proofs.lemmas.List.Sums.{sum_by-cons}
 use Rattle.std.proofs.lemmas.Option.{slice_get_within}
 use Rattle.lemmas.proofs.Places.{got}
 use Rattle.lemmas.proofs.Options.{one_there}
-use Rattle.share_holdings.specs.Moves.{Blames}
-use Rattle.share_holdings.specs.State.{HoldingsState, TableState}
-use Rattle.share_holdings.specs.Table.{IsHolding, Retires}
-use Rattle.share_holdings.specs.declared.holding.Holding.{Holding}
-use Rattle.share_beginnings.specs.State.{BeginningsState}
-use Rattle.share_beginnings.specs.declared.begun.Begun.{Begun}
-use Rattle.share_beginnings.proofs.Falling.{falls_one, retired_left}
+use Rattle.download_shares.specs.HoldingMoves.{Blames}
+use Rattle.download_shares.specs.HoldingState.{HoldingsState, TableState}
+use Rattle.download_shares.specs.Table.{IsHolding, Retires}
+use Rattle.download_shares.specs.declared.holding.Holding.{Holding}
+use Rattle.download_shares.specs.BeginningState.{BeginningsState}
+use Rattle.download_shares.specs.declared.begun.Begun.{Begun}
+use Rattle.download_shares.proofs.Falling.{falls_one, retired_left}
 use Rattle.share_verify.specs.declared.check.Check.{Check}
 use Rattle.download_file.specs.State.{IsLive}
 use Rattle.download_reading.specs.Reading.{AreAwaited, AreBusy, AreLinked, IsOf}

@@ -5,15 +5,15 @@ use Rattle.std.proofs.lemmas.Bool.{cases_eq}
 use Rattle.std.proofs.lemmas.Option.{slice_get_within}
 use Rattle.lemmas.proofs.Places.{get_set, get_other, set_cases, get_last, get_push}
 use Rattle.lemmas.proofs.Options.{one_there}
-use Rattle.share_holdings.specs.Numbers.{taken_up}
-use Rattle.share_holdings.specs.State.{HoldingsState, NumberState, TableState}
-use Rattle.share_holdings.specs.Table.{IsHolding, IsNumber}
-use Rattle.share_holdings.specs.declared.holding.Holding.{Holding}
-use Rattle.share_beginnings.specs.Moves.{GoesOn, IsReaderOf}
-use Rattle.share_beginnings.specs.Opening.{IsOut}
-use Rattle.share_beginnings.specs.State.{BeginningsState}
-use Rattle.share_beginnings.specs.declared.begun.Begun.{Begun}
-use Rattle.share_beginnings.proofs.Falling.{Falls}
+use Rattle.download_shares.specs.Numbers.{taken_up}
+use Rattle.download_shares.specs.HoldingState.{HoldingsState, NumberState, TableState}
+use Rattle.download_shares.specs.Table.{IsHolding, IsNumber}
+use Rattle.download_shares.specs.declared.holding.Holding.{Holding}
+use Rattle.download_shares.specs.BeginningMoves.{GoesOn, IsReaderOf}
+use Rattle.download_shares.specs.Opening.{IsOut}
+use Rattle.download_shares.specs.BeginningState.{BeginningsState}
+use Rattle.download_shares.specs.declared.begun.Begun.{Begun}
+use Rattle.download_shares.proofs.Falling.{Falls}
 use Rattle.download_reading.specs.Reading.{AreBusy, IsOf}
 use Rattle.download_reading.specs.State.{ReadingState}
 use Rattle.download_reading.proofs.Awaited.{Stays, goes_stays, out_stays}

@@ -9,14 +9,14 @@ use Rattle.request_record.specs.declared.requests.Asked.TheVariants.{Reading}
 use Rattle.request_record.specs.declared.requests.Request.{Request}
 use Rattle.share_verify.specs.declared.check.Check.{Check}
 use Rattle.share_verify.specs.declared.check.Check.TheVariants as checks
-use Rattle.share_holdings.specs.Table.{IsHolding}
-use Rattle.share_holdings.specs.declared.holding.Blame.{Blame}
-use Rattle.share_holdings.specs.declared.holding.Holding.{Holding}
-use Rattle.share_holdings.proofs.Records.{StaysTo}
-use Rattle.share_beginnings.specs.Causes.{AddsBlames}
-use Rattle.share_beginnings.proofs.Caused.{adds_as, adds_trans}
-use Rattle.share_beginnings.specs.Reads.{IsAnsweredBy}
-use Rattle.share_beginnings.specs.State.{BeginningsState}
+use Rattle.download_shares.specs.Table.{IsHolding}
+use Rattle.download_shares.specs.declared.holding.Blame.{Blame}
+use Rattle.download_shares.specs.declared.holding.Holding.{Holding}
+use Rattle.download_shares.proofs.Records.{StaysTo}
+use Rattle.download_shares.specs.Causes.{AddsBlames}
+use Rattle.download_shares.proofs.Caused.{adds_as, adds_trans}
+use Rattle.download_shares.specs.Reads.{IsAnsweredBy}
+use Rattle.download_shares.specs.BeginningState.{BeginningsState}
 use Rattle.share_layout.specs.Geometry.{Geometry}
 use Rattle.download_parts.specs.Plan.{length_of, place_of}
 use Rattle.download_parts.specs.declared.part.Part.TheVariants.{Data}
@@ -27,7 +27,7 @@ use Rattle.download_file.specs.State.{CopyState, FileState, IsLive, ReaderState,
 use Rattle.download_file.specs.Taking.{IsRefused}
 use Rattle.download_file.specs.declared.reader.Waiting.{Waiting}
 use Rattle.cap_text.specs.Cap.{VerifyCapValue}
-use Rattle.share_beginnings.specs.Causes.{IsBeginningFault}
+use Rattle.download_shares.specs.Causes.{IsBeginningFault}
 use Rattle.download_reading.specs.Causes.{HasCause, IsBlameOf, IsBlockFault, IsPartFault}
 use Rattle.download_reading.specs.Laws.{BlocksAreAnswered}
 use Rattle.download_reading.specs.Reading.{AreReadingBut}

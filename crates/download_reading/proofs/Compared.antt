@@ -6,16 +6,16 @@ use Rattle.lemmas.proofs.Places.{get_set, get_other, set_cases}
 use Rattle.lemmas.proofs.Options.{one_there}
 use Rattle.request_record.specs.Record.{RequestsState}
 use Rattle.share_reading.specs.declared.opening.Opening.{Opening}
-use Rattle.share_holdings.specs.State.{HoldingsState}
-use Rattle.share_holdings.specs.Table.{IsHolding}
-use Rattle.share_holdings.specs.declared.holding.Holding.{Holding}
-use Rattle.share_holdings.proofs.Records.{AskedAlike}
-use Rattle.share_beginnings.specs.Known.{AreBegun, IsNextAt}
-use Rattle.share_beginnings.specs.Moves.{Awaits, Compares, WaitsAt, rested}
-use Rattle.share_beginnings.specs.Opening.{IsOut}
-use Rattle.share_beginnings.specs.State.{BeginningsState}
-use Rattle.share_beginnings.specs.declared.begun.Begun.{Begun}
-use Rattle.share_beginnings.proofs.Falling.{Falls, falls_none, falls_one, retired_left}
+use Rattle.download_shares.specs.HoldingState.{HoldingsState}
+use Rattle.download_shares.specs.Table.{IsHolding}
+use Rattle.download_shares.specs.declared.holding.Holding.{Holding}
+use Rattle.download_shares.proofs.Records.{AskedAlike}
+use Rattle.download_shares.specs.Known.{AreBegun, IsNextAt}
+use Rattle.download_shares.specs.BeginningMoves.{Awaits, Compares, WaitsAt, rested}
+use Rattle.download_shares.specs.Opening.{IsOut}
+use Rattle.download_shares.specs.BeginningState.{BeginningsState}
+use Rattle.download_shares.specs.declared.begun.Begun.{Begun}
+use Rattle.download_shares.proofs.Falling.{Falls, falls_none, falls_one, retired_left}
 use Rattle.download_file.specs.Answers.{IsRead}
 use Rattle.download_file.specs.State.{IsLive}
 use Rattle.download_reading.specs.Reading.{AreAwaited, AreBusy, AreKept, AreLinked, IsGone, IsReadNow}

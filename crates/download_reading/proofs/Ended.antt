@@ -11,15 +11,15 @@ use Rattle.download_file.proofs.GrowLemmas.{same_two}
 use Rattle.placement.proofs.Members.{Contains-nil, Contains-uncons}
 use Rattle.share_layout.specs.Geometry.{Geometry}
 use Rattle.download_segments.specs.State.{HandoutState}
-use Rattle.share_holdings.specs.Table.{IsHolding}
-use Rattle.share_holdings.specs.declared.holding.Holding.{Holding}
-use Rattle.share_holdings.proofs.Lists.{from_without, without_keeps}
+use Rattle.download_shares.specs.Table.{IsHolding}
+use Rattle.download_shares.specs.declared.holding.Holding.{Holding}
+use Rattle.download_shares.proofs.Lists.{from_without, without_keeps}
 use Rattle.request_record.specs.Record.{RequestsState}
-use Rattle.share_beginnings.specs.Reads.{AddsReads, IsBeside}
-use Rattle.share_beginnings.specs.State.{BeginningsState}
-use Rattle.share_beginnings.specs.declared.begun.Begun.{Begun}
-use Rattle.share_beginnings.proofs.Caused.{reads_none, reads_trans}
-use Rattle.share_beginnings.proofs.Opened.{goes_none, goes_trans}
+use Rattle.download_shares.specs.Reads.{AddsReads, IsBeside}
+use Rattle.download_shares.specs.BeginningState.{BeginningsState}
+use Rattle.download_shares.specs.declared.begun.Begun.{Begun}
+use Rattle.download_shares.proofs.Caused.{reads_none, reads_trans}
+use Rattle.download_shares.proofs.Opened.{goes_none, goes_trans}
 use Rattle.download_parts.specs.Plan.{IsPlanned}
 use Rattle.download_file.specs.Asked.{AsksNoMore, IsOneOf, IsPlannedRead}
 use Rattle.download_file.specs.Changes.{IsSameFile, StaysRead}

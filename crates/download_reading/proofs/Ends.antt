@@ -8,12 +8,12 @@ use Rattle.lemmas.proofs.Members.{contains_map}
 use Rattle.lemmas.proofs.Options.{one_there}
 use Rattle.request_record.specs.declared.requests.Request.{Request}
 use Rattle.request_record.specs.Record.{is_outstanding, outstanding_count}
-use Rattle.share_holdings.specs.Left.{IsBlamed, IsGone, IsLeft, IsOffered}
-use Rattle.share_holdings.specs.Numbers.{no_holding}
-use Rattle.share_holdings.specs.Table.{IsHolding, IsNumber, IsTable, NoneIsFree}
-use Rattle.share_holdings.specs.declared.holding.Holding.{Holding}
-use Rattle.share_beginnings.specs.Reads.{IsOutAt}
-use Rattle.share_beginnings.specs.State.{BeginningsState}
+use Rattle.download_shares.specs.Left.{IsBlamed, IsGone, IsLeft, IsOffered}
+use Rattle.download_shares.specs.Numbers.{no_holding}
+use Rattle.download_shares.specs.Table.{IsHolding, IsNumber, IsTable, NoneIsFree}
+use Rattle.download_shares.specs.declared.holding.Holding.{Holding}
+use Rattle.download_shares.specs.Reads.{IsOutAt}
+use Rattle.download_shares.specs.BeginningState.{BeginningsState}
 use Rattle.download_file.specs.Making.{SomeWaits}
 use Rattle.download_file.specs.State.{CopyState, ReaderState, copy, copy_of, numbers_of, share_in}
 use Rattle.download_file.proofs.ListLemmas.{get_unmapped}

@@ -12,20 +12,20 @@ use Rattle.std.proofs.lemmas.List.{length-map}
 use Rattle.download_file.proofs.GrowLemmas.{same_itself}
 use Rattle.request_record.specs.Record.{RequestsState}
 use Rattle.request_record.specs.declared.requests.Request.{Request}
-use Rattle.share_holdings.specs.State.{HoldingsState}
+use Rattle.download_shares.specs.HoldingState.{HoldingsState}
 use Rattle.share_layout.specs.Geometry.{Geometry}
-use Rattle.share_holdings.specs.Table.{IsHolding}
-use Rattle.share_holdings.specs.declared.holding.Holding.{Holding}
-use Rattle.share_holdings.proofs.Records.{AskedAlike}
-use Rattle.share_beginnings.specs.Known.{AreBegun}
-use Rattle.share_beginnings.specs.Reads.{IsBeside, IsReadAt}
-use Rattle.share_beginnings.specs.State.{BeginningsState, IsBegun}
-use Rattle.share_beginnings.specs.declared.begun.Begun.{Begun}
-use Rattle.share_beginnings.proofs.Entries.{read_alike}
-use Rattle.share_beginnings.proofs.Falling.{falls_one}
-use Rattle.share_beginnings.proofs.Opened.{goes_blamed, goes_none}
+use Rattle.download_shares.specs.Table.{IsHolding}
+use Rattle.download_shares.specs.declared.holding.Holding.{Holding}
+use Rattle.download_shares.proofs.Records.{AskedAlike}
+use Rattle.download_shares.specs.Known.{AreBegun}
+use Rattle.download_shares.specs.Reads.{IsBeside, IsReadAt}
+use Rattle.download_shares.specs.BeginningState.{BeginningsState, IsBegun}
+use Rattle.download_shares.specs.declared.begun.Begun.{Begun}
+use Rattle.download_shares.proofs.Entries.{read_alike}
+use Rattle.download_shares.proofs.Falling.{falls_one}
+use Rattle.download_shares.proofs.Opened.{goes_blamed, goes_none}
 use Rattle.download_file.specs.Changes.{IsSameFile}
-use Rattle.share_holdings.specs.Moves.{Blames}
+use Rattle.download_shares.specs.HoldingMoves.{Blames}
 use Rattle.share_verify.specs.declared.check.Check.{Check}
 use Rattle.download_reading.specs.Steps.{AddsPieces, Continues}
 use Rattle.download_reading.proofs.Ended.{adds_none, asks_none}

@@ -7,21 +7,21 @@ use Rattle.lemmas.proofs.Places.{get_set, get_other, set_cases, get_left}
 use Rattle.lemmas.proofs.Options.{one_there}
 use Rattle.request_record.specs.declared.requests.Asked.TheVariants.{Holdings, Reading}
 use Rattle.request_record.specs.declared.requests.Request.{Request}
-use Rattle.share_holdings.specs.Right.{IsRight}
-use Rattle.share_holdings.specs.State.{HoldingsState, NumberState, TableState}
-use Rattle.share_holdings.specs.Table.{IsHolding, IsNumber, Suspends}
-use Rattle.share_holdings.specs.declared.holding.Holding.{Holding}
-use Rattle.share_holdings.proofs.Records.{AskedAlike}
-use Rattle.share_holdings.proofs.Telling.{append_cases}
-use Rattle.share_beginnings.specs.Moves.{rested}
-use Rattle.share_beginnings.specs.Reads.{IsReadAt}
-use Rattle.share_beginnings.specs.State.{unbegun}
-use Rattle.share_beginnings.specs.declared.begun.Begun.{Begun}
-use Rattle.share_beginnings.proofs.Asking.{distinct_places}
-use Rattle.share_beginnings.proofs.Entries.{read_alike}
-use Rattle.share_beginnings.proofs.Falling.{Falls, IsReadOn}
-use Rattle.share_beginnings.proofs.Hearing.{Becomes, becomes_falls}
-use Rattle.share_beginnings.proofs.Knowing.{shares_suspended}
+use Rattle.download_shares.specs.Right.{IsRight}
+use Rattle.download_shares.specs.HoldingState.{HoldingsState, NumberState, TableState}
+use Rattle.download_shares.specs.Table.{IsHolding, IsNumber, Suspends}
+use Rattle.download_shares.specs.declared.holding.Holding.{Holding}
+use Rattle.download_shares.proofs.Records.{AskedAlike}
+use Rattle.download_shares.proofs.Telling.{append_cases}
+use Rattle.download_shares.specs.BeginningMoves.{rested}
+use Rattle.download_shares.specs.Reads.{IsReadAt}
+use Rattle.download_shares.specs.BeginningState.{unbegun}
+use Rattle.download_shares.specs.declared.begun.Begun.{Begun}
+use Rattle.download_shares.proofs.Asking.{distinct_places}
+use Rattle.download_shares.proofs.Entries.{read_alike}
+use Rattle.download_shares.proofs.Falling.{Falls, IsReadOn}
+use Rattle.download_shares.proofs.Hearing.{Becomes, becomes_falls}
+use Rattle.download_shares.proofs.Knowing.{shares_suspended}
 
 -- ---- the holdings
 

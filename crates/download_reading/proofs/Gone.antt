@@ -1,8 +1,8 @@
 -- What is known where nothing more is made.
 use Rattle.std.proofs.Common.{◌≡◌, ℕ, ◌<◌, ◌≤◌, ◌⊎◌, inl, inr, Bool, List, Contains, length, sym, ap, subst, ◌∙◌, arith}
 use Rattle.std.specs.Prelude.{slice_get}
-use Rattle.share_holdings.specs.Table.{NoneIsFree}
-use Rattle.share_beginnings.specs.State.{BeginningsState}
+use Rattle.download_shares.specs.Table.{NoneIsFree}
+use Rattle.download_shares.specs.BeginningState.{BeginningsState}
 use Rattle.download_segments.specs.State.{HandoutState}
 use Rattle.download_segments.specs.Handout.{next_segment}
 use Rattle.download_file.specs.Asked.{AreAskedUp, IsAskedUp}

@@ -11,25 +11,25 @@ use Rattle.request_record.specs.Record.{RequestsState, counts_at, is_outstanding
 use Rattle.request_record.specs.Asking.{after_message}
 use Rattle.wire.specs.declared.message.Message.{Message}
 use Rattle.share_reading.specs.declared.opening.Opening.{Opening}
-use Rattle.share_holdings.specs.Moves.{Brings, HearsAt}
-use Rattle.share_holdings.specs.State.{TableState}
-use Rattle.share_holdings.specs.Table.{IsHolding}
-use Rattle.share_holdings.specs.declared.holding.Holding.{Holding}
-use Rattle.share_holdings.specs.declared.holdings.Heard.{Heard}
-use Rattle.share_holdings.specs.declared.holdings.Heard.TheVariants as heard
-use Rattle.share_holdings.proofs.Goes.{message_cases, message_goes, only_owner}
-use Rattle.share_holdings.proofs.Records.{AskedAlike}
-use Rattle.share_beginnings.specs.Known.{AreBegun, IsNextAt}
-use Rattle.share_beginnings.specs.Moves.{BringsBytes, HearsNews, IsNewsOf, WaitsAt}
-use Rattle.share_beginnings.specs.Opening.{IsOut, IsTaken}
-use Rattle.share_beginnings.specs.Reads.{IsAnsweredBy, IsOutAt, IsReadAt}
-use Rattle.share_beginnings.specs.State.{BeginningsState, IsBegun, unbegun}
-use Rattle.share_beginnings.specs.declared.begun.Begun.{Begun}
-use Rattle.share_beginnings.specs.declared.beginnings.News.{News}
-use Rattle.share_beginnings.specs.declared.beginnings.News.TheVariants as news
-use Rattle.share_beginnings.proofs.Entries.{Grows, grows_goes, read_grows}
-use Rattle.share_beginnings.proofs.Falling.{WasHolding, retired_left}
-use Rattle.share_beginnings.proofs.Hearing as hearing
+use Rattle.download_shares.specs.HoldingMoves.{Brings, HearsAt}
+use Rattle.download_shares.specs.HoldingState.{TableState}
+use Rattle.download_shares.specs.Table.{IsHolding}
+use Rattle.download_shares.specs.declared.holding.Holding.{Holding}
+use Rattle.download_shares.specs.declared.holdings.Heard.{Heard}
+use Rattle.download_shares.specs.declared.holdings.Heard.TheVariants as heard
+use Rattle.download_shares.proofs.Goes.{message_cases, message_goes, only_owner}
+use Rattle.download_shares.proofs.Records.{AskedAlike}
+use Rattle.download_shares.specs.Known.{AreBegun, IsNextAt}
+use Rattle.download_shares.specs.BeginningMoves.{BringsBytes, HearsNews, IsNewsOf, WaitsAt}
+use Rattle.download_shares.specs.Opening.{IsOut, IsTaken}
+use Rattle.download_shares.specs.Reads.{IsAnsweredBy, IsOutAt, IsReadAt}
+use Rattle.download_shares.specs.BeginningState.{BeginningsState, IsBegun, unbegun}
+use Rattle.download_shares.specs.declared.begun.Begun.{Begun}
+use Rattle.download_shares.specs.declared.beginnings.News.{News}
+use Rattle.download_shares.specs.declared.beginnings.News.TheVariants as news
+use Rattle.download_shares.proofs.Entries.{Grows, grows_goes, read_grows}
+use Rattle.download_shares.proofs.Falling.{WasHolding, retired_left}
+use Rattle.download_shares.proofs.Hearing as hearing
 use Rattle.download_file.specs.Answers.{IsRead}
 use Rattle.download_file.specs.State.{IsLive}
 use Rattle.download_file.specs.declared.reader.Waiting.{Waiting}

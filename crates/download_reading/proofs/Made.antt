@@ -1,7 +1,7 @@
 -- A segment is made, or not.
 use Rattle.std.proofs.Common.{◌≡◌, ℕ, ◌<◌, List, Contains, None, refl, ap, subst, arith}
 use Rattle.std.specs.Prelude.{slice_get}
-use Rattle.share_beginnings.specs.State.{BeginningsState}
+use Rattle.download_shares.specs.BeginningState.{BeginningsState}
 use Rattle.download_segments.specs.State.{HandoutState, IsHandout}
 use Rattle.request_record.specs.declared.requests.Request.{Request}
 use Rattle.download_file.specs.Answers.{IsRead}

@@ -12,15 +12,15 @@ use Rattle.request_record.specs.declared.requests.Asked.TheVariants.{Reading}
 use Rattle.request_record.specs.Asking.{AreApart as AsksApart}
 use Rattle.request_record.specs.Record.{RequestsState, first_request}
 use Rattle.request_record.specs.declared.requests.Request.{Request}
-use Rattle.share_holdings.specs.Moves.{Asks, IsUnasked}
-use Rattle.share_holdings.specs.State.{HoldingsState, TableState}
-use Rattle.share_holdings.specs.Table.{IsHolding}
-use Rattle.share_holdings.specs.declared.holding.Holding.{Holding}
-use Rattle.share_beginnings.specs.Known.{AreBegun}
-use Rattle.share_beginnings.specs.Reads.{IsReadAt}
-use Rattle.share_beginnings.specs.State.{BeginningsState}
-use Rattle.share_beginnings.proofs.Asking.{unasked_by}
-use Rattle.share_beginnings.proofs.Entries.{read_pushed}
+use Rattle.download_shares.specs.HoldingMoves.{Asks, IsUnasked}
+use Rattle.download_shares.specs.HoldingState.{HoldingsState, TableState}
+use Rattle.download_shares.specs.Table.{IsHolding}
+use Rattle.download_shares.specs.declared.holding.Holding.{Holding}
+use Rattle.download_shares.specs.Known.{AreBegun}
+use Rattle.download_shares.specs.Reads.{IsReadAt}
+use Rattle.download_shares.specs.BeginningState.{BeginningsState}
+use Rattle.download_shares.proofs.Asking.{unasked_by}
+use Rattle.download_shares.proofs.Entries.{read_pushed}
 use Rattle.download_parts.specs.PlanLaws.{AreApart}
 use Rattle.download_source.specs.declared.wanted.Wanted.{Wanted}
 use Rattle.download_file.specs.Asked.{IsOneOf}

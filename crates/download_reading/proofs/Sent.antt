@@ -1,8 +1,8 @@
 -- Which requests are still to be sent matters to nothing that is read.
 use Rattle.std.proofs.Common.{ℕ, List}
-use Rattle.share_holdings.specs.Right.{IsRight}
-use Rattle.share_beginnings.specs.Known.{AreBegun}
-use Rattle.share_beginnings.specs.State.{BeginningsState}
+use Rattle.download_shares.specs.Right.{IsRight}
+use Rattle.download_shares.specs.Known.{AreBegun}
+use Rattle.download_shares.specs.BeginningState.{BeginningsState}
 use Rattle.download_reading.specs.Laws.{SendingStays, with_outgoing}
 use Rattle.download_reading.specs.Reading.{AreReading}
 use Rattle.download_reading.specs.State.{ReadingState}

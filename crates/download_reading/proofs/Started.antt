@@ -6,12 +6,12 @@ use Rattle.placement.proofs.Members.{Contains-nil}
 use Rattle.request_record.specs.declared.requests.Request.{Request}
 use Rattle.share_layout.specs.Geometry.{Geometry}
 use Rattle.ueb.specs.Shape.{Contents}
-use Rattle.share_beginnings.specs.Known.{AreBegun}
-use Rattle.share_beginnings.specs.Opening.{AreCompared}
-use Rattle.share_beginnings.specs.State.{BeginningsState, IsBegun, unbegun}
-use Rattle.share_beginnings.specs.declared.begun.Begun.{Begun}
-use Rattle.share_holdings.specs.Table.{IsHolding}
-use Rattle.share_holdings.specs.declared.holding.Holding.{Holding}
+use Rattle.download_shares.specs.Known.{AreBegun}
+use Rattle.download_shares.specs.Opening.{AreCompared}
+use Rattle.download_shares.specs.BeginningState.{BeginningsState, IsBegun, unbegun}
+use Rattle.download_shares.specs.declared.begun.Begun.{Begun}
+use Rattle.download_shares.specs.Table.{IsHolding}
+use Rattle.download_shares.specs.declared.holding.Holding.{Holding}
 use Rattle.download_file.specs.Answers.{IsRead}
 use Rattle.download_file.specs.Right.{IsFile}
 use Rattle.download_file.specs.State.{new_file}

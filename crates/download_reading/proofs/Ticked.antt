@@ -5,16 +5,16 @@ use Rattle.lemmas.proofs.Options.{one_there}
 use Rattle.request_record.specs.declared.requests.Request.{Request}
 use Rattle.request_record.specs.Record.{RequestsState, is_lost_at, is_outstanding, ticked_one}
 use Rattle.request_record.specs.Asking.{lost_by_tick}
-use Rattle.share_holdings.specs.Moves.{Ticks}
-use Rattle.share_holdings.specs.Table.{IsHolding}
-use Rattle.share_holdings.specs.declared.holding.Holding.{Holding}
-use Rattle.share_holdings.proofs.Goes.{only_owner}
-use Rattle.share_holdings.proofs.Ticking.{get_map, listed, ticked_cases}
-use Rattle.share_beginnings.specs.Known.{AreBegun}
-use Rattle.share_beginnings.specs.Reads.{IsAnsweredBy, IsOutAt, IsReadAt}
-use Rattle.share_beginnings.specs.State.{BeginningsState}
-use Rattle.share_beginnings.proofs.Entries.{read_grows}
-use Rattle.share_beginnings.proofs.Ticking.{alike_ticked, grows_ticked, out_ticked, ticked_falls}
+use Rattle.download_shares.specs.HoldingMoves.{Ticks}
+use Rattle.download_shares.specs.Table.{IsHolding}
+use Rattle.download_shares.specs.declared.holding.Holding.{Holding}
+use Rattle.download_shares.proofs.Goes.{only_owner}
+use Rattle.download_shares.proofs.HoldingTicking.{get_map, listed, ticked_cases}
+use Rattle.download_shares.specs.Known.{AreBegun}
+use Rattle.download_shares.specs.Reads.{IsAnsweredBy, IsOutAt, IsReadAt}
+use Rattle.download_shares.specs.BeginningState.{BeginningsState}
+use Rattle.download_shares.proofs.Entries.{read_grows}
+use Rattle.download_shares.proofs.BeginningTicking.{alike_ticked, grows_ticked, out_ticked, ticked_falls}
 use Rattle.download_file.specs.Answers.{IsRead}
 use Rattle.download_file.specs.State.{IsLive}
 use Rattle.download_file.specs.declared.reader.Waiting.{Waiting}

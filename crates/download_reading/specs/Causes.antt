@@ -7,11 +7,11 @@ use Rattle.request_record.specs.declared.requests.Outcome.TheVariants.{Answered}
 use Rattle.request_record.specs.declared.requests.Request.{Request}
 use Rattle.share_verify.specs.declared.check.Check.{Check}
 use Rattle.share_verify.specs.declared.check.Check.TheVariants as checks
-use Rattle.share_holdings.specs.Table.{IsHolding}
-use Rattle.share_holdings.specs.declared.holding.Blame.{Blame}
-use Rattle.share_holdings.specs.declared.holding.Holding.{Holding}
-use Rattle.share_beginnings.specs.Causes.{IsBeginningFault}
-use Rattle.share_beginnings.specs.State.{BeginningsState}
+use Rattle.download_shares.specs.Table.{IsHolding}
+use Rattle.download_shares.specs.declared.holding.Blame.{Blame}
+use Rattle.download_shares.specs.declared.holding.Holding.{Holding}
+use Rattle.download_shares.specs.Causes.{IsBeginningFault}
+use Rattle.download_shares.specs.BeginningState.{BeginningsState}
 use Rattle.download_file.specs.Answers.{IsRead, KeepsAnswers}
 use Rattle.download_file.specs.Changes.{IsSameFile}
 use Rattle.download_file.specs.Making.{RefutesReader}

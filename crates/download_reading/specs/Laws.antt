@@ -1,9 +1,9 @@
 -- Laws of files that are read.
 use Rattle.std.specs.Prelude.{ℕ, List}
 use Rattle.request_record.specs.declared.requests.Request.{Request}
-use Rattle.share_holdings.specs.declared.holding.Blame.{Blame}
-use Rattle.share_beginnings.specs.Known.{AreBegun}
-use Rattle.share_beginnings.specs.State.{BeginningsState}
+use Rattle.download_shares.specs.declared.holding.Blame.{Blame}
+use Rattle.download_shares.specs.Known.{AreBegun}
+use Rattle.download_shares.specs.BeginningState.{BeginningsState}
 use Rattle.download_file.specs.Answers.{HoldsFor}
 use Rattle.download_file.specs.State.{FileState}
 use Rattle.download_reading.specs.Causes.{IsBlockFault}

@@ -1,7 +1,7 @@
 -- A file that is read holds nothing back.
 use Rattle.std.specs.Prelude.{◌≡◌, ℕ, Bool, List, Some}
 use Rattle.request_record.specs.declared.requests.Request.{Request}
-use Rattle.share_beginnings.specs.Reads.{IsOutAt}
+use Rattle.download_shares.specs.Reads.{IsOutAt}
 use Rattle.download_file.specs.Asked.{AreAskedUp}
 use Rattle.download_file.specs.Making.{MustWait}
 use Rattle.download_file.specs.State.{FileState, IsLive, first_waiting}

@@ -2,14 +2,14 @@
 use Rattle.std.specs.Prelude.{◌≡◌, ◌≢◌, ◌⊎◌, ℕ, List, Option, Some, None, length, slice_get}
 use Rattle.std.specs.Prelude.{false, true, Contains}
 use Rattle.request_record.specs.declared.requests.Request.{Request}
-use Rattle.share_holdings.specs.State.{NumberState}
-use Rattle.share_holdings.specs.Table.{IsHolding, IsNumber}
-use Rattle.share_holdings.specs.declared.holding.Holding.{Holding}
-use Rattle.share_beginnings.specs.Known.{AreBegun}
-use Rattle.share_beginnings.specs.Opening.{IsOut, IsTaken}
-use Rattle.share_beginnings.specs.Reads.{IsAnsweredBy, IsBeside, IsOutAt, IsReadAt}
-use Rattle.share_beginnings.specs.State.{BeginningsState, IsBegun}
-use Rattle.share_beginnings.specs.declared.begun.Begun.{Begun}
+use Rattle.download_shares.specs.HoldingState.{NumberState}
+use Rattle.download_shares.specs.Table.{IsHolding, IsNumber}
+use Rattle.download_shares.specs.declared.holding.Holding.{Holding}
+use Rattle.download_shares.specs.Known.{AreBegun}
+use Rattle.download_shares.specs.Opening.{IsOut, IsTaken}
+use Rattle.download_shares.specs.Reads.{IsAnsweredBy, IsBeside, IsOutAt, IsReadAt}
+use Rattle.download_shares.specs.BeginningState.{BeginningsState, IsBegun}
+use Rattle.download_shares.specs.declared.begun.Begun.{Begun}
 use Rattle.download_file.specs.Answers.{IsRead}
 use Rattle.download_file.specs.Asked.{HasAsked}
 use Rattle.download_file.specs.Right.{IsFile}

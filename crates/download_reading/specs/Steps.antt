@@ -5,21 +5,21 @@ use Rattle.std.specs.Prelude.{count_by}
 use Rattle.wire.specs.declared.message.Message.{Message}
 use Rattle.request_record.specs.declared.requests.Request.{Request}
 use Rattle.request_record.specs.Record.{outstanding_count}
-use Rattle.share_holdings.specs.Left.{FewAreLeft}
-use Rattle.share_holdings.specs.Moves.{Ticks}
-use Rattle.share_holdings.specs.Table.{IsHolding, NoneIsFree}
-use Rattle.share_holdings.specs.declared.holding.Holding.{Holding}
+use Rattle.download_shares.specs.Left.{FewAreLeft}
+use Rattle.download_shares.specs.HoldingMoves.{Ticks}
+use Rattle.download_shares.specs.Table.{IsHolding, NoneIsFree}
+use Rattle.download_shares.specs.declared.holding.Holding.{Holding}
 use Rattle.download_source.specs.declared.wanted.Wanted.{Wanted}
 use Rattle.download_file.specs.Asked.{IsOneOf, IsPlannedRead}
-use Rattle.share_beginnings.specs.Known.{AreBegun}
-use Rattle.share_beginnings.specs.Reads.{AddsReads, IsAnsweredBy, IsOutAt, IsReadAt}
+use Rattle.download_shares.specs.Known.{AreBegun}
+use Rattle.download_shares.specs.Reads.{AddsReads, IsAnsweredBy, IsOutAt, IsReadAt}
 use Rattle.download_file.specs.Answers.{IsRead, KeepsAnswers}
 use Rattle.download_file.specs.Changes.{IsSameFile}
-use Rattle.share_beginnings.specs.Moves.{BringsBytes, GoesOn, HearsNews, WaitsAt}
-use Rattle.share_beginnings.specs.State.{BeginningsState, IsBegun}
-use Rattle.share_beginnings.specs.declared.begun.Begun.{Begun}
-use Rattle.share_beginnings.specs.declared.beginnings.News.{News}
-use Rattle.share_beginnings.specs.declared.beginnings.News.TheVariants as news
+use Rattle.download_shares.specs.BeginningMoves.{BringsBytes, GoesOn, HearsNews, WaitsAt}
+use Rattle.download_shares.specs.BeginningState.{BeginningsState, IsBegun}
+use Rattle.download_shares.specs.declared.begun.Begun.{Begun}
+use Rattle.download_shares.specs.declared.beginnings.News.{News}
+use Rattle.download_shares.specs.declared.beginnings.News.TheVariants as news
 use Rattle.download_segments.specs.State.{HandoutState}
 use Rattle.download_segments.specs.declared.piece.Piece.{Piece}
 use Rattle.download_file.specs.Making.{SomeWaits}

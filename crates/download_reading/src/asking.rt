@@ -3,15 +3,15 @@
 ghost use Rattle.std.specs.Prelude.{◌≡◌, ◌<◌, ◌≤◌, All, AllPairs, OnOk, length};
 ghost use Rattle.download_parts.specs.PlanLaws.{AreApart};
 ghost use Rattle.download_parts.specs.Plan.{max_read};
-ghost use Rattle.share_holdings.specs.Moves.{IsUnasked};
-ghost use Rattle.share_beginnings.specs.Known.{AreBegun};
-ghost use Rattle.share_beginnings.specs.Moves.{GoesOn};
-ghost use Rattle.share_beginnings.specs.Reads.{AddsReads};
+ghost use Rattle.download_shares.specs.HoldingMoves.{IsUnasked};
+ghost use Rattle.download_shares.specs.Known.{AreBegun};
+ghost use Rattle.download_shares.specs.BeginningMoves.{GoesOn};
+ghost use Rattle.download_shares.specs.Reads.{AddsReads};
 ghost use Rattle.download_file.specs.Asked.{IsOneOf};
 ghost use Rattle.download_reading.specs.Steps.{AsksParts, Grows};
 
+use download_shares::Beginnings;
 use download_source::Wanted;
-use share_beginnings::Beginnings;
 use std::alloc::AllocError;
 use wire::message::ReadLength;
 

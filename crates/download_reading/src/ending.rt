@@ -2,13 +2,12 @@
 
 ghost use Rattle.std.specs.Prelude.{◌≡◌, ◌⊎◌, ◌<◌};
 ghost use Rattle.request_record.specs.Record.{outstanding_count};
-ghost use Rattle.share_holdings.specs.Table.{IsTable};
+ghost use Rattle.download_shares.specs.Table.{IsTable};
 ghost use Rattle.download_reading.specs.Reading.{AreReading};
 ghost use Rattle.download_reading.specs.Steps.{IsAtEnd, IsStuck};
 
 use crate::reading::{Reading, Settled};
-use share_beginnings::Beginnings;
-use share_holdings::Holdings;
+use download_shares::{Beginnings, Holdings};
 
 /// Why nothing more is made now: something is waited for, or too few shares are left.
 pub(crate) fn why_not(reading: &Reading, beginnings: &Beginnings) -> Settled

@@ -3,9 +3,9 @@
 ghost use Rattle.std.specs.Prelude.{◌≡◌, ◌⊎◌, ℕ, ◌<◌, ◌-◌};
 ghost use Rattle.std.specs.Prelude.{IfNone, IfSome, List, OnOk, Ok, Option, Some};
 ghost use Rattle.std.specs.Prelude.{None, drop, false, true};
-ghost use Rattle.share_beginnings.specs.Moves.{WaitsAt};
-ghost use Rattle.share_beginnings.specs.Reads.{IsAnsweredBy};
-ghost use Rattle.share_beginnings.specs.Causes.{AddsBlames, IsBeginningFault};
+ghost use Rattle.download_shares.specs.BeginningMoves.{WaitsAt};
+ghost use Rattle.download_shares.specs.Reads.{IsAnsweredBy};
+ghost use Rattle.download_shares.specs.Causes.{AddsBlames, IsBeginningFault};
 ghost use Rattle.download_file.specs.State.{IsLive, first_waiting};
 ghost use Rattle.download_file.specs.State.{waiting_at};
 ghost use Rattle.download_reading.specs.Causes.{IsBlameOf, IsPartFault};
@@ -17,7 +17,7 @@ ghost use Rattle.download_reading.specs.Steps.{IsTold, left_count};
 use crate::reading::Reading;
 use cap_text::VerifyCap;
 use download_parts::TreeFault;
-use share_beginnings::{Beginnings, News, bytes_at};
+use download_shares::{Beginnings, News, bytes_at};
 use share_verify::Check;
 use std::alloc::AllocError;
 

@@ -6,8 +6,8 @@ ghost use Rattle.grid_clients.specs.DownloadCalls.{Writes, download_calls, is_to
 
 use download_core::Download;
 use download_core::status::DownloadStatus;
+use download_shares::holding::Blame;
 use local_grid::client::Client;
-use share_holdings::holding::Blame;
 use std::alloc::{AllocError, Global};
 use std::io::{self, Write};
 use std::marker::Model;

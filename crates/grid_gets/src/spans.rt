@@ -6,13 +6,13 @@ ghost use Rattle.std.specs.List.{IsDistinct};
 
 use cap_text::ReadCap;
 use download_core::Download;
+use download_shares::holding::Blame;
 use grid_clients::download::DownloadClient;
 use grid_clients::watched::Watched;
 use grid_rules::{ByteRange, Fault, reached_range_end};
 use grid_servers::{FIRST_SESSION, FolderGrid, is_silent, servers_without};
 use grid_telling::{Counted, Failure, Progress, Writing, note_blame};
 use local_grid::error::LoopError;
-use share_holdings::holding::Blame;
 use std::alloc::Global;
 use std::cell::Cell;
 use std::io::{IsTerminal, Write};

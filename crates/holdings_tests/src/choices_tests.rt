@@ -1,6 +1,6 @@
 // Two servers hold all four shares of a file: which share is read next, and at which of them.
 
-use share_holdings::Holdings;
+use download_shares::Holdings;
 use share_verify::Check;
 use std::alloc::Global;
 use std::test::Fail;

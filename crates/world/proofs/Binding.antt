@@ -19,7 +19,7 @@ use Rattle.share_layout.specs.Share.{Sections}
 use Rattle.share_verify.specs.CapBlock.{IsUebFor}
 use Rattle.share_verify.specs.Inputs.{share_inputs}
 use Rattle.share_verify.specs.Verify.{IsSound}
-use Rattle.share_holdings.specs.declared.holding.Blame.{Blame}
+use Rattle.download_shares.specs.declared.holding.Blame.{Blame}
 use Rattle.share_reading.specs.Verdict.{IsGood}
 use Rattle.wire.specs.declared.message.Body.TheVariants.{Data}
 use Rattle.proved_parts.proofs.Segments.{data_agrees_in, one_ueb}

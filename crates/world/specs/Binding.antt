@@ -16,7 +16,7 @@ use Rattle.download_file.specs.State.{IsReader, ReaderState}
 use Rattle.download_core.specs.State.{DownloadState, Found}
 use Rattle.download_core.specs.declared.status.DownloadStatus.TheVariants.{Inconsistent}
 use Rattle.download_binding.specs.Answers.{AnsweredOther}
-use Rattle.share_holdings.specs.declared.holding.Blame.{Blame}
+use Rattle.download_shares.specs.declared.holding.Blame.{Blame}
 use Rattle.share_reading.specs.Verdict.{IsGood}
 use Rattle.wire.specs.declared.message.Body.TheVariants.{Data}
 use Rattle.checker.specs.Shares.{settled_of}

@@ -1,13 +1,13 @@
-use Rattle.share_holdings.specs.State.{HoldingsState}
+use Rattle.download_shares.specs.HoldingState.{HoldingsState}
 use Rattle.std.proofs.Common.{ap, ◌∙◌, get_or, refl, sym, subst}
-use Rattle.share_holdings.specs.Moves.{Asks, IsUnasked}
-use Rattle.share_beginnings.proofs.Opened.{goes_asked, goes_none, goes_trans}
+use Rattle.download_shares.specs.HoldingMoves.{Asks, IsUnasked}
+use Rattle.download_shares.proofs.Opened.{goes_asked, goes_none, goes_trans}
 use Rattle.download_parts.specs.declared.part.Part.TheVariants.{ShareHashes}
 use Rattle.download_source.specs.declared.wanted.Wanted.{Wanted}
-use Rattle.share_beginnings.proofs.Caused.{reads_asked, reads_none, reads_trans}
+use Rattle.download_shares.proofs.Caused.{reads_asked, reads_none, reads_trans}
 use Rattle.download_file.specs.Asked.{IsOneOf}
-use Rattle.share_beginnings.specs.Reads.{AddsReads}
-use Rattle.share_beginnings.specs.State.{BeginningsState}
+use Rattle.download_shares.specs.Reads.{AddsReads}
+use Rattle.download_shares.specs.BeginningState.{BeginningsState}
 use Rattle.download_reading.proofs.Awaited.{goes_stays}
 use Rattle.download_reading.proofs.Parts.{keeps_asked, keeps_none, keeps_trans, next_asked, next_unasked, none_asked, one_of}
 use Rattle.download_reading.proofs.asking.ask_parts.Goals as goal

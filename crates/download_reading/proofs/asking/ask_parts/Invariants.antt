@@ -1,6 +1,6 @@
 use Rattle.std.proofs.Common.{◌≡◌, take}
-use Rattle.share_beginnings.specs.Moves.{GoesOn}
-use Rattle.share_beginnings.specs.Reads.{AddsReads}
+use Rattle.download_shares.specs.BeginningMoves.{GoesOn}
+use Rattle.download_shares.specs.Reads.{AddsReads}
 use Rattle.download_file.specs.Asked.{IsOneOf}
 use Rattle.download_reading.specs.Steps.{AsksParts, Grows}
 use Rattle.download_reading.proofs.asking.ask_parts.Given as goal

@@ -1,7 +1,7 @@
 use Rattle.std.proofs.Common.{◌≡◌, ◌∙◌, sym, subst, ap, arith}
 use Rattle.request_record.specs.Record.{RequestsState, outstanding_count}
-use Rattle.share_holdings.specs.State.{HoldingsState}
-use Rattle.share_holdings.specs.Table.{IsTable}
+use Rattle.download_shares.specs.HoldingState.{HoldingsState}
+use Rattle.download_shares.specs.Table.{IsTable}
 use Rattle.download_reading.proofs.Ends.{at_end}
 use Rattle.download_reading.proofs.ending.why_not.Goals as goal
 

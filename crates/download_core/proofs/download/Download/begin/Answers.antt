@@ -3,7 +3,7 @@ use Rattle.std.specs.Prelude.{nat_eq}
 use Rattle.std.specs.List.{IsDistinct}
 use Rattle.cap_text.specs.Cap.{ReadCapValue, verify_cap_of}
 use Rattle.request_record.specs.Asking.{begun}
-use Rattle.share_beginnings.specs.Opening.{nobody}
+use Rattle.download_shares.specs.Opening.{nobody}
 use Rattle.download_core.specs.Moves.{asked_servers}
 use Rattle.download_core.specs.Steps.{AreOpened}
 use Rattle.download_core.proofs.BeginLemmas.{BeginsAs, begins_as, distinct_asked, kept_begun}

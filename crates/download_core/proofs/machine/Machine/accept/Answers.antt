@@ -2,7 +2,7 @@ use Rattle.std.proofs.Common.{◌≡◌, ◌∙◌, ◌<◌, List, ℕ, ap, subs
 use Rattle.download_file.specs.State.{new_file}
 use Rattle.cap_text.specs.Cap.{VerifyCapValue}
 use Rattle.share_layout.specs.Geometry.{Geometry}
-use Rattle.share_beginnings.specs.Causes.{AddsBlames}
+use Rattle.download_shares.specs.Causes.{AddsBlames}
 use Rattle.download_core.proofs.Results.{on_both}
 use Rattle.download_core.proofs.Going.{found_moves, found_way, moves_none}
 use Rattle.download_core.proofs.machine.Machine.accept.Goals.{After-accept}

@@ -1,7 +1,7 @@
 use Rattle.std.proofs.Common.{Some, refl}
 use Rattle.cap_text.specs.Cap.{verify_cap_of}
-use Rattle.share_beginnings.specs.Causes.{AddsBlames}
-use Rattle.share_beginnings.proofs.Caused.{adds_none}
+use Rattle.download_shares.specs.Causes.{AddsBlames}
+use Rattle.download_shares.proofs.Caused.{adds_none}
 use Rattle.download_core.specs.declared.machine.FoundFile.{FoundFile}
 use Rattle.download_core.specs.declared.machine.Machine.{Machine}
 use Rattle.download_core.specs.Causes.{IsCause}

@@ -2,8 +2,8 @@ use Rattle.std.proofs.Common.{◌∙◌, All, Option, Some, ap, subst, sym}
 use Rattle.request_record.specs.Record.{RequestsState}
 use Rattle.proved_parts.specs.declared.evidence.EvidencePart.{EvidencePart}
 use Rattle.download_file.specs.Answers.{IsMadeSegment}
-use Rattle.share_beginnings.specs.Reads.{IsAnsweredBy}
-use Rattle.share_holdings.specs.State.{HoldingsState}
+use Rattle.download_shares.specs.Reads.{IsAnsweredBy}
+use Rattle.download_shares.specs.HoldingState.{HoldingsState}
 use Rattle.download_core.specs.declared.machine.FoundFile.{FoundFile}
 use Rattle.download_core.specs.Evidence.{IsEvidenceOf}
 use Rattle.download_core.specs.Given.{IsFileIfFound}

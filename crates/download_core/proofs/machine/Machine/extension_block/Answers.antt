@@ -1,7 +1,7 @@
 use Rattle.std.proofs.Common.{◌∙◌, Option, ap, subst, sym}
 use Rattle.request_record.specs.Record.{RequestsState}
-use Rattle.share_beginnings.specs.Reads.{IsAnsweredBy}
-use Rattle.share_holdings.specs.State.{HoldingsState}
+use Rattle.download_shares.specs.Reads.{IsAnsweredBy}
+use Rattle.download_shares.specs.HoldingState.{HoldingsState}
 use Rattle.download_core.specs.declared.machine.FoundFile.{FoundFile}
 use Rattle.download_core.specs.Evidence.{IsAcceptedBlock}
 use Rattle.download_core.specs.Given.{IsFileIfFound}

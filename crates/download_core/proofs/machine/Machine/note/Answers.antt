@@ -1,7 +1,7 @@
 use Rattle.std.proofs.Common.{inl, inr, subst, sym}
 use Rattle.lemmas.proofs.Results.{on_ok_then, settled_by}
 use Rattle.request_record.specs.Asking.{after_tick}
-use Rattle.share_beginnings.specs.State.{BeginningsState}
+use Rattle.download_shares.specs.BeginningState.{BeginningsState}
 use Rattle.download_core.specs.Steps.{IsKept}
 use Rattle.download_core.proofs.EndLemmas.{kept_still}
 use Rattle.download_core.proofs.Going.{stands_still}

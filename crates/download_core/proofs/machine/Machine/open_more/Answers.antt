@@ -1,9 +1,9 @@
 use Rattle.std.proofs.Common.{◌≡◌, ◌∙◌, ◌<◌, None, inl, inr, refl, subst}
-use Rattle.share_holdings.specs.State.{HoldingsState}
-use Rattle.share_holdings.specs.Table.{NoneIsFree}
+use Rattle.download_shares.specs.HoldingState.{HoldingsState}
+use Rattle.download_shares.specs.Table.{NoneIsFree}
 use Rattle.cap_text.specs.Cap.{verify_cap_of}
-use Rattle.share_beginnings.specs.Causes.{IsOpeningFault}
-use Rattle.share_beginnings.proofs.Caused.{adds_none}
+use Rattle.download_shares.specs.Causes.{IsOpeningFault}
+use Rattle.download_shares.proofs.Caused.{adds_none}
 use Rattle.download_core.specs.Steps.{MovesOn, entries_of}
 use Rattle.download_core.proofs.machine.Machine.open_more.Goals.{After-open}
 use Rattle.download_core.proofs.Going.{moves_asked, moves_none, moves_trans}

@@ -1,6 +1,6 @@
 use Rattle.std.proofs.Common.{◌≡◌, ◌-◌, None}
-use Rattle.share_beginnings.specs.Opening.{nobody}
-use Rattle.share_holdings.specs.Numbers.{read_count}
+use Rattle.download_shares.specs.Opening.{nobody}
+use Rattle.download_shares.specs.Numbers.{read_count}
 use Rattle.download_core.specs.Steps.{AreOpened, MovesOn}
 use Rattle.download_core.proofs.machine.Machine.open_more.Given as goal
 

@@ -1,7 +1,7 @@
 use Rattle.std.proofs.Common.{◌≡◌, ◌<◌, IfSome, None, Option, Some, ap, inr, subst}
 use Rattle.request_record.specs.Record.{RequestsState}
 use Rattle.cap_text.specs.Cap.{VerifyCapValue}
-use Rattle.share_beginnings.specs.Causes.{AddsBlames, IsOpeningFault}
+use Rattle.download_shares.specs.Causes.{AddsBlames, IsOpeningFault}
 use Rattle.download_core.specs.Steps.{MovesOn, entries_of}
 use Rattle.download_core.proofs.machine.Machine.open_on.Goals.{After-go_on}
 use Rattle.download_core.proofs.Going.{moves_asked, moves_none, moves_trans, opened_on, opened_still}

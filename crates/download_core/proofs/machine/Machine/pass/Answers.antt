@@ -2,7 +2,7 @@ use Rattle.std.proofs.Common.{◌≡◌, ◌∙◌, ℕ, inl, inr, List, ap, ref
 use Rattle.lemmas.proofs.Results.{if_ok_then}
 use Rattle.request_record.specs.Record.{RequestsState, asked_all}
 use Rattle.request_record.specs.Asking.{after_tick}
-use Rattle.share_beginnings.specs.State.{BeginningsState}
+use Rattle.download_shares.specs.BeginningState.{BeginningsState}
 use Rattle.download_core.specs.declared.status.DownloadStatus.TheVariants.{Failed, Running}
 use Rattle.download_core.specs.Moves.{StopsAt, TicksOn}
 use Rattle.download_core.specs.Steps.{entries_of, EndsAs, found_of, IsKept, state_of}

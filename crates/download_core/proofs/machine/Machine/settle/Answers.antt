@@ -1,6 +1,6 @@
 use Rattle.std.proofs.Common.{◌∙◌, Ok, Option, Some, ap, subst, sym}
 use Rattle.cap_text.specs.Cap.{verify_cap_of}
-use Rattle.share_beginnings.specs.Causes.{AddsBlames}
+use Rattle.download_shares.specs.Causes.{AddsBlames}
 use Rattle.download_core.specs.Causes.{IsCause}
 use Rattle.download_core.specs.Prompt.{IsPromptIfFound}
 use Rattle.download_core.specs.Steps.{EndsAs, entries_of, found_of}

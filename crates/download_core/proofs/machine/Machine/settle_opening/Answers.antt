@@ -1,8 +1,8 @@
 use Rattle.std.proofs.Common.{◌≡◌, ◌∙◌, ◌<◌, ap, arith, subst, sym}
 use Rattle.cap_text.specs.Cap.{ReadCapValue}
 use Rattle.request_record.specs.Record.{RequestsState, outstanding_count}
-use Rattle.share_holdings.specs.State.{HoldingsState}
-use Rattle.share_beginnings.specs.Opening.{nobody}
+use Rattle.download_shares.specs.HoldingState.{HoldingsState}
+use Rattle.download_shares.specs.Opening.{nobody}
 use Rattle.download_core.specs.Steps.{AreOpened, entries_of}
 use Rattle.download_core.proofs.EndLemmas.{opening_few, opening_runs}
 use Rattle.download_core.proofs.Going.{for_on}

@@ -1,9 +1,9 @@
 use Rattle.std.proofs.Common.{◌≡◌, ◌∙◌, ℕ, Some, ap, subst, sym}
 use Rattle.request_record.specs.Asking.{message_at}
 use Rattle.request_record.specs.Record.{RequestsState}
-use Rattle.share_holdings.specs.Right.{IsRight}
-use Rattle.share_holdings.specs.State.{HoldingsState}
-use Rattle.share_beginnings.specs.State.{BeginningsState}
+use Rattle.download_shares.specs.Right.{IsRight}
+use Rattle.download_shares.specs.HoldingState.{HoldingsState}
+use Rattle.download_shares.specs.BeginningState.{BeginningsState}
 use Rattle.std.specs.Prelude.{slice_get}
 use Rattle.download_core.specs.Steps.{IsKept, entries_of, state_of}
 use Rattle.download_core.specs.Sending.{Takes}

@@ -1,12 +1,12 @@
 use Rattle.std.proofs.Common.{◌≡◌, ◌∙◌, ℕ, List, ◌++◌, length, None, refl, sym, subst, ap, arith}
 use Rattle.request_record.specs.Record.{RequestsState}
-use Rattle.share_holdings.specs.State.{HoldingsState}
+use Rattle.download_shares.specs.HoldingState.{HoldingsState}
 use Rattle.std.specs.Prelude.{All, AllPairs}
 use Rattle.std.proofs.lemmas.Option.{slice_get_within}
 use Rattle.lemmas.proofs.Results.{on_ok_then}
 use Rattle.lemmas.proofs.Places.{got}
-use Rattle.share_holdings.specs.Moves.{IsUnasked}
-use Rattle.share_beginnings.proofs.Opened.{goes_none}
+use Rattle.download_shares.specs.HoldingMoves.{IsUnasked}
+use Rattle.download_shares.proofs.Opened.{goes_none}
 use Rattle.download_source.specs.declared.wanted.Wanted.{Wanted}
 use Rattle.download_file.specs.State.{IsLive, placed, waiting_at}
 use Rattle.download_reading.specs.Reading.{AreLinked, AreReading, IsOf}

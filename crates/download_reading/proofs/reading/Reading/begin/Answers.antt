@@ -3,11 +3,11 @@ use Rattle.std.specs.Prelude.{option_map, slice_get}
 use Rattle.std.proofs.lemmas.Option.{get_or_from_slice_get, slice_get-map}
 use Rattle.std.proofs.lemmas.List.{length-append}
 use Rattle.lemmas.proofs.Options.{one_there}
-use Rattle.share_holdings.specs.State.{HoldingsState}
-use Rattle.share_holdings.specs.Table.{IsHolding, IsTable}
-use Rattle.share_holdings.specs.declared.holding.Holding.{Holding}
-use Rattle.share_beginnings.specs.State.{BeginningsState}
-use Rattle.share_beginnings.proofs.Opened.{goes_none}
+use Rattle.download_shares.specs.HoldingState.{HoldingsState}
+use Rattle.download_shares.specs.Table.{IsHolding, IsTable}
+use Rattle.download_shares.specs.declared.holding.Holding.{Holding}
+use Rattle.download_shares.specs.BeginningState.{BeginningsState}
+use Rattle.download_shares.proofs.Opened.{goes_none}
 use Rattle.download_file.specs.Answers.{IsRead}
 use Rattle.download_file.specs.State.{CopyState, ReaderState, copies, copy, copy_of}
 use Rattle.download_reading.specs.Reading.{AreLinked, AreReading}

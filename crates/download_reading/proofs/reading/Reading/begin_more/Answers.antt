@@ -1,6 +1,6 @@
 use Rattle.std.proofs.Common.{◌∙◌, inr, length, refl, subst, ap, arith}
-use Rattle.share_holdings.specs.State.{HoldingsState}
-use Rattle.share_holdings.specs.Table.{NoneIsFree}
+use Rattle.download_shares.specs.HoldingState.{HoldingsState}
+use Rattle.download_shares.specs.Table.{NoneIsFree}
 use Rattle.share_layout.specs.Geometry.{Geometry}
 use Rattle.download_segments.specs.State.{HandoutState}
 use Rattle.download_reading.specs.State.{ReadingState}

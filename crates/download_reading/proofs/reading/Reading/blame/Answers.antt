@@ -1,12 +1,12 @@
-use Rattle.share_holdings.specs.State.{HoldingsState}
-use Rattle.share_beginnings.proofs.Caused.{adds_none, adds_one}
+use Rattle.download_shares.specs.HoldingState.{HoldingsState}
+use Rattle.download_shares.proofs.Caused.{adds_none, adds_one}
 use Rattle.download_reading.specs.Causes.{IsBlameOf}
 use Rattle.std.proofs.Common.{refl, ap, ◌≡◌, ℕ, ◌<◌, length, get_or, Some, None, sym, subst, arith}
 use Rattle.std.specs.Prelude.{slice_get}
 use Rattle.std.proofs.lemmas.Option.{slice_get_within}
 use Rattle.lemmas.proofs.Places.{got}
 use Rattle.lemmas.proofs.Options.{one_there}
-use Rattle.share_beginnings.specs.State.{BeginningsState}
+use Rattle.download_shares.specs.BeginningState.{BeginningsState}
 use Rattle.download_file.specs.State.{IsLive}
 use Rattle.download_reading.specs.Reading.{AreLinked}
 use Rattle.download_reading.specs.State.{ReadingState}

@@ -1,5 +1,5 @@
 use Rattle.std.proofs.Common.{◌∙◌, ◌<◌, ap}
-use Rattle.share_beginnings.specs.Causes.{AddsBlames, IsBeginningFault}
+use Rattle.download_shares.specs.Causes.{AddsBlames, IsBeginningFault}
 use Rattle.download_reading.specs.State.{ReadingState}
 use Rattle.std.proofs.Common.{refl, sym, subst}
 use Rattle.download_file.proofs.GrowLemmas.{same_itself}

@@ -1,5 +1,5 @@
 use Rattle.std.proofs.Common.{◌∙◌, ℕ, ◌⊎◌, length, refl, sym, subst, ap, arith}
-use Rattle.share_beginnings.proofs.Opened.{goes_none}
+use Rattle.download_shares.proofs.Opened.{goes_none}
 use Rattle.download_file.specs.State.{IsLive, without}
 use Rattle.download_reading.specs.Reading.{AreAwaited, AreKept, IsGone, IsReadNow}
 use Rattle.download_reading.specs.State.{ReadingState}

@@ -1,10 +1,10 @@
-use Rattle.share_holdings.specs.declared.holding.Blame.{Blame}
+use Rattle.download_shares.specs.declared.holding.Blame.{Blame}
 use Rattle.std.proofs.Common.{List}
-use Rattle.share_beginnings.specs.Causes.{AddsBlames}
-use Rattle.share_beginnings.proofs.Caused.{adds_none}
+use Rattle.download_shares.specs.Causes.{AddsBlames}
+use Rattle.download_shares.proofs.Caused.{adds_none}
 use Rattle.download_reading.specs.Causes.{IsBlockFault}
 use Rattle.std.proofs.Common.{◌≡◌, ◌∙◌, ◌<◌, inl, inr, sym, subst, ap}
-use Rattle.share_holdings.specs.State.{TableState}
+use Rattle.download_shares.specs.HoldingState.{TableState}
 use Rattle.download_segments.specs.NoCodeWord.{IsNoCodeWord}
 use Rattle.download_segments.specs.State.{HandoutState}
 use Rattle.download_file.specs.declared.file.Made.TheVariants as made_as

@@ -1,9 +1,9 @@
 use Rattle.std.proofs.Common.{refl}
-use Rattle.share_beginnings.proofs.Caused.{adds_none}
+use Rattle.download_shares.proofs.Caused.{adds_none}
 use Rattle.download_reading.specs.Causes.{HasCause}
 use Rattle.download_reading.proofs.Causes.{began_causes, heard_causes, took_causes}
 use Rattle.std.proofs.Common.{inl, inr}
-use Rattle.share_beginnings.specs.declared.beginnings.News.TheVariants as news
+use Rattle.download_shares.specs.declared.beginnings.News.TheVariants as news
 use Rattle.download_reading.proofs.Ended.{continues_trans}
 use Rattle.download_reading.proofs.Heard.{heard_left}
 use Rattle.download_reading.proofs.reading.Reading.hear.Goals as goal

@@ -4,9 +4,9 @@ use Rattle.std.proofs.lemmas.Bool.{false≢true}
 use Rattle.std.proofs.lemmas.Option.{get_or_from_slice_get, slice_get_within}
 use Rattle.lemmas.proofs.Places.{got}
 use Rattle.lemmas.proofs.Options.{one_there}
-use Rattle.share_holdings.specs.State.{HoldingsState}
-use Rattle.share_holdings.specs.declared.holding.Holding.{Holding}
-use Rattle.share_beginnings.specs.State.{BeginningsState}
+use Rattle.download_shares.specs.HoldingState.{HoldingsState}
+use Rattle.download_shares.specs.declared.holding.Holding.{Holding}
+use Rattle.download_shares.specs.BeginningState.{BeginningsState}
 use Rattle.download_file.specs.State.{IsLive}
 use Rattle.download_reading.specs.Reading.{AreKept, IsGone}
 use Rattle.download_reading.specs.State.{ReadingState}

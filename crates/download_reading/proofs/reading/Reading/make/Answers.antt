@@ -1,12 +1,12 @@
-use Rattle.share_beginnings.proofs.Caused.{adds_none}
+use Rattle.download_shares.proofs.Caused.{adds_none}
 use Rattle.download_reading.specs.Causes.{IsBlockFault}
 use Rattle.download_reading.proofs.Causes.{made_causes}
 use Rattle.std.proofs.Common.{◌≡◌, ◌⊎◌, ◌∙◌, ℕ, ◌<◌, List, Contains, Ok, Err, Some, refl, sym, subst, ap}
 use Rattle.std.specs.Prelude.{Result}
 use Rattle.std.specs.declared.alloc.AllocError.{AllocError}
-use Rattle.share_holdings.specs.State.{HoldingsState}
+use Rattle.download_shares.specs.HoldingState.{HoldingsState}
 use Rattle.request_record.specs.Record.{RequestsState}
-use Rattle.share_beginnings.specs.State.{BeginningsState}
+use Rattle.download_shares.specs.BeginningState.{BeginningsState}
 use Rattle.download_segments.specs.NoCodeWord.{IsNoCodeWord}
 use Rattle.download_file.specs.Answers.{IsRead}
 use Rattle.download_file.specs.Asked.{AreAskedUp}

@@ -1,4 +1,4 @@
-use Rattle.share_beginnings.proofs.Caused.{adds_none}
+use Rattle.download_shares.proofs.Caused.{adds_none}
 use Rattle.download_reading.specs.Causes.{IsBlockFault}
 use Rattle.download_reading.proofs.Causes.{settled_causes}
 use Rattle.std.proofs.Common.{◌≡◌, ◌∙◌, ◌⊎◌, inl, inr, true≢false, Ok, refl, sym, subst, ap}

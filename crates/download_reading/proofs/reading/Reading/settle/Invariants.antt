@@ -1,4 +1,4 @@
-use Rattle.share_beginnings.specs.Causes.{AddsBlames}
+use Rattle.download_shares.specs.Causes.{AddsBlames}
 use Rattle.download_reading.specs.Causes.{IsBlockFault}
 use Rattle.download_reading.specs.Reading.{AreReading}
 use Rattle.download_reading.specs.Steps.{Continues, work}

@@ -1,4 +1,4 @@
-use Rattle.share_beginnings.proofs.Caused.{adds_none}
+use Rattle.download_shares.proofs.Caused.{adds_none}
 use Rattle.download_reading.specs.Causes.{IsPartFault}
 use Rattle.download_reading.proofs.Causes.{taken_causes}
 use Rattle.std.proofs.Common.{rules, ◌≡◌, ◌∙◌, ℕ, ◌<◌, List, [], ◌∷◌, drop, length, Some, None, refl, sym, ap, arith}

@@ -1,7 +1,7 @@
 use Rattle.std.proofs.Common.{◌≡◌, length, Some}
 use Rattle.download_file.specs.State.{IsLive, waiting_at}
 use Rattle.download_reading.specs.Reading.{AreReadingBut}
-use Rattle.share_beginnings.specs.Causes.{AddsBlames}
+use Rattle.download_shares.specs.Causes.{AddsBlames}
 use Rattle.download_reading.specs.Causes.{IsPartFault}
 use Rattle.download_reading.specs.Steps.{Continues}
 use Rattle.download_reading.proofs.reading.Reading.take.Given as goal

@@ -1,4 +1,4 @@
-use Rattle.share_beginnings.proofs.Caused.{adds_as, adds_none}
+use Rattle.download_shares.proofs.Caused.{adds_as, adds_none}
 use Rattle.std.specs.Prelude.{Err}
 use Rattle.download_file.specs.Taking.{IsRefused}
 use Rattle.download_reading.specs.Causes.{IsBlameOf, IsPartFault}
@@ -7,10 +7,10 @@ use Rattle.std.proofs.Common.{◌≡◌, ◌∙◌, ℕ, List, [], Contains, Som
 use Rattle.std.proofs.lemmas.List.{append-nil}
 use Rattle.lemmas.proofs.Options.{one_there}
 use Rattle.request_record.specs.Record.{RequestsState}
-use Rattle.share_holdings.specs.State.{HoldingsState}
-use Rattle.share_beginnings.specs.Reads.{IsAnsweredBy}
-use Rattle.share_beginnings.specs.State.{BeginningsState}
-use Rattle.share_beginnings.proofs.Opened.{goes_none}
+use Rattle.download_shares.specs.HoldingState.{HoldingsState}
+use Rattle.download_shares.specs.Reads.{IsAnsweredBy}
+use Rattle.download_shares.specs.BeginningState.{BeginningsState}
+use Rattle.download_shares.proofs.Opened.{goes_none}
 use Rattle.download_segments.specs.State.{HandoutState}
 use Rattle.download_file.specs.Answers.{AnswersFirst}
 use Rattle.download_file.specs.Changes.{IsSameFile}

@@ -1,0 +1,17 @@
+-- The shares that servers hold, and how far the beginning of each is read.
+use Rattle.std.specs.Prelude.{◌≡◌, ℕ, List, Some, None, slice_get}
+use Rattle.download_shares.specs.HoldingState.{HoldingsState}
+use Rattle.download_shares.specs.declared.begun.Begun.{Begun}
+
+-- `begun` has one for each holding, in the same order
+pub record BeginningsState : Type 0 where
+  pub holdings : HoldingsState
+  pub begun : List Begun
+
+-- how far the share of the holding at this place is read
+abbrev pub IsBegun : BeginningsState → ℕ → Begun → Type 0
+IsBegun s place b = slice_get s.begun place ≡ Some b
+
+-- nothing of it is read
+abbrev pub unbegun : Begun
+unbegun = record { opening = None; waiting = None; reader = None }

@@ -1,0 +1,24 @@
+-- The shares that servers hold, and what was asked of each.
+use Rattle.std.specs.Prelude.{ℕ, List, Option}
+use Rattle.request_record.specs.Record.{RequestsState}
+use Rattle.download_shares.specs.declared.holding.Blame.{Blame}
+use Rattle.download_shares.specs.declared.holding.Holding.{Holding}
+
+-- the places of the holdings of a share number that are left, and of the one that is read
+pub record NumberState : Type 0 where
+  pub left : List ℕ
+  pub reading : Option ℕ
+
+-- the holdings in the order in which they were told, and the share numbers that count, from 0 on
+pub record TableState : Type 0 where
+  pub holdings : List Holding
+  pub numbers : List NumberState
+
+-- The first requests, `servers` of them, ask which shares a server holds, and each further one asks
+-- for bytes of a share: `owners` has its place among the holdings.
+pub record HoldingsState : Type 0 where
+  pub requests : RequestsState
+  pub servers : ℕ
+  pub table : TableState
+  pub owners : List ℕ
+  pub blamed : List Blame

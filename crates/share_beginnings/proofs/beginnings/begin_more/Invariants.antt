@@ -1,6 +1,0 @@
-use Rattle.std.proofs.Common.{◌≡◌, ◌++◌, length, ℕ, replicate}
-use Rattle.share_beginnings.specs.State.{unbegun}
-use Rattle.share_beginnings.proofs.beginnings.begin_more.Given as goal
-
-abbrev pub invariant-loop : goal.invariant-loop
-invariant-loop l = ((more : ℕ) × (l.begun.items ≡ l.initial.begun.items ++ replicate more unbegun)) × (length l.begun.items ≡ l.counter)

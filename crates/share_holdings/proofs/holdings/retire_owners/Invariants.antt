@@ -1,7 +1,0 @@
-use Rattle.std.proofs.Common.{take}
-use Rattle.share_holdings.specs.Moves.{IsAmong, RetiresAll}
-use Rattle.share_holdings.proofs.holdings.retire_owners.Given as goal
-
--- those of the places before this one are retired
-abbrev pub invariant-loop-place : goal.invariant-loop-place
-invariant-loop-place l = RetiresAll (IsAmong l.servers l.owners (take l.place-index l.places)) l.initial.table l.table

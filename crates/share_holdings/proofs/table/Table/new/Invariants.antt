@@ -1,6 +1,0 @@
-use Rattle.std.proofs.Common.{◌≡◌, All, length}
-use Rattle.share_holdings.specs.Numbers.{no_holding}
-use Rattle.share_holdings.proofs.table.Table.new.Given as goal
-
-abbrev pub invariant-loop : goal.invariant-loop
-invariant-loop l = All (λ n. n ≡ no_holding) l.numbers.items × (length l.numbers.items ≡ l.counter)
