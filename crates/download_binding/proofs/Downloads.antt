@@ -9,7 +9,7 @@ use Rattle.share_verify.specs.CapBlock.{geometry_by}
 use Rattle.download_shares.specs.declared.holding.Blame.{Blame}
 use Rattle.download_shares.specs.Causes.{IsBeginningFault}
 use Rattle.download_file.specs.State.{CopyState, FileState}
-use Rattle.download_reading.specs.Causes.{HasCause, IsBlockFault, IsPartFault}
+use Rattle.download_core.specs.ReadingCauses.{HasCause, IsBlockFault, IsPartFault}
 use Rattle.download_core.specs.Causes.{IsCause}
 use Rattle.download_core.specs.State.{DownloadState, Found}
 use Rattle.download_core.proofs.HashedLemmas.{file_of, right_of}

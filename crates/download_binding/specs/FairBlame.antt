@@ -10,7 +10,7 @@ use Rattle.share_layout.specs.Share.{Sections}
 use Rattle.download_shares.specs.declared.holding.Blame.{Blame}
 use Rattle.download_file.specs.State.{FileState}
 use Rattle.download_file.specs.Tested.{IsTested}
-use Rattle.download_reading.specs.Causes.{IsBlockFault, IsPartFault}
+use Rattle.download_core.specs.ReadingCauses.{IsBlockFault, IsPartFault}
 use Rattle.download_binding.specs.Answers.{AnsweredOther}
 use Rattle.download_binding.specs.OwnReaders.{IsOwnShare, own_leaves}
 

@@ -15,11 +15,11 @@ use Rattle.download_shares.specs.Table.{NoneIsFree}
 use Rattle.download_file.specs.State as file
 use Rattle.download_segments.specs.NoCodeWord.{IsNoCodeWord}
 use Rattle.download_file.specs.Making.{IsInconsistent}
-use Rattle.download_reading.specs.Reading.{AreReading}
-use Rattle.download_reading.specs.State.{ReadingState}
-use Rattle.download_reading.specs.Steps.{Continues, IsAtEnd}
-use Rattle.download_reading.specs.declared.reading.Settled.{Settled}
-use Rattle.download_reading.specs.declared.reading.Settled.TheVariants as settled
+use Rattle.download_core.specs.Reading.{AreReading}
+use Rattle.download_core.specs.ReadingState.{ReadingState}
+use Rattle.download_core.specs.ReadingSteps.{Continues, IsAtEnd}
+use Rattle.download_core.specs.declared.reading.Settled.{Settled}
+use Rattle.download_core.specs.declared.reading.Settled.TheVariants as settled
 use Rattle.download_segments.specs.Pieces.{AreConsecutive, IsGiven}
 use Rattle.download_core.specs.declared.machine.FoundFile.{FoundFile}
 use Rattle.download_core.specs.declared.machine.Machine.{Machine}

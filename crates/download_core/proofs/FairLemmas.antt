@@ -20,12 +20,12 @@ use Rattle.download_shares.proofs.Caused.{beginning_stays, fault_stays, opening_
 use Rattle.download_parts.specs.Plan.{IsPlanned}
 use Rattle.download_file.specs.Asked.{IsPlannedRead}
 use Rattle.download_file.specs.State.{FileState}
-use Rattle.download_reading.specs.Causes.{HasCause, IsBlockFault}
-use Rattle.download_reading.specs.Steps.{IsReadFor}
-use Rattle.download_reading.proofs.Awaited.{goes_stays}
+use Rattle.download_core.specs.ReadingCauses.{HasCause, IsBlockFault}
+use Rattle.download_core.specs.ReadingSteps.{IsReadFor}
+use Rattle.download_core.proofs.Awaited.{goes_stays}
 use Rattle.download_file.specs.Changes.{IsSameFile}
 use Rattle.download_file.proofs.GrowLemmas.{same_itself}
-use Rattle.download_reading.proofs.Causes.{block_moved, cause_moved, part_moved}
+use Rattle.download_core.proofs.Causes.{block_moved, cause_moved, part_moved}
 use Rattle.download_core.specs.Causes.{IsCause}
 use Rattle.download_core.specs.Reads.{MayRead}
 use Rattle.download_core.specs.State.{Found}

@@ -32,11 +32,11 @@ use Rattle.download_file.proofs.GivenLemmas.{hashed_stay}
 use Rattle.download_file.proofs.TestedLemmas.{tested_stay}
 use Rattle.download_file.specs.State.{FileState, new_file}
 use Rattle.download_file.proofs.GrowLemmas.{given_keep, same_itself, same_two}
-use Rattle.download_reading.specs.Reading.{AreReading}
-use Rattle.download_reading.specs.State.{ReadingState}
-use Rattle.download_reading.specs.Steps.{AddsPieces, Continues}
+use Rattle.download_core.specs.Reading.{AreReading}
+use Rattle.download_core.specs.ReadingState.{ReadingState}
+use Rattle.download_core.specs.ReadingSteps.{AddsPieces, Continues}
 use Rattle.download_file.specs.Asked.{IsPlannedRead}
-use Rattle.download_reading.proofs.Awaited.{goes_stays}
+use Rattle.download_core.proofs.Awaited.{goes_stays}
 use Rattle.download_core.specs.declared.machine.FoundFile.{FoundFile}
 use Rattle.download_core.specs.declared.machine.Machine.{Machine}
 use Rattle.download_core.specs.declared.status.DownloadStatus.{DownloadStatus}

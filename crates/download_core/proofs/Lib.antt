@@ -1,3 +1,21 @@
+pub mod Begun
+pub mod Parts
+pub mod Asked
+pub mod Ended
+pub mod Fallen
+pub mod Started
+pub mod Follows
+pub mod Awaited
+pub mod Busy
+pub mod Heard
+pub mod Blamed
+pub mod Made
+pub mod Ticked
+pub mod Compared
+pub mod Ends
+pub mod Gone
+pub mod Sent
+pub mod Causes
 mod Results
 mod Records
 mod FairLemmas

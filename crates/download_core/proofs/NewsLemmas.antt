@@ -1,6 +1,6 @@
 -- What a message or a second brings to a download that runs.
 use Rattle.std.proofs.Common.{◌≡◌, ℕ, inl, inr, Option, Some, None, sym, subst, ◌∙◌}
-use Rattle.download_reading.proofs.Compared.{awaited}
+use Rattle.download_core.proofs.Compared.{awaited}
 use Rattle.wire.specs.declared.message.Message.{Message}
 use Rattle.download_shares.specs.HoldingMoves.{Ticks}
 use Rattle.download_shares.specs.declared.holdings.Heard.{Heard}

@@ -28,8 +28,8 @@ use Rattle.download_file.specs.Asked.{HasAsked, IsPlannedRead}
 use Rattle.download_file.specs.Right.{IsFile}
 use Rattle.download_file.specs.State.{FileState}
 use Rattle.download_file.proofs.WantedLemmas.{asked_passed}
-use Rattle.download_reading.specs.Reading.{AreKept}
-use Rattle.download_reading.specs.State.{ReadingState}
+use Rattle.download_core.specs.Reading.{AreKept}
+use Rattle.download_core.specs.ReadingState.{ReadingState}
 use Rattle.download_core.specs.Reads.{AsksOrReads, IsReadOfOffered, IsPlannedOrBeside, ReadsBeside, ReadsNoMore}
 use Rattle.download_core.specs.State.{Found}
 use Rattle.download_core.specs.Steps.{AreOpened}

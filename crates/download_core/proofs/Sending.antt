@@ -10,8 +10,8 @@ use Rattle.request_record.specs.Asking.{IsWriting, Spells, message_at}
 use Rattle.download_shares.specs.Right.{IsRight}
 use Rattle.download_shares.specs.Opening.{nobody}
 use Rattle.download_shares.specs.BeginningState.{BeginningsState}
-use Rattle.download_reading.specs.Laws.{with_outgoing}
-use Rattle.download_reading.proofs.Sent.{sent}
+use Rattle.download_core.specs.Laws.{with_outgoing}
+use Rattle.download_core.proofs.Sent.{sent}
 use Rattle.download_core.proofs.ReadLemmas.{asked_of}
 use Rattle.download_core.specs.declared.machine.Machine.{Machine}
 use Rattle.download_core.specs.declared.status.DownloadStatus.{DownloadStatus}

@@ -7,8 +7,8 @@ use Rattle.cap_text.specs.Cap.{verify_cap_of}
 use Rattle.download_shares.specs.BeginningState.{BeginningsState}
 use Rattle.share_layout.specs.Geometry.{Geometry}
 use Rattle.download_segments.specs.NoCodeWord.{IsNoCodeWord}
-use Rattle.download_reading.specs.Reading.{AreReading}
-use Rattle.download_reading.specs.State.{ReadingState}
+use Rattle.download_core.specs.Reading.{AreReading}
+use Rattle.download_core.specs.ReadingState.{ReadingState}
 use Rattle.download_core.proofs.HashedLemmas.{handed_given}
 use Rattle.download_core.specs.declared.machine.FoundFile.{FoundFile}
 use Rattle.download_core.specs.declared.machine.Machine.{Machine}
@@ -24,8 +24,8 @@ use Rattle.download_file.specs.Changes.{IsSameFile, StaysRead}
 use Rattle.download_file.specs.Making.{IsInconsistent}
 use Rattle.request_record.specs.declared.requests.Request.{Request}
 use Rattle.download_core.specs.Reads.{IsPlannedOrBeside, ReadsBeside}
-use Rattle.download_reading.specs.Laws.{with_outgoing}
-use Rattle.download_reading.proofs.Sent.{sent}
+use Rattle.download_core.specs.Laws.{with_outgoing}
+use Rattle.download_core.proofs.Sent.{sent}
 use Rattle.download_core.proofs.Sending.{sent_opened}
 use Rattle.download_core.proofs.FairLemmas.{fair_on}
 use Rattle.download_core.specs.Steps.{IsComplete, IsFair, IsInPhase, IsKept, entries_of, found_of}

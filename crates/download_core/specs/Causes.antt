@@ -4,7 +4,7 @@ use Rattle.cap_text.specs.Cap.{VerifyCapValue}
 use Rattle.request_record.specs.declared.requests.Request.{Request}
 use Rattle.download_shares.specs.declared.holding.Blame.{Blame}
 use Rattle.download_shares.specs.Causes.{IsOpeningFault}
-use Rattle.download_reading.specs.Causes.{HasCause, IsBlockFault}
+use Rattle.download_core.specs.ReadingCauses.{HasCause, IsBlockFault}
 use Rattle.download_core.specs.State.{Found}
 
 -- Before an extension block is accepted, the cap alone refuses what was answered to a read of the

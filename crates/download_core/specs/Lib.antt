@@ -1,4 +1,10 @@
 -- what public contracts rest on
+pub mod ReadingState
+pub mod Reading
+pub mod ReadingPrompt
+pub mod ReadingSteps
+pub mod ReadingCauses
+pub mod Laws
 pub mod State
 pub mod Given
 pub mod Reads

@@ -1,7 +1,7 @@
 -- A download that runs holds nothing back.
 use Rattle.std.specs.Prelude.{Bool, List, Option, Some, None, ⊤}
 use Rattle.request_record.specs.declared.requests.Request.{Request}
-use Rattle.download_reading.specs.Prompt.{IsPrompt}
+use Rattle.download_core.specs.ReadingPrompt.{IsPrompt}
 use Rattle.download_core.specs.State.{DownloadState, Found}
 
 abbrev pub IsPromptIfFound : Bool → List Request → Option Found → Type 0

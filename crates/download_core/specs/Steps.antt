@@ -12,10 +12,10 @@ use Rattle.download_shares.specs.BeginningState.{BeginningsState}
 use Rattle.download_shares.specs.declared.beginnings.News.{News}
 use Rattle.download_shares.specs.declared.beginnings.News.TheVariants.{Beginning}
 use Rattle.download_file.specs.Changes.{IsSameFile}
-use Rattle.download_reading.specs.Reading.{AreReading}
-use Rattle.download_reading.specs.Steps.{AddsPieces, HasHeard, HasTicked}
-use Rattle.download_reading.specs.declared.reading.Settled.{Settled}
-use Rattle.download_reading.specs.declared.reading.Settled.TheVariants as settled
+use Rattle.download_core.specs.Reading.{AreReading}
+use Rattle.download_core.specs.ReadingSteps.{AddsPieces, HasHeard, HasTicked}
+use Rattle.download_core.specs.declared.reading.Settled.{Settled}
+use Rattle.download_core.specs.declared.reading.Settled.TheVariants as settled
 use Rattle.download_core.specs.declared.machine.FoundFile.{FoundFile}
 use Rattle.download_core.specs.declared.machine.Machine.{Machine}
 use Rattle.download_core.specs.declared.status.DownloadStatus.{DownloadStatus}

@@ -2,15 +2,23 @@
 //!
 //! A download asks every server what it holds, and opens a few shares at once until it finds an
 //! extension block that has the cap's hash. Then it reads of as many shares as are needed what its
-//! range needs. It hands out the bytes of a segment once its hash leads to the extension block's
-//! root.
+//! range needs: a `Reading` has the shares that are read, what each is asked for, and what is taken
+//! of their answers. The download hands out the bytes of a segment once its hash leads to the
+//! extension block's root.
 #![tactic(auto)]
 
+mod asking;
 mod download;
+mod ending;
+mod laws;
 mod machine;
+mod reading;
 pub mod status;
+mod taking;
 
 pub use download::{
     Download, evidence_is_of_the_given, given_are_shown, inconsistent_shows_no_code_word,
     right_blocks_lead, taken_follow, whole_files,
 };
+pub use laws::{blocks_are_answered, sending_stays};
+pub use reading::{Reading, Settled};

@@ -23,9 +23,9 @@ ghost use Rattle.download_core.specs.Steps.{AreOpened, EndsAs, HearsOf, IsFor, I
 ghost use Rattle.download_core.specs.Steps.{MovesOn, OpensWith, PassesOn, entries_of, found_of};
 ghost use Rattle.download_core.specs.Steps.{state_of, status_of};
 
+use crate::reading::{Reading, Settled};
 use crate::status::{DownloadStatus, Piece};
 use cap_text::{ReadCap, VerifyCap};
-use download_reading::{Reading, Settled};
 use download_shares::{Beginnings, News, bytes_at};
 use proved_parts::{Bytes, Evidence, PartList};
 use share_reading::Opened;

@@ -2,7 +2,7 @@ use Rattle.std.proofs.Common.{Some, subst}
 use Rattle.lemmas.proofs.Results.{on_ok_then}
 use Rattle.cap_text.specs.Cap.{VerifyCapValue, verify_cap_of}
 use Rattle.download_shares.specs.Causes.{AddsBlames}
-use Rattle.download_reading.specs.Causes.{HasCause}
+use Rattle.download_core.specs.ReadingCauses.{HasCause}
 use Rattle.download_core.specs.Causes.{IsCause}
 use Rattle.download_core.specs.Steps.{entries_of, found_of}
 use Rattle.download_core.proofs.FairLemmas.{heard_fair}

@@ -1,5 +1,0 @@
-use Rattle.download_reading.proofs.Causes.{block_answered}
-use Rattle.download_reading.proofs.laws.blocks_are_answered.Goals as goal
-
-pub returns : goal.returns
-returns c = block_answered
