@@ -9,8 +9,8 @@ use Rattle.world_script.specs.declared.error.ScriptError.{ScriptError}
 use Rattle.world_script.specs.declared.error.ScriptError.TheVariants as scripts
 use Rattle.world_script.specs.Refused.{IsNoScript}
 use Rattle.world_script.specs.Script.{SpellsScript}
-use Rattle.world_runner.specs.Playing.{IsEnding, IsRefused}
-use Rattle.world_runner.specs.declared.ending.Ending.{Ending}
+use Rattle.world_script.specs.Playing.{IsEnding, IsRefused}
+use Rattle.world_script.specs.declared.ending.Ending.{Ending}
 use Rattle.grid_scripts.specs.Faults.{IsFaultOf, IsWorldFault, fault_of_script, fault_of_world}
 use Rattle.grid_scripts.specs.Texts.{IsEndOf, SpellNoScript}
 

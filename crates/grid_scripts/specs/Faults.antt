@@ -8,7 +8,7 @@ use Rattle.world_script.specs.declared.command.Script.{Script}
 use Rattle.world_script.specs.declared.error.ScriptError.{ScriptError}
 use Rattle.world_script.specs.declared.error.ScriptError.TheVariants as scripts
 use Rattle.world_script.specs.Refused.{IsNoScript}
-use Rattle.world_runner.specs.Playing.{IsRefused}
+use Rattle.world_script.specs.Playing.{IsRefused}
 use Rattle.grid_scripts.specs.Texts.{AreRefused, SpellNoScript}
 
 -- the fault that a script's refusal becomes

@@ -2,8 +2,8 @@
 use Rattle.std.specs.Prelude.{ℕ, List}
 use Rattle.world_script.specs.declared.command.Script.{Script}
 use Rattle.world_script.specs.Script.{SpellsScript}
-use Rattle.world_runner.specs.declared.ending.Ending.{Ending}
-use Rattle.world_runner.specs.Playing.{IsEnding, IsRefused}
+use Rattle.world_script.specs.declared.ending.Ending.{Ending}
+use Rattle.world_script.specs.Playing.{IsEnding, IsRefused}
 
 -- The lines spell a script that ends so.
 abbrev pub IsEndOf : List (List ℕ) → Ending → Type 0

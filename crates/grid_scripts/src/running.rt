@@ -1,7 +1,7 @@
 //! The text of a script, run.
 
 ghost use Rattle.std.specs.Prelude.{IfErr, IfOk};
-ghost use Rattle.world_runner.specs.Playing.{IsEnding};
+ghost use Rattle.world_script.specs.Playing.{IsEnding};
 ghost use Rattle.world_script.specs.Script.{AreNodes, lines_of};
 ghost use Rattle.grid_scripts.specs.Faults.{IsFaultOf, IsWorldFault};
 ghost use Rattle.grid_scripts.specs.Texts.{IsEndOf};
@@ -9,8 +9,7 @@ ghost use Rattle.grid_scripts.specs.Texts.{IsEndOf};
 use crate::faults::{fault_of_script, fault_of_world};
 use grid_rules::Fault;
 use std::alloc::Global;
-use world_runner::{Ending, run_script};
-use world_script::{Script, parse};
+use world_script::{Ending, Script, parse, run_script};
 
 /// Runs the script that a text spells: what its operations came to.
 ///

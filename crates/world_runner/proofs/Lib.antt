@@ -1,5 +1,0 @@
-pub mod Agreeing
-pub mod Marking
-pub mod OperationLines
-pub mod Planning
-pub mod Plays

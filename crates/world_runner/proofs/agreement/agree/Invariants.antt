@@ -1,7 +1,0 @@
-use Rattle.world_operations.specs.declared.operation.Operation.{Operation}
-use Rattle.world_runner.specs.Agreeing.{AgreesWith}
-use Rattle.world_runner.proofs.Agreeing.{AreFirst}
-use Rattle.world_runner.proofs.agreement.agree.Given as goal
-
-abbrev pub invariant-loop-operation : goal.invariant-loop-operation
-invariant-loop-operation l = AreFirst (λ (op : Operation). AgreesWith op l.operations) l.operations l.operation-index

@@ -1,5 +1,0 @@
-use Rattle.world_runner.proofs.Agreeing.{AreAlike}
-use Rattle.world_runner.proofs.agreement.go_on.Given as goal
-
-abbrev pub invariant-loop-place : goal.invariant-loop-place
-invariant-loop-place l = AreAlike l.bytes l.from l.others l.place

@@ -1,7 +1,0 @@
-use Rattle.download_segments.specs.declared.piece.Piece.{Piece}
-use Rattle.world_runner.specs.Agreeing.{AllHave}
-use Rattle.world_runner.proofs.Agreeing.{AreFirst}
-use Rattle.world_runner.proofs.agreement.have_pieces.Given as goal
-
-abbrev pub invariant-loop-piece : goal.invariant-loop-piece
-invariant-loop-piece l = AreFirst (λ (piece : Piece). AllHave l.cap piece.place piece.bytes l.operations) l.operation.given l.piece-index

@@ -1,7 +1,0 @@
-use Rattle.download_segments.specs.declared.piece.Piece.{Piece}
-use Rattle.world_runner.specs.Agreeing.{AreSame}
-use Rattle.world_runner.proofs.Agreeing.{AreFirst}
-use Rattle.world_runner.proofs.agreement.have_same.Given as goal
-
-abbrev pub invariant-loop-piece : goal.invariant-loop-piece
-invariant-loop-piece l = AreFirst (λ (piece : Piece). AreSame piece.place piece.bytes l.place l.bytes) l.pieces l.piece-index

@@ -1,9 +1,0 @@
--- what public contracts rest on
-pub mod Events
-pub mod Playing
-pub mod Agreement
-pub mod Telling
-pub mod Liars
--- words of private clauses
-pub mod Plans
-pub mod Agreeing

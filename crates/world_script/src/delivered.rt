@@ -1,0 +1,91 @@
+//! Which messages were delivered.
+
+ghost use Rattle.std.specs.Prelude.{◌≡◌, ◌↔◌, ◌∷◌, ◌++◌, [], List, IsTrue, OnOk};
+ghost use Rattle.world.specs.declared.event.Event.{Event};
+ghost use Rattle.world_script.specs.Plans.{AreMarked, IsFirstLeft, IsMarked, IsNoted};
+
+use std::alloc::{AllocError, Global};
+use std::marker::Model;
+use world::event::Event;
+
+// The messages that were delivered, by their places.
+#[derive(Drop)]
+pub(crate) struct Delivered {
+    flags: Vec<bool>,
+    // All messages before this place were delivered.
+    first: usize,
+}
+
+impl Model for Delivered {
+    ghost use Rattle.std.specs.Prelude.{ℕ, ◌<◌, List, Bool};
+    ghost use Rattle.world_script.specs.Plans.{IsMarked};
+
+    ghost Value = { List Bool };
+
+    ghost view = { λ d. d.flags.items };
+
+    ghost invariant = { λ d. (p : ℕ) → p < d.first → IsMarked d.flags.items p };
+}
+
+impl Delivered {
+    // None was.
+    pub(crate) fn new(alloc: Global) -> Delivered
+        ensures { result ≡ [] }
+    {
+        Delivered {
+            flags: Vec::new(alloc),
+            first: 0,
+        }
+    }
+
+    // Was the message at a place delivered?
+    fn has(&self, place: usize) -> bool
+        ensures { IsTrue result ↔ IsMarked self.now place }
+    {
+        match self.flags.get(place) {
+            Some(flag) => *flag,
+            None => false,
+        }
+    }
+
+    // An event was taken: its message is delivered, if it delivers one.
+    pub(crate) fn note(&mut self, event: &Event) -> Result<(), AllocError>
+        ensures { OnOk result ((events : List Event) → AreMarked self.old events
+            → AreMarked self.new (events ++ event.now ∷ [])) }
+    {
+        match event {
+            Event::Deliver(place) => self.add(*place),
+            _ => Ok(()),
+        }
+    }
+
+    // The message at a place is delivered.
+    fn add(&mut self, place: usize) -> Result<(), AllocError>
+        ensures { OnOk result (IsNoted self.old place self.new) }
+    {
+        let _first = self.first;
+        for _length in self.flags.len()..place {
+            self.flags.push(false)?;
+        }
+        if place < self.flags.len() {
+            self.flags[place] = true;
+        } else {
+            self.flags.push(true)?;
+        }
+        Ok(())
+    }
+
+    // The oldest of so many messages that was not delivered.
+    pub(crate) fn oldest(&mut self, sent: usize) -> Option<usize>
+        ensures same { self.new ≡ self.old }
+        ensures left { IsFirstLeft self.old sent result }
+    {
+        for place in self.first..sent {
+            if !self.has(place) {
+                return Some(place);
+            }
+            self.first = place + 1;
+        }
+        None
+    }
+}
