@@ -4,7 +4,7 @@
 //! marks the folders of a grid and of its servers. A `put` is an upload, a `get` one download or
 //! several in `grid_gets`, a `check` a check, and a `repair` a check and an upload, which
 //! `local_grid` carries on; a `scrub` reads the servers' folders; `world` is a script that
-//! `grid_scripts` runs. Which words there are stands in `grid_words`, and what is told in
+//! `grid_commands` runs. Which words there are stands in `grid_words`, and what is told in
 //! `grid_rules` and `grid_telling`.
 #![tactic(auto)]
 

@@ -1,7 +1,7 @@
 //! `grid world`: a script of a world, run.
 
+use crate::running::run_text;
 use grid_rules::{Fault, world_status};
-use grid_scripts::run_text;
 use grid_servers::{at_path, read_at_most};
 use grid_telling::{Failure, print};
 use std::io::Write;

@@ -9,7 +9,7 @@ use Rattle.world_script.specs.declared.error.ScriptError.{ScriptError}
 use Rattle.world_script.specs.declared.error.ScriptError.TheVariants as scripts
 use Rattle.world_script.specs.Refused.{IsNoScript}
 use Rattle.world_script.specs.Playing.{IsRefused}
-use Rattle.grid_scripts.specs.Texts.{AreRefused, SpellNoScript}
+use Rattle.grid_commands.specs.Texts.{AreRefused, SpellNoScript}
 
 -- the fault that a script's refusal becomes
 abbrev pub fault_of_script : ScriptError → Fault

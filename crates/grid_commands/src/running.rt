@@ -3,8 +3,8 @@
 ghost use Rattle.std.specs.Prelude.{IfErr, IfOk};
 ghost use Rattle.world_script.specs.Playing.{IsEnding};
 ghost use Rattle.world_script.specs.Script.{AreNodes, lines_of};
-ghost use Rattle.grid_scripts.specs.Faults.{IsFaultOf, IsWorldFault};
-ghost use Rattle.grid_scripts.specs.Texts.{IsEndOf};
+ghost use Rattle.grid_commands.specs.Faults.{IsFaultOf, IsWorldFault};
+ghost use Rattle.grid_commands.specs.Texts.{IsEndOf};
 
 use crate::faults::{fault_of_script, fault_of_world};
 use grid_rules::Fault;

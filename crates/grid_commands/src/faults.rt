@@ -1,7 +1,7 @@
 //! Which fault of `grid` the refusal of a script or of its world becomes.
 
 ghost use Rattle.std.specs.Prelude.{◌≡◌};
-ghost use Rattle.grid_scripts.specs.Faults.{fault_of_script, fault_of_world};
+ghost use Rattle.grid_commands.specs.Faults.{fault_of_script, fault_of_world};
 
 use grid_rules::Fault;
 use world::event::WorldError;

@@ -1,8 +1,8 @@
 use Rattle.std.proofs.Common.{ap, Err, subst, sym}
 use Rattle.world_script.specs.Script.{lines_of}
-use Rattle.grid_scripts.specs.Faults.{IsFaultOf}
-use Rattle.grid_scripts.proofs.Faulting.{script_fault, spelled_end, spelled_refusal}
-use Rattle.grid_scripts.proofs.running.run_text.Goals as goal
+use Rattle.grid_commands.specs.Faults.{IsFaultOf}
+use Rattle.grid_commands.proofs.Faulting.{script_fault, spelled_end, spelled_refusal}
+use Rattle.grid_commands.proofs.running.run_text.Goals as goal
 
 pub returns-in-Ok-clause-ended : goal.returns-in-Ok-clause-ended
 returns-in-Ok-clause-ended c =

@@ -11,8 +11,8 @@ use Rattle.world_script.specs.Refused.{IsNoScript}
 use Rattle.world_script.specs.Script.{SpellsScript}
 use Rattle.world_script.specs.Playing.{IsEnding, IsRefused}
 use Rattle.world_script.specs.declared.ending.Ending.{Ending}
-use Rattle.grid_scripts.specs.Faults.{IsFaultOf, IsWorldFault, fault_of_script, fault_of_world}
-use Rattle.grid_scripts.specs.Texts.{IsEndOf, SpellNoScript}
+use Rattle.grid_commands.specs.Faults.{IsFaultOf, IsWorldFault, fault_of_script, fault_of_world}
+use Rattle.grid_commands.specs.Texts.{IsEndOf, SpellNoScript}
 
 -- of a world's refusal
 pub world_fault : (script : Script) (e : WorldError) → (e ≡ worlds.BadEvent → IsRefused script)
