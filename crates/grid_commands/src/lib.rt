@@ -3,17 +3,19 @@
 //! `grid` takes the words of the command line and two writers, and gives the exit status. An `init`
 //! marks the folders of a grid and of its servers. A `put` is an upload, a `get` one download or
 //! several in `grid_gets`, a `check` a check, and a `repair` a check and an upload, which
-//! `local_grid` carries on; a `scrub` reads the servers' folders; `world` is a script that
-//! `grid_commands` runs. Which words there are stands in `grid_words`, and what is told in
-//! `grid_rules` and `grid_telling`.
+//! `local_grid` carries on; a `scrub` reads the servers' folders; `world` runs a script, whose text
+//! is read whole before anything runs. Which words there are stands in `grid_words`, and what is
+//! told in `grid_rules` and `grid_telling`.
 #![tactic(auto)]
 
 mod check;
+mod faults;
 mod init;
 mod mending;
 mod placing;
 mod put;
 mod repair;
+mod running;
 mod script;
 mod scrub;
 mod streaming;

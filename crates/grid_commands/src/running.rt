@@ -15,7 +15,7 @@ use world_script::{Ending, Script, parse, run_script};
 ///
 /// Refuses with `BadScript` just where the lines are no script, with `BadEvent` where a command has
 /// no event or one that the world refuses, and with `OutOfMemory`.
-pub fn run_text(alloc: Global, text: &[u8]) -> Result<Ending, Fault>
+pub(crate) fn run_text(alloc: Global, text: &[u8]) -> Result<Ending, Fault>
     ensures ended { IfOk result (IsEndOf (lines_of text.now)) }
     ensures refused { IfErr result (IsFaultOf (lines_of text.now)) }
 {
