@@ -1,5 +1,5 @@
 -- No call changes whether a check keeps the bytes of shares.
-use Rattle.std.proofs.Common.{◌≡◌, ℕ, true, Option, Some, None, Result, Ok, Err, OnErr, OnOk, ap, refl, ◌∙◌}
+use Rattle.std.proofs.Common.{◌≡◌, ℕ, Option, Some, None, Result, Ok, Err, OnErr, OnOk, ap, refl}
 use Rattle.wire.specs.declared.message.Message.{Message}
 use Rattle.request_record.specs.Record.{RequestsState}
 use Rattle.checker.specs.Moves.{FailsAt, GoesOn, Stops, StopsAt, TicksOn, at_once, later}

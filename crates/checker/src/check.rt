@@ -146,7 +146,7 @@ impl Check {
         ensures value { result ≡ self.now.status }
         ensures right { IsRight self.now }
     {
-        let _ = self.machine.requests.entries();
+        let _ = self.machine.requests.len();
         self.status
     }
 

@@ -155,7 +155,7 @@ impl Machine {
         ensures kept { (status : CheckStatus) → IsKept self.old status → IsKept self.new status }
     {
         let place = self.requests.first()?;
-        let request = &self.requests.entries()[place];
+        let request = self.requests.request(place);
         let server = request.server;
         let body = request.asked.body(*self.cap.storage_index())?;
         let message = self.requests.message_at(place, body);
@@ -213,7 +213,7 @@ impl Machine {
         ensures same { AsksNothing self.old self.new }
     {
         let first = self.offers.len();
-        let request = &self.requests.entries()[place];
+        let request = self.requests.request(place);
         let held = held_by(&request.outcome);
         push_offers(
             self.alloc,
@@ -287,7 +287,7 @@ impl Machine {
             → HasAsked self.old offer reading.now o self.new) }
         ensures err { OnErr result (AsksNothing self.old self.new) }
     {
-        let place = self.requests.entries().len();
+        let place = self.requests.len();
         let server = self.offers[offer].server;
         let share = self.offers[offer].share;
         let length = ReadLength::new(reading.next_length()).unwrap();

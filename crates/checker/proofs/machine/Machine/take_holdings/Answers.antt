@@ -1,16 +1,23 @@
-use Rattle.std.proofs.Common.{◌∙◌, List, length, get_or, ap, refl, arith}
-use Rattle.std.proofs.lemmas.Option.{slice_get_read}
+use Rattle.std.proofs.Common.{◌≡◌, ◌∙◌, Some, slice_get, refl, arith}
+use Rattle.lemmas.proofs.Places.{get_of}
+use Rattle.request_record.proofs.EntrySteps.{holdings_kept}
 use Rattle.request_record.specs.declared.requests.Request.{Request}
 use Rattle.checker.proofs.ToldMoves.{told_pushed}
 use Rattle.checker.proofs.machine.Machine.take_holdings.Goals as goal
+
+-- It asks which shares a server holds, so it is in memory.
+pub request-request-requires : goal.request-request-requires
+request-request-requires c =
+    let es = c.args.self.now.requests.entries in
+    let one : (x : Request) × (slice_get es c.args.place ≡ Some x) = get_of es c.args.place (c.requires.book.1.inside c.args.place (0, omega arith, refl)) in
+    holdings_kept es c.args.place one.0 one.1 (c.requires.book.1.asks c.args.place one.0 c.requires.asks one.1)
 
 pub returns : goal.returns
 returns c =
     let m = c.args.self.now in
     let es = m.requests.entries in
-    let q = c.index-entries-place.result in
-    let is = c.index-entries-place.is ∙ ap (λ (l : List Request). get_or l c.args.place q) c.entries.ensures.value in
-    let there = slice_get_read es (length es) c.args.place q refl (c.requires.book.1.inside c.args.place (0, omega arith, refl)) is in
+    let q = c.request-request.result.now in
+    let there = c.request-request.ensures in
     record {
       book = λ todo b once.
           told_pushed m.cap m.keeps es m.told.items m.owners.items m.offers.items c.push_offers.new.offers.items m.begun c.args.place todo q c.held_by-held.result.now c.total.result _
