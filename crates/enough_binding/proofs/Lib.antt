@@ -1,0 +1,4 @@
+pub mod Servers
+pub mod Answers
+pub mod Downloads
+pub mod Checks
