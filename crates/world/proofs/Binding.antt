@@ -57,8 +57,9 @@ use Rattle.world_operations.specs.Tasks.{IsRightTask, requests_of}
 use Rattle.world_operations.proofs.Places.{member_at}
 use Rattle.world_operations.proofs.Uploads.{could_start}
 use Rattle.world.specs.Binding.{block_in as block_in_upload}
-use Rattle.world.specs.Binding.{BlocksAreOwn, GoodSharesAreOwn, HasNoClashInTests, IsBound, IsCheckOf, IsDownloadOf, IsHashedOrTested, IsStarted, NeverInconsistent, NoFalseBlame, ToldOther, hashed, tested}
+use Rattle.world.specs.Binding.{BlocksAreOwn, GoodSharesAreOwn, NeverInconsistent, NoFalseBlame, ToldOther}
 use Rattle.world.specs.Consistent.{CameFrom, IsConsistent}
+use Rattle.world.specs.Started.{HasNoClashInTests, IsCheckOf, IsDownloadOf, IsHashedOrTested, IsStarted, hashed, tested}
 use Rattle.world.specs.State.{WorldState}
 use Rattle.world.proofs.Hashed.{download_among, encoding_among}
 
@@ -127,7 +128,7 @@ module _ (w : WorldState) (c : IsConsistent w) (no_clash : HasNoClashInTests w) 
   abbrev ciphertext : List ℕ
   ciphertext = xored key file
 
-  abbrev said : Contents
+  abbrev pub said : Contents
   said = extension_block_contents g ciphertext (segments_of g ciphertext)
 
   abbrev cap : ReadCapValue
@@ -136,7 +137,7 @@ module _ (w : WorldState) (c : IsConsistent w) (no_clash : HasNoClashInTests w) 
   may : IsUpload file secret p
   may = could_start s.operation.job file secret p s.operation.task s.uploads (c.fine s.number s.operation s.at).started
 
-  shape : IsShape p.needed p.total (length file) g.segment_size
+  pub shape : IsShape p.needed p.total (length file) g.segment_size
   shape = has_shape (length file) p may.chosen may.not_small may.encodable
 
   own_among : (x : List ℕ) → Contains (encoding_inputs file secret (parameters_of p)) x → IsHashedOrTested w x
@@ -211,13 +212,13 @@ module _ (w : WorldState) (c : IsConsistent w) (no_clash : HasNoClashInTests w) 
         (subst (λ (u : Contents). IsBlockIn (IsTested d) u share number block) (one_block f there head) b))
 
     -- the shares of the encoding, as what the download blames is compared with
-    own_shares : AreSharesFor (IsHashedOrTested w) (verify_cap_of d.cap) said (prepared_of file secret p).shares
+    pub own_shares : AreSharesFor (IsHashedOrTested w) (verify_cap_of d.cap) said (prepared_of file secret p).shares
     unfolding encoding_of
     own_shares =
         subst (λ (k : ReadCapValue). AreSharesFor (IsHashedOrTested w) (verify_cap_of k) said (prepared_of file secret p).shares) (sym of.cap_is)
         (encoded_shares_serve (IsHashedOrTested w) g key ciphertext shape (length-xored_from key 0 file) trees_among)
 
-    by_download : IsDownloadBy (IsHashedOrTested w) said d
+    pub by_download : IsDownloadBy (IsHashedOrTested w) said d
     by_download = record { right = right; accepted = λ f there. one_block f there (file_of d f there right.file).head; tested = tests_among }
 
     told_other : (i : ℕ) (b : Blame) → slice_get d.blamed i ≡ Some b → ToldOther w of.number of.operation.node d b.server b.share (slice_index_or (prepared_of file secret p).shares b.share [])
@@ -231,25 +232,17 @@ module _ (w : WorldState) (c : IsConsistent w) (no_clash : HasNoClashInTests w) 
               ((c.fine of.number of.operation of.at).answers other.place other.request (Data other.bytes) here other.answer);
         }
 
-never_inconsistent : (w : WorldState) → IsConsistent w → HasNoClashInTests w → NeverInconsistent w
+pub never_inconsistent : (w : WorldState) → IsConsistent w → HasNoClashInTests w → NeverInconsistent w
 never_inconsistent w c no_clash file secret p d s of e =
     refuted w c no_clash file secret p s d of (inconsistent_shows d (right w c no_clash file secret p s d of) e)
 
-blocks_are_own : (w : WorldState) → IsConsistent w → HasNoClashInTests w → BlocksAreOwn w
+pub blocks_are_own : (w : WorldState) → IsConsistent w → HasNoClashInTests w → BlocksAreOwn w
 blocks_are_own w c no_clash file secret p d f place segment r s of there at own =
     own_block w c no_clash file secret p s d of f there r.share segment (block_of d.requests.entries r.source segment)
     (right_blocks d f place segment r (right w c no_clash file secret p s d of) there at own)
 
-good_shares_are_own : (w : WorldState) → IsConsistent w → HasNoClashInTests w → GoodSharesAreOwn w
+pub good_shares_are_own : (w : WorldState) → IsConsistent w → HasNoClashInTests w → GoodSharesAreOwn w
 good_shares_are_own w c no_clash file secret p check server share s of good = good_own w c no_clash file secret p s check of server share good
 
-no_false_blame : (w : WorldState) → IsConsistent w → HasNoClashInTests w → NoFalseBlame w
+pub no_false_blame : (w : WorldState) → IsConsistent w → HasNoClashInTests w → NoFalseBlame w
 no_false_blame w c no_clash file secret p d i b s of is = told_other w c no_clash file secret p s d of i b is
-
-pub bound : (w : WorldState) → IsConsistent w → IsBound w
-bound w c = record {
-  never_inconsistent = never_inconsistent w c;
-  blocks_are_own = blocks_are_own w c;
-  good_shares_are_own = good_shares_are_own w c;
-  no_false_blame = no_false_blame w c;
-}

@@ -1,10 +1,13 @@
 -- What holds of a world goes on holding: where a server goes on, where more is sent, and where operations go on, begin, are forgotten or
 -- fail.
-use Rattle.std.proofs.Common.{◌≡◌, ℕ, ◌<◌, ◌≤◌, List, [], ◌∷◌, ◌++◌, Bool, true, false, length, map, Option, Some, None, Contains, refl, sym, subst, ap, ◌∙◌, inl, inr, ◌⊎◌, arith}
+use Rattle.std.proofs.Common.{◌≡◌, ℕ, ◌+◌, ◌<◌, ◌≤◌, List, [], ◌∷◌, ◌++◌, Bool, true, false, length, map, nat_lt, Option, Some, None, Contains, refl, sym, subst, ap, ◌∙◌, inl, inr, ◌⊎◌, arith}
 use Rattle.std.specs.Prelude.{◌==◌, ◌&&◌, slice_get, slice_set, option_map, if◌then◌else◌}
+use Rattle.std.specs.List.{range_with_len}
+use Rattle.std.proofs.lemmas.Bool.{cases_lt, le-ltb, lt-ltb}
 use Rattle.std.proofs.lemmas.List.{append_assoc, length-append}
 use Rattle.std.proofs.lemmas.List.Elements.{All-weaker, Contains-append_left, Contains-push_cases}
-use Rattle.std.proofs.lemmas.Option.{slice_get-map}
+use Rattle.std.proofs.lemmas.List.FromFn.{get_or-range_with_len, length-range_with_len}
+use Rattle.std.proofs.lemmas.Option.{slice_get-map, slice_get_within}
 use Rattle.wire.specs.declared.message.Body.{Body}
 use Rattle.wire.specs.declared.message.Body.TheVariants.{Ask, Allocate, Write, Close, Read, Have, Already, Closed, Data}
 use Rattle.wire.specs.declared.message.HeldShare.{HeldShare}
@@ -27,17 +30,21 @@ use Rattle.world_operations.specs.declared.operation.Life.TheVariants.{Forgotten
 use Rattle.world_operations.specs.declared.operation.Operation.{Operation}
 use Rattle.world_operations.specs.declared.task.Task.{Task}
 use Rattle.world_operations.specs.declared.task.Task.TheVariants.{Uploading, Downloading, Checking, Gone}
+use Rattle.all_asked.specs.Asked.{AsksAll}
+use Rattle.enough_binding.specs.Servers.{TellsAll}
+use Rattle.world_operations.specs.Asked.{HasAsked}
 use Rattle.world_operations.specs.Follow.{GoesOn, IsFrameOf, IsLostTask, IsNewTask, IsSameOperation, Moves, Said, SendsSome}
 use Rattle.world_operations.specs.Given.{AreGivenBy}
 use Rattle.world_operations.specs.Jobs.{IsFor}
 use Rattle.world_operations.specs.Moves.{sent_to}
 use Rattle.world_operations.specs.Tasks.{IsRightTask, requests_of}
-use Rattle.world_operations.proofs.Places.{append_none, get_push, get_push_old, get_set, get_set_back, get_set_same, length_set, member_here, member_none, member_there, same_some}
+use Rattle.world_operations.proofs.Places.{append_none, get_push, get_push_old, get_set, get_set_back, get_below, get_set_same, length_set, member_at, member_here, member_none, member_there, same_some}
 use Rattle.world_operations.proofs.TaskMoves.{request_on}
 use Rattle.world.specs.State.{shelved}
 use Rattle.world.specs.Step.{forgotten_by, is_running, new_operation, with_life}
 use Rattle.world.specs.Consistent.{AreConsistent, CameFrom, IsFine, IsJustified, IsRecorded, IsRequestOf}
 use Rattle.world.specs.Consistent.{asked, gone}
+use Rattle.world.specs.History.{AnswersComeAfter, HasHistory, IsAnswerBy}
 use Rattle.world.proofs.Acked.{closed_by}
 
 -- ---- a server goes on
@@ -77,6 +84,14 @@ justified_on old new sent x answer stays j = record {
   };
 }
 
+history_on : (sent : List Sent) (node : ℕ) (old new : Machine MemoryState) → ClosedStay old.store.shelf new.store.shelf → HasHistory sent node old → HasHistory sent node new
+history_on sent node old new stays h = record {
+  shelf_at = h.shelf_at;
+  stays = h.stays;
+  last = λ i id c e. stays id c (h.last i id c e);
+  answers = h.answers;
+}
+
 pub server_changed : (servers : List (Machine MemoryState)) (operations : List Operation) (sent : List Sent) (node : ℕ) (old new : Machine MemoryState)
     → slice_get servers node ≡ Some old → ClosedStay old.store.shelf new.store.shelf → IsSound (shelved new)
     → AreConsistent servers operations sent → AreConsistent (slice_set servers node new) operations sent
@@ -92,6 +107,11 @@ server_changed servers operations sent node old new at stays is_sound c = record
   ];
   recorded = λ x m k honest spelled kind. c.recorded x m k (subst (λ (n : ℕ). x.from < n) (length_set servers node new) honest) spelled kind;
   fine = λ i op e. subst (λ (n : ℕ). IsFine n sent i op) (sym (length_set servers node new)) (c.fine i op e);
+  history = λ j m e. elim (get_set servers node j m new e) [
+    | inl h ↦ subst (λ (n : Machine MemoryState). HasHistory sent j n) (sym h.1) (history_on sent j old new stays (c.history j old (ap (slice_get servers) h.0 ∙ at)))
+    | inr h ↦ c.history j m h
+  ];
+  after = subst (λ (n : ℕ). AnswersComeAfter n operations sent) (sym (length_set servers node new)) c.after;
 }
 
 -- ---- more is sent
@@ -100,6 +120,7 @@ server_changed servers operations sent node old new at stays is_sound c = record
 pub record IsFounded (servers : List (Machine MemoryState)) (operations : List Operation) (sent : List Sent) (y : Sent) : Type 0 where
   pub justified : (m : Machine MemoryState) (answer : Message) → slice_get servers y.from ≡ Some m → IsBodyOf answer y.body → is_request answer.body ≡ false → IsJustified m sent y answer
   pub recorded : (m : Message) → y.from < length servers → IsBodyOf m y.body → is_request m.body ≡ true → IsRecorded operations y m
+  pub told : (m : Machine MemoryState) (answer : Message) → slice_get servers y.from ≡ Some m → IsBodyOf answer y.body → is_request answer.body ≡ false → IsAnswerBy sent y answer m.store.shelf
 
 justified_more : (m : Machine MemoryState) (sent more : List Sent) (x : Sent) (answer : Message) → IsJustified m sent x answer → IsJustified m (sent ++ more) x answer
 justified_more m sent more x answer j = record {
@@ -124,8 +145,66 @@ fine_more honest sent more i op f = record {
   before = omega (arith, f.before, length-append sent more);
   answers = λ place r said e o. came_more sent more i op.node place r.server r.asked said (f.answers place r said e o);
   right = f.right;
+  asked = f.asked;
   given = f.given;
 }
+
+-- ---- how a server stood when it sent one message more
+
+answer_more : (sent more : List Sent) (x : Sent) (answer : Message) (s : Shelf) → IsAnswerBy sent x answer s → IsAnswerBy (sent ++ more) x answer s
+answer_more sent more x answer s a = record {
+  frame = a.frame;
+  request = a.request;
+  was_sent = Contains-append_left sent more a.frame a.was_sent;
+  spelled = a.spelled;
+  from = a.from;
+  to = a.to;
+  answers = a.answers;
+  all = a.all;
+}
+
+module _ (sent : List Sent) (y : Sent) (node : ℕ) (m : Machine MemoryState) (h : HasHistory sent node m)
+    (told : (answer : Message) → y.from ≡ node → IsBodyOf answer y.body → is_request answer.body ≡ false → IsAnswerBy sent y answer m.store.shelf) where
+  -- from now on it stands as it does now
+  abbrev shelf_then : ℕ → Shelf
+  shelf_then k = if nat_lt k (length sent) then h.shelf_at k else m.store.shelf
+
+  then_old : (k : ℕ) → k < length sent → shelf_then k ≡ h.shelf_at k
+  then_old k low = ap (λ (b : Bool). if b then h.shelf_at k else m.store.shelf) (lt-ltb k (length sent) low)
+
+  then_new : (k : ℕ) → length sent ≤ k → shelf_then k ≡ m.store.shelf
+  then_new k high = ap (λ (b : Bool). if b then h.shelf_at k else m.store.shelf) (le-ltb k (length sent) high)
+
+  then_last : (k : ℕ) → ClosedStay (shelf_then k) m.store.shelf
+  then_last k = elim (cases_lt k (length sent)) [
+    | inl low ↦ subst (λ (s : Shelf). ClosedStay s m.store.shelf) (sym (then_old k low)) (h.last k)
+    | inr high ↦ subst (λ (s : Shelf). ClosedStay s m.store.shelf) (sym (then_new k high)) (λ id c e. e)
+  ]
+
+  then_stays : (i j : ℕ) → i ≤ j → ClosedStay (shelf_then i) (shelf_then j)
+  then_stays i j le = elim (cases_lt j (length sent)) [
+    | inl low ↦
+        subst (λ (s : Shelf). ClosedStay s (shelf_then j)) (sym (then_old i (omega (arith, le, low))))
+        (subst (ClosedStay (h.shelf_at i)) (sym (then_old j low)) (h.stays i j le))
+    | inr high ↦ subst (ClosedStay (shelf_then i)) (sym (then_new j high)) (then_last i)
+  ]
+
+  then_answers : (moment : ℕ) (x : Sent) (answer : Message) → slice_get (sent ++ y ∷ []) moment ≡ Some x → x.from ≡ node → IsBodyOf answer x.body → is_request answer.body ≡ false
+      → IsAnswerBy (sent ++ y ∷ []) x answer (shelf_then moment)
+  then_answers moment x answer there from spelled kind = elim (get_push sent moment x y there) [
+    | inl before ↦
+        subst (IsAnswerBy (sent ++ y ∷ []) x answer) (sym (then_old moment (slice_get_within sent moment x before)))
+        (answer_more sent (y ∷ []) x answer (h.shelf_at moment) (h.answers moment x answer before from spelled kind))
+    | inr last ↦
+        let own : IsAnswerBy sent y answer m.store.shelf =
+        told answer (ap (λ (z : Sent). z.from) (sym last.1) ∙ from) (subst (λ (z : Sent). IsBodyOf answer z.body) last.1 spelled) kind in
+        let high : length sent ≤ moment = omega (arith, last.0) in
+        subst (IsAnswerBy (sent ++ y ∷ []) x answer) (sym (then_new moment high))
+        (answer_more sent (y ∷ []) x answer m.store.shelf (subst (λ (z : Sent). IsAnswerBy sent z answer m.store.shelf) (sym last.1) own))
+  ]
+
+  history_more : HasHistory (sent ++ y ∷ []) node m
+  history_more = record { shelf_at = shelf_then; stays = then_stays; last = then_last; answers = then_answers }
 
 pub sent_more : (servers : List (Machine MemoryState)) (operations : List Operation) (sent : List Sent) (y : Sent) → IsFounded servers operations sent y
     → AreConsistent servers operations sent → AreConsistent servers operations (sent ++ y ∷ [])
@@ -142,6 +221,11 @@ sent_more servers operations sent y founded c = record {
         (founded.recorded m (subst (λ (z : Sent). z.from < length servers) (sym h) honest) (subst (λ (z : Sent). IsBodyOf m z.body) (sym h) spelled) kind)
   ];
   fine = λ i op e. fine_more (length servers) sent (y ∷ []) i op (c.fine i op e);
+  history = λ node m e. history_more sent y node m (c.history node m e) (λ answer from spelled kind. founded.told m answer (ap (slice_get servers) from ∙ e) spelled kind);
+  after = λ moment x answer op there from to spelled kind at. elim (get_push sent moment x y there) [
+    | inl before ↦ c.after moment x answer op before from to spelled kind at
+    | inr last ↦ (let begun = (c.fine answer.session op at).before in omega (arith, begun, last.0))
+  ];
 }
 
 pub same_sent : (servers : List (Machine MemoryState)) (operations : List Operation) (sent : List Sent) → AreConsistent servers operations sent → AreConsistent servers operations (sent ++ [])
@@ -158,8 +242,8 @@ all_sent servers operations sent (y ∷ ys) each c =
 -- an answer that is sent is justified
 pub answered : (servers : List (Machine MemoryState)) (operations : List Operation) (sent : List Sent) (x : Sent) (m said : Message) (after : Machine MemoryState)
     → slice_get servers x.to ≡ Some after → Contains sent x → IsBodyOf m x.body → IsMessage said → IsAnswer (shelved after).store m said
-    → IsFounded servers operations sent (sent_to x.to x.from said)
-answered servers operations sent x m said after at there spelled spoken answers = record {
+    → TellsAll (shelved after).store m.body said.body → IsFounded servers operations sent (sent_to x.to x.from said)
+answered servers operations sent x m said after at there spelled spoken answers all = record {
   justified = λ n a e s kind.
       let same : said ≡ a = spelled_alike said a spoken s.0 s.1 in
       let server : after ≡ n = same_some after n (sym at ∙ e) in
@@ -176,6 +260,19 @@ answered servers operations sent x m said after at there spelled spoken answers 
       let same : said ≡ n = spelled_alike said n spoken s.0 s.1 in
       let never : is_request n.body ≡ false = ap (λ (k : Message). is_request k.body) (sym same) ∙ answers.kind in
       absurd cc;
+  told = λ n a e s kind.
+      let same : said ≡ a = spelled_alike said a spoken s.0 s.1 in
+      let server : after ≡ n = same_some after n (sym at ∙ e) in
+      subst (λ (k : Machine MemoryState). IsAnswerBy sent (sent_to x.to x.from said) a k.store.shelf) server record {
+        frame = x;
+        request = m;
+        was_sent = there;
+        spelled = spelled;
+        from = refl;
+        to = refl;
+        answers = subst (IsAnswer (shelved after).store m) same answers;
+        all = subst (λ (k : Message). TellsAll (shelved after).store m.body k.body) same all;
+      };
 }
 
 -- what a liar sends is nobody's answer and nobody's request
@@ -184,14 +281,16 @@ pub said_by_liar : (servers : List (Machine MemoryState)) (operations : List Ope
 said_by_liar servers operations sent x liar within = record {
   justified = λ m a at spelled kind. absurd (omega (arith, within m at, liar));
   recorded = λ m honest spelled kind. absurd (omega (arith, honest, liar));
+  told = λ m answer at spelled kind. absurd (omega (arith, within m at, liar));
 }
 
 -- ---- an operation goes on
 
--- requests stay recorded, each of an operation that stands where it stood
+-- requests stay recorded, each of an operation that stands where it stood, and began when it did
 abbrev pub AllKeep : List Operation → List Operation → Type 0
 AllKeep old new = (i : ℕ) (op : Operation) → slice_get old i ≡ Some op
     → (next : Operation) × (slice_get new i ≡ Some next) × ((x : Sent) (m : Message) → IsRequestOf op x m → IsRequestOf next x m)
+    × (next.sent_before ≡ op.sent_before)
 
 recorded_on : (old new : List Operation) (x : Sent) (m : Message) → AllKeep old new → IsRecorded old x m → IsRecorded new x m
 recorded_on old new x m k r = (let next = k m.session r.operation r.at in record { operation = next.0; at = next.1; request = next.2 x m r.request })
@@ -203,22 +302,32 @@ operations_change servers old new sent k fine c = record {
   justified = c.justified;
   recorded = λ x m there honest spelled kind. recorded_on old new x m k (c.recorded x m there honest spelled kind);
   fine = fine;
+  history = c.history;
+  after = λ moment x answer op there from to spelled kind at.
+      let m = get_below servers x.from from in
+      let j = c.justified x m.0 answer (member_at sent moment x there) m.1 spelled kind in
+      let honest : j.frame.from < length servers = subst (λ (n : ℕ). n < length servers) (sym j.from) to in
+      let r = c.recorded j.frame j.request j.was_sent honest j.spelled j.answers.asked in
+      let next = k j.request.session r.operation r.at in
+      let same : next.0 ≡ op = same_some next.0 op (sym next.1 ∙ ap (slice_get new) (sym j.answers.session) ∙ at) in
+      let before = c.after moment x answer r.operation there from to spelled kind (ap (slice_get old) j.answers.session ∙ r.at) in
+      subst (λ (n : ℕ). n ≤ moment) (sym next.3 ∙ ap (λ (o : Operation). o.sent_before) same) before;
 }
 
 one_keeps : (operations : List Operation) (number : ℕ) (old new : Operation) → slice_get operations number ≡ Some old → ((x : Sent) (m : Message) → IsRequestOf old x m → IsRequestOf new x m)
-    → AllKeep operations (slice_set operations number new)
-one_keeps operations number old new at keeps i op e = elim (get_set_back operations number i op new e) [
+    → new.sent_before ≡ old.sent_before → AllKeep operations (slice_set operations number new)
+one_keeps operations number old new at keeps began i op e = elim (get_set_back operations number i op new e) [
   | inl h ↦ (let same : old ≡ op = same_some old op (sym at ∙ ap (slice_get operations) (sym h.0) ∙ e) in
-      (new, h.1, λ x m r. keeps x m (subst (λ (o : Operation). IsRequestOf o x m) (sym same) r)))
-  | inr h ↦ (op, h, λ x m r. r)
+      (new, h.1, (λ x m r. keeps x m (subst (λ (o : Operation). IsRequestOf o x m) (sym same) r)), began ∙ ap (λ (o : Operation). o.sent_before) same))
+  | inr h ↦ (op, h, (λ x m r. r), refl)
 ]
 
 -- one operation changes, and stays fine
 pub one_changes : (servers : List (Machine MemoryState)) (operations : List Operation) (sent : List Sent) (number : ℕ) (old new : Operation) → slice_get operations number ≡ Some old
-    → ((x : Sent) (m : Message) → IsRequestOf old x m → IsRequestOf new x m) → IsFine (length servers) sent number new
+    → ((x : Sent) (m : Message) → IsRequestOf old x m → IsRequestOf new x m) → new.sent_before ≡ old.sent_before → IsFine (length servers) sent number new
     → AreConsistent servers operations sent → AreConsistent servers (slice_set operations number new) sent
-one_changes servers operations sent number old new at keeps fine c =
-    operations_change servers operations (slice_set operations number new) sent (one_keeps operations number old new at keeps)
+one_changes servers operations sent number old new at keeps began fine c =
+    operations_change servers operations (slice_set operations number new) sent (one_keeps operations number old new at keeps began)
     (λ j o e. elim (get_set operations number j o new e) [
       | inl h ↦ subst (λ (n : ℕ). IsFine (length servers) sent n o) (sym h.0) (subst (IsFine (length servers) sent number) (sym h.1) fine)
       | inr h ↦ c.fine j o h
@@ -248,6 +357,7 @@ fine_on New honest sent i old new same g came right given f = record {
     | inr n ↦ came place s.server s.asked said n
   ]);
   right = right;
+  asked = g.asked (range_with_len 0 honest) f.asked;
 }
 
 for_gone : (job : Job) (task : Task) (number : ℕ) → IsFor job task → IsFor job (Gone number)
@@ -275,6 +385,7 @@ fine_gone honest sent i old new same is right given f = record {
   before = subst (λ (n : ℕ). n ≤ length sent) (sym same.sent_before) f.before;
   answers = λ place r said e o. absurd (nothing place r (ap (λ (t : Task). slice_get (requests_of t).entries place) (sym is) ∙ e));
   right = right;
+  asked = subst (HasAsked (range_with_len 0 honest)) (sym is) tt;
 } where
   nothing : (place : ℕ) (r : Request) → None ≡ Some r → ⊥
   nothing place r e = cc
@@ -294,6 +405,10 @@ founded servers operations sent i op node x at own session f = record {
         at = ap (slice_get operations) (f.session ∙ session) ∙ at;
         request = asked (own ∙ sym f.from) f.request;
       };
+  told = λ m a e s kind.
+      let same : f.message ≡ a = spelled_alike f.message a f.body.0 s.0 (sym f.body.1 ∙ s.1) in
+      let yes : is_request a.body ≡ true = ap (λ (k : Message). is_request k.body) (sym same) ∙ f.asks in
+      absurd cc;
 }
 
 -- what every call of an operation does keeps the world consistent
@@ -309,7 +424,7 @@ operation_moves New servers operations sent after i old new at moves came right 
       let here : slice_get (slice_set operations i new) i ≡ Some new = get_set_same operations i old new at in
       let stays : IsFine (length servers) sent i new = fine_on New (length servers) sent i old new moves.same s.goes came right moves.given fine in
       let changed : AreConsistent servers (slice_set operations i new) sent =
-      one_changes servers operations sent i old new at (λ x m r. request_moves New old new x m moves.same.node s.goes r) stays c in
+      one_changes servers operations sent i old new at (λ x m r. request_moves New old new x m moves.same.node s.goes r) moves.same.sent_before stays c in
       subst (AreConsistent servers (slice_set operations i new)) (sym s.appended)
       (all_sent servers (slice_set operations i new) sent s.more
       (λ t y k. founded servers (slice_set operations i new) t i new old.node y here moves.same.node stays.session (s.frames y k)) changed)
@@ -318,7 +433,7 @@ operation_moves New servers operations sent after i old new at moves came right 
   lost l =
       let stays : IsFine (length servers) sent i new = fine_gone (length servers) sent i old new moves.same l.gone right moves.given fine in
       subst (AreConsistent servers (slice_set operations i new)) (sym l.nothing)
-      (one_changes servers operations sent i old new at (λ x m r. gone i l.gone) stays c)
+      (one_changes servers operations sent i old new at (λ x m r. gone i l.gone) moves.same.sent_before stays c)
 
   by : SendsSome New old.node old.task new.task sent after ⊎ IsLostTask i old.task new.task sent after → AreConsistent servers (slice_set operations i new) after
   by (inl s) = goes s
@@ -327,12 +442,27 @@ operation_moves New servers operations sent after i old new at moves came right 
 -- ---- an operation begins
 
 push_keeps : (operations : List Operation) (new : Operation) → AllKeep operations (operations ++ new ∷ [])
-push_keeps operations new i op e = (op, get_push_old operations i op new e, λ x m r. r)
+push_keeps operations new i op e = (op, get_push_old operations i op new e, (λ x m r. r), refl)
 
-pub operation_begins : (servers : List (Machine MemoryState)) (operations : List Operation) (sent : List Sent) (node : ℕ) (job : Job) (task : Task) → node < length servers
-    → IsNewTask (length operations) job task → IsRightTask task → AreConsistent servers operations sent
+-- fewer servers were asked too
+fewer_asked : (these those : List ℕ) → ((server : ℕ) → Contains these server → Contains those server) → (task : Task) → HasAsked those task → HasAsked these task
+fewer_asked these those within (Downloading d) h = λ other. fewer (h other) where
+  fewer : AsksAll those d.requests.entries → AsksAll these d.requests.entries
+  fewer all = record { asked = λ server c. all.asked server (within server c); awaited = all.awaited }
+fewer_asked these those within (Checking c) h = record { asked = λ server among. h.asked server (within server among); awaited = h.awaited }
+fewer_asked these those within (Uploading u) h = tt
+fewer_asked these those within (Gone number) h = tt
+
+range_below : (n server : ℕ) → Contains (range_with_len 0 n) server → server < n
+range_below n server c =
+    let low : c.0 < n = subst (λ (k : ℕ). c.0 < k) (length-range_with_len 0 n) c.1 in
+    let is : 0 + c.0 ≡ server = sym (get_or-range_with_len 0 n c.0 server low) ∙ c.2 in
+    omega (arith, low, is)
+
+pub operation_begins : (servers : List (Machine MemoryState)) (operations : List Operation) (sent : List Sent) (nodes : List ℕ) (node : ℕ) (job : Job) (task : Task) → node < length servers
+    → ((server : ℕ) → server < length servers → Contains nodes server) → IsNewTask nodes (length operations) job task → IsRightTask task → AreConsistent servers operations sent
     → AreConsistent servers (operations ++ new_operation node job (length sent) task ∷ []) sent
-operation_begins servers operations sent node job task honest begins right c =
+operation_begins servers operations sent nodes node job task honest all begins right c =
     let op : Operation = new_operation node job (length sent) task in
     let fine : IsFine (length servers) sent (length operations) op = record {
       node = honest;
@@ -344,6 +474,7 @@ operation_begins servers operations sent node job task honest begins right c =
         | inr n ↦ absurd n
       ];
       right = right;
+      asked = fewer_asked (range_with_len 0 (length servers)) nodes (λ server among. all server (range_below (length servers) server among)) task begins.asked;
       given = λ q k. absurd (member_none q k);
     } in
     operations_change servers operations (operations ++ op ∷ []) sent (push_keeps operations op)
@@ -360,7 +491,7 @@ pub record HaveOtherLives (old new : List Operation) : Type 0 where
   pub on : (i : ℕ) (op : Operation) → slice_get old i ≡ Some op → (fate : Life) × (slice_get new i ≡ Some (with_life fate op))
 
 fine_with : (honest : ℕ) (sent : List Sent) (i : ℕ) (op : Operation) (fate : Life) → IsFine honest sent i op → IsFine honest sent i (with_life fate op)
-fine_with honest sent i op fate f = record { node = f.node; started = f.started; session = f.session; before = f.before; answers = f.answers; right = f.right; given = f.given }
+fine_with honest sent i op fate f = record { node = f.node; started = f.started; session = f.session; before = f.before; answers = f.answers; right = f.right; asked = f.asked; given = f.given }
 
 request_with : (op : Operation) (fate : Life) (x : Sent) (m : Message) → IsRequestOf op x m → IsRequestOf (with_life fate op) x m
 request_with op fate x m (gone number is) = gone number is
@@ -369,7 +500,7 @@ request_with op fate x m (asked from r) = asked from r
 pub lives_changed : (servers : List (Machine MemoryState)) (old new : List Operation) (sent : List Sent) → HaveOtherLives old new
     → AreConsistent servers old sent → AreConsistent servers new sent
 lives_changed servers old new sent h c =
-    operations_change servers old new sent (λ i op e. let f = h.on i op e in (with_life f.0 op, f.1, request_with op f.0))
+    operations_change servers old new sent (λ i op e. let f = h.on i op e in (with_life f.0 op, f.1, request_with op f.0, refl))
     (λ i op e. let was = h.back i op e in subst (IsFine (length servers) sent i) (sym was.3) (fine_with (length servers) sent i was.0 was.1 (c.fine i was.0 was.2))) c
 
 own_life : (op : Operation) → op ≡ with_life op.life op

@@ -35,7 +35,7 @@ use Rattle.world.proofs.Hashed.{encoding_among, share_among}
 use Rattle.world.proofs.Told.{acknowledgement_told}
 
 -- a share of an encoding is hashed whole
-share_hashed : (file secret : List ℕ) (p : UploadParameters) (n : ℕ) → n < length (encoding_of file secret (parameters_of p)).shares
+pub share_hashed : (file secret : List ℕ) (p : UploadParameters) (n : ℕ) → n < length (encoding_of file secret (parameters_of p)).shares
     → Contains (encoding_inputs file secret (parameters_of p)) (tagged_input WholeShare (slice_index_or (encoding_of file secret (parameters_of p)).shares n []))
 share_hashed file secret p n low =
     let shares : List (List ℕ) = (encoding_of file secret (parameters_of p)).shares in

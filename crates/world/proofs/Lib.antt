@@ -6,6 +6,8 @@ pub mod Keep
 pub mod Repaired
 pub mod Agree
 pub mod Binding
+pub mod Enough
+pub mod Bound
 pub mod Trusted
 pub mod Changes
 pub mod Later

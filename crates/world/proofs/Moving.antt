@@ -23,7 +23,7 @@ use Rattle.world_operations.specs.Follow.{IsNewTask, IsSaid, Moves}
 use Rattle.world_operations.specs.Moves.{IsFlushed, OperationGets, sent_to}
 use Rattle.world_operations.specs.Tasks.{IsRightTask, requests_of}
 use Rattle.world_operations.proofs.Places.{append_none, get_below, push_last, same_some}
-use Rattle.world.specs.State.{WorldState, server_of, shelved}
+use Rattle.world.specs.State.{WorldState, nodes_of, server_of, shelved}
 use Rattle.world.specs.Step.{Delivers, HaveTicked, OperationsTick, Opens, RestartsAt, ServerGets, TaskGets, TicksAt, TicksOrStays, failing, forgotten_by, is_live, is_live_at, new_operation, with_heard, with_life}
 use Rattle.world.specs.Step.{gets, to_liar}
 use Rattle.world.specs.Parts.{NothingNew, OperationBecomes, OperationMoves, SaidBy, ServerBecomes, ServesBy}
@@ -170,7 +170,7 @@ opened w node job task new after b =
     }
 
 pub opened_keeps : (w : WorldState) (node : ℕ) (job : Job) (task : Task) (new : List Operation) (after : List Sent) → node < length w.servers
-    → IsNewTask (length w.operations) job task → IsRightTask task
+    → IsNewTask (nodes_of w) (length w.operations) job task → IsRightTask task
     → OperationMoves NothingNew (w.operations ++ new_operation node job (length w.sent) task ∷ []) (length w.operations) w.sent new after
     → Preserves w (record w { operations = new; sent = after })
 opened_keeps w node job task new after honest begins right b =

@@ -1,7 +1,8 @@
 -- Each change of a world preserves what holds of it, and one after another does.
-use Rattle.std.proofs.Common.{◌≡◌, ℕ, ◌<◌, ◌≤◌, List, [], ◌∷◌, ◌++◌, length, replicate, zero, suc, Some, None, Ok, Err, Contains, refl, sym, subst, ap, ◌∙◌}
+use Rattle.std.proofs.Common.{◌≡◌, ℕ, ◌<◌, ◌≤◌, List, [], ◌∷◌, ◌++◌, length, replicate, zero, suc, Some, None, Ok, Err, Contains, refl, sym, subst, ap, ◌∙◌, arith}
 use Rattle.std.specs.Prelude.{slice_get, slice_set}
 use Rattle.std.specs.List.Sorted.{IsStrictlySortedBy}
+use Rattle.lemmas.proofs.Ranges.{range_has}
 use Rattle.std.proofs.lemmas.Option.{slice_get_within}
 use Rattle.wire.specs.declared.message.Body.{Body}
 use Rattle.wire.specs.declared.message.Message.{Message}
@@ -13,7 +14,10 @@ use Rattle.server_core.specs.Machine.{Machine, Outcome, RestartsTo, Serves, Tick
 use Rattle.server_core.specs.Sound.{AreRight, Answers, ClosedStay, IsKept, IsSound, StaysSound}
 use Rattle.server_core.proofs.Keeps.{messages_keep, restarts_keep, starts_sound, ticks_keep}
 use Rattle.server_core.proofs.Over.{serves_over}
+use Rattle.share_store.specs.Calls.{shelf_calls}
 use Rattle.share_store.specs.MemoryKeeps.{memory_keeps}
+use Rattle.enough_binding.specs.Servers.{TellsAll}
+use Rattle.enough_binding.proofs.Servers.{servers_tell_all}
 use Rattle.world_operations.specs.declared.job.Job.{Job}
 use Rattle.world_operations.specs.declared.message.Sent.{Sent}
 use Rattle.world_operations.specs.declared.operation.Operation.{Operation}
@@ -22,7 +26,7 @@ use Rattle.world_operations.specs.Follow.{IsNewTask, IsSaid, Moves, Nothing, Sai
 use Rattle.world_operations.specs.Moves.{sent_to}
 use Rattle.world_operations.specs.Tasks.{IsRightTask, requests_of}
 use Rattle.world_operations.proofs.Places.{get_set_same, length_set, member_none, same_some}
-use Rattle.world.specs.State.{WorldState, new_server, new_world, shelved}
+use Rattle.world.specs.State.{WorldState, new_server, new_world, node_count, nodes_of, shelved}
 use Rattle.world.specs.Step.{IsSpoken, answer_to, new_operation}
 use Rattle.world.specs.Consistent.{CameFrom, IsConsistent, Preserves}
 use Rattle.world.specs.Headline.{IsLater}
@@ -89,16 +93,16 @@ preserves_served w node from now m outcome before after at serves c =
 
 answer_sent : (w : WorldState) (x : Sent) (m : Message) (after : Server) (outcome : Outcome)
     → slice_get w.servers x.to ≡ Some after → Contains w.sent x → IsBodyOf m x.body → IsSpoken outcome → Answers (shelved after).store m outcome
-    → Preserves w (record w { sent = w.sent ++ answer_to x outcome })
-answer_sent w x m after (Ok (Some said)) at there spelled spoken answers c = (
-  sent_more w.servers w.operations w.sent (sent_to x.to x.from said) (answered w.servers w.operations w.sent x m said after at there spelled spoken answers) c,
+    → ((said : Message) → outcome ≡ Ok (Some said) → TellsAll (shelved after).store m.body said.body) → Preserves w (record w { sent = w.sent ++ answer_to x outcome })
+answer_sent w x m after (Ok (Some said)) at there spelled spoken answers all c = (
+  sent_more w.servers w.operations w.sent (sent_to x.to x.from said) (answered w.servers w.operations w.sent x m said after at there spelled spoken answers (all said refl)) c,
   later_from w (record w { sent = w.sent ++ sent_to x.to x.from said ∷ [] }) (none_change w.servers) (none_grow w.operations) (sent_to x.to x.from said ∷ [], refl) (refl, refl),
 )
-answer_sent w x m after (Ok None) at there spelled spoken answers c = (
+answer_sent w x m after (Ok None) at there spelled spoken answers all c = (
   same_sent w.servers w.operations w.sent c,
   later_from w (record w { sent = w.sent ++ [] }) (none_change w.servers) (none_grow w.operations) ([], refl) (refl, refl),
 )
-answer_sent w x m after (Err e) at there spelled spoken answers c = (
+answer_sent w x m after (Err e) at there spelled spoken answers all c = (
   same_sent w.servers w.operations w.sent c,
   later_from w (record w { sent = w.sent ++ [] }) (none_change w.servers) (none_grow w.operations) ([], refl) (refl, refl),
 )
@@ -109,9 +113,12 @@ pub preserves_answered : (w : WorldState) (x : Sent) (m : Message) (outcome : Ou
     → Preserves w (record w { servers = slice_set w.servers x.to after; sent = w.sent ++ answer_to x outcome })
 preserves_answered w x m outcome before after at there spelled serves spoken c =
     let k = served before after x.from w.clock m outcome (c.sound x.to before at) serves in
+    let on : Serves shelf_calls (shelved before) x.from m w.clock outcome (shelved after) = serves_over memory_calls (λ (s : MemoryState). s.shelf) memory_keeps before after x.from w.clock m outcome serves in
     let mid : WorldState = record w { servers = slice_set w.servers x.to after } in
     preserves_on w mid (record mid { sent = mid.sent ++ answer_to x outcome }) (server_goes w x.to before after at k.sound k.stays)
-    (answer_sent mid x m after outcome (get_set_same w.servers x.to before after at) there spelled spoken k.answers) c
+    (answer_sent mid x m after outcome (get_set_same w.servers x.to before after at) there spelled spoken k.answers
+    (λ said is. servers_tell_all (shelved before) (shelved after) x.from w.clock m said (c.sound x.to before at)
+    (subst (λ (o : Outcome). Serves shelf_calls (shelved before) x.from m w.clock o (shelved after)) is on))) c
 
 pub preserves_ticked : (w : WorldState) (node now : ℕ) (before after : Server) → slice_get w.servers node ≡ Some before → Ticks before now after
     → Preserves w (record w { servers = slice_set w.servers node after })
@@ -173,10 +180,10 @@ pub preserves_moved : (w : WorldState) (i : ℕ) (old new : Operation) (after : 
     → Preserves w (record w { operations = slice_set w.operations i new; sent = after })
 preserves_moved w i old new after at moves right c = operation_goes Nothing w i old new after at moves (λ place server asks said n. absurd n) right c
 
-pub preserves_begun : (w : WorldState) (node : ℕ) (job : Job) (task : Task) → node < length w.servers → IsNewTask (length w.operations) job task → IsRightTask task
+pub preserves_begun : (w : WorldState) (node : ℕ) (job : Job) (task : Task) → node < length w.servers → IsNewTask (nodes_of w) (length w.operations) job task → IsRightTask task
     → Preserves w (record w { operations = w.operations ++ new_operation node job (length w.sent) task ∷ [] })
 preserves_begun w node job task honest begins right c = (
-  operation_begins w.servers w.operations w.sent node job task honest begins right c,
+  operation_begins w.servers w.operations w.sent (nodes_of w) node job task honest (λ server low. range_has 0 (node_count w) server (omega arith) (omega (arith, low))) begins right c,
   later_from w (record w { operations = w.operations ++ new_operation node job (length w.sent) task ∷ [] }) (none_change w.servers)
       (one_more w.operations (new_operation node job (length w.sent) task)) (no_more w.sent) (refl, refl),
 )
@@ -204,4 +211,11 @@ new_consistent honest liars = record {
   justified = λ x m answer c at spelled kind. absurd (member_none x c);
   recorded = λ x m c honest spelled kind. absurd (member_none x c);
   fine = λ i op e. absurd cc;
+  history = λ node m e. record {
+    shelf_at = λ i. m.store.shelf;
+    stays = λ i j le id x f. f;
+    last = λ i id x f. f;
+    answers = λ moment x answer there from spelled kind. absurd cc;
+  };
+  after = λ moment x answer op there from to spelled kind at. absurd cc;
 }

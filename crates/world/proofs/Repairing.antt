@@ -18,7 +18,7 @@ use Rattle.world_operations.specs.Follow.{IsNewTask}
 use Rattle.world_operations.specs.Repairs.{BeginsRepair}
 use Rattle.world_operations.specs.Status.{check_status, lived, machine_status}
 use Rattle.world_operations.proofs.Beginnings.{new_repair}
-use Rattle.world.specs.State.{WorldState, servers_of}
+use Rattle.world.specs.State.{WorldState, nodes_of, servers_of}
 use Rattle.world.specs.Step.{IsDoneCheck, RepairBegins}
 
 by_life : (life : Life) (s : Status) → lived life s ≡ statuses.Done → s ≡ statuses.Done
@@ -77,7 +77,7 @@ mending w node number happy check cap good taken servers session job task done c
 
 pub mending_new : (w : WorldState) (happy : ℕ) (check : CheckState) (cap : VerifyCapValue) (taken : List Share) (servers : List ServerInfo) (session : ℕ) (job : Job) (task : Task)
     → MayWant check.cap happy → cap ≡ check.cap → servers ≡ servers_of w → session ≡ length w.operations
-    → BeginsRepair cap happy (numbers_of taken) (strings_of taken) servers session w.clock job task → IsNewTask (length w.operations) job task
+    → BeginsRepair cap happy (numbers_of taken) (strings_of taken) servers session w.clock job task → IsNewTask (nodes_of w) (length w.operations) job task
 mending_new w happy check cap taken servers session job task may cap_is servers_are session_is begins =
-    new_repair check.cap happy (numbers_of taken) (strings_of taken) (servers_of w) (length w.operations) w.clock job task may
+    new_repair (nodes_of w) check.cap happy (numbers_of taken) (strings_of taken) (servers_of w) (length w.operations) w.clock job task may
     (at_place w happy check cap taken servers session job task cap_is servers_are session_is begins)

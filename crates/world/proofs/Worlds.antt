@@ -13,7 +13,7 @@ use Rattle.world.specs.Taking.{AreTaken, IsRun, StepGives}
 use Rattle.world.proofs.Later.{later_still, same_world}
 use Rattle.world.proofs.Preserving.{new_consistent}
 use Rattle.world.specs.Repairs.{AreTrustedRepairs}
-use Rattle.world.proofs.Binding.{bound}
+use Rattle.world.proofs.Bound.{bound}
 use Rattle.world.proofs.Trusted.{trusted}
 use Rattle.world.proofs.Repaired.{repairs_trusted}
 

@@ -1,11 +1,10 @@
 -- Beside the headline: what binds downloads and checks of a cap to the file whose upload was
 -- started with it.
-use Rattle.std.specs.Prelude.{◌≡◌, ◌≢◌, ℕ, ◌<◌, List, [], length, Some, Contains}
-use Rattle.std.specs.Prelude.{slice_get, slice_index, slice_index_or}
+use Rattle.std.specs.Prelude.{◌≡◌, ◌≢◌, ℕ, List, [], length, Some}
+use Rattle.std.specs.Prelude.{slice_get, slice_index_or}
 use Rattle.aes_ctr.specs.CounterMode.{xored}
-use Rattle.tagged_hash.specs.Clash.{HasNoClashIn}
 use Rattle.tagged_hash.specs.ConvergentKey.{convergent_key_of}
-use Rattle.cap_text.specs.Cap.{ReadCapValue, VerifyCapValue, verify_cap_of}
+use Rattle.cap_text.specs.Cap.{verify_cap_of}
 use Rattle.share_layout.specs.Geometry.{geometry_of}
 use Rattle.share_layout.specs.Pieces.{segments_of}
 use Rattle.file_encoding.specs.Encoding.{blocks_of}
@@ -21,54 +20,10 @@ use Rattle.share_reading.specs.Verdict.{IsGood}
 use Rattle.wire.specs.declared.message.Body.TheVariants.{Data}
 use Rattle.checker.specs.Shares.{settled_of}
 use Rattle.checker.specs.State.{CheckState}
-use Rattle.world_operations.specs.declared.operation.Operation.{Operation}
-use Rattle.world_operations.specs.declared.task.Task.TheVariants.{Checking, Downloading}
-use Rattle.world_operations.specs.Given.{IsTestedBy}
-use Rattle.world_operations.specs.Jobs.{HasOneKey, Uploads}
 use Rattle.world.specs.Consistent.{CameFrom}
-use Rattle.world.specs.Headline.{IsHashed}
+use Rattle.world.specs.Enough.{ConfirmedAreGood, EnoughAreFound}
+use Rattle.world.specs.Started.{HasNoClashInTests, IsCheckOf, IsDownloadOf, IsStarted}
 use Rattle.world.specs.State.{WorldState}
-
--- ---- what else was hashed
-
--- What the headline speaks of, and what downloads and checks hashed to test what they read: blocks,
--- nodes of the trees that tell of them, and the good shares of checks.
-pub data IsHashedOrTested (w : WorldState) (input : List ℕ) : Type 0 where
-  hashed : IsHashed w input → IsHashedOrTested w input
-  tested : (op : Operation) → Contains w.operations op → IsTestedBy op.task input
-      → IsHashedOrTested w input
-
--- no two of these clash
-abbrev pub HasNoClashInTests : WorldState → Type 0
-HasNoClashInTests w = HasNoClashIn (IsHashedOrTested w)
-
--- ---- a started upload, and downloads and checks of its cap
-
--- The upload of this file was started, whatever became of it. Of a source that changes, both passes
--- had one key.
-pub record IsStarted (w : WorldState) (file secret : List ℕ) (p : UploadParameters) : Type 0 where
-  pub number : ℕ
-  pub operation : Operation
-  pub at : slice_get w.operations number ≡ Some operation
-  pub uploads : Uploads operation.job file secret p
-  pub one_key : HasOneKey operation.job
-  pub bytes : (i : ℕ) → slice_index file i < 256
-
--- a download of this cap, whatever became of it
-pub record IsDownloadOf (w : WorldState) (cap : ReadCapValue) (d : DownloadState) : Type 0 where
-  pub number : ℕ
-  pub operation : Operation
-  pub at : slice_get w.operations number ≡ Some operation
-  pub task : operation.task ≡ Downloading d
-  pub cap_is : d.cap ≡ cap
-
--- a check of this verify cap, whatever became of it
-pub record IsCheckOf (w : WorldState) (cap : VerifyCapValue) (c : CheckState) : Type 0 where
-  pub number : ℕ
-  pub operation : Operation
-  pub at : slice_get w.operations number ≡ Some operation
-  pub task : operation.task ≡ Checking c
-  pub cap_is : c.cap ≡ cap
 
 -- ---- the claims
 
@@ -125,3 +80,5 @@ pub record IsBound (w : WorldState) : Type 0 where
   pub blocks_are_own : HasNoClashInTests w → BlocksAreOwn w
   pub good_shares_are_own : HasNoClashInTests w → GoodSharesAreOwn w
   pub no_false_blame : HasNoClashInTests w → NoFalseBlame w
+  pub enough_are_found : HasNoClashInTests w → EnoughAreFound w
+  pub confirmed_are_good : HasNoClashInTests w → ConfirmedAreGood w

@@ -2,6 +2,7 @@
 -- so, and what was counted was sent.
 use Rattle.std.specs.Prelude.{◌≡◌, ℕ, ◌+◌, ◌<◌, ◌≤◌, List, length, true, false, Some, slice_get}
 use Rattle.std.specs.Prelude.{Contains}
+use Rattle.std.specs.List.{range_with_len}
 use Rattle.wire.specs.declared.message.Body.{Body}
 use Rattle.wire.specs.declared.message.Message.{Message}
 use Rattle.wire.specs.Frames.{IsBodyOf}
@@ -14,11 +15,13 @@ use Rattle.server_core.specs.Sound.{IsAnswer, IsSound, is_request}
 use Rattle.world_operations.specs.declared.message.Sent.{Sent}
 use Rattle.world_operations.specs.declared.operation.Operation.{Operation}
 use Rattle.world_operations.specs.declared.task.Task.TheVariants.{Gone}
+use Rattle.world_operations.specs.Asked.{HasAsked}
 use Rattle.world_operations.specs.Follow.{IsRequestBy, IsSaid}
 use Rattle.world_operations.specs.Given.{AreGivenBy}
 use Rattle.world_operations.specs.Jobs.{IsFor}
 use Rattle.world_operations.specs.Tasks.{IsRightTask, requests_of}
 use Rattle.world.specs.Headline.{IsLater}
+use Rattle.world.specs.History.{AnswersComeAfter, HasHistory}
 use Rattle.world.specs.State.{WorldState, shelved}
 
 -- an answer of an honest server belongs to a request that was sent to it, and what it tells is so
@@ -54,7 +57,7 @@ pub record CameFrom (sent : List Sent) (session node place server : ℕ) (asked 
   pub says : IsSaid frame.from answer session place server asked said
 
 -- An operation is what it was started for, at an honest node, and has its place as session. Its
--- machine is right, and gave what it handed out.
+-- machine is right, asked each honest node which shares it holds, and gave what it handed out.
 pub record IsFine (honest : ℕ) (sent : List Sent) (number : ℕ) (op : Operation) : Type 0 where
   pub node : op.node < honest
   pub started : IsFor op.job op.task
@@ -65,6 +68,7 @@ pub record IsFine (honest : ℕ) (sent : List Sent) (number : ℕ) (op : Operati
       → request.outcome ≡ Answered said
       → CameFrom sent number op.node place request.server request.asked said
   pub right : IsRightTask op.task
+  pub asked : HasAsked (range_with_len 0 honest) op.task
   pub given : AreGivenBy op.task op.given
 
 -- Of a world its servers, its operations and what was sent: its time, and what liars heard, are
@@ -80,6 +84,9 @@ pub record AreConsistent (servers : List (Machine MemoryState)) (operations : Li
       → IsBodyOf m x.body → is_request m.body ≡ true → IsRecorded operations x m
   pub fine : (number : ℕ) (op : Operation) → slice_get operations number ≡ Some op
       → IsFine (length servers) sent number op
+  pub history : (node : ℕ) (m : Machine MemoryState) → slice_get servers node ≡ Some m
+      → HasHistory sent node m
+  pub after : AnswersComeAfter (length servers) operations sent
 
 abbrev pub IsConsistent : WorldState → Type 0
 IsConsistent w = AreConsistent w.servers w.operations w.sent

@@ -6,8 +6,11 @@ pub mod Taking
 pub mod Repaired
 pub mod Headline
 pub mod Repairs
+pub mod Started
+pub mod Enough
 pub mod Binding
 -- what holds of every world, and carries the headline
+pub mod History
 pub mod Consistent
 -- words of private clauses
 pub mod Parts

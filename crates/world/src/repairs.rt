@@ -10,7 +10,7 @@ ghost use Rattle.world_operations.specs.Follow.{IsNewTask};
 ghost use Rattle.world_operations.specs.Tasks.{IsRightTask};
 ghost use Rattle.world.specs.Admitted.{MayRepair};
 ghost use Rattle.world.specs.Consistent.{Preserves};
-ghost use Rattle.world.specs.State.{servers_of, state_of};
+ghost use Rattle.world.specs.State.{nodes_of, servers_of, state_of};
 ghost use Rattle.world.specs.Step.{IsDoneCheck, RepairBegins, RepairStarts};
 
 use crate::nodes::{nodes_up_to, servers_at};
@@ -53,8 +53,8 @@ impl Scene {
         ensures begins { IfOk result (λ begun.
             RepairBegins (state_of self.now) node number happy begun.0 begun.1) }
         ensures may { IfOk result (λ _. MayRepair (state_of self.now) node number happy) }
-        ensures new { IfOk result
-            (λ begun. IsNewTask (length self.now.operations.items) begun.0 begun.1) }
+        ensures new { IfOk result (λ begun. IsNewTask (nodes_of (state_of self.now))
+            (length self.now.operations.items) begun.0 begun.1) }
         ensures refused { IsErrOf result StartError.Refused
             → MayRepair (state_of self.now) node number happy → ⊥ }
         ensures right { IfOk result (λ begun. IsRightTask begun.1) }
@@ -81,8 +81,8 @@ impl Scene {
         requires may { MayWant check.now.cap happy }
         ensures begins { IfOk result (λ begun.
             RepairBegins (state_of self.now) node number happy begun.0 begun.1) }
-        ensures new { IfOk result
-            (λ begun. IsNewTask (length self.now.operations.items) begun.0 begun.1) }
+        ensures new { IfOk result (λ begun. IsNewTask (nodes_of (state_of self.now))
+            (length self.now.operations.items) begun.0 begun.1) }
         ensures right { IfOk result (λ begun. IsRightTask begun.1) }
     {
         let Some(good) = check.good_shares(self.alloc)? else {

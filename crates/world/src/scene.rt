@@ -144,7 +144,8 @@ impl Scene {
         ensures begins { IfOk result (Begins job.now (servers_of (state_of self.now))
             (nodes_of (state_of self.now)) (length self.now.operations.items) self.now.clock) }
         ensures may { IfOk result (λ _. MayStart job.now) }
-        ensures new { IfOk result (IsNewTask (length self.now.operations.items) job.now) }
+        ensures new { IfOk result (IsNewTask (nodes_of (state_of self.now))
+            (length self.now.operations.items) job.now) }
         ensures refused { IsErrOf result StartError.Refused → MayStart job.now → ⊥ }
         ensures right { IfOk result IsRightTask }
     {
@@ -159,7 +160,8 @@ impl Scene {
     /// An operation begins with this machine, and sends what it has to send.
     pub(crate) fn open(&mut self, node: NodeId, job: Job, task: Task) -> Result<(), AllocError>
         requires honest { node < length self.old.servers.items }
-        requires new { IsNewTask (length self.old.operations.items) job task }
+        requires new { IsNewTask (nodes_of (state_of self.old)) (length self.old.operations.items)
+            job task }
         requires right { IsRightTask task }
         ensures ok { OnOk result (Opens (state_of self.old) node job task (state_of self.new)) }
         ensures keeps { Preserves (state_of self.old) (state_of self.new) }

@@ -12,6 +12,8 @@ use Rattle.file_upload.specs.Prepared.{goal_of, prepared_of}
 use Rattle.streamed_upload.specs.Ready.{goal_of as kept_goal}
 use Rattle.streamed_upload.proofs.OneGoal.{goals_are_one}
 use Rattle.upload_core.specs.Sending.{Uploading as Uploading_state}
+use Rattle.all_asked.proofs.Checks.{checks_ask_all}
+use Rattle.all_asked.proofs.Downloads.{downloads_ask_all}
 use Rattle.request_record.specs.Asking.{asks_of, begun, fresh}
 use Rattle.request_record.specs.Record.{RequestsState}
 use Rattle.file_encoding.proofs.RemadePassing.{regenerated_pass}
@@ -73,13 +75,14 @@ stream_is_of_file file other after secret p may b =
       one_key = ap (λ (f : List ℕ). key_for f secret (parameters_of p)) (sym first.0) ∙ b.prepared.one_key ∙ ap (λ (f : List ℕ). key_for f secret (parameters_of p)) second.0;
     }
 
-pub new_task : (servers : List _) (nodes : List ℕ) (session now : ℕ) (job : Job) (task : Task) → MayStart job → Begins job servers nodes session now task → IsNewTask session job task
+pub new_task : (servers : List _) (nodes : List ℕ) (session now : ℕ) (job : Job) (task : Task) → MayStart job → Begins job servers nodes session now task → IsNewTask nodes session job task
 new_task servers nodes session now (jobs.Upload file secret p) (Uploading u) may b =
     let c = b.0 in
     let first : UploadState = upload.initial _ p.happy u.course.servers session now in
     let goes = placed Nothing first u.course (begun u.course.servers session now) (follows_itself Nothing (begun u.course.servers session now)) c.goes in
     record {
       is_for = (c.goal_is, c.wanted, may);
+      asked = tt;
       clock = now;
       follows = follows_on Nothing (fresh session now) (begun u.course.servers session now) u.course.requests (begun_follows u.course.servers session now (begun u.course.servers session now) refl) goes.follows;
     }
@@ -90,27 +93,33 @@ new_task servers nodes session now (jobs.Changing file other after secret p) (Up
     let goes = placed Nothing first u.course (begun u.course.servers session now) (follows_itself Nothing (begun u.course.servers session now)) c.goes in
     record {
       is_for = (c.goal_is ∙ is.goal, c.wanted, is.may, is.one_key);
+      asked = tt;
       clock = now;
       follows = follows_on Nothing (fresh session now) (begun u.course.servers session now) u.course.requests (begun_follows u.course.servers session now (begun u.course.servers session now) refl) goes.follows;
     }
 new_task servers nodes session now (jobs.Changing file other after secret p) (Gone number) may b =
-    subst (λ (n : ℕ). IsNewTask session (jobs.Changing file other after secret p) (Gone n)) (sym b.0)
-    record { is_for = may_of_second file other after secret p may; clock = 0; follows = follows_itself Nothing (fresh session 0) }
+    subst (λ (n : ℕ). IsNewTask nodes session (jobs.Changing file other after secret p) (Gone n)) (sym b.0)
+    record { is_for = may_of_second file other after secret p may; asked = tt; clock = 0; follows = follows_itself Nothing (fresh session 0) }
 new_task servers nodes session now (jobs.Download cap from to) (Downloading d) may b =
-    record { is_for = (b.of_cap, b.range.0, b.range.1); clock = now; follows = begun_follows (download.asked_servers from to nodes) session now d.requests b.asks }
+    record {
+      is_for = (b.of_cap, b.range.0, b.range.1);
+      asked = downloads_ask_all.begins cap from to nodes session now d b;
+      clock = now;
+      follows = begun_follows (download.asked_servers from to nodes) session now d.requests b.asks;
+    }
 new_task servers nodes session now (jobs.Check cap) (Checking c) may b =
-    record { is_for = b.of_cap; clock = now; follows = begun_follows nodes session now c.requests b.asks }
+    record { is_for = b.of_cap; asked = checks_ask_all.begins cap nodes session now c b; clock = now; follows = begun_follows nodes session now c.requests b.asks }
 new_task servers nodes session now _ _ may b = absurd b
 
 -- a repair that makes no shares
-over : (session : ℕ) (cap : VerifyCapValue) (why : Unmade) (job : Job) (task : Task) → job ≡ jobs.NoRepair cap why → task ≡ Gone session → IsNewTask session job task
-over session cap why job task job_is task_is =
-    subst (λ (j : Job). IsNewTask session j task) (sym job_is)
-    (subst (IsNewTask session (jobs.NoRepair cap why)) (sym task_is) record { is_for = tt; clock = 0; follows = follows_itself Nothing (fresh session 0) })
+over : (nodes : List ℕ) (session : ℕ) (cap : VerifyCapValue) (why : Unmade) (job : Job) (task : Task) → job ≡ jobs.NoRepair cap why → task ≡ Gone session → IsNewTask nodes session job task
+over nodes session cap why job task job_is task_is =
+    subst (λ (j : Job). IsNewTask nodes session j task) (sym job_is)
+    (subst (IsNewTask nodes session (jobs.NoRepair cap why)) (sym task_is) record { is_for = tt; asked = tt; clock = 0; follows = follows_itself Nothing (fresh session 0) })
 
-pub new_repair : (cap : VerifyCapValue) (happy : ℕ) (numbers : List ℕ) (strings : List (List ℕ)) (servers : _) (session now : ℕ) (job : Job) (task : Task) → MayWant cap happy
-    → BeginsRepair cap happy numbers strings servers session now job task → IsNewTask session job task
-new_repair cap happy numbers strings servers session now job task may (makes shares u made job_is task_is b pieces) =
+pub new_repair : (nodes : List ℕ) (cap : VerifyCapValue) (happy : ℕ) (numbers : List ℕ) (strings : List (List ℕ)) (servers : _) (session now : ℕ) (job : Job) (task : Task) → MayWant cap happy
+    → BeginsRepair cap happy numbers strings servers session now job task → IsNewTask nodes session job task
+new_repair nodes cap happy numbers strings servers session now job task may (makes shares u made job_is task_is b pieces) =
     let first : UploadState = upload.initial (shares_goal cap shares) happy u.course.servers session now in
     let goes = placed Nothing first u.course (begun u.course.servers session now) (follows_itself Nothing (begun u.course.servers session now)) b.goes in
     let is_for : IsRepair cap happy u = record {
@@ -121,10 +130,11 @@ new_repair cap happy numbers strings servers session now job task may (makes sha
       may = may;
       passing = regenerated_pass cap numbers strings shares made;
     } in
-    subst (λ (j : Job). IsNewTask session j task) (sym job_is) (subst (IsNewTask session (jobs.Repair cap happy)) (sym task_is) record {
+    subst (λ (j : Job). IsNewTask nodes session j task) (sym job_is) (subst (IsNewTask nodes session (jobs.Repair cap happy)) (sym task_is) record {
       is_for = is_for;
+      asked = tt;
       clock = now;
       follows = follows_on Nothing (fresh session now) (begun u.course.servers session now) u.course.requests (begun_follows u.course.servers session now (begun u.course.servers session now) refl) goes.follows;
     })
-new_repair cap happy numbers strings servers session now job task may (lacks l job_is task_is) = over session cap _ job task job_is task_is
-new_repair cap happy numbers strings servers session now job task may (contradicts l job_is task_is) = over session cap _ job task job_is task_is
+new_repair nodes cap happy numbers strings servers session now job task may (lacks l job_is task_is) = over nodes session cap _ job task job_is task_is
+new_repair nodes cap happy numbers strings servers session now job task may (contradicts l job_is task_is) = over nodes session cap _ job task job_is task_is

@@ -44,6 +44,10 @@ use Rattle.world_operations.specs.Moves.{Advances, CheckTicks, Takes, TakesPiece
 use Rattle.world_operations.specs.UploadPieces.{fails, gives}
 use Rattle.world_operations.specs.declared.upload_pieces.UploadPieces.{UploadPieces}
 use Rattle.world_operations.specs.declared.upload_pieces.UploadPieces.TheVariants.{Whole, Streamed}
+use Rattle.all_asked.specs.Checks.{CheckAsksAll}
+use Rattle.all_asked.specs.Downloads.{DownloadAsksAll}
+use Rattle.all_asked.proofs.Checks.{checks_ask_all}
+use Rattle.all_asked.proofs.Downloads.{downloads_ask_all}
 use Rattle.world_operations.specs.Follow.{Follows, GoesOn, IsFrameOf, IsRequestBy, IsSaid, Nothing, Said, SendsSome}
 use Rattle.world_operations.proofs.Places.{append_none, member_cases, member_none}
 use Rattle.world_operations.proofs.Records.{follows_asks, follows_itself, follows_message, follows_on, follows_same, follows_tick}
@@ -57,11 +61,12 @@ goes_on New a b c f g = record {
   shares = λ these h. g.shares these (f.shares these h);
   given = λ p h. g.given p (f.given p h);
   hashed = λ input h. g.hashed input (f.hashed input h);
+  asked = λ servers h. g.asked servers (f.asked servers h);
   gone = λ number e. g.gone number (f.gone number e);
 }
 
 pub goes_nowhere : (New : Said) (a : Task) → GoesOn New a a
-goes_nowhere New a = record { follows = follows_itself New (requests_of a); index = refl; is_for = λ e h. h; happy = λ pairs h. h; shares = λ these h. h; given = λ p h. h; hashed = λ input h. h; gone = λ number e. e }
+goes_nowhere New a = record { follows = follows_itself New (requests_of a); index = refl; is_for = λ e h. h; happy = λ pairs h. h; shares = λ these h. h; given = λ p h. h; hashed = λ input h. h; asked = λ servers h. h; gone = λ number e. e }
 
 pub same_goes : (New : Said) (a b : Task) → b ≡ a → GoesOn New a b
 same_goes New a b e = subst (GoesOn New a) (sym e) (goes_nowhere New a)
@@ -93,6 +98,7 @@ upload_goes New u v pieces same f = record {
   shares = pieces;
   given = λ p h. h;
   hashed = λ input h. h;
+  asked = λ servers h. tt;
   gone = λ number e. absurd cc;
 }
   where
@@ -215,9 +221,13 @@ upload_takes u v f (upload_sends.sends place server asked body first there tells
 asks_follow : (New : Said) (old r new : RequestsState) (asks : List (ℕ × Asked)) → Follows New old r → new ≡ asked_all asks r → Follows New old new
 asks_follow New old r new asks f is = subst (Follows New old) (sym is) (asks_more New old r asks f)
 
+-- whom it asked it asked still, unless it is done
+abbrev StaysAsked : DownloadState → DownloadState → Type 0
+StaysAsked d e = (servers : List ℕ) → DownloadAsksAll servers d → DownloadAsksAll servers e
+
 download_goes : (New : Said) (d e : DownloadState) → e.cap ≡ d.cap → (e.from ≡ d.from) × (e.to ≡ d.to) → Follows New d.requests e.requests → StaysGiven d e → StaysHashed d e
-    → GoesOn New (Downloading d) (Downloading e)
-download_goes New d e same range f stays hashed = record {
+    → StaysAsked d e → GoesOn New (Downloading d) (Downloading e)
+download_goes New d e same range f stays hashed asked = record {
   follows = f;
   index = ap (λ (c : ReadCapValue). (verify_cap_of c).storage_index) same;
   is_for = kept;
@@ -225,6 +235,7 @@ download_goes New d e same range f stays hashed = record {
   shares = λ these h. h;
   given = stays;
   hashed = hashed;
+  asked = asked;
   gone = λ number e. absurd cc;
 }
   where
@@ -236,37 +247,42 @@ download_goes New d e same range f stays hashed = record {
     kept (jobs.Download cap from to) h = (same ∙ h.0, range.0 ∙ h.1, range.1 ∙ h.2)
     kept (jobs.Check cap) h = absurd h
 
-download_moves : (New : Said) (d e : DownloadState) (r : RequestsState) → Follows New d.requests r → download.GoesOn r d e → GoesOn New (Downloading d) (Downloading e)
-download_moves New d e r f a = download_goes New d e a.same.cap a.same.range (asks_follow New d.requests r e.requests a.asks f a.requests) a.same.stays a.same.hashed
+download_moves : (New : Said) (d e : DownloadState) (r : RequestsState) → Follows New d.requests r → download.GoesOn r d e → StaysAsked d e → GoesOn New (Downloading d) (Downloading e)
+download_moves New d e r f a asked = download_goes New d e a.same.cap a.same.range (asks_follow New d.requests r e.requests a.asks f a.requests) a.same.stays a.same.hashed asked
 
 -- one that finds no memory at a tick
 download_stops : (now : ℕ) (d e : DownloadState) → download.StopsAt now d e → GoesOn Nothing (Downloading d) (Downloading e)
 download_stops now d e a = download_goes Nothing d e a.same.cap a.same.range (elim a.requests [
   | inl same ↦ follows_same Nothing d.requests e.requests (ap (λ (r : RequestsState). r.session) same) (ap (λ (r : RequestsState). r.entries) same)
   | inr on ↦ asks_follow Nothing d.requests (after_tick now d.requests) e.requests on.0 (follows_tick now d.requests) on.1
-]) a.same.stays a.same.hashed
+]) a.same.stays a.same.hashed (λ servers h. downloads_ask_all.stops now servers d e a h)
 
 download_ticks : (now : ℕ) (d e : DownloadState) → download.TicksOn now d e → GoesOn Nothing (Downloading d) (Downloading e)
-download_ticks now d e a = download_moves Nothing d e (after_tick now d.requests) (follows_tick now d.requests) a
+download_ticks now d e a = download_moves Nothing d e (after_tick now d.requests) (follows_tick now d.requests) a (λ servers h. downloads_ask_all.ticks now servers d e a h)
 
 download_same : (d e : DownloadState) → e.cap ≡ d.cap → (e.from ≡ d.from) × (e.to ≡ d.to) → e.requests.session ≡ d.requests.session → e.requests.entries ≡ d.requests.entries
-    → StaysGiven d e → StaysHashed d e → GoesOn Nothing (Downloading d) (Downloading e)
-download_same d e cap range session entries stays hashed = download_goes Nothing d e cap range (follows_same Nothing d.requests e.requests session entries) stays hashed
+    → StaysGiven d e → StaysHashed d e → StaysAsked d e → GoesOn Nothing (Downloading d) (Downloading e)
+download_same d e cap range session entries stays hashed asked = download_goes Nothing d e cap range (follows_same Nothing d.requests e.requests session entries) stays hashed asked
 
 download_takes : (d e : DownloadState) (f : Option (ℕ × Message)) → download_sends.Takes d f e → GoesOn Nothing (Downloading d) (Downloading e)
 download_takes d e None t = same_goes Nothing (Downloading d) (Downloading e) (ap Downloading t.1)
 download_takes d e (Some f) t = (let is = t.3 in
     download_same d e (ap (λ (x : DownloadState). x.cap) is) (ap (λ (x : DownloadState). x.from) is, ap (λ (x : DownloadState). x.to) is)
-    (ap (λ (x : DownloadState). x.requests.session) is) (ap (λ (x : DownloadState). x.requests.entries) is) (sent_stays d e (Some f) t) (sent_hashed d e (Some f) t))
+    (ap (λ (x : DownloadState). x.requests.session) is) (ap (λ (x : DownloadState). x.requests.entries) is) (sent_stays d e (Some f) t) (sent_hashed d e (Some f) t)
+    (λ servers h. downloads_ask_all.sends (Some f) servers d e t h))
 
 download_hands : (d e : DownloadState) (p : Option Piece) → download.TakesPiece d p e → GoesOn Nothing (Downloading d) (Downloading e)
 download_hands d e None t = same_goes Nothing (Downloading d) (Downloading e) (ap Downloading t.1)
 download_hands d e (Some p) t = (let is = t.1 in
     download_same d e (ap (λ (x : DownloadState). x.cap) is) (ap (λ (x : DownloadState). x.from) is, ap (λ (x : DownloadState). x.to) is)
-    (ap (λ (x : DownloadState). x.requests.session) is) (ap (λ (x : DownloadState). x.requests.entries) is) (taken_stays d e (Some p) t) (taken_hashed d e (Some p) t))
+    (ap (λ (x : DownloadState). x.requests.session) is) (ap (λ (x : DownloadState). x.requests.entries) is) (taken_stays d e (Some p) t) (taken_hashed d e (Some p) t)
+    (λ servers h. downloads_ask_all.hands (Some p) servers d e t h))
 
-check_goes : (New : Said) (c e : CheckState) → e.cap ≡ c.cap → Follows New c.requests e.requests → GoesOn New (Checking c) (Checking e)
-check_goes New c e same f = record {
+abbrev StaysAskedBy : CheckState → CheckState → Type 0
+StaysAskedBy c e = (servers : List ℕ) → CheckAsksAll servers c → CheckAsksAll servers e
+
+check_goes : (New : Said) (c e : CheckState) → e.cap ≡ c.cap → Follows New c.requests e.requests → StaysAskedBy c e → GoesOn New (Checking c) (Checking e)
+check_goes New c e same f asked = record {
   follows = f;
   index = ap (λ (cap : VerifyCapValue). cap.storage_index) same;
   is_for = kept;
@@ -274,6 +290,7 @@ check_goes New c e same f = record {
   shares = λ these h. h;
   given = λ p h. h;
   hashed = λ input h. h;
+  asked = asked;
   gone = λ number e. absurd cc;
 }
   where
@@ -285,8 +302,8 @@ check_goes New c e same f = record {
     kept (jobs.Download cap from to) h = absurd h
     kept (jobs.Check cap) h = same ∙ h
 
-check_moves : (New : Said) (c e : CheckState) (r : RequestsState) → Follows New c.requests r → check.GoesOn r c e → GoesOn New (Checking c) (Checking e)
-check_moves New c e r f a = check_goes New c e a.cap (asks_follow New c.requests r e.requests a.asks f a.requests)
+check_moves : (New : Said) (c e : CheckState) (r : RequestsState) → Follows New c.requests r → check.GoesOn r c e → StaysAskedBy c e → GoesOn New (Checking c) (Checking e)
+check_moves New c e r f a asked = check_goes New c e a.cap (asks_follow New c.requests r e.requests a.asks f a.requests) asked
 
 -- does a check run?
 check_runs : (s : CheckStatus) → (s ≡ checks.Running) ⊎ (s ≢ checks.Running)
@@ -296,7 +313,7 @@ check_runs checks.Failed = inr (λ e. absurd cc)
 
 check_ticks : (now : ℕ) (c e : CheckState) → CheckTicks now c e → GoesOn Nothing (Checking c) (Checking e)
 check_ticks now c e a = elim (check_runs c.status) [
-  | inl runs ↦ check_moves Nothing c e (after_tick now c.requests) (follows_tick now c.requests) (a.running runs)
+  | inl runs ↦ check_moves Nothing c e (after_tick now c.requests) (follows_tick now c.requests) (a.running runs) (λ servers h. checks_ask_all.ticks now servers c e (a.running runs) h)
   | inr over ↦ same_goes Nothing (Checking c) (Checking e) (ap Checking (a.ended over))
 ]
 
@@ -304,14 +321,15 @@ check_takes : (c e : CheckState) (f : Option (ℕ × Message)) → check_sends.T
 check_takes c e None t = same_goes Nothing (Checking c) (Checking e) (ap Checking t.1)
 check_takes c e (Some f) t = (let is = t.3 in
     check_goes Nothing c e (ap (λ (x : CheckState). x.cap) is)
-    (follows_same Nothing c.requests e.requests (ap (λ (x : CheckState). x.requests.session) is) (ap (λ (x : CheckState). x.requests.entries) is)))
+    (follows_same Nothing c.requests e.requests (ap (λ (x : CheckState). x.requests.session) is) (ap (λ (x : CheckState). x.requests.entries) is))
+    (λ servers h. checks_ask_all.sends (Some f) servers c e t h))
 
 -- ---- machines of any kind
 
 pub advanced : (from now : ℕ) (m : Message) (old new : Task) → Advances from m now old new → GoesOn (IsSaid from m (requests_of old).session) old new
 advanced from now m (Uploading u) (Uploading v) a = upload_advances from now m u v a
-advanced from now m (Downloading d) (Downloading e) a = download_moves (IsSaid from m d.requests.session) d e (after_message from m now d.requests) (follows_message from now m d.requests) a.0
-advanced from now m (Checking c) (Checking e) a = check_moves (IsSaid from m c.requests.session) c e (after_message from m now c.requests) (follows_message from now m c.requests) a
+advanced from now m (Downloading d) (Downloading e) a = download_moves (IsSaid from m d.requests.session) d e (after_message from m now d.requests) (follows_message from now m d.requests) a.0 (λ servers h. downloads_ask_all.advances from m now servers d e a.0 h)
+advanced from now m (Checking c) (Checking e) a = check_moves (IsSaid from m c.requests.session) c e (after_message from m now c.requests) (follows_message from now m c.requests) a (λ servers h. checks_ask_all.advances from m now servers c e a h)
 advanced from now m (Gone number) new a = same_goes (IsSaid from m number) (Gone number) new a
 advanced from now m (Uploading u) (Downloading e) a = absurd a
 advanced from now m (Uploading u) (Checking e) a = absurd a
@@ -340,7 +358,7 @@ ticked_on now (Checking c) (Gone n) a = absurd a
 
 -- a download, whatever came of the call
 pub download_advanced : (from now : ℕ) (m : Message) (d e : DownloadState) → download.Advances from m now d e → GoesOn (IsSaid from m d.requests.session) (Downloading d) (Downloading e)
-download_advanced from now m d e a = download_moves (IsSaid from m d.requests.session) d e (after_message from m now d.requests) (follows_message from now m d.requests) a
+download_advanced from now m d e a = download_moves (IsSaid from m d.requests.session) d e (after_message from m now d.requests) (follows_message from now m d.requests) a (λ servers h. downloads_ask_all.advances from m now servers d e a h)
 
 pub download_ticked : {X E : Type 0} (r : Result X E) (now : ℕ) (d e : DownloadState) → OnOk r (download.TicksOn now d e) → OnErr r (download.StopsAt now d e) → GoesOn Nothing (Downloading d) (Downloading e)
 download_ticked (Ok x) now d e a b = download_ticks now d e a

@@ -17,6 +17,7 @@ use Rattle.world_operations.specs.declared.message.Sent.{Sent}
 use Rattle.world_operations.specs.declared.operation.Operation.{Operation}
 use Rattle.world_operations.specs.declared.task.Task.{Task}
 use Rattle.world_operations.specs.declared.task.Task.TheVariants.{Gone}
+use Rattle.world_operations.specs.Asked.{HasAsked}
 use Rattle.world_operations.specs.Given.{AreGivenBy, IsGivenBy, IsHashedBy}
 use Rattle.world_operations.specs.Jobs.{IsFor}
 use Rattle.world_operations.specs.Tasks.{HasShares, IsHappyTask, index_of, is_download}
@@ -65,7 +66,8 @@ pub record Follows (New : Said) (old new : RequestsState) : Type 0 where
       → WasAnswered old.entries place s said ⊎ New place s.server s.asked said
 
 -- A machine goes on: it is for the same, its record follows, an upload keeps its shares and stays
--- Happy, and what a download gave and hashed stays so. One that is gone stays gone.
+-- Happy, and what a download gave and hashed stays so. Servers that it asked which shares they hold
+-- stay asked. One that is gone stays gone.
 pub record GoesOn (New : Said) (old new : Task) : Type 0 where
   pub follows : Follows New (requests_of old) (requests_of new)
   pub index : index_of new ≡ index_of old
@@ -74,6 +76,7 @@ pub record GoesOn (New : Said) (old new : Task) : Type 0 where
   pub shares : (these : List (List ℕ)) → HasShares old these → HasShares new these
   pub given : (p : Piece) → IsGivenBy old p → IsGivenBy new p
   pub hashed : (input : List ℕ) → IsHashedBy old input → IsHashedBy new input
+  pub asked : (servers : List ℕ) → HasAsked servers old → HasAsked servers new
   pub gone : (number : ℕ) → old ≡ Gone number → new ≡ Gone number
 
 -- a message is a request of this machine, by its number
@@ -126,8 +129,9 @@ pub record Moves (New : Said) (number : ℕ) (old new : Operation) (before after
       ⊎ IsLostTask number old.task new.task before after
   pub given : AreGivenBy old.task old.given → AreGivenBy new.task new.given
 
--- a machine that has just begun: it is for its job, and its record is new
-pub record IsNewTask (session : ℕ) (job : Job) (task : Task) : Type 0 where
+-- a machine that has just begun: it is for its job, its record is new, and it asks all these nodes
+pub record IsNewTask (nodes : List ℕ) (session : ℕ) (job : Job) (task : Task) : Type 0 where
   pub is_for : IsFor job task
+  pub asked : HasAsked nodes task
   pub clock : ℕ
   pub follows : Follows Nothing (fresh session clock) (requests_of task)

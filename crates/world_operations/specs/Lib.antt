@@ -4,6 +4,7 @@ pub mod Jobs
 pub mod Given
 pub mod Moves
 pub mod UploadPieces
+pub mod Asked
 pub mod Follow
 pub mod Status
 pub mod Repairs

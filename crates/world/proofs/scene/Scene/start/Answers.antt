@@ -1,13 +1,13 @@
 use Rattle.std.proofs.Common.{refl, length, subst, sym}
 use Rattle.world_operations.specs.declared.job.Job.{Job}
 use Rattle.world_operations.specs.Follow.{IsNewTask}
-use Rattle.world.specs.State.{state_of}
+use Rattle.world.specs.State.{nodes_of, state_of}
 use Rattle.world.specs.Step.{Opens}
 use Rattle.world.proofs.Preserving.{preserves_quiet}
 use Rattle.world.proofs.scene.Scene.start.Goals as goal
 
 pub open-requires-clause-new : goal.open-requires-clause-new
-open-requires-clause-new c = subst (λ (j : Job). IsNewTask (length c.args.self.now.operations.items) j c.in_ok-task.task) (sym c.in_ok-job.ensures) c.in_ok-task.ensures.new
+open-requires-clause-new c = subst (λ (j : Job). IsNewTask (nodes_of (state_of c.args.self.now)) (length c.args.self.now.operations.items) j c.in_ok-task.task) (sym c.in_ok-job.ensures) c.in_ok-task.ensures.new
 
 pub returns-clause-ok : goal.returns-clause-ok
 returns-clause-ok c = record {

@@ -1,0 +1,302 @@
+-- Without a clash enough shares that honest nodes told are found: what one told it tells again to each operation that begins later.
+use Rattle.std.proofs.Common.{◌≡◌, ℕ, ◌+◌, ◌<◌, ◌≤◌, List, [], true, false, length, take, drop, Some, None, slice_index_or, refl, sym, subst, ap, ◌∙◌, arith}
+use Rattle.std.specs.Prelude.{slice_get}
+use Rattle.std.specs.List.{range_with_len}
+use Rattle.std.proofs.lemmas.List.{get_or-map, length-map}
+use Rattle.lemmas.proofs.Ranges.{range_has}
+use Rattle.tagged_hash.specs.TaggedHash.{share_digest, tagged_hash}
+use Rattle.tagged_hash.specs.declared.tag.Tag.TheVariants.{WholeShare}
+use Rattle.cap_text.specs.Cap.{ReadCapValue, VerifyCapValue, verify_cap_of}
+use Rattle.wire.specs.declared.message.Body.{Body}
+use Rattle.wire.specs.declared.message.Body.TheVariants.{Ask, Data, Have, NoShare, Read}
+use Rattle.wire.specs.declared.message.Message.{Message}
+use Rattle.wire.specs.declared.message.ShareId.{ShareId}
+use Rattle.wire.specs.Frames.{IsBodyOf}
+use Rattle.placement.specs.Matching.{Pair}
+use Rattle.proved_parts.proofs.Segments.{data_agrees_in}
+use Rattle.request_record.specs.declared.requests.Asked.{Asked}
+use Rattle.request_record.specs.declared.requests.Asked.TheVariants.{Holdings, Reading}
+use Rattle.request_record.specs.declared.requests.Outcome.TheVariants.{Answered}
+use Rattle.request_record.specs.declared.requests.Request.{Request}
+use Rattle.request_record.specs.Asking.{Spells}
+use Rattle.request_record.specs.Record.{fits}
+use Rattle.share_store.specs.Memory.{MemoryState}
+use Rattle.share_store.specs.Shelf.{Shelf, closed_at, digest_at}
+use Rattle.share_store.specs.declared.shelf.ClosedShare.{ClosedShare}
+use Rattle.server_core.specs.Machine.{Machine}
+use Rattle.server_core.specs.Sound.{is_request}
+use Rattle.file_encoding.specs.Encoding.{ciphertext_encoding, encoding_of}
+use Rattle.file_encoding.specs.Params.{UploadParameters, parameters_of}
+use Rattle.file_encoding.proofs.Encodable.{length-shares}
+use Rattle.file_encoding.proofs.OwnShares.{file_shares_pass}
+use Rattle.file_upload.specs.Prepared.{prepared_of}
+use Rattle.upload_core.specs.State.{Goal}
+use Rattle.share_verify.specs.Verify.{IsSoundShare}
+use Rattle.download_core.specs.State.{DownloadState}
+use Rattle.checker.specs.State.{CheckState}
+use Rattle.checker.specs.declared.status.CheckStatus.TheVariants.{Done}
+use Rattle.enough_binding.specs.Answers.{Lists, TellsShare}
+use Rattle.enough_binding.specs.Checks as checks
+use Rattle.enough_binding.specs.Downloads as downloads
+use Rattle.enough_binding.specs.Servers.{TellsAll}
+use Rattle.enough_binding.proofs.Checks.{told_shares_are_good}
+use Rattle.enough_binding.proofs.Downloads.{enough_found}
+use Rattle.world_operations.specs.declared.message.Sent.{Sent}
+use Rattle.world_operations.specs.declared.operation.Operation.{Operation}
+use Rattle.world_operations.specs.declared.task.Task.{Task}
+use Rattle.world_operations.specs.Asked.{HasAsked}
+use Rattle.world_operations.specs.Follow.{IsRequestBy}
+use Rattle.world_operations.specs.Tasks.{IsRightTask, index_of, requests_of}
+use Rattle.world_operations.proofs.Places.{get_below, place_of_member, same_some}
+use Rattle.world.specs.Consistent.{IsConsistent, IsRequestOf}
+use Rattle.world.specs.Consistent.{asked, gone}
+use Rattle.world.specs.Enough.{AreConfirmed, ConfirmedAreGood, EnoughAreFound, IsConfirmed}
+use Rattle.world.specs.Headline.{goal}
+use Rattle.world.specs.History.{HasHistory}
+use Rattle.world.specs.Started.{HasNoClashInTests, IsCheckOf, IsDownloadOf, IsHashedOrTested, IsStarted, hashed}
+use Rattle.world.specs.State.{WorldState}
+use Rattle.world.proofs.Acked as acked
+use Rattle.world.proofs.Binding as binding
+use Rattle.world.proofs.Hashed.{encoding_among, share_among}
+use Rattle.world.proofs.Keep.{share_hashed}
+
+abbrev Server : Type 0
+Server = Machine MemoryState
+
+-- ---- an answer tells how its server stood
+
+-- what an answer tells of a server that stood so, to a request that asks this
+record IsToldAt (s : Shelf) (index : List ℕ) (asks : Asked) (said : Body) : Type 0 where
+  pub request : Message
+  pub spelled : Spells index asks request.body
+  pub tells : TellsAll s request.body said
+
+-- an operation whose record has the request is not gone
+request_by : (op : Operation) (x : Sent) (m : Message) (place : ℕ) (r : Request) → slice_get (requests_of op.task).entries place ≡ Some r → IsRequestOf op x m → IsRequestBy op.task x m
+request_by op x m place r entry (gone number is) = absurd (nothing (subst (λ (t : Task). slice_get (requests_of t).entries place ≡ Some r) is entry)) where
+  nothing : None ≡ Some r → ⊥
+  nothing e = cc
+request_by op x m place r entry (asked node by) = by
+
+module _ (w : WorldState) (c : IsConsistent w) (node : ℕ) (m : Server) (at : slice_get w.servers node ≡ Some m) where
+  abbrev history : HasHistory w.sent node m
+  history = c.history node m at
+
+  told_at : (moment : ℕ) (x : Sent) (answer : Message) (op : Operation) (place : ℕ) (r : Request) → slice_get w.sent moment ≡ Some x → x.from ≡ node → IsBodyOf answer x.body → is_request answer.body ≡ false
+      → slice_get w.operations answer.session ≡ Some op → x.to ≡ op.node → slice_get (requests_of op.task).entries place ≡ Some r → answer.number ≡ place + 1
+      → IsToldAt (history.shelf_at moment) (index_of op.task) r.asked answer.body
+  told_at moment x answer op place r there from spelled kind at_op to entry number =
+      let a = history.answers moment x answer there from spelled kind in
+      let fine = c.fine answer.session op at_op in
+      let honest : a.frame.from < length w.servers = subst (λ (n : ℕ). n < length w.servers) (sym (a.from ∙ to)) fine.node in
+      let recorded = c.recorded a.frame a.request a.was_sent honest a.spelled a.answers.asked in
+      let same : recorded.operation ≡ op = same_some recorded.operation op (sym recorded.at ∙ ap (slice_get w.operations) (sym a.answers.session) ∙ at_op) in
+      let own : IsRequestOf op a.frame a.request = subst (λ (o : Operation). IsRequestOf o a.frame a.request) same recorded.request in
+      let by = request_by op a.frame a.request place r entry own in
+      let here : by.place ≡ place = omega (arith, by.number, number, a.answers.number) in
+      let request : by.request ≡ r = same_some by.request r (sym by.entry ∙ ap (λ (n : ℕ). slice_get (requests_of op.task).entries n) here ∙ entry) in
+      record {
+        request = a.request;
+        spelled = subst (λ (q : Request). Spells (index_of op.task) q.asked a.request.body) request by.spelled;
+        tells = a.all;
+      }
+
+-- ---- what asks, and what answers
+
+spelled_ask : (index : List ℕ) (body : Body) → Spells index Holdings body → body ≡ Ask index
+spelled_ask index (Ask i) s = ap Ask s
+spelled_ask index _ s = absurd s
+
+spelled_read : (index : List ℕ) (num offset len : ℕ) (body : Body) → Spells index (Reading num offset len) body → body ≡ Read (record { index = index; share = num }) offset len
+spelled_read index num offset len (Read id o l) s = ap (λ (i : ShareId). Read i o l) s.0 ∙ ap (λ (n : ℕ). Read (record { index = index; share = num }) n l) s.1 ∙ ap (Read (record { index = index; share = num }) offset) s.2
+spelled_read index num offset len _ s = absurd s
+
+list_answers : (said : Body) → fits Holdings said ≡ true → is_request said ≡ false
+list_answers (Have readonly held) e = refl
+list_answers _ e = absurd cc
+
+read_answers : (num offset len : ℕ) (said : Body) → fits (Reading num offset len) said ≡ true → is_request said ≡ false
+read_answers num offset len (Data bytes) e = refl
+read_answers num offset len NoShare e = refl
+read_answers num offset len _ e = absurd cc
+
+-- ---- a confirmed share is closed from then on
+
+-- the share is closed here, and has these bytes
+record IsHeldAt (s : Shelf) (id : ShareId) (bytes : List ℕ) : Type 0 where
+  pub share : ClosedShare
+  pub found : closed_at id s.closed ≡ Some share
+  pub bytes_are : share.bytes ≡ bytes
+
+module _ (w : WorldState) (c : IsConsistent w) (no_clash : HasNoClashInTests w) (file secret : List ℕ) (p : UploadParameters) (s : IsStarted w file secret p) where
+  abbrev aim : Goal
+  aim = goal file secret p
+
+  abbrev index : List ℕ
+  index = aim.cap.storage_index
+
+  abbrev cap : ReadCapValue
+  cap = (prepared_of file secret p).cap
+
+  abbrev shares : List (List ℕ)
+  shares = (prepared_of file secret p).shares
+
+  abbrev id_of : Pair → ShareId
+  id_of pair = record { index = index; share = pair.1 }
+
+  abbrev share_of : Pair → List ℕ
+  share_of pair = slice_index_or shares pair.1 []
+
+  -- the share's number is one of the file's
+  low_of : (before : ℕ) (pair : Pair) → IsConfirmed w file secret p before pair → pair.1 < p.total
+  low_of before pair k =
+      let by = acked.acked_by aim pair.0 k.request.asked k.answer.body pair k.told in
+      subst (λ (n : ℕ). pair.1 < n) (length-map shares share_digest ∙ length-shares file secret (parameters_of p)) by.below
+
+  held_at : (before : ℕ) (pair : Pair) (k : IsConfirmed w file secret p before pair) (m : Server) (at : slice_get w.servers pair.0 ≡ Some m)
+      → IsHeldAt ((c.history pair.0 m at).shelf_at k.moment) (id_of pair) (share_of pair)
+  held_at before pair k m at =
+      let digest : List ℕ = slice_index_or aim.digests pair.1 [] in
+      let by = acked.acked_by aim pair.0 k.request.asked k.answer.body pair k.told in
+      let kind = acked.acks_answer k.request.asked k.answer.body pair.1 digest by.acks in
+      let told = told_at w c pair.0 m at k.moment k.frame k.answer k.asker k.place k.request k.was_sent k.from k.spelled kind k.at k.to k.entry k.number in
+      let then_shelf : Shelf = (c.history pair.0 m at).shelf_at k.moment in
+      let digest_told = acked.tells_acked then_shelf (index_of k.asker.task) k.request.asked told.request.body k.answer.body pair.1 digest by.acks told.spelled told.tells.tells in
+      let closed = acked.closed_by (id_of pair) then_shelf digest
+      (subst (λ (i : List ℕ). digest_at (record { index = i; share = pair.1 }) then_shelf.closed ≡ Some digest) k.index digest_told) in
+      let now : closed_at (id_of pair) m.store.shelf.closed ≡ Some closed.share = (c.history pair.0 m at).last k.moment (id_of pair) closed.share closed.found in
+      let low : pair.1 < length shares = subst (λ (n : ℕ). pair.1 < n) (length-map shares share_digest) by.below in
+      let own : digest ≡ tagged_hash WholeShare (share_of pair) = get_or-map share_digest shares pair.1 [] [] low in
+      let right : closed.share.digest ≡ tagged_hash WholeShare closed.share.bytes = (c.sound pair.0 m at).right.digests (id_of pair) closed.share now in
+      record {
+        share = closed.share;
+        found = closed.found;
+        bytes_are =
+            data_agrees_in (IsHashedOrTested w) no_clash WholeShare closed.share.bytes (share_of pair)
+            (hashed (share_among w pair.0 m (id_of pair) closed.share at now))
+            (hashed (encoding_among w s.number s.operation file secret p _ s.at s.uploads s.one_key (share_hashed file secret p pair.1 low)))
+            (sym right ∙ closed.digest_is ∙ own);
+      }
+
+  -- ---- and is told to each operation that begins later
+
+  module _ (number : ℕ) (op : Operation) (at_op : slice_get w.operations number ≡ Some op) (about : index_of op.task ≡ index) (pair : Pair) (k : IsConfirmed w file secret p op.sent_before pair) where
+    -- an answer to one of its requests, from a server at which the share is closed
+    record IsToldLater (asks : Asked) (said : Body) : Type 0 where
+      pub shelf : Shelf
+      pub held : IsHeldAt shelf (id_of pair) (share_of pair)
+      pub told : IsToldAt shelf index asks said
+
+    told_later : (place : ℕ) (request : Request) (said : Body) → slice_get (requests_of op.task).entries place ≡ Some request → request.server ≡ pair.0 → request.outcome ≡ Answered said
+        → (fits request.asked said ≡ true → is_request said ≡ false) → IsToldLater request.asked said
+    told_later place request said there of_server answer answers =
+        let server = get_below w.servers pair.0 k.honest in
+        let m : Server = server.0 in
+        let at : slice_get w.servers pair.0 ≡ Some m = server.1 in
+        let h : HasHistory w.sent pair.0 m = c.history pair.0 m at in
+        let fine = c.fine number op at_op in
+        let came = fine.answers place request said there answer in
+        let from : came.frame.from ≡ pair.0 = sym came.says.server_is ∙ of_server in
+        let sent = place_of_member w.sent came.frame came.was_sent in
+        let kind : is_request came.answer.body ≡ false = ap is_request came.says.body_is ∙ answers came.says.fitting in
+        let at_session : slice_get w.operations came.answer.session ≡ Some op = ap (slice_get w.operations) came.says.session_is ∙ at_op in
+        let told = told_at w c pair.0 m at sent.0 came.frame came.answer op place request sent.1 from came.spelled kind at_session came.to there came.says.number_is in
+        let begun : op.sent_before ≤ sent.0 = c.after sent.0 came.frame came.answer op sent.1 (subst (λ (n : ℕ). n < length w.servers) (sym from) k.honest)
+        (subst (λ (n : ℕ). n < length w.servers) (sym came.to) fine.node) came.spelled kind at_session in
+        let early : k.moment < op.sent_before = k.early in
+        let held = held_at op.sent_before pair k m at in
+        record {
+          shelf = h.shelf_at sent.0;
+          held = record { share = held.share; found = h.stays k.moment sent.0 (omega (arith, early, begun)) (id_of pair) held.share held.found; bytes_are = held.bytes_are };
+          told = subst (λ (b : Body). IsToldAt (h.shelf_at sent.0) index request.asked b) came.says.body_is
+              (subst (λ (i : List ℕ). IsToldAt (h.shelf_at sent.0) i request.asked came.answer.body) about told);
+        }
+
+    told_list : (said : Body) → IsToldLater Holdings said → Lists said pair.1
+    told_list said t =
+        let lists = t.told.tells.lists index (spelled_ask index t.told.request.body t.told.spelled) in
+        let low = low_of op.sent_before pair k in
+        let few = (binding.shape w c no_clash file secret p s).file.shares in
+        (t.held.share.digest, lists.each (id_of pair) t.held.share refl (omega (arith, low, few)) t.held.found)
+
+    told_read : (offset len : ℕ) (said : Body) → IsToldLater (Reading pair.1 offset len) said → said ≡ Data (take len (drop offset (share_of pair)))
+    told_read offset len said t =
+        t.told.tells.brings (id_of pair) offset len (spelled_read index pair.1 offset len t.told.request.body t.told.spelled) t.held.share t.held.found
+        ∙ ap (λ (b : List ℕ). Data (take len (drop offset b))) t.held.bytes_are
+
+    tells_share : TellsShare (requests_of op.task).entries pair.0 pair.1 (share_of pair)
+    tells_share = record {
+      lists = λ place request said there of_server asks answer.
+          told_list said (subst (λ (a : Asked). IsToldLater a said) asks
+          (told_later place request said there of_server answer (λ e. list_answers said (ap (λ (a : Asked). fits a said) (sym asks) ∙ e))));
+      reads = λ place offset len request said there of_server asks answer.
+          told_read offset len said (subst (λ (a : Asked). IsToldLater a said) asks
+          (told_later place request said there of_server answer (λ e. read_answers pair.1 offset len said (ap (λ (a : Asked). fits a said) (sym asks) ∙ e))));
+    }
+
+  -- ---- downloads
+
+  needed_is : cap.needed ≡ p.needed
+  unfolding encoding_of ciphertext_encoding
+  needed_is = refl
+
+  total_is : cap.total ≡ p.total
+  unfolding encoding_of ciphertext_encoding
+  total_is = refl
+
+  module _ (d : DownloadState) (of : IsDownloadOf w cap d) where
+    asks_each : HasAsked (range_with_len 0 (length w.servers)) of.operation.task
+    asks_each = (c.fine of.number of.operation of.at).asked
+
+    about_cap : index_of of.operation.task ≡ index
+    about_cap = ap index_of of.task ∙ ap (λ (q : ReadCapValue). (verify_cap_of q).storage_index) of.cap_is
+
+    is_told : (pair : Pair) → IsConfirmed w file secret p of.operation.sent_before pair → downloads.IsTold d shares (range_with_len 0 (length w.servers)) pair
+    is_told pair k = record {
+      of = range_has 0 (length w.servers) pair.0 (omega arith) (let honest = k.honest in omega (arith, honest));
+      low = subst (λ (n : ℕ). pair.1 < n) (sym (ap (λ (q : ReadCapValue). q.total) of.cap_is ∙ total_is)) (low_of of.operation.sent_before pair k);
+      tells = subst (λ (t : Task). TellsShare (requests_of t).entries pair.0 pair.1 (share_of pair)) of.task (tells_share of.number of.operation of.at about_cap pair k);
+    }
+
+    enough : (pairs : List Pair) → AreConfirmed w file secret p of.operation.sent_before pairs → downloads.AreEnough d shares (range_with_len 0 (length w.servers)) pairs
+    enough pairs all = record {
+      count = all.count ∙ sym (ap (λ (q : ReadCapValue). q.needed) of.cap_is ∙ needed_is);
+      different = all.different;
+      told = λ pair among. is_told pair (all.each pair among);
+    }
+
+  -- ---- checks
+
+  module _ (check : CheckState) (of : IsCheckOf w (verify_cap_of cap) check) (done : check.status ≡ Done) (pair : Pair) (k : IsConfirmed w file secret p of.operation.sent_before pair) where
+    about_check : index_of of.operation.task ≡ index
+    about_check = ap index_of of.task ∙ ap (λ (q : VerifyCapValue). q.storage_index) of.cap_is
+
+    passes : IsSoundShare check.cap pair.1 (share_of pair)
+    passes =
+        subst (λ (q : VerifyCapValue). IsSoundShare q pair.1 (share_of pair)) (sym of.cap_is)
+        (file_shares_pass file secret (parameters_of p) (binding.shape w c no_clash file secret p s) pair.1 (low_of of.operation.sent_before pair k))
+
+    is_told_check : checks.IsTold check (range_with_len 0 (length w.servers)) pair (share_of pair)
+    is_told_check =
+        let fine = c.fine of.number of.operation of.at in
+        let honest = k.honest in
+        record {
+          right = subst IsRightTask of.task fine.right;
+          done = done;
+          asks = subst (HasAsked (range_with_len 0 (length w.servers))) of.task fine.asked;
+          of = range_has 0 (length w.servers) pair.0 (omega arith) (omega (arith, honest));
+          low = subst (λ (n : ℕ). pair.1 < n) (sym (ap (λ (q : VerifyCapValue). q.total) of.cap_is ∙ total_is)) (low_of of.operation.sent_before pair k);
+          sound = passes;
+          tells = subst (λ (t : Task). TellsShare (requests_of t).entries pair.0 pair.1 (share_of pair)) of.task (tells_share of.number of.operation of.at about_check pair k);
+        }
+
+pub enough_are_found : (w : WorldState) → IsConsistent w → HasNoClashInTests w → EnoughAreFound w
+enough_are_found w c no_clash file secret p d pairs s of all ended =
+    enough_found (IsHashedOrTested w) no_clash d (binding.said w c no_clash file secret p s) (prepared_of file secret p).shares (range_with_len 0 (length w.servers)) pairs
+    (binding.by_download w c no_clash file secret p s d of) (binding.own_shares w c no_clash file secret p s d of)
+    (subst (HasAsked (range_with_len 0 (length w.servers))) of.task (asks_each w c no_clash file secret p s d of)) (enough w c no_clash file secret p s d of pairs all) ended
+
+pub confirmed_are_good : (w : WorldState) → IsConsistent w → HasNoClashInTests w → ConfirmedAreGood w
+confirmed_are_good w c no_clash file secret p check r pair s of done report k =
+    told_shares_are_good check r (range_with_len 0 (length w.servers)) pair (slice_index_or (prepared_of file secret p).shares pair.1 []) report
+    (is_told_check w c no_clash file secret p s check of done pair k)
