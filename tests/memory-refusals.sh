@@ -14,6 +14,7 @@ cd "$(dirname "$0")/.." || exit 2
 # a machine or a world that ended without memory is told so, and so is an error of the command line.
 allowed=$(cat <<'END'
 share_store/src/memory.rt:return Err(StoreError::OutOfMemory);
+request_record/src/entries.rt:return Err(AllocError);
 download_file/src/reader.rt:return Err(AllocError);
 grid_rules/src/ending.rt:UploadStatus::Failed(_) => Err(Fault::OutOfMemory),
 grid_rules/src/ending.rt:DownloadStatus::Failed => Err(Fault::OutOfMemory),
@@ -42,7 +43,8 @@ told=$(find $(tools/crates-below grid_main | sed 's|.*|crates/&/src|') -name '*.
         if (line != "") before = line
     }
     # Does a line make the answer? `before` is the line before it. Clauses, declarations and texts
-    # make none, nor does an arm that takes an error of a call, or an outcome that is one of memory.
+    # make none, nor does an arm or a map_err that takes an error of a call, or an outcome that is
+    # one of memory.
     function made(line, before,    arrow) {
         if (line !~ /(OutOfMemory|AllocError)/) return 0
         if (line ~ /(≡|→|λ|⊎|ensures|requires|ghost)/) return 0
@@ -52,6 +54,7 @@ told=$(find $(tools/crates-below grid_main | sed 's|.*|crates/&/src|') -name '*.
         arrow = index(line, "=>")
         if (arrow && substr(line, arrow) !~ /(OutOfMemory|AllocError)/) return 0
         if (arrow && substr(line, 1, arrow) ~ /(Err\(|OutOfMemory)/) return 0
+        if (line ~ /\.map_err\(/ || (line ~ /^\|/ && before ~ /map_err\($/)) return 0
         if (line ~ /[!=]= .*OutOfMemory/ || line ~ /matches!/) return 0
         if (line ~ /^[A-Za-z]+::OutOfMemory$/ && before ~ /,$/) return 0
         return before !~ /fn from\(/
