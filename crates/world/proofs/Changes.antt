@@ -1,13 +1,10 @@
--- What holds of a world goes on holding: where a server goes on, where more is sent, and where operations go on, begin, are forgotten or
--- fail.
-use Rattle.std.proofs.Common.{◌≡◌, ℕ, ◌+◌, ◌<◌, ◌≤◌, List, [], ◌∷◌, ◌++◌, Bool, true, false, length, map, nat_lt, Option, Some, None, Contains, refl, sym, subst, ap, ◌∙◌, inl, inr, ◌⊎◌, arith}
-use Rattle.std.specs.Prelude.{◌==◌, ◌&&◌, slice_get, slice_set, option_map, if◌then◌else◌}
+-- What holds of a world goes on holding: where a server goes on, where more is sent, and where operations go on or begin.
+use Rattle.std.proofs.Common.{◌≡◌, ℕ, ◌+◌, ◌<◌, ◌≤◌, List, [], ◌∷◌, ◌++◌, true, false, length, Some, None, Contains, refl, sym, subst, ap, ◌∙◌, inl, inr, ◌⊎◌, arith}
+use Rattle.std.specs.Prelude.{slice_get, slice_set, option_map}
 use Rattle.std.specs.List.{range_with_len}
-use Rattle.std.proofs.lemmas.Bool.{cases_lt, le-ltb, lt-ltb}
 use Rattle.std.proofs.lemmas.List.{append_assoc, length-append}
 use Rattle.std.proofs.lemmas.List.Elements.{All-weaker, Contains-append_left, Contains-push_cases}
 use Rattle.std.proofs.lemmas.List.FromFn.{get_or-range_with_len, length-range_with_len}
-use Rattle.std.proofs.lemmas.Option.{slice_get-map, slice_get_within}
 use Rattle.wire.specs.declared.message.Body.{Body}
 use Rattle.wire.specs.declared.message.Body.TheVariants.{Ask, Allocate, Write, Close, Read, Have, Already, Closed, Data}
 use Rattle.wire.specs.declared.message.HeldShare.{HeldShare}
@@ -25,8 +22,6 @@ use Rattle.server_core.specs.Sound.{ClosedStay, IsAnswer, IsSound, Tells, is_req
 use Rattle.world_operations.specs.declared.job.Job.{Job}
 use Rattle.world_operations.specs.declared.job.Job.TheVariants.{Upload, Changing, Download, Check, Repair, NoRepair}
 use Rattle.world_operations.specs.declared.message.Sent.{Sent}
-use Rattle.world_operations.specs.declared.operation.Life.{Life}
-use Rattle.world_operations.specs.declared.operation.Life.TheVariants.{Forgotten}
 use Rattle.world_operations.specs.declared.operation.Operation.{Operation}
 use Rattle.world_operations.specs.declared.task.Task.{Task}
 use Rattle.world_operations.specs.declared.task.Task.TheVariants.{Uploading, Downloading, Checking, Gone}
@@ -39,13 +34,14 @@ use Rattle.world_operations.specs.Jobs.{IsFor}
 use Rattle.world_operations.specs.Moves.{sent_to}
 use Rattle.world_operations.specs.Tasks.{IsRightTask, requests_of}
 use Rattle.world_operations.proofs.Places.{append_none, get_push, get_push_old, get_set, get_set_back, get_below, get_set_same, length_set, member_at, member_here, member_none, member_there, same_some}
-use Rattle.world_operations.proofs.TaskMoves.{request_on}
+use Rattle.world_operations.proofs.Frames.{request_on}
 use Rattle.world.specs.State.{shelved}
-use Rattle.world.specs.Step.{forgotten_by, is_running, new_operation, with_life}
+use Rattle.world.specs.Step.{new_operation}
 use Rattle.world.specs.Consistent.{AreConsistent, CameFrom, IsFine, IsJustified, IsRecorded, IsRequestOf}
 use Rattle.world.specs.Consistent.{asked, gone}
 use Rattle.world.specs.History.{AnswersComeAfter, HasHistory, IsAnswerBy}
 use Rattle.world.proofs.Acked.{closed_by}
+use Rattle.world.proofs.History.{history_more, history_on}
 
 -- ---- a server goes on
 
@@ -82,14 +78,6 @@ justified_on old new sent x answer stays j = record {
     kind = j.answers.kind;
     tells = tells_on old.store.shelf new.store.shelf j.request.body answer.body stays j.answers.tells;
   };
-}
-
-history_on : (sent : List Sent) (node : ℕ) (old new : Machine MemoryState) → ClosedStay old.store.shelf new.store.shelf → HasHistory sent node old → HasHistory sent node new
-history_on sent node old new stays h = record {
-  shelf_at = h.shelf_at;
-  stays = h.stays;
-  last = λ i id c e. stays id c (h.last i id c e);
-  answers = h.answers;
 }
 
 pub server_changed : (servers : List (Machine MemoryState)) (operations : List Operation) (sent : List Sent) (node : ℕ) (old new : Machine MemoryState)
@@ -148,63 +136,6 @@ fine_more honest sent more i op f = record {
   asked = f.asked;
   given = f.given;
 }
-
--- ---- how a server stood when it sent one message more
-
-answer_more : (sent more : List Sent) (x : Sent) (answer : Message) (s : Shelf) → IsAnswerBy sent x answer s → IsAnswerBy (sent ++ more) x answer s
-answer_more sent more x answer s a = record {
-  frame = a.frame;
-  request = a.request;
-  was_sent = Contains-append_left sent more a.frame a.was_sent;
-  spelled = a.spelled;
-  from = a.from;
-  to = a.to;
-  answers = a.answers;
-  all = a.all;
-}
-
-module _ (sent : List Sent) (y : Sent) (node : ℕ) (m : Machine MemoryState) (h : HasHistory sent node m)
-    (told : (answer : Message) → y.from ≡ node → IsBodyOf answer y.body → is_request answer.body ≡ false → IsAnswerBy sent y answer m.store.shelf) where
-  -- from now on it stands as it does now
-  abbrev shelf_then : ℕ → Shelf
-  shelf_then k = if nat_lt k (length sent) then h.shelf_at k else m.store.shelf
-
-  then_old : (k : ℕ) → k < length sent → shelf_then k ≡ h.shelf_at k
-  then_old k low = ap (λ (b : Bool). if b then h.shelf_at k else m.store.shelf) (lt-ltb k (length sent) low)
-
-  then_new : (k : ℕ) → length sent ≤ k → shelf_then k ≡ m.store.shelf
-  then_new k high = ap (λ (b : Bool). if b then h.shelf_at k else m.store.shelf) (le-ltb k (length sent) high)
-
-  then_last : (k : ℕ) → ClosedStay (shelf_then k) m.store.shelf
-  then_last k = elim (cases_lt k (length sent)) [
-    | inl low ↦ subst (λ (s : Shelf). ClosedStay s m.store.shelf) (sym (then_old k low)) (h.last k)
-    | inr high ↦ subst (λ (s : Shelf). ClosedStay s m.store.shelf) (sym (then_new k high)) (λ id c e. e)
-  ]
-
-  then_stays : (i j : ℕ) → i ≤ j → ClosedStay (shelf_then i) (shelf_then j)
-  then_stays i j le = elim (cases_lt j (length sent)) [
-    | inl low ↦
-        subst (λ (s : Shelf). ClosedStay s (shelf_then j)) (sym (then_old i (omega (arith, le, low))))
-        (subst (ClosedStay (h.shelf_at i)) (sym (then_old j low)) (h.stays i j le))
-    | inr high ↦ subst (ClosedStay (shelf_then i)) (sym (then_new j high)) (then_last i)
-  ]
-
-  then_answers : (moment : ℕ) (x : Sent) (answer : Message) → slice_get (sent ++ y ∷ []) moment ≡ Some x → x.from ≡ node → IsBodyOf answer x.body → is_request answer.body ≡ false
-      → IsAnswerBy (sent ++ y ∷ []) x answer (shelf_then moment)
-  then_answers moment x answer there from spelled kind = elim (get_push sent moment x y there) [
-    | inl before ↦
-        subst (IsAnswerBy (sent ++ y ∷ []) x answer) (sym (then_old moment (slice_get_within sent moment x before)))
-        (answer_more sent (y ∷ []) x answer (h.shelf_at moment) (h.answers moment x answer before from spelled kind))
-    | inr last ↦
-        let own : IsAnswerBy sent y answer m.store.shelf =
-        told answer (ap (λ (z : Sent). z.from) (sym last.1) ∙ from) (subst (λ (z : Sent). IsBodyOf answer z.body) last.1 spelled) kind in
-        let high : length sent ≤ moment = omega (arith, last.0) in
-        subst (IsAnswerBy (sent ++ y ∷ []) x answer) (sym (then_new moment high))
-        (answer_more sent (y ∷ []) x answer m.store.shelf (subst (λ (z : Sent). IsAnswerBy sent z answer m.store.shelf) (sym last.1) own))
-  ]
-
-  history_more : HasHistory (sent ++ y ∷ []) node m
-  history_more = record { shelf_at = shelf_then; stays = then_stays; last = then_last; answers = then_answers }
 
 pub sent_more : (servers : List (Machine MemoryState)) (operations : List Operation) (sent : List Sent) (y : Sent) → IsFounded servers operations sent y
     → AreConsistent servers operations sent → AreConsistent servers operations (sent ++ y ∷ [])
@@ -482,61 +413,3 @@ operation_begins servers operations sent nodes node job task honest all begins r
       | inl h ↦ c.fine j o h
       | inr h ↦ subst (λ (n : ℕ). IsFine (length servers) sent n o) (sym h.0) (subst (IsFine (length servers) sent (length operations)) (sym h.1) fine)
     ]) c
-
--- ---- operations are forgotten, or fail
-
--- the same operations, but for what became of them
-pub record HaveOtherLives (old new : List Operation) : Type 0 where
-  pub back : (i : ℕ) (op : Operation) → slice_get new i ≡ Some op → (was : Operation) × (fate : Life) × (slice_get old i ≡ Some was) × (op ≡ with_life fate was)
-  pub on : (i : ℕ) (op : Operation) → slice_get old i ≡ Some op → (fate : Life) × (slice_get new i ≡ Some (with_life fate op))
-
-fine_with : (honest : ℕ) (sent : List Sent) (i : ℕ) (op : Operation) (fate : Life) → IsFine honest sent i op → IsFine honest sent i (with_life fate op)
-fine_with honest sent i op fate f = record { node = f.node; started = f.started; session = f.session; before = f.before; answers = f.answers; right = f.right; asked = f.asked; given = f.given }
-
-request_with : (op : Operation) (fate : Life) (x : Sent) (m : Message) → IsRequestOf op x m → IsRequestOf (with_life fate op) x m
-request_with op fate x m (gone number is) = gone number is
-request_with op fate x m (asked from r) = asked from r
-
-pub lives_changed : (servers : List (Machine MemoryState)) (old new : List Operation) (sent : List Sent) → HaveOtherLives old new
-    → AreConsistent servers old sent → AreConsistent servers new sent
-lives_changed servers old new sent h c =
-    operations_change servers old new sent (λ i op e. let f = h.on i op e in (with_life f.0 op, f.1, request_with op f.0, refl))
-    (λ i op e. let was = h.back i op e in subst (IsFine (length servers) sent i) (sym was.3) (fine_with (length servers) sent i was.0 was.1 (c.fine i was.0 was.2))) c
-
-own_life : (op : Operation) → op ≡ with_life op.life op
-own_life op = refl
-
-pub one_life : (operations : List Operation) (number : ℕ) (op : Operation) (fate : Life) → slice_get operations number ≡ Some op
-    → HaveOtherLives operations (slice_set operations number (with_life fate op))
-one_life operations number op fate at = record {
-  back = λ i new e. elim (get_set operations number i new (with_life fate op) e) [
-    | inl h ↦ (op, fate, ap (slice_get operations) h.0 ∙ at, h.1)
-    | inr h ↦ (new, new.life, h, own_life new)
-  ];
-  on = λ i old e. elim (get_set_back operations number i old (with_life fate op) e) [
-    | inl h ↦ (let same : op ≡ old = same_some op old (sym at ∙ ap (slice_get operations) (sym h.0) ∙ e) in
-        (fate, h.1 ∙ ap (λ (o : Operation). Some (with_life fate o)) same))
-    | inr h ↦ (old.life, h ∙ ap Some (own_life old))
-  ];
-}
-
-forgot : (node : ℕ) (op : Operation) → (fate : Life) × (forgotten_by node op ≡ with_life fate op)
-forgot node op = choose ((op.node == node) && is_running op) where
-  choose : (b : Bool) → (fate : Life) × ((if b then with_life Forgotten op else op) ≡ with_life fate op)
-  choose true = (Forgotten, refl)
-  choose false = (op.life, own_life op)
-
-some_map : {A B : Type 0} (f : A → B) (o : Option A) (y : B) → option_map f o ≡ Some y → (x : A) × (o ≡ Some x) × (y ≡ f x)
-some_map f None y e = absurd cc
-some_map f (Some x) y e = (x, refl, same_some y (f x) (sym e))
-
-pub all_forgotten : (node : ℕ) (operations : List Operation) → HaveOtherLives operations (map (forgotten_by node) operations)
-all_forgotten node operations = record {
-  back = λ i new e.
-      let was = some_map (forgotten_by node) (slice_get operations i) new (sym (slice_get-map (forgotten_by node) operations i) ∙ e) in
-      let fate = forgot node was.0 in
-      (was.0, fate.0, was.1, was.2 ∙ fate.1);
-  on = λ i old e.
-      let fate = forgot node old in
-      (fate.0, slice_get-map (forgotten_by node) operations i ∙ ap (option_map (forgotten_by node)) e ∙ ap Some fate.1);
-}

@@ -24,7 +24,7 @@ use Rattle.world_operations.proofs.Places.{append_none, get_push_old, get_set_ba
 use Rattle.world.specs.State.{WorldState}
 use Rattle.world.specs.Step.{with_life}
 use Rattle.world.specs.Headline.{IsGone, IsHashed, IsLater, StaysAt, closed, downloaded, started}
-use Rattle.world.proofs.Changes.{HaveOtherLives}
+use Rattle.world.proofs.Lives.{HaveOtherLives}
 use Rattle.world.proofs.Happy.{Up}
 
 -- ---- operations

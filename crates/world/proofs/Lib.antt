@@ -9,7 +9,9 @@ pub mod Binding
 pub mod Enough
 pub mod Bound
 pub mod Trusted
+pub mod History
 pub mod Changes
+pub mod Lives
 pub mod Later
 pub mod Preserving
 pub mod Moving

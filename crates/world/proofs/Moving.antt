@@ -28,7 +28,7 @@ use Rattle.world.specs.Step.{Delivers, HaveTicked, OperationsTick, Opens, Restar
 use Rattle.world.specs.Step.{gets, to_liar}
 use Rattle.world.specs.Parts.{NothingNew, OperationBecomes, OperationMoves, SaidBy, ServerBecomes, ServesBy}
 use Rattle.world.specs.Consistent.{Preserves}
-use Rattle.world.proofs.Changes.{all_forgotten, one_life}
+use Rattle.world.proofs.Lives.{all_forgotten, one_life}
 use Rattle.world.proofs.Preserving.{preserves_answered, preserves_begun, preserves_got, preserves_held, preserves_itself, preserves_lives, preserves_moved, preserves_on, preserves_restarted, preserves_said, preserves_served, preserves_ticked}
 
 abbrev Server : Type 0

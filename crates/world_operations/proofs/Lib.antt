@@ -1,6 +1,7 @@
 pub mod Places
 pub mod Records
 pub mod TaskMoves
+pub mod Frames
 pub mod Beginnings
 pub mod Uploads
 pub mod Sending

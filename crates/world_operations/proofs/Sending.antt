@@ -26,7 +26,8 @@ use Rattle.world_operations.specs.UploadPieces.{fails, gives}
 use Rattle.world_operations.specs.declared.upload_pieces.UploadPieces.{UploadPieces}
 use Rattle.world_operations.specs.Follow.{GoesOn, IsSameOperation, Moves, Nothing, Said, SendsSome}
 use Rattle.world_operations.proofs.Places.{append_none}
-use Rattle.world_operations.proofs.TaskMoves.{fails_unhappy, goes_nowhere, goes_on, handed, sends_none, sends_on}
+use Rattle.world_operations.proofs.Frames.{sends_none, sends_on}
+use Rattle.world_operations.proofs.TaskMoves.{fails_unhappy, goes_nowhere, goes_on, handed}
 
 -- ---- messages
 

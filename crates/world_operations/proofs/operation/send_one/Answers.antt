@@ -3,7 +3,8 @@ use Rattle.wire.specs.declared.message.Message.{Message}
 use Rattle.world_operations.specs.declared.message.Sent.{Sent}
 use Rattle.world_operations.specs.Follow.{Nothing, SendsSome}
 use Rattle.world_operations.specs.Moves.{Takes, sent_to}
-use Rattle.world_operations.proofs.TaskMoves.{same_goes, sends_none, sends_one, taken}
+use Rattle.world_operations.proofs.Frames.{sends_none, sends_one}
+use Rattle.world_operations.proofs.TaskMoves.{same_goes, taken}
 use Rattle.world_operations.proofs.operation.send_one.Goals as goal
 
 pub returns-in_err-to-clause-some : goal.returns-in_err-to-clause-some

@@ -1,5 +1,5 @@
 use Rattle.world_operations.specs.Follow.{Nothing}
-use Rattle.world_operations.proofs.TaskMoves.{sends_none, sends_on}
+use Rattle.world_operations.proofs.Frames.{sends_none, sends_on}
 use Rattle.lemmas.proofs.Results.{on_ok}
 use Rattle.world_operations.proofs.Sending.{flushed}
 use Rattle.world_operations.proofs.operation.Operation.flush.Goals as goal
