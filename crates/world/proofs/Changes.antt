@@ -28,7 +28,7 @@ use Rattle.world_operations.specs.declared.task.Task.TheVariants.{Uploading, Dow
 use Rattle.all_asked.specs.Asked.{AsksAll}
 use Rattle.enough_binding.specs.Servers.{TellsAll}
 use Rattle.world_operations.specs.Asked.{HasAsked}
-use Rattle.world_operations.specs.Follow.{GoesOn, IsFrameOf, IsLostTask, IsNewTask, IsSameOperation, Moves, Said, SendsSome}
+use Rattle.world_operations.specs.Follow.{GoesOn, IsFrameOf, IsLostTask, IsNewTask, IsRequestBy, IsSameOperation, Moves, Said, SendsSome}
 use Rattle.world_operations.specs.Given.{AreGivenBy}
 use Rattle.world_operations.specs.Jobs.{IsFor}
 use Rattle.world_operations.specs.Moves.{sent_to}
@@ -37,10 +37,11 @@ use Rattle.world_operations.proofs.Places.{append_none, get_push, get_push_old, 
 use Rattle.world_operations.proofs.Frames.{request_on}
 use Rattle.world.specs.State.{shelved}
 use Rattle.world.specs.Step.{new_operation}
-use Rattle.world.specs.Consistent.{AreConsistent, CameFrom, IsFine, IsJustified, IsRecorded, IsRequestOf}
+use Rattle.world.specs.Consistent.{AreConsistent, AreOneRequest, CameFrom, IsFine, IsJustified, IsRecorded, IsRequestOf, without_bytes}
 use Rattle.world.specs.Consistent.{asked, gone}
 use Rattle.world.specs.History.{AnswersComeAfter, HasHistory, IsAnswerBy}
 use Rattle.world.proofs.Acked.{closed_by}
+use Rattle.world.proofs.Alike.{requests_are_one}
 use Rattle.world.proofs.History.{history_more, history_on}
 
 -- ---- a server goes on
@@ -94,6 +95,7 @@ server_changed servers operations sent node old new at stays is_sound c = record
     | inr h ↦ c.justified x m answer k h spelled kind
   ];
   recorded = λ x m k honest spelled kind. c.recorded x m k (subst (λ (n : ℕ). x.from < n) (length_set servers node new) honest) spelled kind;
+  one_request = subst (λ (n : ℕ). AreOneRequest n sent) (sym (length_set servers node new)) c.one_request;
   fine = λ i op e. subst (λ (n : ℕ). IsFine n sent i op) (sym (length_set servers node new)) (c.fine i op e);
   history = λ j m e. elim (get_set servers node j m new e) [
     | inl h ↦ subst (λ (n : Machine MemoryState). HasHistory sent j n) (sym h.1) (history_on sent j old new stays (c.history j old (ap (slice_get servers) h.0 ∙ at)))
@@ -109,6 +111,8 @@ pub record IsFounded (servers : List (Machine MemoryState)) (operations : List O
   pub justified : (m : Machine MemoryState) (answer : Message) → slice_get servers y.from ≡ Some m → IsBodyOf answer y.body → is_request answer.body ≡ false → IsJustified m sent y answer
   pub recorded : (m : Message) → y.from < length servers → IsBodyOf m y.body → is_request m.body ≡ true → IsRecorded operations y m
   pub told : (m : Machine MemoryState) (answer : Message) → slice_get servers y.from ≡ Some m → IsBodyOf answer y.body → is_request answer.body ≡ false → IsAnswerBy sent y answer m.store.shelf
+  pub alike : (x : Sent) (m n : Message) → y.from < length servers → IsBodyOf n y.body → is_request n.body ≡ true → IsRecorded operations x m → m.session ≡ n.session → m.number ≡ n.number
+      → without_bytes m.body ≡ without_bytes n.body
 
 justified_more : (m : Machine MemoryState) (sent more : List Sent) (x : Sent) (answer : Message) → IsJustified m sent x answer → IsJustified m (sent ++ more) x answer
 justified_more m sent more x answer j = record {
@@ -137,6 +141,29 @@ fine_more honest sent more i op f = record {
   given = f.given;
 }
 
+-- requests that were sent and one more are one where they have one session and number
+one_request_more : (servers : List (Machine MemoryState)) (operations : List Operation) (sent : List Sent) (y : Sent) → IsFounded servers operations sent y
+    → AreConsistent servers operations sent → AreOneRequest (length servers) (sent ++ y ∷ [])
+one_request_more servers operations sent y f c a b m n in_a in_b from_a from_b spelled_a spelled_b kind_a kind_b session number =
+    elim (Contains-push_cases sent y a in_a) [
+      | inl old_a ↦ elim (Contains-push_cases sent y b in_b) [
+        | inl old_b ↦ c.one_request a b m n old_a old_b from_a from_b spelled_a spelled_b kind_a kind_b session number
+        | inr new_b ↦ last a m b n new_b from_b spelled_b kind_b (c.recorded a m old_a from_a spelled_a kind_a) session number
+      ]
+      | inr new_a ↦ sym (last b n a m new_a from_a spelled_a kind_a (elim (Contains-push_cases sent y b in_b) [
+        | inl old_b ↦ c.recorded b n old_b from_b spelled_b kind_b
+        | inr new_b ↦ own b n new_b from_b spelled_b kind_b
+      ]) (sym session) (sym number))
+    ]
+  where
+    own : (z : Sent) (k : Message) → y ≡ z → z.from < length servers → IsBodyOf k z.body → is_request k.body ≡ true → IsRecorded operations z k
+    own z k is from spelled kind = subst (λ (x : Sent). IsRecorded operations x k) is
+        (f.recorded k (subst (λ (x : Sent). x.from < length servers) (sym is) from) (subst (λ (x : Sent). IsBodyOf k x.body) (sym is) spelled) kind)
+
+    last : (x : Sent) (k : Message) (z : Sent) (l : Message) → y ≡ z → z.from < length servers → IsBodyOf l z.body → is_request l.body ≡ true → IsRecorded operations x k → k.session ≡ l.session
+        → k.number ≡ l.number → without_bytes k.body ≡ without_bytes l.body
+    last x k z l is from spelled kind = f.alike x k l (subst (λ (t : Sent). t.from < length servers) (sym is) from) (subst (λ (t : Sent). IsBodyOf l t.body) (sym is) spelled) kind
+
 pub sent_more : (servers : List (Machine MemoryState)) (operations : List Operation) (sent : List Sent) (y : Sent) → IsFounded servers operations sent y
     → AreConsistent servers operations sent → AreConsistent servers operations (sent ++ y ∷ [])
 sent_more servers operations sent y founded c = record {
@@ -151,6 +178,7 @@ sent_more servers operations sent y founded c = record {
     | inr h ↦ subst (λ (z : Sent). IsRecorded operations z m) h
         (founded.recorded m (subst (λ (z : Sent). z.from < length servers) (sym h) honest) (subst (λ (z : Sent). IsBodyOf m z.body) (sym h) spelled) kind)
   ];
+  one_request = one_request_more servers operations sent y founded c;
   fine = λ i op e. fine_more (length servers) sent (y ∷ []) i op (c.fine i op e);
   history = λ node m e. history_more sent y node m (c.history node m e) (λ answer from spelled kind. founded.told m answer (ap (slice_get servers) from ∙ e) spelled kind);
   after = λ moment x answer op there from to spelled kind at. elim (get_push sent moment x y there) [
@@ -204,6 +232,10 @@ answered servers operations sent x m said after at there spelled spoken answers 
         answers = subst (IsAnswer (shelved after).store m) same answers;
         all = subst (λ (k : Message). TellsAll (shelved after).store m.body k.body) same all;
       };
+  alike = λ a k n honest s kind r session number.
+      let same : said ≡ n = spelled_alike said n spoken s.0 s.1 in
+      let never : is_request n.body ≡ false = ap (λ (k : Message). is_request k.body) (sym same) ∙ answers.kind in
+      absurd cc;
 }
 
 -- what a liar sends is nobody's answer and nobody's request
@@ -213,6 +245,7 @@ said_by_liar servers operations sent x liar within = record {
   justified = λ m a at spelled kind. absurd (omega (arith, within m at, liar));
   recorded = λ m honest spelled kind. absurd (omega (arith, honest, liar));
   told = λ m answer at spelled kind. absurd (omega (arith, within m at, liar));
+  alike = λ a m n honest spelled kind r session number. absurd (omega (arith, honest, liar));
 }
 
 -- ---- an operation goes on
@@ -232,6 +265,7 @@ operations_change servers old new sent k fine c = record {
   sound = c.sound;
   justified = c.justified;
   recorded = λ x m there honest spelled kind. recorded_on old new x m k (c.recorded x m there honest spelled kind);
+  one_request = c.one_request;
   fine = fine;
   history = c.history;
   after = λ moment x answer op there from to spelled kind at.
@@ -340,6 +374,12 @@ founded servers operations sent i op node x at own session f = record {
       let same : f.message ≡ a = spelled_alike f.message a f.body.0 s.0 (sym f.body.1 ∙ s.1) in
       let yes : is_request a.body ≡ true = ap (λ (k : Message). is_request k.body) (sym same) ∙ f.asks in
       absurd cc;
+  alike = λ a m n honest s kind r ses num.
+      let same : f.message ≡ n = spelled_alike f.message n f.body.0 s.0 (sym f.body.1 ∙ s.1) in
+      let new : IsRequestBy op.task x n = subst (IsRequestBy op.task x) same f.request in
+      let of_op : n.session ≡ i = ap (λ (k : Message). k.session) (sym same) ∙ f.session ∙ session in
+      let here : r.operation ≡ op = same_some r.operation op (sym r.at ∙ ap (slice_get operations) (ses ∙ of_op) ∙ at) in
+      requests_are_one op a x m n (subst (λ (o : Operation). IsRequestOf o a m) here r.request) new num;
 }
 
 -- what every call of an operation does keeps the world consistent

@@ -1,8 +1,7 @@
 -- Without a clash enough shares that honest nodes told are found: what one told it tells again to each operation that begins later.
-use Rattle.std.proofs.Common.{◌≡◌, ℕ, ◌+◌, ◌<◌, ◌≤◌, List, [], true, false, length, take, drop, Some, None, slice_index_or, refl, sym, subst, ap, ◌∙◌, arith}
+use Rattle.std.proofs.Common.{◌≡◌, ℕ, ◌+◌, ◌<◌, ◌≤◌, List, [], true, false, length, take, drop, Some, slice_index_or, refl, sym, subst, ap, ◌∙◌, arith}
 use Rattle.std.specs.Prelude.{slice_get}
 use Rattle.std.specs.List.{range_with_len}
-use Rattle.std.proofs.lemmas.List.{get_or-map, length-map}
 use Rattle.lemmas.proofs.Ranges.{range_has}
 use Rattle.tagged_hash.specs.TaggedHash.{share_digest, tagged_hash}
 use Rattle.tagged_hash.specs.declared.tag.Tag.TheVariants.{WholeShare}
@@ -21,7 +20,7 @@ use Rattle.request_record.specs.declared.requests.Request.{Request}
 use Rattle.request_record.specs.Asking.{Spells}
 use Rattle.request_record.specs.Record.{fits}
 use Rattle.share_store.specs.Memory.{MemoryState}
-use Rattle.share_store.specs.Shelf.{Shelf, closed_at, digest_at}
+use Rattle.share_store.specs.Shelf.{Shelf, closed_at}
 use Rattle.share_store.specs.declared.shelf.ClosedShare.{ClosedShare}
 use Rattle.server_core.specs.Machine.{Machine}
 use Rattle.server_core.specs.Sound.{is_request}
@@ -45,17 +44,16 @@ use Rattle.world_operations.specs.declared.message.Sent.{Sent}
 use Rattle.world_operations.specs.declared.operation.Operation.{Operation}
 use Rattle.world_operations.specs.declared.task.Task.{Task}
 use Rattle.world_operations.specs.Asked.{HasAsked}
-use Rattle.world_operations.specs.Follow.{IsRequestBy}
 use Rattle.world_operations.specs.Tasks.{IsRightTask, index_of, requests_of}
 use Rattle.world_operations.proofs.Places.{get_below, place_of_member, same_some}
-use Rattle.world.specs.Consistent.{IsConsistent, IsRequestOf}
-use Rattle.world.specs.Consistent.{asked, gone}
-use Rattle.world.specs.Enough.{AreConfirmed, ConfirmedAreGood, EnoughAreFound, IsConfirmed}
+use Rattle.world.specs.Consistent.{IsConsistent, IsRequestOf, without_bytes}
+use Rattle.world.specs.Enough.{AreConfirmed, ConfirmedAreGood, EnoughAreFound, IsConfirmed, WasTold}
 use Rattle.world.specs.Headline.{goal}
 use Rattle.world.specs.History.{HasHistory}
 use Rattle.world.specs.Started.{HasNoClashInTests, IsCheckOf, IsDownloadOf, IsHashedOrTested, IsStarted, hashed}
 use Rattle.world.specs.State.{WorldState}
 use Rattle.world.proofs.Acked as acked
+use Rattle.world.proofs.Alike.{closed_answers, closed_asks, request_by, told_alike}
 use Rattle.world.proofs.Binding as binding
 use Rattle.world.proofs.Hashed.{encoding_among, share_among}
 use Rattle.world.proofs.Keep.{share_hashed}
@@ -70,13 +68,6 @@ record IsToldAt (s : Shelf) (index : List ℕ) (asks : Asked) (said : Body) : Ty
   pub request : Message
   pub spelled : Spells index asks request.body
   pub tells : TellsAll s request.body said
-
--- an operation whose record has the request is not gone
-request_by : (op : Operation) (x : Sent) (m : Message) (place : ℕ) (r : Request) → slice_get (requests_of op.task).entries place ≡ Some r → IsRequestOf op x m → IsRequestBy op.task x m
-request_by op x m place r entry (gone number is) = absurd (nothing (subst (λ (t : Task). slice_get (requests_of t).entries place ≡ Some r) is entry)) where
-  nothing : None ≡ Some r → ⊥
-  nothing e = cc
-request_by op x m place r entry (asked node by) = by
 
 module _ (w : WorldState) (c : IsConsistent w) (node : ℕ) (m : Server) (at : slice_get w.servers node ≡ Some m) where
   abbrev history : HasHistory w.sent node m
@@ -147,26 +138,21 @@ module _ (w : WorldState) (c : IsConsistent w) (no_clash : HasNoClashInTests w) 
   abbrev share_of : Pair → List ℕ
   share_of pair = slice_index_or shares pair.1 []
 
-  -- the share's number is one of the file's
-  low_of : (before : ℕ) (pair : Pair) → IsConfirmed w file secret p before pair → pair.1 < p.total
-  low_of before pair k =
-      let by = acked.acked_by aim pair.0 k.request.asked k.answer.body pair k.told in
-      subst (λ (n : ℕ). pair.1 < n) (length-map shares share_digest ∙ length-shares file secret (parameters_of p)) by.below
-
   held_at : (before : ℕ) (pair : Pair) (k : IsConfirmed w file secret p before pair) (m : Server) (at : slice_get w.servers pair.0 ≡ Some m)
-      → IsHeldAt ((c.history pair.0 m at).shelf_at k.moment) (id_of pair) (share_of pair)
+      → IsHeldAt ((c.history pair.0 m at).shelf_at k.told.moment) (id_of pair) (share_of pair)
   held_at before pair k m at =
-      let digest : List ℕ = slice_index_or aim.digests pair.1 [] in
-      let by = acked.acked_by aim pair.0 k.request.asked k.answer.body pair k.told in
-      let kind = acked.acks_answer k.request.asked k.answer.body pair.1 digest by.acks in
-      let told = told_at w c pair.0 m at k.moment k.frame k.answer k.asker k.place k.request k.was_sent k.from k.spelled kind k.at k.to k.entry k.number in
-      let then_shelf : Shelf = (c.history pair.0 m at).shelf_at k.moment in
-      let digest_told = acked.tells_acked then_shelf (index_of k.asker.task) k.request.asked told.request.body k.answer.body pair.1 digest by.acks told.spelled told.tells.tells in
-      let closed = acked.closed_by (id_of pair) then_shelf digest
-      (subst (λ (i : List ℕ). digest_at (record { index = i; share = pair.1 }) then_shelf.closed ≡ Some digest) k.index digest_told) in
-      let now : closed_at (id_of pair) m.store.shelf.closed ≡ Some closed.share = (c.history pair.0 m at).last k.moment (id_of pair) closed.share closed.found in
-      let low : pair.1 < length shares = subst (λ (n : ℕ). pair.1 < n) (length-map shares share_digest) by.below in
-      let own : digest ≡ tagged_hash WholeShare (share_of pair) = get_or-map share_digest shares pair.1 [] [] low in
+      let own : List ℕ = share_digest (share_of pair) in
+      let h : HasHistory w.sent pair.0 m = c.history pair.0 m at in
+      let t : WasTold w before pair.0 (id_of pair) own = k.told in
+      let a = h.answers t.moment t.frame t.answer t.was_sent t.from t.spelled (closed_answers (id_of pair) own t.request.body t.answer.body t.tells) in
+      let same : without_bytes t.request.body ≡ without_bytes a.request.body =
+      c.one_request t.question a.frame t.request a.request t.was_asked a.was_sent (subst (λ (n : ℕ). n < length w.servers) (sym t.asked_by) t.to)
+      (subst (λ (n : ℕ). n < length w.servers) (sym a.from) t.to) t.request_spelled a.spelled (closed_asks (id_of pair) own t.request.body t.answer.body t.tells) a.answers.asked
+      (sym t.session ∙ a.answers.session) (sym t.number ∙ a.answers.number) in
+      let closed = acked.closed_by (id_of pair) (h.shelf_at t.moment) own
+      (told_alike (h.shelf_at t.moment) (id_of pair) own t.request.body a.request.body t.answer.body same t.tells a.answers.tells) in
+      let now : closed_at (id_of pair) m.store.shelf.closed ≡ Some closed.share = h.last t.moment (id_of pair) closed.share closed.found in
+      let low : pair.1 < length shares = subst (λ (n : ℕ). pair.1 < n) (sym (length-shares file secret (parameters_of p))) k.share in
       let right : closed.share.digest ≡ tagged_hash WholeShare closed.share.bytes = (c.sound pair.0 m at).right.digests (id_of pair) closed.share now in
       record {
         share = closed.share;
@@ -175,7 +161,7 @@ module _ (w : WorldState) (c : IsConsistent w) (no_clash : HasNoClashInTests w) 
             data_agrees_in (IsHashedOrTested w) no_clash WholeShare closed.share.bytes (share_of pair)
             (hashed (share_among w pair.0 m (id_of pair) closed.share at now))
             (hashed (encoding_among w s.number s.operation file secret p _ s.at s.uploads s.one_key (share_hashed file secret p pair.1 low)))
-            (sym right ∙ closed.digest_is ∙ own);
+            (sym right ∙ closed.digest_is);
       }
 
   -- ---- and is told to each operation that begins later
@@ -203,11 +189,11 @@ module _ (w : WorldState) (c : IsConsistent w) (no_clash : HasNoClashInTests w) 
         let told = told_at w c pair.0 m at sent.0 came.frame came.answer op place request sent.1 from came.spelled kind at_session came.to there came.says.number_is in
         let begun : op.sent_before ≤ sent.0 = c.after sent.0 came.frame came.answer op sent.1 (subst (λ (n : ℕ). n < length w.servers) (sym from) k.honest)
         (subst (λ (n : ℕ). n < length w.servers) (sym came.to) fine.node) came.spelled kind at_session in
-        let early : k.moment < op.sent_before = k.early in
+        let early : k.told.moment < op.sent_before = k.told.early in
         let held = held_at op.sent_before pair k m at in
         record {
           shelf = h.shelf_at sent.0;
-          held = record { share = held.share; found = h.stays k.moment sent.0 (omega (arith, early, begun)) (id_of pair) held.share held.found; bytes_are = held.bytes_are };
+          held = record { share = held.share; found = h.stays k.told.moment sent.0 (omega (arith, early, begun)) (id_of pair) held.share held.found; bytes_are = held.bytes_are };
           told = subst (λ (b : Body). IsToldAt (h.shelf_at sent.0) index request.asked b) came.says.body_is
               (subst (λ (i : List ℕ). IsToldAt (h.shelf_at sent.0) i request.asked came.answer.body) about told);
         }
@@ -215,7 +201,7 @@ module _ (w : WorldState) (c : IsConsistent w) (no_clash : HasNoClashInTests w) 
     told_list : (said : Body) → IsToldLater Holdings said → Lists said pair.1
     told_list said t =
         let lists = t.told.tells.lists index (spelled_ask index t.told.request.body t.told.spelled) in
-        let low = low_of op.sent_before pair k in
+        let low : pair.1 < p.total = k.share in
         let few = (binding.shape w c no_clash file secret p s).file.shares in
         (t.held.share.digest, lists.each (id_of pair) t.held.share refl (omega (arith, low, few)) t.held.found)
 
@@ -254,7 +240,7 @@ module _ (w : WorldState) (c : IsConsistent w) (no_clash : HasNoClashInTests w) 
     is_told : (pair : Pair) → IsConfirmed w file secret p of.operation.sent_before pair → downloads.IsTold d shares (range_with_len 0 (length w.servers)) pair
     is_told pair k = record {
       of = range_has 0 (length w.servers) pair.0 (omega arith) (let honest = k.honest in omega (arith, honest));
-      low = subst (λ (n : ℕ). pair.1 < n) (sym (ap (λ (q : ReadCapValue). q.total) of.cap_is ∙ total_is)) (low_of of.operation.sent_before pair k);
+      low = subst (λ (n : ℕ). pair.1 < n) (sym (ap (λ (q : ReadCapValue). q.total) of.cap_is ∙ total_is)) k.share;
       tells = subst (λ (t : Task). TellsShare (requests_of t).entries pair.0 pair.1 (share_of pair)) of.task (tells_share of.number of.operation of.at about_cap pair k);
     }
 
@@ -274,7 +260,7 @@ module _ (w : WorldState) (c : IsConsistent w) (no_clash : HasNoClashInTests w) 
     passes : IsSoundShare check.cap pair.1 (share_of pair)
     passes =
         subst (λ (q : VerifyCapValue). IsSoundShare q pair.1 (share_of pair)) (sym of.cap_is)
-        (file_shares_pass file secret (parameters_of p) (binding.shape w c no_clash file secret p s) pair.1 (low_of of.operation.sent_before pair k))
+        (file_shares_pass file secret (parameters_of p) (binding.shape w c no_clash file secret p s) pair.1 k.share)
 
     is_told_check : checks.IsTold check (range_with_len 0 (length w.servers)) pair (share_of pair)
     is_told_check =
@@ -285,7 +271,7 @@ module _ (w : WorldState) (c : IsConsistent w) (no_clash : HasNoClashInTests w) 
           done = done;
           asks = subst (HasAsked (range_with_len 0 (length w.servers))) of.task fine.asked;
           of = range_has 0 (length w.servers) pair.0 (omega arith) (omega (arith, honest));
-          low = subst (λ (n : ℕ). pair.1 < n) (sym (ap (λ (q : VerifyCapValue). q.total) of.cap_is ∙ total_is)) (low_of of.operation.sent_before pair k);
+          low = subst (λ (n : ℕ). pair.1 < n) (sym (ap (λ (q : VerifyCapValue). q.total) of.cap_is ∙ total_is)) k.share;
           sound = passes;
           tells = subst (λ (t : Task). TellsShare (requests_of t).entries pair.0 pair.1 (share_of pair)) of.task (tells_share of.number of.operation of.at about_check pair k);
         }

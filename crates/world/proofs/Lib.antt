@@ -10,6 +10,7 @@ pub mod Enough
 pub mod Bound
 pub mod Trusted
 pub mod History
+pub mod Alike
 pub mod Changes
 pub mod Lives
 pub mod Later

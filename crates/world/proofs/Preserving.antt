@@ -211,6 +211,7 @@ new_consistent honest liars = record {
   sound = λ node m e. subst (λ (n : Server). IsSound (shelved n)) (replicated honest node new_server m e) new_sound;
   justified = λ x m answer c at spelled kind. absurd (member_none x c);
   recorded = λ x m c honest spelled kind. absurd (member_none x c);
+  one_request = λ x y m n c d from to spelled written asks kind session number. absurd (member_none x c);
   fine = λ i op e. absurd cc;
   history = λ node m e. record {
     shelf_at = λ i. m.store.shelf;

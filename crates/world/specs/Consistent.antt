@@ -1,9 +1,10 @@
 -- What holds of every world, and carries the headline: servers are sound, what honest nodes sent is
 -- so, and what was counted was sent.
 use Rattle.std.specs.Prelude.{◌≡◌, ℕ, ◌+◌, ◌<◌, ◌≤◌, List, length, true, false, Some, slice_get}
-use Rattle.std.specs.Prelude.{Contains}
+use Rattle.std.specs.Prelude.{[], Contains}
 use Rattle.std.specs.List.{range_with_len}
 use Rattle.wire.specs.declared.message.Body.{Body}
+use Rattle.wire.specs.declared.message.Body.TheVariants.{Write}
 use Rattle.wire.specs.declared.message.Message.{Message}
 use Rattle.wire.specs.Frames.{IsBodyOf}
 use Rattle.request_record.specs.declared.requests.Asked.{Asked}
@@ -46,6 +47,20 @@ pub record IsRecorded (operations : List Operation) (x : Sent) (m : Message) : T
   pub at : slice_get operations m.session ≡ Some operation
   pub request : IsRequestOf operation x m
 
+-- a request without the bytes that it writes, which a source may bring otherwise when it is read
+-- again
+abbrev pub without_bytes : Body → Body
+without_bytes (Write id offset bytes) = Write id offset []
+without_bytes body = body
+
+-- Two requests of honest nodes with one session and one number are one, but for the bytes that they
+-- write.
+abbrev pub AreOneRequest : ℕ → List Sent → Type 0
+AreOneRequest honest sent = (x y : Sent) (m n : Message) → Contains sent x → Contains sent y
+    → x.from < honest → y.from < honest → IsBodyOf m x.body → IsBodyOf n y.body
+    → is_request m.body ≡ true → is_request n.body ≡ true → m.session ≡ n.session
+    → m.number ≡ n.number → without_bytes m.body ≡ without_bytes n.body
+
 -- an answer that counted was sent by the server asked
 pub record CameFrom (sent : List Sent) (session node place server : ℕ) (asked : Asked)
     (said : Body) : Type 0 where
@@ -82,6 +97,7 @@ pub record AreConsistent (servers : List (Machine MemoryState)) (operations : Li
       → is_request answer.body ≡ false → IsJustified m sent x answer
   pub recorded : (x : Sent) (m : Message) → Contains sent x → x.from < length servers
       → IsBodyOf m x.body → is_request m.body ≡ true → IsRecorded operations x m
+  pub one_request : AreOneRequest (length servers) sent
   pub fine : (number : ℕ) (op : Operation) → slice_get operations number ≡ Some op
       → IsFine (length servers) sent number op
   pub history : (node : ℕ) (m : Machine MemoryState) → slice_get servers node ≡ Some m

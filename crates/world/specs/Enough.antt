@@ -1,14 +1,18 @@
 -- Beside the headline: enough shares that honest nodes told are found.
-use Rattle.std.specs.Prelude.{◌≡◌, ◌⊎◌, ℕ, ◌+◌, ◌<◌, List, Some, Contains, length, slice_get}
+use Rattle.std.specs.Prelude.{◌≡◌, ◌⊎◌, ℕ, ◌<◌, List, [], Some, Contains, length, slice_get}
+use Rattle.std.specs.Prelude.{slice_index_or}
+use Rattle.tagged_hash.specs.TaggedHash.{share_digest}
 use Rattle.cap_text.specs.Cap.{verify_cap_of}
+use Rattle.wire.specs.declared.message.Body.{Body}
+use Rattle.wire.specs.declared.message.Body.TheVariants.{Ask, Allocate, Write, Close, Have, Already}
+use Rattle.wire.specs.declared.message.Body.TheVariants.{Closed}
 use Rattle.wire.specs.declared.message.Message.{Message}
+use Rattle.wire.specs.declared.message.ShareId.{ShareId}
 use Rattle.wire.specs.Frames.{IsBodyOf}
 use Rattle.zfec_code.specs.Rows.{AreDistinct}
 use Rattle.placement.specs.Matching.{Pair, shares_of}
-use Rattle.request_record.specs.declared.requests.Request.{Request}
 use Rattle.file_encoding.specs.Params.{UploadParameters}
 use Rattle.file_upload.specs.Prepared.{prepared_of}
-use Rattle.upload_core.specs.Acknowledged.{acked_answer}
 use Rattle.download_core.specs.State.{DownloadState}
 use Rattle.download_core.specs.declared.status.DownloadStatus.TheVariants.{NotEnoughShares}
 use Rattle.checker.specs.Report.{IsReport}
@@ -19,35 +23,51 @@ use Rattle.enough_binding.specs.Answers.{WasLost}
 use Rattle.enough_binding.specs.Checks.{good}
 use Rattle.enough_binding.specs.Downloads.{WasLostOf}
 use Rattle.world_operations.specs.declared.message.Sent.{Sent}
-use Rattle.world_operations.specs.declared.operation.Operation.{Operation}
-use Rattle.world_operations.specs.Tasks.{index_of, requests_of}
 use Rattle.world.specs.Headline.{goal}
 use Rattle.world.specs.Started.{IsCheckOf, IsDownloadOf, IsStarted}
 use Rattle.world.specs.State.{WorldState}
 
--- Before a moment an honest node told an operation that it holds the upload's share of a number:
--- in an answer to a request, by session and number, about the cap's storage index, that names the
--- share by its digest. Moments are places in the list of what was sent.
-pub record IsConfirmed (w : WorldState) (file secret : List ℕ) (p : UploadParameters) (before : ℕ)
-    (pair : Pair) : Type 0 where
-  pub honest : pair.0 < length w.servers
+-- An answer to a request tells that a share is closed, by its digest: it lists the share under its
+-- storage index, or says that it is there already, or is closed now.
+abbrev pub TellsClosed : ShareId → List ℕ → Body → Body → Type 0
+TellsClosed id digest (Ask index) (Have readonly held) =
+    (index ≡ id.index) × Contains held (record { share = id.share; digest = digest })
+TellsClosed id digest (Allocate asked len) (Already told) = (asked ≡ id) × (told ≡ digest)
+TellsClosed id digest (Write asked offset bytes) (Already told) = (asked ≡ id) × (told ≡ digest)
+TellsClosed id digest (Close asked) (Closed told) = (asked ≡ id) × (told ≡ digest)
+TellsClosed id digest request answer = ⊥
+
+-- Before a moment a server told an operation of an honest node that a share is closed, and by which
+-- digest: in answer to its request, by session and number, and whatever became of the operation.
+-- Moments are places in the list of what was sent.
+pub record WasTold (w : WorldState) (before server : ℕ) (id : ShareId) (digest : List ℕ)
+    : Type 0 where
   pub moment : ℕ
   pub early : moment < before
   pub frame : Sent
   pub answer : Message
   pub was_sent : slice_get w.sent moment ≡ Some frame
   pub spelled : IsBodyOf answer frame.body
-  pub from : frame.from ≡ pair.0
-  pub asker : Operation
-  pub at : slice_get w.operations answer.session ≡ Some asker
-  pub to : frame.to ≡ asker.node
-  pub index : index_of asker.task ≡ (goal file secret p).cap.storage_index
-  pub place : ℕ
-  pub request : Request
-  pub entry : slice_get (requests_of asker.task).entries place ≡ Some request
-  pub number : answer.number ≡ place + 1
-  pub told : Contains
-      (acked_answer (goal file secret p) pair.0 request.asked answer.body) pair
+  pub from : frame.from ≡ server
+  pub to : frame.to < length w.servers
+  pub question : Sent
+  pub request : Message
+  pub was_asked : Contains w.sent question
+  pub request_spelled : IsBodyOf request question.body
+  pub asked_by : question.from ≡ frame.to
+  pub asked_of : question.to ≡ server
+  pub session : answer.session ≡ request.session
+  pub number : answer.number ≡ request.number
+  pub tells : TellsClosed id digest request.body answer.body
+
+-- before a moment an honest node told an operation that it holds the upload's share of a number
+pub record IsConfirmed (w : WorldState) (file secret : List ℕ) (p : UploadParameters) (before : ℕ)
+    (pair : Pair) : Type 0 where
+  pub honest : pair.0 < length w.servers
+  pub share : pair.1 < p.total
+  pub told : WasTold w before pair.0
+      (record { index = (goal file secret p).cap.storage_index; share = pair.1 })
+      (share_digest (slice_index_or (prepared_of file secret p).shares pair.1 []))
 
 -- pairs of as many different share numbers as are needed were confirmed before a moment
 pub record AreConfirmed (w : WorldState) (file secret : List ℕ) (p : UploadParameters)
