@@ -5,3 +5,4 @@ pub mod AskingLaws
 pub mod KeptLaws
 pub mod EntryLaws
 pub mod EntrySteps
+pub mod FollowLaws

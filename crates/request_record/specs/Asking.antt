@@ -1,6 +1,6 @@
 -- What an operation asks, over its record, and the messages that its requests are sent as.
 use Rattle.std.specs.Prelude.{◌≡◌, ◌≢◌, ◌⊎◌, ℕ, ◌+◌, ◌<◌, ◌≤◌, List, [], map, max, slice_get}
-use Rattle.std.specs.Prelude.{Some, length}
+use Rattle.std.specs.Prelude.{Option, Some, None, drop, length}
 use Rattle.wire.specs.declared.message.Body.{Body}
 use Rattle.wire.specs.declared.message.Body.TheVariants.{Ask, Allocate, Write, Close, Abort, Read}
 use Rattle.wire.specs.declared.message.Message.{Message}
@@ -73,3 +73,26 @@ IsWriting asked = ⊥
 -- the message of the request at a place: its number is the place, counted from 1
 abbrev pub message_at : ℕ → Body → RequestsState → Message
 message_at place body r = record { session = r.session; number = place + 1; body = body }
+
+-- the record after its first request to send was sent
+abbrev pub one_sent : RequestsState → RequestsState
+one_sent r = record r { outgoing = drop 1 r.outgoing }
+
+-- the message of the request at a place, to the server that it asks, for a file of this storage
+-- index
+pub record IsFrame (index : List ℕ) (r : RequestsState) (place node : ℕ) (m : Message) : Type 0 where
+  pub request : Request
+  pub there : slice_get r.entries place ≡ Some request
+  pub server : node ≡ request.server
+  pub body : Body
+  pub spelled : Spells index request.asked body
+  pub message : m ≡ message_at place body r
+
+-- The first request to send is sent. Where none is, there is none to send, or the first is a
+-- Writing, whose bytes the record does not know.
+abbrev pub SendsFirst : List ℕ → RequestsState → Option (ℕ × Message) → RequestsState → Type 0
+SendsFirst index old None new = (new ≡ old)
+    × ((place : ℕ) (r : Request) → slice_get old.outgoing 0 ≡ Some place
+    → slice_get old.entries place ≡ Some r → IsWriting r.asked)
+SendsFirst index old (Some f) new = (place : ℕ) × (slice_get old.outgoing 0 ≡ Some place)
+    × IsFrame index old place f.0 f.1 × (new ≡ one_sent old)

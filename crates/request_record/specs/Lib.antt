@@ -7,3 +7,5 @@ pub mod Kept
 pub mod PastState
 pub mod Past
 pub mod Entries
+pub mod Follow
+pub mod Operations

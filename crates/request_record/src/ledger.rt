@@ -5,7 +5,7 @@ ghost use Rattle.std.specs.Prelude.{IfOk, IfSome, IsTrue, OnOk, OnErr, All, Some
 ghost use Rattle.request_record.specs.Record.{at, asked_more, counts_at, IsRecord, TakesNext};
 ghost use Rattle.request_record.specs.Record.{outstanding_count};
 ghost use Rattle.request_record.specs.Asking.{fresh, begun, after_message, after_tick};
-ghost use Rattle.request_record.specs.Asking.{lost_by_tick, HasWork, message_at};
+ghost use Rattle.request_record.specs.Asking.{lost_by_tick, HasWork, SendsFirst, message_at};
 ghost use Rattle.request_record.specs.Kept.{data_in};
 ghost use Rattle.request_record.specs.Written.{kept, kept_of, IsKeptAt};
 
@@ -16,7 +16,7 @@ use crate::requests::{Asked, Outcome, Request};
 use std::alloc::{AllocError, Global};
 use std::collections::VecDeque;
 use std::marker::Model;
-use wire::message::{Body, Message, NodeId};
+use wire::message::{Body, Message, NodeId, StorageIndex};
 
 /// An answer that counted: the place of its request and, where it is a `Data`, its bytes.
 #[derive(Drop)]
@@ -255,6 +255,21 @@ impl Ledger {
         let place = self.outgoing.pop_front()?;
         self.sent = sent_to(&self.entries, place, self.sent);
         Some(place)
+    }
+
+    /// Sends the first request to send, for the file of this storage index: gives the server that
+    /// it asks, and its message. `None`, and nothing is sent, where there is none to send, or where
+    /// it is a `Writing`.
+    pub fn send_next(&mut self, index: StorageIndex) -> Option<(NodeId, Message)>
+        ensures { SendsFirst index self.old result self.new }
+    {
+        let place = self.first()?;
+        let request = self.request(place);
+        let server = request.server;
+        let body = request.asked.body(index)?;
+        let message = self.message_at(place, body);
+        self.take_next();
+        Some((server, message))
     }
 
     /// How many requests are to send.

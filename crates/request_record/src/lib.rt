@@ -6,6 +6,7 @@ pub mod entries;
 pub mod kept;
 pub mod laws;
 pub mod ledger;
+pub mod operation;
 mod past;
 mod places;
 pub mod requests;

@@ -2,18 +2,17 @@
 
 ghost use Rattle.std.specs.Prelude.{◌≡◌, ◌≤◌, ◌<◌, ◌↔◌, ℕ, List, length, slice_get};
 ghost use Rattle.std.specs.Prelude.{IfOk, IfSome, IfNone, IsTrue, OnOk, OnErr, All, Some, map};
-ghost use Rattle.std.specs.Prelude.{drop, option_map};
+ghost use Rattle.std.specs.Prelude.{option_map};
 ghost use Rattle.request_record.specs.Record.{is_outstanding, fits, first_request, awaits, age_of};
 ghost use Rattle.request_record.specs.Record.{passed, is_lost_at, is_resent_at, ticked_one};
 ghost use Rattle.request_record.specs.Record.{was_sent_again, IsSentFew, IsRecord, TakesNext};
 ghost use Rattle.request_record.specs.Record.{counts_at, asked_more, outstanding_count};
 ghost use Rattle.request_record.specs.Asking.{fresh, begun, after_message, after_tick};
 ghost use Rattle.request_record.specs.Asking.{lost_by_tick, HasWork};
-ghost use Rattle.request_record.specs.Asking.{Spells, IsWriting, message_at};
+ghost use Rattle.request_record.specs.Asking.{SendsFirst, Spells, IsWriting, message_at};
 ghost use Rattle.request_record.specs.Kept.{IsDataAt};
-ghost use Rattle.request_record.specs.Written.{is_written, kept, kept_of, IsKeptAt};
+ghost use Rattle.request_record.specs.Written.{is_written, kept, IsKeptAt};
 
-use crate::entries::Entry;
 use crate::kept::Kept;
 use crate::ledger::{Counted, Ledger};
 use std::alloc::{AllocError, Global};
@@ -307,13 +306,6 @@ impl Requests {
         self.ledger.request(place)
     }
 
-    /// The requests from a place on that are in memory, in order: all but those that were written.
-    pub fn kept_since(&self, place: usize) -> &[Entry]
-        ensures { map (λ e. e.request) result.now ≡ kept_of (drop place self.now.entries) }
-    {
-        self.ledger.kept_since(place)
-    }
-
     /// The bytes of the `Data` that answered the request at a place.
     pub fn bytes_at(&self, place: usize) -> Option<&[u8]>
         ensures some { IfSome result (λ bytes. IsDataAt self.now.entries place bytes.now) }
@@ -395,6 +387,13 @@ impl Requests {
         ensures { TakesNext self.old result self.new }
     {
         self.ledger.take_next()
+    }
+
+    /// Sends the first request to send, as `Ledger::send_next`.
+    pub fn send_next(&mut self, index: StorageIndex) -> Option<(NodeId, Message)>
+        ensures { SendsFirst index self.old result self.new }
+    {
+        self.ledger.send_next(index)
     }
 
     /// How many requests are to send.
