@@ -4,14 +4,13 @@ use crate::{DONE, LITERAL};
 use cap_text::{Cap, VerifyCap};
 use checker::Check;
 use checker::status::Report;
-use grid_clients::check::CheckClient;
-use grid_clients::watched::Watched;
 use grid_rules::{
     Fault, Verb, missing_shares, read_cap, report_json, report_lines, report_status, turn_limit,
 };
 use grid_servers::{FIRST_SESSION, FolderGrid, Purpose, is_grid, open_servers, standing_servers};
 use grid_telling::{Counting, Failure, Progress, note_blame, note_servers, print};
 use grid_words::CheckWords;
+use local_grid::watched::Watched;
 use share_reading::Verdict;
 use std::alloc::Global;
 use std::io::{IsTerminal, Write};
@@ -118,10 +117,10 @@ where
     let mut nodes = open_servers(rt, words.grid, servers, Purpose::Reading, words.net)?;
     progress.begin(Verb::Check, Counting::Answered(share_bytes(&cap)), 0);
     let check = Check::start(rt.alloc(), cap, servers, FIRST_SESSION, nodes.clock())?;
-    let client = carry_check(check, servers.len(), &mut nodes, progress)?;
+    let check = carry_check(check, servers.len(), &mut nodes, progress)?;
     note_servers(rt, words.grid, servers, &nodes, Purpose::Reading, progress)?;
     // One without a report found no memory.
-    client.report(rt.alloc())?.ok_or(Fault::OutOfMemory)
+    check.report(rt.alloc())?.ok_or(Fault::OutOfMemory)
 }
 
 /// About how many bytes a share of a file has: those of its blocks.
@@ -142,13 +141,13 @@ pub(crate) fn carry_check<R, E>(
     servers: usize,
     nodes: &mut FolderGrid<R>,
     progress: &mut Progress<'_, R, E>,
-) -> Result<CheckClient, Fault>
+) -> Result<Check, Fault>
 where
     R: Files + Net + Clock + AllocGlobal + Clone + Drop,
     E: Write + IsTerminal,
 {
     let limit = check_limit(check.cap(), servers as u64);
-    let mut client = Watched::new(CheckClient::new(check), progress);
-    nodes.run_within(&mut client, limit)?;
-    Ok(client.into_client())
+    let mut watched = Watched::new(check, progress);
+    nodes.run_within(&mut watched, limit)?;
+    Ok(watched.into_operation())
 }

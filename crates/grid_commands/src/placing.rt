@@ -2,11 +2,10 @@
 
 ghost use Rattle.std.specs.Prelude.{◌≡◌, ◌*◌, ◌-◌, ◌^◌, min};
 
-use grid_clients::upload::UploadClient;
-use grid_clients::watched::Watched;
 use grid_rules::{Fault, reached_happiness, turn_limit};
 use grid_servers::{Durability, FolderGrid, Purpose};
 use grid_telling::{Progress, note_servers};
+use local_grid::watched::Watched;
 use std::io::{IsTerminal, Write};
 use std::net::Net;
 use std::rt::{Clock, Files};
@@ -66,10 +65,10 @@ where
     E: Write + IsTerminal,
 {
     let limit = turn_limit(u64::from(begun.shares), begun.share_length);
-    let mut client = Watched::new(UploadClient::new(begun.upload), &mut *progress);
-    nodes.run_within(&mut client, limit)?;
-    let client = client.into_client();
+    let mut watched = Watched::new(begun.upload, &mut *progress);
+    nodes.run_within(&mut watched, limit)?;
+    let upload = watched.into_operation();
     let purpose = Purpose::Writing(placing.durability);
     note_servers(rt, placing.grid, placing.servers, nodes, purpose, progress)?;
-    reached_happiness(client.status(), begun.wanted)
+    reached_happiness(upload.status(), begun.wanted)
 }

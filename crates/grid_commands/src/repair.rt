@@ -139,9 +139,9 @@ where
 {
     progress.begin(Verb::Repair, Counting::Answered(share_bytes(cap)), 0);
     let check = Check::start_keeping(alloc, *cap, servers, FIRST_SESSION, nodes.clock())?;
-    let client = carry_check(check, servers.len(), nodes, progress)?;
+    let check = carry_check(check, servers.len(), nodes, progress)?;
     // A check that is not done found no memory.
-    client.good_shares(alloc)?.ok_or(Fault::OutOfMemory)
+    check.good_shares(alloc)?.ok_or(Fault::OutOfMemory)
 }
 
 // All shares of a file, made ready for their upload.

@@ -4,5 +4,6 @@
 mod output;
 mod range;
 mod spans;
+mod writing_download;
 
 pub use range::get;

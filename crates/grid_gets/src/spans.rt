@@ -4,15 +4,15 @@
 ghost use Rattle.std.specs.Prelude.{nat_eq};
 ghost use Rattle.std.specs.List.{IsDistinct};
 
+use crate::writing_download::WritingDownload;
 use cap_text::ReadCap;
 use download_core::Download;
 use download_shares::holding::Blame;
-use grid_clients::download::DownloadClient;
-use grid_clients::watched::Watched;
 use grid_rules::{ByteRange, Fault, reached_range_end};
 use grid_servers::{FIRST_SESSION, FolderGrid, is_silent, servers_without};
 use grid_telling::{Counted, Failure, Progress, Writing, note_blame};
 use local_grid::error::LoopError;
+use local_grid::watched::Watched;
 use std::alloc::Global;
 use std::cell::Cell;
 use std::io::{IsTerminal, Write};
@@ -139,14 +139,14 @@ where
         let now = self.nodes.clock();
         let download = begin_download(self.rt.alloc(), cap, span, servers, session, now)?;
         let count = Cell::new(0);
-        let client = DownloadClient::new(download, Counted::new(&mut *out, &count));
-        let mut watched = Watched::new(client, Writing::new(&mut *progress, &count));
+        let download = WritingDownload::new(download, Counted::new(&mut *out, &count));
+        let mut watched = Watched::new(download, Writing::new(&mut *progress, &count));
         let carried = self.nodes.run(&mut watched);
-        let client = watched.into_client();
-        self.compare(client.extension_block())?;
-        self.suspect(servers, client.blamed(), progress)?;
+        let download = watched.into_operation();
+        self.compare(download.extension_block())?;
+        self.suspect(servers, download.blamed(), progress)?;
         reached(
-            end_of(carried, &client),
+            end_of(carried, &download),
             span.from.saturating_add(count.get()),
         )
     }
@@ -219,13 +219,13 @@ fn begin_download(
 // How a download ended that was carried as far as it goes.
 fn end_of<W: Write>(
     carried: Result<(), LoopError>,
-    client: &DownloadClient<W>,
+    download: &WritingDownload<W>,
 ) -> Result<(), Failure> {
     carried.map_err(Fault::from)?;
-    if client.has_failed() {
+    if download.has_failed() {
         return Err(Failure::Writer);
     }
-    Ok(reached_range_end(client.status())?)
+    Ok(reached_range_end(download.status())?)
 }
 
 // The same, where too few shares are no fault yet. All bytes up to this place were written.

@@ -1,7 +1,7 @@
 //! The progress of a command by the bytes that it writes.
 
 use crate::progress::Progress;
-use grid_clients::watched::Watch;
+use local_grid::watched::Watch;
 use std::cell::Cell;
 use std::io::{self, IsTerminal, Write};
 use std::rt::Clock;

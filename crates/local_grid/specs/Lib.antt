@@ -1,6 +1,5 @@
 -- What public contracts rest on.
 pub mod Refusals
-pub mod Clients
 pub mod Nodes
 pub mod Turns
 -- Words of private clauses.

@@ -3,7 +3,7 @@ use Rattle.std.specs.Prelude.{◌≡◌, ℕ, ◌+◌, ◌-◌, ◌^◌, ◌<◌
 use Rattle.std.specs.Prelude.{false, Option, Some, None, map, length, slice_get, slice_set}
 use Rattle.wire.specs.declared.message.Message.{Message}
 use Rattle.share_store.specs.Calls.{Calls}
-use Rattle.local_grid.specs.Clients.{ClientCalls}
+use Rattle.request_record.specs.Operations.{OperationCalls}
 use Rattle.local_grid.specs.Nodes.{Carries, Exchanges, NodeState, StopsShort, ticked}
 
 -- the nodes by number, where a node may be missing, and the second
@@ -51,83 +51,84 @@ abbrev pub Stops : {S L : Type 0} → Calls S → Carries L → (L → L → Typ
 Stops calls carries gives_up old node m new =
     StopsAt calls carries gives_up old node (slice_get old.nodes node) m new
 
--- a client, and the grid that it asks
-pub record LoopState (C S L : Type 0) : Type 0 where
-  pub client : C
+-- an operation, and the grid that it asks
+pub record LoopState (O S L : Type 0) : Type 0 where
+  pub operation : O
   pub grid : GridState S L
 
--- The answer comes to the client, from the node that was asked.
-abbrev pub Hears : {C : Type 0} → ClientCalls C → C → ℕ → Option Message → ℕ → C → Type 0
-Hears client old node None now new = new ≡ old
-Hears client old node (Some answer) now new = client.hears old node answer now new
+-- The answer comes to the operation, from the node that was asked.
+abbrev pub Hears : {O : Type 0} → OperationCalls O → O → ℕ → Option Message → ℕ → O → Type 0
+Hears operation old node None now new = new ≡ old
+Hears operation old node (Some answer) now new = operation.hears old node answer now new
 
--- What the client takes is carried. Where there is nothing to carry five seconds pass, of which the
--- nodes and the client take note.
-abbrev pub GoesOn : {C S L : Type 0} → ClientCalls C → Calls S → Carries L → C → GridState S L
-    → Option (ℕ × Message) → LoopState C S L → Type 0
-GoesOn client calls carries taken grid (Some m) new =
+-- What the operation takes is carried. Where there is nothing to carry five seconds pass, of which
+-- the nodes and the operation take note.
+abbrev pub GoesOn : {O S L : Type 0} → OperationCalls O → Calls S → Carries L → O → GridState S L
+    → Option (ℕ × Message) → LoopState O S L → Type 0
+GoesOn operation calls carries taken grid (Some m) new =
     (answer : Option Message) × Asks calls carries grid m.0 m.1 answer new.grid
-    × Hears client taken m.0 answer grid.clock new.client
-GoesOn client calls carries taken grid None new =
-    (new.grid ≡ passed grid) × client.ticks taken (later grid.clock) new.client
+    × Hears operation taken m.0 answer grid.clock new.operation
+GoesOn operation calls carries taken grid None new =
+    (new.grid ≡ passed grid) × operation.ticks taken (later grid.clock) new.operation
 
--- one turn of a client that runs
-pub record Turns {C S L : Type 0} (client : ClientCalls C) (calls : Calls S) (carries : Carries L)
-    (old new : LoopState C S L) : Type 0 where
-  pub runs : client.runs old.client ≡ true
+-- one turn of an operation that runs
+pub record Turns {O S L : Type 0} (operation : OperationCalls O) (calls : Calls S)
+    (carries : Carries L) (old new : LoopState O S L) : Type 0 where
+  pub runs : operation.runs old.operation ≡ true
   pub message : Option (ℕ × Message)
-  pub taken : C
-  pub takes : client.takes old.client message taken
-  pub goes_on : GoesOn client calls carries taken old.grid message new
+  pub taken : O
+  pub takes : operation.takes old.operation message taken
+  pub goes_on : GoesOn operation calls carries taken old.grid message new
 
 -- one turn after another, from the first state to the last: the states after the turns
 abbrev pub Course : {A : Type 0} → (A → A → Type 0) → A → List A → A → Type 0
 Course turn first [] last = last ≡ first
 Course turn first (next ∷ states) last = turn first next × Course turn next states last
 
--- Memory is refused after the client took what it has to say: on the message's way to its node and
--- back, or to the client as it hears the answer; or to the client as it ticks, after the nodes.
-abbrev pub StopsAfter : {C S L : Type 0} → ClientCalls C → Calls S → Carries L → (L → L → Type 0)
-    → C → GridState S L → Option (ℕ × Message) → LoopState C S L → Type 0
-StopsAfter client calls carries gives_up taken grid (Some m) new =
-    ((new.client ≡ taken) × Stops calls carries gives_up grid m.0 m.1 new.grid)
+-- Memory is refused after the operation took what it has to say: on the message's way to its node
+-- and back, or to the operation as it hears the answer; or to the operation as it ticks, after the
+-- nodes.
+abbrev pub StopsAfter : {O S L : Type 0} → OperationCalls O → Calls S → Carries L
+    → (L → L → Type 0) → O → GridState S L → Option (ℕ × Message) → LoopState O S L → Type 0
+StopsAfter operation calls carries gives_up taken grid (Some m) new =
+    ((new.operation ≡ taken) × Stops calls carries gives_up grid m.0 m.1 new.grid)
     ⊎ ((answer : Message) × Asks calls carries grid m.0 m.1 (Some answer) new.grid
-    × client.gives_up taken new.client)
-StopsAfter client calls carries gives_up taken grid None new =
-    (new.grid ≡ passed grid) × client.gives_up taken new.client
+    × operation.gives_up taken new.operation)
+StopsAfter operation calls carries gives_up taken grid None new =
+    (new.grid ≡ passed grid) × operation.gives_up taken new.operation
 
--- A turn in which memory is refused: to the client as it takes what it has to say, or after that.
-abbrev pub IsCutShort : {C S L : Type 0} → ClientCalls C → Calls S → Carries L → (L → L → Type 0)
-    → LoopState C S L → LoopState C S L → Type 0
-IsCutShort {C = C} client calls carries gives_up old new =
-    (client.gives_up old.client new.client × (new.grid ≡ old.grid))
-    ⊎ ((message : Option (ℕ × Message)) × (taken : C) × client.takes old.client message taken
-    × StopsAfter client calls carries gives_up taken old.grid message new)
+-- A turn in which memory is refused: to the operation as it takes what it has to say, or after.
+abbrev pub IsCutShort : {O S L : Type 0} → OperationCalls O → Calls S → Carries L → (L → L → Type 0)
+    → LoopState O S L → LoopState O S L → Type 0
+IsCutShort {O = O} operation calls carries gives_up old new =
+    (operation.gives_up old.operation new.operation × (new.grid ≡ old.grid))
+    ⊎ ((message : Option (ℕ × Message)) × (taken : O) × operation.takes old.operation message taken
+    × StopsAfter operation calls carries gives_up taken old.grid message new)
 
 -- so many turns, one after another
-abbrev pub TurnsOften : {C S L : Type 0} → ClientCalls C → Calls S → Carries L → ℕ
-    → LoopState C S L → LoopState C S L → Type 0
-TurnsOften {C = C} {S = S} {L = L} client calls carries count first last =
-    (states : List (LoopState C S L)) × (length states ≡ count)
-    × Course (Turns client calls carries) first states last
+abbrev pub TurnsOften : {O S L : Type 0} → OperationCalls O → Calls S → Carries L → ℕ
+    → LoopState O S L → LoopState O S L → Type 0
+TurnsOften {O = O} {S = S} {L = L} operation calls carries count first last =
+    (states : List (LoopState O S L)) × (length states ≡ count)
+    × Course (Turns operation calls carries) first states last
 
--- The client is at its end after at most so many turns.
-abbrev pub Finishes : {C S L : Type 0} → ClientCalls C → Calls S → Carries L → ℕ
-    → LoopState C S L → LoopState C S L → Type 0
-Finishes client calls carries most first last =
-    (count : ℕ) × (count ≤ most) × TurnsOften client calls carries count first last
-    × (client.runs last.client ≡ false)
+-- The operation is at its end after at most so many turns.
+abbrev pub Finishes : {O S L : Type 0} → OperationCalls O → Calls S → Carries L → ℕ
+    → LoopState O S L → LoopState O S L → Type 0
+Finishes operation calls carries most first last =
+    (count : ℕ) × (count ≤ most) × TurnsOften operation calls carries count first last
+    × (operation.runs last.operation ≡ false)
 
--- The client still runs after so many turns.
-abbrev pub GoesPast : {C S L : Type 0} → ClientCalls C → Calls S → Carries L → ℕ
-    → LoopState C S L → LoopState C S L → Type 0
-GoesPast client calls carries most first last =
-    TurnsOften client calls carries most first last × (client.runs last.client ≡ true)
+-- The operation still runs after so many turns.
+abbrev pub GoesPast : {O S L : Type 0} → OperationCalls O → Calls S → Carries L → ℕ
+    → LoopState O S L → LoopState O S L → Type 0
+GoesPast operation calls carries most first last =
+    TurnsOften operation calls carries most first last × (operation.runs last.operation ≡ true)
 
 -- After some turns, fewer than that, memory was refused in the next one.
-abbrev pub RunsOut : {C S L : Type 0} → ClientCalls C → Calls S → Carries L → (L → L → Type 0) → ℕ
-    → LoopState C S L → LoopState C S L → Type 0
-RunsOut {C = C} {S = S} {L = L} client calls carries gives_up most first last =
-    (count : ℕ) × (count < most) × (mid : LoopState C S L)
-    × TurnsOften client calls carries count first mid
-    × (client.runs mid.client ≡ true) × IsCutShort client calls carries gives_up mid last
+abbrev pub RunsOut : {O S L : Type 0} → OperationCalls O → Calls S → Carries L
+    → (L → L → Type 0) → ℕ → LoopState O S L → LoopState O S L → Type 0
+RunsOut {O = O} {S = S} {L = L} operation calls carries gives_up most first last =
+    (count : ℕ) × (count < most) × (mid : LoopState O S L)
+    × TurnsOften operation calls carries count first mid
+    × (operation.runs mid.operation ≡ true) × IsCutShort operation calls carries gives_up mid last

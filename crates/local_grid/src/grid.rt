@@ -7,22 +7,22 @@ ghost use Rattle.local_grid.specs.Turns.{Asks, Finishes, GoesOn, GoesPast, IsCut
 ghost use Rattle.local_grid.specs.Turns.{Stops, StopsAfter, Turns, passed};
 ghost use Rattle.local_grid.specs.declared.error.LoopError.{LoopError};
 
-use crate::client::Client;
 use crate::error::LoopError;
 use crate::link::Link;
 use crate::node::Node;
+use request_record::operation::Operation;
 use share_store::store::Store;
 use std::alloc::{AllocError, Global};
 use std::marker::Model;
 use wire::message::{Message, NodeId};
 
-/// The most turns that the loop takes for one client.
+/// The most turns that the loop takes for one operation.
 const MOST_TURNS: u64 = 100_000_000;
 
 /// The seconds that pass where there is nothing to carry.
 const STEP: u64 = 5;
 
-/// The servers of a grid, which one client asks, and the clock.
+/// The servers of a grid, which one operation asks, and the clock.
 #[derive(Drop)]
 pub struct LocalGrid<S: Store, L: Link> {
     nodes: Vec<Option<Node<S, L>>>,
@@ -84,106 +84,111 @@ impl<S: Store, L: Link> LocalGrid<S, L> {
         self.clock
     }
 
-    /// Carries frames between a client and the nodes until the client is at its end. In each turn
-    /// the client's next message goes to its node, and the node's answer comes back. Where there is
-    /// nothing to carry, the clock goes on by 5 seconds, and nodes and client tick. A node whose
-    /// store fails, or whose link loses a message, is silent from then on, and the others go on.
+    /// Carries frames between an operation and the nodes until the operation is at its end. In each
+    /// turn the operation's next message goes to its node, and the node's answer comes back. Where
+    /// there is nothing to carry, the clock goes on by 5 seconds, and nodes and operation tick. A
+    /// node whose store fails, or whose link loses a message, is silent from then on, and the others
+    /// go on.
     ///
-    /// `TurnLimit` where the client still runs after 100,000,000 turns, and `OutOfMemory` where
+    /// `TurnLimit` where the operation still runs after 100,000,000 turns, and `OutOfMemory` where
     /// memory was refused in the middle of a turn: then a server may have done what was asked of
     /// it, and its answer has not come; all else is as the turn had it until then.
-    pub fn run<C: Client>(&mut self, client: &mut C) -> Result<(), LoopError>
-        ensures ok { OnOk result (Finishes C.calls S.calls L.carries 100000000
-            (record { client = client.old; grid = self.old })
-            (record { client = client.new; grid = self.new })) }
+    pub fn run<O: Operation>(&mut self, operation: &mut O) -> Result<(), LoopError>
+        ensures ok { OnOk result (Finishes O.calls S.calls L.carries 100000000
+            (record { operation = operation.old; grid = self.old })
+            (record { operation = operation.new; grid = self.new })) }
         ensures turn_limit { IsErrOf result LoopError.TurnLimit
-            → GoesPast C.calls S.calls L.carries 100000000
-            (record { client = client.old; grid = self.old })
-            (record { client = client.new; grid = self.new }) }
+            → GoesPast O.calls S.calls L.carries 100000000
+            (record { operation = operation.old; grid = self.old })
+            (record { operation = operation.new; grid = self.new }) }
         ensures memory { IsErrOf result LoopError.OutOfMemory
-            → RunsOut C.calls S.calls L.carries L.gives_up 100000000
-            (record { client = client.old; grid = self.old })
-            (record { client = client.new; grid = self.new }) }
+            → RunsOut O.calls S.calls L.carries L.gives_up 100000000
+            (record { operation = operation.old; grid = self.old })
+            (record { operation = operation.new; grid = self.new }) }
         ensures clock { self.old.clock ≤ self.new.clock }
     {
-        self.run_within(client, MOST_TURNS)
+        self.run_within(operation, MOST_TURNS)
     }
 
     /// The same with a limit of turns of the caller's.
-    pub fn run_within<C: Client>(&mut self, client: &mut C, limit: u64) -> Result<(), LoopError>
-        ensures ok { OnOk result (Finishes C.calls S.calls L.carries limit
-            (record { client = client.old; grid = self.old })
-            (record { client = client.new; grid = self.new })) }
+    pub fn run_within<O: Operation>(
+        &mut self,
+        operation: &mut O,
+        limit: u64,
+    ) -> Result<(), LoopError>
+        ensures ok { OnOk result (Finishes O.calls S.calls L.carries limit
+            (record { operation = operation.old; grid = self.old })
+            (record { operation = operation.new; grid = self.new })) }
         ensures turn_limit { IsErrOf result LoopError.TurnLimit
-            → GoesPast C.calls S.calls L.carries limit
-            (record { client = client.old; grid = self.old })
-            (record { client = client.new; grid = self.new }) }
+            → GoesPast O.calls S.calls L.carries limit
+            (record { operation = operation.old; grid = self.old })
+            (record { operation = operation.new; grid = self.new }) }
         ensures memory { IsErrOf result LoopError.OutOfMemory
-            → RunsOut C.calls S.calls L.carries L.gives_up limit
-            (record { client = client.old; grid = self.old })
-            (record { client = client.new; grid = self.new }) }
+            → RunsOut O.calls S.calls L.carries L.gives_up limit
+            (record { operation = operation.old; grid = self.old })
+            (record { operation = operation.new; grid = self.new }) }
         ensures clock { self.old.clock ≤ self.new.clock }
     {
         for _ in 0..limit {
-            if !client.is_running() {
+            if !operation.is_running() {
                 return Ok(());
             }
-            self.turn(client)?;
+            self.turn(operation)?;
         }
-        if client.is_running() {
+        if operation.is_running() {
             return Err(LoopError::TurnLimit);
         }
         Ok(())
     }
 
-    // One turn of a client that runs.
-    fn turn<C: Client>(&mut self, client: &mut C) -> Result<(), AllocError>
-        requires { C.calls.runs client.old ≡ true }
-        ensures ok { OnOk result (Turns C.calls S.calls L.carries
-            (record { client = client.old; grid = self.old })
-            (record { client = client.new; grid = self.new })) }
-        ensures err { OnErr result (IsCutShort C.calls S.calls L.carries L.gives_up
-            (record { client = client.old; grid = self.old })
-            (record { client = client.new; grid = self.new })) }
+    // One turn of an operation that runs.
+    fn turn<O: Operation>(&mut self, operation: &mut O) -> Result<(), AllocError>
+        requires { O.calls.runs operation.old ≡ true }
+        ensures ok { OnOk result (Turns O.calls S.calls L.carries
+            (record { operation = operation.old; grid = self.old })
+            (record { operation = operation.new; grid = self.new })) }
+        ensures err { OnErr result (IsCutShort O.calls S.calls L.carries L.gives_up
+            (record { operation = operation.old; grid = self.old })
+            (record { operation = operation.new; grid = self.new })) }
         ensures clock { self.old.clock ≤ self.new.clock }
     {
         let alloc = *self.frame.allocator();
-        match client.take_outgoing(alloc)? {
-            Some((node, message)) => self.carry(client, node, &message),
-            None => self.wait(client),
+        match operation.take_outgoing(alloc)? {
+            Some((node, message)) => self.carry(operation, node, &message),
+            None => self.wait(operation),
         }
     }
 
-    // Carries a message of the client's, and the answer.
-    fn carry<C: Client>(
+    // Carries a message of the operation's, and the answer.
+    fn carry<O: Operation>(
         &mut self,
-        client: &mut C,
+        operation: &mut O,
         node: NodeId,
         message: &Message,
     ) -> Result<(), AllocError>
-        ensures ok { OnOk result (GoesOn C.calls S.calls L.carries client.old self.old
-            (Some (node, message.now)) (record { client = client.new; grid = self.new })) }
-        ensures err { OnErr result (StopsAfter C.calls S.calls L.carries L.gives_up client.old
+        ensures ok { OnOk result (GoesOn O.calls S.calls L.carries operation.old self.old
+            (Some (node, message.now)) (record { operation = operation.new; grid = self.new })) }
+        ensures err { OnErr result (StopsAfter O.calls S.calls L.carries L.gives_up operation.old
             self.old (Some (node, message.now))
-            (record { client = client.new; grid = self.new })) }
+            (record { operation = operation.new; grid = self.new })) }
         ensures clock { self.new.clock ≡ self.old.clock }
     {
         match self.ask(node, message)? {
-            Some(answer) => client.on_message(node, answer, self.clock),
+            Some(answer) => operation.on_message(node, answer, self.clock),
             None => Ok(()),
         }
     }
 
-    // Lets five seconds pass, of which the nodes and the client take note.
-    fn wait<C: Client>(&mut self, client: &mut C) -> Result<(), AllocError>
-        ensures ok { OnOk result (GoesOn C.calls S.calls L.carries client.old self.old None
-            (record { client = client.new; grid = self.new })) }
-        ensures err { OnErr result (StopsAfter C.calls S.calls L.carries L.gives_up client.old
-            self.old None (record { client = client.new; grid = self.new })) }
+    // Lets five seconds pass, of which the nodes and the operation take note.
+    fn wait<O: Operation>(&mut self, operation: &mut O) -> Result<(), AllocError>
+        ensures ok { OnOk result (GoesOn O.calls S.calls L.carries operation.old self.old None
+            (record { operation = operation.new; grid = self.new })) }
+        ensures err { OnErr result (StopsAfter O.calls S.calls L.carries L.gives_up operation.old
+            self.old None (record { operation = operation.new; grid = self.new })) }
         ensures clock { self.old.clock ≤ self.new.clock }
     {
         self.pass();
-        client.tick(self.clock)
+        operation.tick(self.clock)
     }
 
     // Five seconds, of which the nodes take note.

@@ -5,13 +5,13 @@ use Rattle.local_grid.proofs.grid.LocalGrid.run_within.Goals as goal
 
 pub returns-in_err-turn-clause-memory : goal.returns-in_err-turn-clause-memory
 returns-in_err-turn-clause-memory g c = λ _.
-    let mid : LoopState g.row.C.Denot g.row.S.Denot g.row.L.Denot = record { client = c.loop.client; grid = c.loop.self } in
+    let mid : LoopState g.row.O.Denot g.row.S.Denot g.row.L.Denot = record { operation = c.loop.operation; grid = c.loop.self } in
     (c.loop.counter, c.loop-test.true, mid, c.loop.invariant.0, search rules, c.in_err-turn.ensures.err)
 
 pub loop-preserved : goal.loop-preserved
 loop-preserved g c =
-    let first : LoopState g.row.C.Denot g.row.S.Denot g.row.L.Denot = record { client = c.args.client.now; grid = c.args.self.now } in
-    let mid : LoopState g.row.C.Denot g.row.S.Denot g.row.L.Denot = record { client = c.loop.client; grid = c.loop.self } in
-    let last : LoopState g.row.C.Denot g.row.S.Denot g.row.L.Denot = record { client = c.turn.new.client; grid = c.turn.new.self } in
+    let first : LoopState g.row.O.Denot g.row.S.Denot g.row.L.Denot = record { operation = c.args.operation.now; grid = c.args.self.now } in
+    let mid : LoopState g.row.O.Denot g.row.S.Denot g.row.L.Denot = record { operation = c.loop.operation; grid = c.loop.self } in
+    let last : LoopState g.row.O.Denot g.row.S.Denot g.row.L.Denot = record { operation = c.turn.new.operation; grid = c.turn.new.self } in
     let often = c.loop.invariant.0 in
-    ((often.0 ++ last ∷ [], omega (arith, often.1, length-append often.0 (last ∷ [])), course_more (Turns g.C.Client.calls g.S.Store.calls g.L.Link.carries) first mid last often.0 often.2 c.in_ok-turn.ensures.ok), omega (arith, c.loop.invariant.1, c.in_ok-turn.ensures.clock))
+    ((often.0 ++ last ∷ [], omega (arith, often.1, length-append often.0 (last ∷ [])), course_more (Turns g.O.Operation.calls g.S.Store.calls g.L.Link.carries) first mid last often.0 often.2 c.in_ok-turn.ensures.ok), omega (arith, c.loop.invariant.1, c.in_ok-turn.ensures.clock))

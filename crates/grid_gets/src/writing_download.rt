@@ -1,29 +1,29 @@
-//! A download as a client.
+//! A download that writes what it hands out.
 
 ghost use Rattle.std.specs.Prelude.{◌≡◌, IfNone, IfSome, None, false, is_ok, not, true};
 ghost use Rattle.download_core.specs.Evidence.{IsAcceptedBlock};
-ghost use Rattle.grid_clients.specs.DownloadCalls.{Writes, download_calls, is_to_carry};
+ghost use Rattle.grid_gets.specs.WritingDownload.{Writes, writing_calls, is_to_carry};
 
 use download_core::Download;
 use download_core::status::DownloadStatus;
 use download_shares::holding::Blame;
-use local_grid::client::Client;
+use request_record::operation::Operation;
 use std::alloc::{AllocError, Global};
 use std::io::{self, Write};
 use std::marker::Model;
 use wire::message::{Message, NodeId};
 
-/// A download that the loop carries on. What it hands out is written at once, so that memory never
-/// holds the file twice, as answers and as bytes.
+/// A download with a writer. What it hands out is written at once, so that memory never holds the
+/// file twice, as answers and as bytes.
 #[derive(Drop)]
-pub struct DownloadClient<W: Write> {
+pub(crate) struct WritingDownload<W: Write> {
     download: Download,
     out: W,
     failed: bool,
 }
 
-impl<W: Write> Model for DownloadClient<W> {
-    ghost use Rattle.grid_clients.specs.DownloadCalls.{Downloading};
+impl<W: Write> Model for WritingDownload<W> {
+    ghost use Rattle.grid_gets.specs.WritingDownload.{Downloading};
 
     ghost Value = { Downloading };
 
@@ -34,16 +34,16 @@ impl<W: Write> Model for DownloadClient<W> {
     } };
 }
 
-impl<W: Write> DownloadClient<W> {
+impl<W: Write> WritingDownload<W> {
     /// Takes over a download, and the writer of its bytes.
-    pub fn new(download: Download, out: W) -> DownloadClient<W>
+    pub(crate) fn new(download: Download, out: W) -> WritingDownload<W>
         ensures { result ≡ record {
           download = download;
           written = W.contents out;
           failed = false;
         } }
     {
-        DownloadClient {
+        WritingDownload {
             download,
             out,
             failed: false,
@@ -51,21 +51,21 @@ impl<W: Write> DownloadClient<W> {
     }
 
     /// Where the download stands.
-    pub fn status(&self) -> DownloadStatus
+    pub(crate) fn status(&self) -> DownloadStatus
         ensures { result ≡ self.now.download.status }
     {
         self.download.status()
     }
 
     /// The shares that failed a check.
-    pub fn blamed(&self) -> &[Blame]
+    pub(crate) fn blamed(&self) -> &[Blame]
         ensures { result.now ≡ self.now.download.blamed }
     {
         self.download.blamed()
     }
 
     /// The extension block that the download accepted. `None` where it accepted none yet.
-    pub fn extension_block(&self) -> Option<&[u8]>
+    pub(crate) fn extension_block(&self) -> Option<&[u8]>
         ensures some { IfSome result (λ block. IsAcceptedBlock
             self.now.download.requests.entries self.now.download.found block.now) }
         ensures none { IfNone result (self.now.download.found ≡ None) }
@@ -74,7 +74,7 @@ impl<W: Write> DownloadClient<W> {
     }
 
     /// Has the writer failed?
-    pub fn has_failed(&self) -> bool
+    pub(crate) fn has_failed(&self) -> bool
         ensures { result ≡ self.now.failed }
     {
         self.failed
@@ -92,15 +92,15 @@ impl<W: Write> DownloadClient<W> {
     }
 }
 
-impl<W: Write> Client for DownloadClient<W> {
-    ghost calls = { download_calls };
+impl<W: Write> Operation for WritingDownload<W> {
+    ghost calls = { writing_calls };
 
     fn is_running(&self) -> bool {
-        matches!(self.download.status(), DownloadStatus::Running) && !self.failed
+        self.download.is_running() && !self.failed
     }
 
-    fn take_outgoing(&mut self, _alloc: Global) -> Result<Option<(NodeId, Message)>, AllocError> {
-        Ok(self.download.take_outgoing())
+    fn take_outgoing(&mut self, alloc: Global) -> Result<Option<(NodeId, Message)>, AllocError> {
+        self.download.take_outgoing(alloc)
     }
 
     fn on_message(&mut self, from: NodeId, message: Message, now: u64) -> Result<(), AllocError> {

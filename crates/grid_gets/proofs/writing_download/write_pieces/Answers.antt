@@ -1,7 +1,7 @@
 use Rattle.std.proofs.Common.{◌≡◌, ◌∙◌, [], ◌∷◌, ◌++◌, ap, false, is_ok, not, rules, subst, sym, true≢false}
 use Rattle.std.specs.Io.KnownBytes.{Appends}
-use Rattle.grid_clients.proofs.Written.{hands_more, written_more}
-use Rattle.grid_clients.proofs.download.write_pieces.Goals as goal
+use Rattle.grid_gets.proofs.Written.{hands_more, written_more}
+use Rattle.grid_gets.proofs.writing_download.write_pieces.Goals as goal
 
 pub returns-in_err-write_all : goal.returns-in_err-write_all
 returns-in_err-write_all g c =

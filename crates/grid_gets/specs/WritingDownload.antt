@@ -1,18 +1,14 @@
--- A download as a client of the loop, which writes what the download hands out.
+-- A download with a writer, to which it writes what it hands out.
 use Rattle.std.specs.Prelude.{◌≡◌, ◌⊎◌, ℕ, ◌+◌, List, [], ◌∷◌, ◌++◌, length, Bool, true, false, ◌&&◌}
 use Rattle.std.specs.Prelude.{not, Option}
 use Rattle.std.specs.Io.KnownBytes.{Appends}
 use Rattle.std.specs.List.{flat_map}
-use Rattle.download_core.specs.declared.status.DownloadStatus.{DownloadStatus}
-use Rattle.download_core.specs.declared.status.DownloadStatus.TheVariants.{Running, Done, Failed}
-use Rattle.download_core.specs.declared.status.DownloadStatus.TheVariants.{NotEnoughShares}
-use Rattle.download_core.specs.declared.status.DownloadStatus.TheVariants.{Inconsistent}
 use Rattle.download_segments.specs.declared.piece.Piece.{Piece}
-use Rattle.download_core.specs.Moves.{Advances, TicksOn, found_handed}
+use Rattle.download_core.specs.Calls.{download_calls}
+use Rattle.download_core.specs.Moves.{found_handed}
 use Rattle.download_core.specs.Right.{IsRight}
-use Rattle.download_core.specs.Sending.{Takes}
 use Rattle.download_core.specs.State.{DownloadState, handed, ready}
-use Rattle.local_grid.specs.Clients.{ClientCalls}
+use Rattle.request_record.specs.Operations.{OperationCalls}
 
 -- the download, the bytes that its writer holds, where they are known, and whether a write failed
 pub record Downloading : Type 0 where
@@ -20,16 +16,9 @@ pub record Downloading : Type 0 where
   pub written : Option (List ℕ)
   pub failed : Bool
 
-abbrev pub is_running : DownloadStatus → Bool
-is_running Running = true
-is_running Done = false
-is_running NotEnoughShares = false
-is_running Inconsistent = false
-is_running Failed = false
-
 -- A download is carried on while it runs and its writer takes what it hands out.
 abbrev pub is_to_carry : Downloading → Bool
-is_to_carry c = is_running c.download.status && not c.failed
+is_to_carry c = download_calls.runs c.download && not c.failed
 
 -- the bytes of pieces, one after another
 abbrev pub bytes_of : List Piece → List ℕ
@@ -72,16 +61,14 @@ pub record MovesDownload (moves : DownloadState → DownloadState → Type 0)
   pub written : new.written ≡ old.written
   pub failed : new.failed ≡ old.failed
 
--- what a call does without memory: nothing, or the download fails
-abbrev pub GivesUp : DownloadState → DownloadState → Type 0
-GivesUp was is = (is ≡ was) ⊎ (is.status ≡ Failed)
-
--- what the calls of a download do
-abbrev pub download_calls : ClientCalls Downloading
-download_calls = record {
+-- what the calls of a download with a writer do
+abbrev pub writing_calls : OperationCalls Downloading
+writing_calls = record {
+  requests = λ c. c.download.requests;
   runs = is_to_carry;
-  takes = λ old taken new. MovesDownload (λ was is. Takes was taken is) old new;
-  hears = λ old from m now new. MovesAndWrites (Advances from m now) old new;
-  ticks = λ old now new. MovesAndWrites (TicksOn now) old new;
-  gives_up = MovesDownload GivesUp;
+  takes = λ old taken new. MovesDownload (λ was is. download_calls.takes was taken is) old new;
+  hears = λ old from m now new.
+      MovesAndWrites (λ was is. download_calls.hears was from m now is) old new;
+  ticks = λ old now new. MovesAndWrites (λ was is. download_calls.ticks was now is) old new;
+  gives_up = MovesDownload download_calls.gives_up;
 }

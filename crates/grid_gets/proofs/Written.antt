@@ -6,7 +6,7 @@ use Rattle.std.specs.Io.KnownBytes.{Appends}
 use Rattle.download_segments.specs.declared.piece.Piece.{Piece}
 use Rattle.download_core.specs.Moves.{TakesPiece, found_handed}
 use Rattle.download_core.specs.State.{DownloadState, Found, handed, handed_in, ready, ready_in}
-use Rattle.grid_clients.specs.DownloadCalls.{Downloading, Hands, MovesAndWrites, Writes, bytes_of, end_of}
+use Rattle.grid_gets.specs.WritingDownload.{Downloading, Hands, MovesAndWrites, Writes, bytes_of, end_of}
 
 -- the pieces that were taken and written so far
 pub record Written (old : DownloadState) (before : Option (List ℕ)) (new : DownloadState) (after : Option (List ℕ)) : Type 0 where

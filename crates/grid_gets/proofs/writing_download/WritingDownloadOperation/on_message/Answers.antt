@@ -1,7 +1,7 @@
 use Rattle.download_core.specs.Moves.{Advances}
-use Rattle.grid_clients.specs.DownloadCalls.{Downloading}
-use Rattle.grid_clients.proofs.Written.{moves_and_writes}
-use Rattle.grid_clients.proofs.download.DownloadClientClient.on_message.Goals as goal
+use Rattle.grid_gets.specs.WritingDownload.{Downloading}
+use Rattle.grid_gets.proofs.Written.{moves_and_writes}
+use Rattle.grid_gets.proofs.writing_download.WritingDownloadOperation.on_message.Goals as goal
 
 pub returns-clause-ok : goal.returns-clause-ok
 returns-clause-ok g c =

@@ -1,7 +1,7 @@
 use Rattle.std.proofs.Common.{length}
-use Rattle.grid_clients.proofs.Written.{Written}
+use Rattle.grid_gets.proofs.Written.{Written}
 use Rattle.download_core.specs.State.{ready}
-use Rattle.grid_clients.proofs.download.write_pieces.Given as goal
+use Rattle.grid_gets.proofs.writing_download.write_pieces.Given as goal
 
 abbrev pub invariant-pieces : goal.invariant-pieces
 invariant-pieces g l = Written l.fn.download (g.W.Write.contents l.fn.out) l.download (g.W.Write.contents l.out)
