@@ -17,3 +17,4 @@ pub mod Sends
 pub mod Telling
 pub mod Written
 pub mod Answering
+pub mod Following

@@ -3,8 +3,10 @@
 ghost use Rattle.std.specs.Prelude.{◌≡◌, ◌≢◌, ◌<◌, ℕ, IfOk, IsOk, OnOk, OnErr, length, map};
 ghost use Rattle.std.specs.Prelude.{is_some, nat_eq};
 ghost use Rattle.std.specs.List.{IsDistinct};
+ghost use Rattle.upload_core.specs.Calls.{GivesUp, MovesCourse, upload_calls};
 ghost use Rattle.upload_core.specs.Course.{IsInside};
 ghost use Rattle.request_record.specs.Asking.{after_message};
+ghost use Rattle.request_record.specs.Follow.{Follows, IsSaid, Nothing};
 ghost use Rattle.upload_core.specs.Moves.{Advances, Begins, Stops, StopsAt, TicksOn};
 ghost use Rattle.upload_core.specs.Right.{IsRight};
 ghost use Rattle.upload_core.specs.Sending.{IsBody, Takes, first_to_send};
@@ -16,6 +18,7 @@ ghost use Rattle.upload_core.specs.declared.status.UploadStatus.TheVariants.{Fai
 use crate::course::Course;
 use crate::pieces::{PieceFault, Pieces};
 use crate::status::{ServerInfo, UploadGoal, UploadStatus};
+use request_record::operation::Operation;
 use request_record::requests::Asked;
 use std::alloc::{AllocError, Global};
 use std::marker::Model;
@@ -66,61 +69,12 @@ impl<P: Pieces + Drop> Upload<P> {
         Ok(Upload { pieces, course })
     }
 
-    /// Takes a message from a node over, at a second. On an `Err`, which only one that runs gives,
-    /// it has failed; its record goes on all the same.
-    pub fn on_message(&mut self, from: NodeId, message: Message, now: u64) -> Result<(), AllocError>
-        ensures ok { OnOk result (Advances from message now self.old.course self.new.course) }
-        ensures err { OnErr result (self.new.course.status ≡ Failed OutOfMemory) }
-        ensures stops { OnErr result (Stops (after_message from message now
-            self.old.course.requests) self.old.course self.new.course) }
-        ensures ended { self.old.course.status ≢ Running → IsOk result }
-        ensures pieces { self.new.pieces ≡ self.old.pieces }
-    {
-        let outcome = self.course.answer(from, message, now);
-        self.course.fail_by(&outcome);
-        outcome
-    }
-
-    /// Takes note of a second. On an `Err` one that ran has failed, and one that ended is as it
-    /// was.
-    pub fn tick(&mut self, now: u64) -> Result<(), AllocError>
-        ensures ok { OnOk result (TicksOn now self.old.course self.new.course) }
-        ensures stops { OnErr result (StopsAt now self.old.course self.new.course) }
-        ensures pieces { self.new.pieces ≡ self.old.pieces }
-    {
-        if !self.course.is_running() {
-            return self.course.note(now);
-        }
-        let outcome = self.course.pass(now);
-        self.course.fail_by(&outcome);
-        outcome
-    }
-
     /// Where the upload stands. While it runs a request is outstanding, and what ended stays so.
     pub fn status(&self) -> &UploadStatus
         ensures value { result.now ≡ self.now.course.status }
         ensures right { IsRight self.now.course }
     {
         self.course.status()
-    }
-
-    /// Takes the next message to send, and the node that it is for. `None` where there is none, or
-    /// where the upload failed: also now, by a fault of the pieces.
-    pub fn take_outgoing(&mut self, alloc: Global) -> Result<Option<(NodeId, Message)>, AllocError>
-        ensures ok { IfOk result (λ taken. Takes P.gives P.fails self.old taken self.new) }
-        ensures err { OnErr result (self.new ≡ self.old) }
-    {
-        let Some(place) = self.course.first() else {
-            return Ok(None);
-        };
-        let (server, asked) = self.course.request_at(place);
-        match self.body_of(alloc, asked)? {
-            Ok(body) => Ok(Some((server, self.course.send(place, body)))),
-            Err(fault) => {
-                self.course.fail(fault);
-                Ok(None)
-            }
-        }
     }
 
     /// Is there a message to send?
@@ -173,5 +127,67 @@ impl<P: Pieces + Drop> Upload<P> {
             }
             Err(fault) => Ok(Err(fault)),
         }
+    }
+}
+
+impl<P: Pieces + Drop> Operation for Upload<P> {
+    ghost calls = { upload_calls P.gives P.fails };
+
+    fn is_running(&self) -> bool {
+        self.course.is_running() || self.has_outgoing()
+    }
+
+    /// `None` too where the upload failed, also now by a fault of the pieces. Without memory it is as
+    /// it was.
+    fn take_outgoing(&mut self, alloc: Global) -> Result<Option<(NodeId, Message)>, AllocError>
+        ensures ok { IfOk result (λ taken. Takes P.gives P.fails self.old taken self.new) }
+        ensures err { OnErr result (GivesUp self.old self.new) }
+        ensures follows { Follows Nothing self.old.course.requests self.new.course.requests }
+        ensures same { OnErr result (self.new ≡ self.old) }
+    {
+        let Some(place) = self.course.first() else {
+            return Ok(None);
+        };
+        let (server, asked) = self.course.request_at(place);
+        match self.body_of(alloc, asked)? {
+            Ok(body) => Ok(Some((server, self.course.send(place, body)))),
+            Err(fault) => {
+                self.course.fail(fault);
+                Ok(None)
+            }
+        }
+    }
+
+    /// On an `Err`, which only one that runs gives, it has failed; its record goes on all the same.
+    fn on_message(&mut self, from: NodeId, message: Message, now: u64) -> Result<(), AllocError>
+        ensures ok { OnOk result (MovesCourse (Advances from message now) self.old self.new) }
+        ensures err { OnErr result (GivesUp self.old self.new) }
+        ensures follows { Follows (IsSaid from message self.old.course.requests.session)
+            self.old.course.requests self.new.course.requests }
+        ensures failed { OnErr result (self.new.course.status ≡ Failed OutOfMemory) }
+        ensures stops { OnErr result (Stops (after_message from message now
+            self.old.course.requests) self.old.course self.new.course) }
+        ensures ended { self.old.course.status ≢ Running → IsOk result }
+        ensures pieces { self.new.pieces ≡ self.old.pieces }
+    {
+        let outcome = self.course.answer(from, message, now);
+        self.course.fail_by(&outcome);
+        outcome
+    }
+
+    /// On an `Err` one that ran has failed, and one that ended is as it was.
+    fn tick(&mut self, now: u64) -> Result<(), AllocError>
+        ensures ok { OnOk result (MovesCourse (TicksOn now) self.old self.new) }
+        ensures err { OnErr result (GivesUp self.old self.new) }
+        ensures follows { Follows Nothing self.old.course.requests self.new.course.requests }
+        ensures stops { OnErr result (StopsAt now self.old.course self.new.course) }
+        ensures pieces { self.new.pieces ≡ self.old.pieces }
+    {
+        if !self.course.is_running() {
+            return self.course.note(now);
+        }
+        let outcome = self.course.pass(now);
+        self.course.fail_by(&outcome);
+        outcome
     }
 }

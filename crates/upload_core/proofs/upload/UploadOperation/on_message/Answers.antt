@@ -1,10 +1,12 @@
 use Rattle.std.proofs.Common.{◌≡◌, ◌∙◌, OnErr, ap, subst, sym}
 use Rattle.request_record.specs.Asking.{after_message}
+use Rattle.request_record.specs.Follow.{Follows, IsSaid}
 use Rattle.upload_core.specs.Moves.{Stops}
 use Rattle.upload_core.specs.Sending.{Uploading}
 use Rattle.upload_core.specs.State.{Goal}
+use Rattle.upload_core.proofs.Following.{failed_continue, hears_continue}
 use Rattle.upload_core.proofs.Right.{message_kept, step_goal, stops_failed}
-use Rattle.upload_core.proofs.upload.Upload.on_message.Goals as goal
+use Rattle.upload_core.proofs.upload.UploadOperation.on_message.Goals as goal
 
 pub answer-outcome-requires : goal.answer-outcome-requires
 answer-outcome-requires g c = c.self.invariant.2.going
@@ -27,3 +29,12 @@ returns-clause-stops g c =
     let e = c.fail_by.ensures in
     subst (λ (u : Uploading g.row.P.Denot). OnErr c.answer-outcome.result (Stops (after_message c.args.from c.args.message c.args.now u.course.requests) u.course c.fail_by.new.self)) c.self.view_is
     (stops_failed c.answer-outcome.result (after_message c.args.from c.args.message c.args.now c.self.inside.course.requests) c.self.inside.course c.answer-outcome.new.self c.fail_by.new.self c.answer-outcome.ensures.err e.err)
+
+pub returns-clause-follows : goal.returns-clause-follows
+returns-clause-follows g c =
+    let old = c.self.inside.course in
+    let mid = c.answer-outcome.new.self in
+    let o = c.answer-outcome.ensures in
+    let e = c.fail_by.ensures in
+    let continues = failed_continue (IsSaid c.args.from c.args.message old.requests.session) c.answer-outcome.result old mid c.fail_by.new.self (hears_continue c.args.from c.args.message c.args.now old mid c.answer-outcome.result o.ok o.err) e.ok e.err in
+    subst (λ (u : Uploading g.row.P.Denot). Follows (IsSaid c.args.from c.args.message u.course.requests.session) u.course.requests c.fail_by.new.self.requests) c.self.view_is continues.follows

@@ -6,7 +6,7 @@ use Rattle.upload_core.specs.Course.{IsKept}
 use Rattle.upload_core.specs.Sending.{AsksAt, IsBody, Uploading, first_to_send, one_sent}
 use Rattle.upload_core.proofs.Right.{failed_kept, sent_kept}
 use Rattle.upload_core.proofs.Sends.{ceases_now, sends_first}
-use Rattle.upload_core.proofs.upload.Upload.take_outgoing.Goals as goal
+use Rattle.upload_core.proofs.upload.UploadOperation.take_outgoing.Goals as goal
 
 pub returns-in-Ok-clause-ok : goal.returns-in-Ok-clause-ok
 returns-in-Ok-clause-ok g c =
