@@ -6,10 +6,12 @@
 #![tactic(auto)]
 
 mod acknowledged;
-mod course;
+mod ending;
 pub mod pieces;
 mod rounds;
+mod state;
 pub mod status;
+mod steps;
 mod transfers;
 mod upload;
 

@@ -15,8 +15,8 @@ ghost use Rattle.upload_core.specs.declared.pieces.PieceFault.TheVariants.{OutOf
 ghost use Rattle.upload_core.specs.declared.status.ServerInfo.{ServerInfo};
 ghost use Rattle.upload_core.specs.declared.status.UploadStatus.TheVariants.{Failed, Running};
 
-use crate::course::Course;
 use crate::pieces::{PieceFault, Pieces};
+use crate::state::Course;
 use crate::status::{ServerInfo, UploadGoal, UploadStatus};
 use request_record::operation::Operation;
 use request_record::requests::Asked;
@@ -137,8 +137,8 @@ impl<P: Pieces + Drop> Operation for Upload<P> {
         self.course.is_running() || self.has_outgoing()
     }
 
-    /// `None` too where the upload failed, also now by a fault of the pieces. Without memory it is as
-    /// it was.
+    /// `None` too where the upload failed, also now by a fault of the pieces. Without memory it is
+    /// as it was.
     fn take_outgoing(&mut self, alloc: Global) -> Result<Option<(NodeId, Message)>, AllocError>
         ensures ok { IfOk result (λ taken. Takes P.gives P.fails self.old taken self.new) }
         ensures err { OnErr result (GivesUp self.old self.new) }

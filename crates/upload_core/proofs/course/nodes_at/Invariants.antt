@@ -1,6 +1,0 @@
-use Rattle.std.proofs.Common.{◌≡◌, map, take}
-use Rattle.upload_core.specs.Moves.{node_at}
-use Rattle.upload_core.proofs.course.nodes_at.Given as goal
-
-abbrev pub invariant-loop-place : goal.invariant-loop-place
-invariant-loop-place l = l.nodes.items ≡ map (node_at l.servers) (take l.place-index l.places)

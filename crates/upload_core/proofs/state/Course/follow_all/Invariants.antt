@@ -1,0 +1,10 @@
+use Rattle.std.proofs.Common.{◌≡◌, take}
+use Rattle.request_record.specs.Record.{asked_all}
+use Rattle.upload_core.specs.Moves.{all_follow_ups}
+use Rattle.upload_core.specs.State.{with_record}
+use Rattle.upload_core.proofs.state.Course.follow_all.Given as goal
+
+-- what follows the places before this one is asked
+abbrev pub invariant-loop-place : goal.invariant-loop-place
+invariant-loop-place l =
+    l.self ≡ with_record l.initial.self (asked_all (all_follow_ups l.initial.self.goal l.initial.self.requests.entries (take l.place-index l.places)) l.initial.self.requests)
