@@ -20,7 +20,7 @@ use Rattle.upload_core.proofs.Stands.{is_running}
 -- The record of an upload goes on, of which these answers may be new, and what it is for stays.
 pub record Continues (New : Said) (old new : UploadState) : Type 0 where
   pub goal : new.goal ≡ old.goal
-  pub wanted : new.wanted ≡ old.wanted
+  pub happy : new.happy ≡ old.happy
   pub follows : Follows New old.requests new.requests
 
 -- more is asked
@@ -28,20 +28,20 @@ asks_more : (New : Said) (old r : RequestsState) (asks : List (ℕ × Asked)) �
 asks_more New old r asks f = follows_on New old r (asked_all asks r) f (follows_asks asks r)
 
 same_continues : (New : Said) (old new : UploadState) → new ≡ old → Continues New old new
-same_continues New old new is = subst (Continues New old) (sym is) (record { goal = refl; wanted = refl; follows = follows_itself New old.requests })
+same_continues New old new is = subst (Continues New old) (sym is) (record { goal = refl; happy = refl; follows = follows_itself New old.requests })
 
 recorded : (New : Said) (old new : UploadState) (r : RequestsState) → new ≡ with_record old r → Follows New old.requests r → Continues New old new
-recorded New old new r is f = subst (Continues New old) (sym is) (record { goal = refl; wanted = refl; follows = f })
+recorded New old new r is f = subst (Continues New old) (sym is) (record { goal = refl; happy = refl; follows = f })
 
 -- the requests are the same
-requests_continue : (New : Said) (old new : UploadState) → new.goal ≡ old.goal → new.wanted ≡ old.wanted → new.requests.session ≡ old.requests.session → new.requests.entries ≡ old.requests.entries → Continues New old new
-requests_continue New old new goal wanted session entries = record { goal = goal; wanted = wanted; follows = follows_same New old.requests new.requests session entries }
+requests_continue : (New : Said) (old new : UploadState) → new.goal ≡ old.goal → new.happy ≡ old.happy → new.requests.session ≡ old.requests.session → new.requests.entries ≡ old.requests.entries → Continues New old new
+requests_continue New old new goal happy session entries = record { goal = goal; happy = happy; follows = follows_same New old.requests new.requests session entries }
 
 pub placed : (New : Said) (old new : UploadState) (r : RequestsState) → Follows New old.requests r → GoesOn old r new → Continues New old new
 placed New old new r f (waits unsettled is) = recorded New old new r is f
 placed New old new r f (places p settled place placing some is) =
-    subst (Continues New old) (sym is) (record { goal = refl; wanted = refl; follows = asks_more New old.requests r (transfers_of old.goal p) f })
-placed New old new r f (ends status settled over so is) = subst (Continues New old) (sym is) (record { goal = refl; wanted = refl; follows = f })
+    subst (Continues New old) (sym is) (record { goal = refl; happy = refl; follows = asks_more New old.requests r (transfers_of old.goal p) f })
+placed New old new r f (ends status settled over so is) = subst (Continues New old) (sym is) (record { goal = refl; happy = refl; follows = f })
 
 answered : (New : Said) (old new : UploadState) (o : Option ℕ) (r : RequestsState) → Follows New old.requests r → AdvancesAt o r old new → Continues New old new
 answered New old new None r f a = recorded New old new r a f
@@ -59,14 +59,14 @@ lost New old new (q ∷ qs) r f a =
 pub stops_continue : (New : Said) (r : RequestsState) (old new : UploadState) → Follows New old.requests r → Stops r old new → Continues New old new
 stops_continue New r old new f s = record {
   goal = s.goal;
-  wanted = s.wanted;
+  happy = s.happy;
   follows = subst (Follows New old.requests) (sym s.requests) (asks_more New old.requests r s.asks f);
 }
 
 -- a step after which the upload fails where it found no memory
 pub failed_continue : {X E : Type 0} (New : Said) (r : Result X E) (old mid new : UploadState) → Continues New old mid → OnOk r (new ≡ mid) → OnErr r (new ≡ record mid { status = Failed OutOfMemory }) → Continues New old new
 failed_continue New (Ok x) old mid new g e n = subst (Continues New old) (sym e) g
-failed_continue New (Err x) old mid new g e n = subst (Continues New old) (sym n) (record { goal = g.goal; wanted = g.wanted; follows = g.follows })
+failed_continue New (Err x) old mid new g e n = subst (Continues New old) (sym n) (record { goal = g.goal; happy = g.happy; follows = g.follows })
 
 -- ---- a message
 
@@ -92,7 +92,7 @@ module _ (now : ℕ) (old new : UploadState) where
   ]
 
   fails_continue : FailsAt now old new → Continues Nothing old new
-  fails_continue (at_once is) = subst (Continues Nothing old) (sym is) (record { goal = refl; wanted = refl; follows = follows_itself Nothing old.requests })
+  fails_continue (at_once is) = subst (Continues Nothing old) (sym is) (record { goal = refl; happy = refl; follows = follows_itself Nothing old.requests })
   fails_continue (later failed s) = stops_continue Nothing (after_tick now old.requests) old new (follows_tick now old.requests) s
 
   pub stops_at_continue : StopsAt now old new → Continues Nothing old new
@@ -123,8 +123,8 @@ pub takes_continue : {P : Type 0} (gives : P → ℕ → ℕ → List ℕ → P 
     → Continues Nothing old.course new.course
 takes_continue gives fails old new taken (nothing first none is) = same_continues Nothing old.course new.course (ap (λ (x : Uploading _). x.course) is)
 takes_continue gives fails old new taken (ceases place server asked fault running first there faults none is) =
-    requests_continue Nothing old.course new.course (ap (λ (x : UploadState). x.goal) is) (ap (λ (x : UploadState). x.wanted) is) (ap (λ (x : UploadState). x.requests.session) is)
+    requests_continue Nothing old.course new.course (ap (λ (x : UploadState). x.goal) is) (ap (λ (x : UploadState). x.happy) is) (ap (λ (x : UploadState). x.requests.session) is)
     (ap (λ (x : UploadState). x.requests.entries) is)
 takes_continue gives fails old new taken (sends place server asked body first there tells some is) =
-    requests_continue Nothing old.course new.course (ap (λ (x : UploadState). x.goal) is) (ap (λ (x : UploadState). x.wanted) is) (ap (λ (x : UploadState). x.requests.session) is)
+    requests_continue Nothing old.course new.course (ap (λ (x : UploadState). x.goal) is) (ap (λ (x : UploadState). x.happy) is) (ap (λ (x : UploadState). x.requests.session) is)
     (ap (λ (x : UploadState). x.requests.entries) is)

@@ -142,13 +142,13 @@ goes_on_from u r new g = elim g [
 -- ---- a step that found no memory
 
 pub stops_none : (u new : UploadState) → new ≡ u → Stops u.requests u new
-stops_none u new is = subst (Stops u.requests u) (sym is) (record { goal = refl; wanted = refl; servers = refl; asks = []; requests = refl })
+stops_none u new is = subst (Stops u.requests u) (sym is) (record { goal = refl; happy = refl; servers = refl; asks = []; requests = refl })
 
 -- some was asked before it
 pub stops_then : (old : UploadState) (r : RequestsState) (asks : List (ℕ × Asked)) (mid new : UploadState) → mid ≡ with_record old (asked_all asks r) → Stops mid.requests mid new → Stops r old new
 stops_then old r asks mid new is s = record {
   goal = s.goal ∙ ap (λ (u : UploadState). u.goal) is;
-  wanted = s.wanted ∙ ap (λ (u : UploadState). u.wanted) is;
+  happy = s.happy ∙ ap (λ (u : UploadState). u.happy) is;
   servers = s.servers ∙ ap (λ (u : UploadState). u.servers) is;
   asks = asks ++ s.asks;
   requests = s.requests ∙ ap (λ (u : UploadState). asked_all s.asks u.requests) is ∙ sym (asked_joined asks s.asks r);
@@ -241,20 +241,20 @@ module _ (u : UploadState) (chosen : List Pair) (largest : IsLargestMatching (ac
   abbrev pub failed : Bool
   failed = has_failed_since u.goal u.round u.requests.entries
 
-  pub to_place : (nat_lt reached u.wanted && failed) ≡ true → IsToPlace u u.requests
+  pub to_place : (nat_lt reached u.happy && failed) ≡ true → IsToPlace u u.requests
   to_place again =
-      let t = both (nat_lt reached u.wanted) failed again in
-      let less : reached < u.wanted = ltb-true reached u.wanted t.0 in
+      let t = both (nat_lt reached u.happy) failed again in
+      let less : reached < u.happy = ltb-true reached u.happy t.0 in
       inr ((λ enough. absurd (omega (arith, less, count, largest.largest enough.0 enough.1, enough.2))), t.1)
 
-  pub not_to_place : 0 < u.round → (nat_lt reached u.wanted && failed) ≡ false → IsToPlace u u.requests → ⊥
+  pub not_to_place : 0 < u.round → (nat_lt reached u.happy && failed) ≡ false → IsToPlace u u.requests → ⊥
   not_to_place late e (inl first) = absurd (omega (arith, late, first))
-  not_to_place late e (inr again) = by (nat_lt reached u.wanted) refl e
+  not_to_place late e (inr again) = by (nat_lt reached u.happy) refl e
     where
-      by : (b : Bool) → nat_lt reached u.wanted ≡ b → (b && failed) ≡ false → ⊥
+      by : (b : Bool) → nat_lt reached u.happy ≡ b → (b && failed) ≡ false → ⊥
       by true k h = true≢false (sym again.1 ∙ h)
       by false k h =
-          let few : u.wanted ≤ reached = ltb-false reached u.wanted k in
+          let few : u.happy ≤ reached = ltb-false reached u.happy k in
           again.0 (chosen, largest.matching, omega (arith, few, count))
 
 -- ---- what was lost

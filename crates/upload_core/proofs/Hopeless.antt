@@ -99,10 +99,10 @@ module _ (g : Goal) where
           ]
 
       -- where each pair of the third matching is acknowledged
-      all_acked : (wanted reached : ℕ) (blocking : List ℕ) → IsUnhappy g wanted (before ++ since) reached blocking → (p : Placing) (is : IsPlacing g before p)
+      all_acked : (happy reached : ℕ) (blocking : List ℕ) → IsUnhappy g happy (before ++ since) reached blocking → (p : Placing) (is : IsPlacing g before p)
           → IsLargestMatching (placeable (acked_pairs g before) (writable_servers g before) (length g.digests)) (is.m1 ++ is.m2 ++ p.m3)
-          → ((q : Pair) → Contains p.m3 q → Contains (acked_pairs g (before ++ since)) q) → IsHopeless g wanted (before ++ since)
-      all_acked wanted reached blocking unhappy p is best third pairs m =
+          → ((q : Pair) → Contains p.m3 q → Contains (acked_pairs g (before ++ since)) q) → IsHopeless g happy (before ++ since)
+      all_acked happy reached blocking unhappy p is best third pairs m =
           let n : ℕ = length g.digests in
           let es : List Request = before ++ since in
           let then : IsMatching (placeable (acked_pairs g before) (writable_servers g before) n) pairs = record {
@@ -150,16 +150,16 @@ drop_front : (xs ys : List Request) → drop (length xs) (xs ++ ys) ≡ ys
 drop_front [] ys = refl
 drop_front (x ∷ xs) ys = drop_front xs ys
 
-not_enough : (g : Goal) (wanted : ℕ) (es : List Request) (reached : ℕ) (blocking : List ℕ) → IsUnhappy g wanted es reached blocking → HasEnough g wanted es → ⊥
-not_enough g wanted es reached blocking u enough = absurd (omega (arith, u.happiness.largest.largest enough.0 enough.1, u.reaches, u.few, enough.2))
+not_enough : (g : Goal) (happy : ℕ) (es : List Request) (reached : ℕ) (blocking : List ℕ) → IsUnhappy g happy es reached blocking → HasEnough g happy es → ⊥
+not_enough g happy es reached blocking u enough = absurd (omega (arith, u.happiness.largest.largest enough.0 enough.1, u.reaches, u.few, enough.2))
 
-module _ (g : Goal) (wanted reached : ℕ) (blocking : List ℕ) where
+module _ (g : Goal) (happy reached : ℕ) (blocking : List ℕ) where
   -- nothing is left to place
-  nothing_left : (es : List Request) → IsDistinct eqb (asked_servers es) → All (IsOfTold es) es → (p : Placing) → IsPlacing g es p → transfers_of g p ≡ [] → IsUnhappy g wanted es reached blocking → IsHopeless g wanted es
+  nothing_left : (es : List Request) → IsDistinct eqb (asked_servers es) → All (IsOfTold es) es → (p : Placing) → IsPlacing g es p → transfers_of g p ≡ [] → IsUnhappy g happy es reached blocking → IsHopeless g happy es
   nothing_left es distinct told p is none unhappy =
       let same : es ++ [] ≡ es = append-nil es in
-      subst (IsHopeless g wanted) same
-      (all_acked g es [] (λ i r e. absurd cc) wanted reached blocking (subst (λ (l : List Request). IsUnhappy g wanted l reached blocking) (sym same) unhappy) p is (best_of g es distinct told p is)
+      subst (IsHopeless g happy) same
+      (all_acked g es [] (λ i r e. absurd cc) happy reached blocking (subst (λ (l : List Request). IsUnhappy g happy l reached blocking) (sym same) unhappy) p is (best_of g es distinct told p is)
       (λ q c. absurd (none_of (λ (pair : Pair). (pair.0, Allocation pair.1 g.share_length)) (p.m3 ++ p.leftovers) q none (Contains-append_left p.m3 p.leftovers q c))))
 
   module _ (round : ℕ) (es : List Request) (k : IsRound g round es) (settled : IsSettled es) (followed : AreFollowed g es) (none : has_failed_since g round es ≡ true → ⊥) where
@@ -184,17 +184,17 @@ module _ (g : Goal) (wanted reached : ℕ) (blocking : List ℕ) where
           | by_waiting j x e a o w ↦ absurd (true≢false (sym w ∙ quiet_of es settled j x e))
         ]
 
-    nothing_failed : IsUnhappy g wanted es reached blocking → IsHopeless g wanted es
+    nothing_failed : IsUnhappy g happy es reached blocking → IsHopeless g happy es
     nothing_failed unhappy =
-        subst (IsHopeless g wanted) (sym k.parts)
-        (all_acked g k.before k.since k.of_it wanted reached blocking (subst (λ (l : List Request). IsUnhappy g wanted l reached blocking) k.parts unhappy) k.placing k.is k.best carried_out)
+        subst (IsHopeless g happy) (sym k.parts)
+        (all_acked g k.before k.since k.of_it happy reached blocking (subst (λ (l : List Request). IsUnhappy g happy l reached blocking) k.parts unhappy) k.placing k.is k.best carried_out)
 
 -- an upload that is over and Unhappy
-pub hopeless_end : (u : UploadState) (r : RequestsState) → IsDistinct eqb (asked_servers r.entries) → All (IsOfTold r.entries) r.entries → CanGoOn (with_record u r) → IsSettled r.entries → IsOver u r → (reached : ℕ) (blocking : List ℕ) → IsUnhappy u.goal u.wanted r.entries reached blocking → IsHopeless u.goal u.wanted r.entries
+pub hopeless_end : (u : UploadState) (r : RequestsState) → IsDistinct eqb (asked_servers r.entries) → All (IsOfTold r.entries) r.entries → CanGoOn (with_record u r) → IsSettled r.entries → IsOver u r → (reached : ℕ) (blocking : List ℕ) → IsUnhappy u.goal u.happy r.entries reached blocking → IsHopeless u.goal u.happy r.entries
 hopeless_end u r distinct told can settled over reached blocking unhappy = elim over [
   | inl done ↦ (elim can.rounds [
     | inl first ↦ absurd (done (inl first))
-    | inr k ↦ nothing_failed u.goal u.wanted reached blocking u.round r.entries k settled can.followed (λ failed. done (inr (not_enough u.goal u.wanted r.entries reached blocking unhappy, failed))) unhappy
+    | inr k ↦ nothing_failed u.goal u.happy reached blocking u.round r.entries k settled can.followed (λ failed. done (inr (not_enough u.goal u.happy r.entries reached blocking unhappy, failed))) unhappy
   ])
-  | inr none ↦ nothing_left u.goal u.wanted reached blocking r.entries distinct told none.0 none.1 none.2 unhappy
+  | inr none ↦ nothing_left u.goal u.happy reached blocking r.entries distinct told none.0 none.1 none.2 unhappy
 ]

@@ -242,7 +242,7 @@ module _ {X E : Type 0} (mid new : UploadState) (c : IsCourse new) where
 pub stops_failed : {X E : Type 0} (r : Result X E) (q : RequestsState) (old mid new : UploadState) → OnErr r (Stops q old mid) → OnErr r (new ≡ record mid { status = Failed OutOfMemory }) → OnErr r (Stops q old new)
 stops_failed (Ok x) q old mid new stops e = tt
 stops_failed (Err x) q old mid new stops e =
-    subst (Stops q old) (sym e) (record { goal = stops.goal; wanted = stops.wanted; servers = stops.servers; asks = stops.asks; requests = stops.requests })
+    subst (Stops q old) (sym e) (record { goal = stops.goal; happy = stops.happy; servers = stops.servers; asks = stops.asks; requests = stops.requests })
 
 pub stops_at : {X E : Type 0} (r : Result X E) (now : ℕ) (old mid new : UploadState) → old.status ≡ Running → OnErr r ((mid ≡ old) ⊎ Stops (after_tick now old.requests) old mid)
     → OnErr r (new ≡ record mid { status = Failed OutOfMemory }) → OnErr r (StopsAt now old new)

@@ -18,8 +18,8 @@ use Rattle.upload_core.specs.declared.status.ServerInfo.{ServerInfo}
 use Rattle.upload_core.specs.Moves.{AreInOrder, Begins, GoesOn, ends, initial, places, waits}
 use Rattle.upload_core.specs.Sending.{one_sent}
 
-ends_running : (g : Goal) (wanted : ℕ) (es : List Request) (s : UploadStatus) → EndsAs g wanted es s → s ≡ Running → ⊥
-ends_running g wanted es s e is = subst (EndsAs g wanted es) is e
+ends_running : (g : Goal) (happy : ℕ) (es : List Request) (s : UploadStatus) → EndsAs g happy es s → s ≡ Running → ⊥
+ends_running g happy es s e is = subst (EndsAs g happy es) is e
 
 running_ended : (s : UploadStatus) → s ≡ Running → has_ended s ≡ true → ⊥
 running_ended s is e = true≢false (sym e ∙ ap has_ended is)
@@ -36,8 +36,8 @@ pub same_entries : (u : UploadState) (r : RequestsState) → r.entries ≡ u.req
 same_entries u r e right = record {
   works = λ is. subst (λ (es : List Request). 0 < outstanding_count es) (sym e) (right.works is);
   settled = λ h. subst IsSettled (sym e) (right.settled h);
-  over = λ h. subst (λ (es : List Request). EndsAs u.goal u.wanted es u.status) (sym e) (right.over h);
-  hopeless = λ reached blocking is. subst (IsHopeless u.goal u.wanted) (sym e) (right.hopeless reached blocking is);
+  over = λ h. subst (λ (es : List Request). EndsAs u.goal u.happy es u.status) (sym e) (right.over h);
+  hopeless = λ reached blocking is. subst (IsHopeless u.goal u.happy) (sym e) (right.hopeless reached blocking is);
 }
 
 pub stands_failed : (u : UploadState) (fault : PieceFault) → Stands (record u { status = Failed fault })
@@ -72,12 +72,12 @@ goes_stand u r new running course can g = elim g [
         hopeless = λ reached blocking is. absurd (running_unhappy u.status reached blocking running is);
       }))
   | ends status settled over so e ↦ subst Stands (sym e) (record {
-    works = λ is. absurd (ends_running u.goal u.wanted r.entries status so is);
+    works = λ is. absurd (ends_running u.goal u.happy r.entries status so is);
     settled = λ h. settled;
     over = λ h. so;
     hopeless = λ reached blocking is.
         let c = subst IsCourse e course in
-        hopeless_end u r c.distinct c.of_told can settled over reached blocking (subst (EndsAs u.goal u.wanted r.entries) is so);
+        hopeless_end u r c.distinct c.of_told can settled over reached blocking (subst (EndsAs u.goal u.happy r.entries) is so);
   })
 ]
   where
@@ -96,8 +96,8 @@ pub ended_stands : (old : UploadState) (r : RequestsState) → old.status ≢ Ru
 ended_stands old r not-running same right = record {
   works = λ is. absurd (not-running is);
   settled = λ h. subst IsSettled (sym (same (right.settled h))) (right.settled h);
-  over = λ h. subst (λ (es : List Request). EndsAs old.goal old.wanted es old.status) (sym (same (right.settled h))) (right.over h);
-  hopeless = λ reached blocking is. subst (IsHopeless old.goal old.wanted) (sym (same (right.settled (ap has_ended is)))) (right.hopeless reached blocking is);
+  over = λ h. subst (λ (es : List Request). EndsAs old.goal old.happy es old.status) (sym (same (right.settled h))) (right.over h);
+  hopeless = λ reached blocking is. subst (IsHopeless old.goal old.happy) (sym (same (right.settled (ap has_ended is)))) (right.hopeless reached blocking is);
 }
 
 -- ---- the beginning
@@ -105,14 +105,14 @@ ended_stands old r not-running same right = record {
 -- what goes on is for the same goal, with the same servers
 record IsFor (u new : UploadState) : Type 0 where
   pub goal : new.goal ≡ u.goal
-  pub wanted : new.wanted ≡ u.wanted
+  pub happy : new.happy ≡ u.happy
   pub servers : new.servers ≡ u.servers
 
 goes_for : (u : UploadState) (r : RequestsState) (new : UploadState) → GoesOn u r new → IsFor u new
 goes_for u r new g = elim g [
-  | waits unsettled e ↦ subst (IsFor u) (sym e) (record { goal = refl; wanted = refl; servers = refl })
-  | places p settled to placing some e ↦ subst (IsFor u) (sym e) (record { goal = refl; wanted = refl; servers = refl })
-  | ends status settled over so e ↦ subst (IsFor u) (sym e) (record { goal = refl; wanted = refl; servers = refl })
+  | waits unsettled e ↦ subst (IsFor u) (sym e) (record { goal = refl; happy = refl; servers = refl })
+  | places p settled to placing some e ↦ subst (IsFor u) (sym e) (record { goal = refl; happy = refl; servers = refl })
+  | ends status settled over so e ↦ subst (IsFor u) (sym e) (record { goal = refl; happy = refl; servers = refl })
 ]
 
 pub begins_from : (goal : Goal) (happy : ℕ) (servers : List ServerInfo) (session now : ℕ) (nodes : List ℕ) (old new : UploadState) → old ≡ initial goal happy nodes session now → AreInOrder goal.cap.storage_index servers nodes → GoesOn old old.requests new → Begins goal happy servers session now new
@@ -122,7 +122,7 @@ begins_from goal happy servers session now nodes old new is order g =
     let same = goes_for first first.requests new goes in
     record {
       goal_is = same.goal;
-      wanted = same.wanted;
+      happy_is = same.happy;
       ordered = subst (AreInOrder goal.cap.storage_index servers) (sym same.servers) order;
       goes = subst (λ (ns : List ℕ). GoesOn (initial goal happy ns session now) (begun ns session now) new) (sym same.servers) goes;
     }

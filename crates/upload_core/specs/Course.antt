@@ -110,7 +110,7 @@ Places g entries pairs =
 -- it ends as the record says, and no more changes
 abbrev pub Ends : UploadState → UploadState → Type 0
 Ends old new =
-    (status : UploadStatus) × EndsAs old.goal old.wanted old.requests.entries status
+    (status : UploadStatus) × EndsAs old.goal old.happy old.requests.entries status
     × (new ≡ record old { status = status })
 
 -- a request of a transfer, to a server that was writable at the last placing
@@ -148,9 +148,9 @@ pub record CanGoOn (u : UploadState) : Type 0 where
 pub record Stands (u : UploadState) : Type 0 where
   pub works : u.status ≡ Running → 0 < outstanding_count u.requests.entries
   pub settled : has_ended u.status ≡ true → IsSettled u.requests.entries
-  pub over : has_ended u.status ≡ true → EndsAs u.goal u.wanted u.requests.entries u.status
+  pub over : has_ended u.status ≡ true → EndsAs u.goal u.happy u.requests.entries u.status
   pub hopeless : (reached : ℕ) (blocking : List ℕ) → u.status ≡ Unhappy reached blocking
-      → IsHopeless u.goal u.wanted u.requests.entries
+      → IsHopeless u.goal u.happy u.requests.entries
 
 -- what is kept of each upload
 pub record IsKept (u : UploadState) : Type 0 where

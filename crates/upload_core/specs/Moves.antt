@@ -33,7 +33,7 @@ pub data GoesOn (u : UploadState) (r : RequestsState) (new : UploadState) : Type
   places : (p : Placing) → IsSettled r.entries → IsToPlace u r → IsPlacing u.goal r.entries p
       → transfers_of u.goal p ≢ [] → new ≡ placed u r p → GoesOn u r new
   ends : (status : UploadStatus) → IsSettled r.entries → IsOver u r
-      → EndsAs u.goal u.wanted r.entries status → new ≡ ended u r status → GoesOn u r new
+      → EndsAs u.goal u.happy r.entries status → new ≡ ended u r status → GoesOn u r new
 
 -- what is asked of a server at once after its request at a place was answered or lost
 abbrev pub asks_after : Request → Option Asked → List (ℕ × Asked)
@@ -64,7 +64,7 @@ pub record Advances (from : ℕ) (m : Message) (now : ℕ) (old new : UploadStat
 -- follows is asked.
 pub record Stops (r : RequestsState) (old new : UploadState) : Type 0 where
   pub goal : new.goal ≡ old.goal
-  pub wanted : new.wanted ≡ old.wanted
+  pub happy : new.happy ≡ old.happy
   pub servers : new.servers ≡ old.servers
   pub asks : List (ℕ × Asked)
   pub requests : new.requests ≡ asked_all asks r
@@ -108,7 +108,7 @@ abbrev pub initial : Goal → ℕ → List ℕ → ℕ → ℕ → UploadState
 initial goal happy nodes session now =
     record {
       goal = goal;
-      wanted = happy;
+      happy = happy;
       servers = nodes;
       requests = begun nodes session now;
       round = 0;
@@ -119,6 +119,6 @@ initial goal happy nodes session now =
 pub record Begins (goal : Goal) (happy : ℕ) (servers : List ServerInfo) (session now : ℕ)
     (u : UploadState) : Type 0 where
   pub goal_is : u.goal ≡ goal
-  pub wanted : u.wanted ≡ happy
+  pub happy_is : u.happy ≡ happy
   pub ordered : AreInOrder goal.cap.storage_index servers u.servers
   pub goes : GoesOn (initial goal happy u.servers session now) (begun u.servers session now) u

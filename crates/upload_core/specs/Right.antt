@@ -23,6 +23,6 @@ pub record IsRight (u : UploadState) : Type 0 where
   pub once : AsksOnce u.requests.entries
   pub recorded : IsRecord u.requests
   pub settled : has_ended u.status ≡ true → IsSettled u.requests.entries
-  pub over : has_ended u.status ≡ true → EndsAs u.goal u.wanted u.requests.entries u.status
+  pub over : has_ended u.status ≡ true → EndsAs u.goal u.happy u.requests.entries u.status
   pub hopeless : (reached : ℕ) (blocking : List ℕ) → u.status ≡ Unhappy reached blocking
-      → IsHopeless u.goal u.wanted u.requests.entries
+      → IsHopeless u.goal u.happy u.requests.entries

@@ -79,15 +79,15 @@ has_failed_since g round entries = list_any (has_failed g) (drop round entries)
 
 -- the acknowledged pairs have a matching of as many as wanted
 abbrev pub HasEnough : Goal → ℕ → List Request → Type 0
-HasEnough g wanted entries =
-    (pairs : List Pair) × IsMatching (acked_pairs g entries) pairs × (wanted ≤ length pairs)
+HasEnough g happy entries =
+    (pairs : List Pair) × IsMatching (acked_pairs g entries) pairs × (happy ≤ length pairs)
 
 -- Shares are placed once all Asks are settled, and again once a round is settled in which a
 -- transfer failed and that did not reach enough.
 abbrev pub IsToPlace : UploadState → RequestsState → Type 0
 IsToPlace u r =
     (u.round ≡ 0)
-    ⊎ ((¬ HasEnough u.goal u.wanted r.entries)
+    ⊎ ((¬ HasEnough u.goal u.happy r.entries)
     × (has_failed_since u.goal u.round r.entries ≡ true))
 
 -- nothing can be placed: there is nothing to do, or nothing to assign
@@ -98,14 +98,14 @@ IsOver u r =
 
 -- A largest matching of the acknowledged pairs, as many as wanted; or their happiness, and a
 -- blocking set of a largest matching: servers of acknowledged pairs, each once.
-pub record IsHappy (g : Goal) (wanted : ℕ) (entries : List Request) (pairs : List Pair)
+pub record IsHappy (g : Goal) (happy : ℕ) (entries : List Request) (pairs : List Pair)
     : Type 0 where
   pub largest : IsLargestMatching (acked_pairs g entries) pairs
-  pub enough : wanted ≤ length pairs
+  pub enough : happy ≤ length pairs
 
-pub record IsUnhappy (g : Goal) (wanted : ℕ) (entries : List Request) (reached : ℕ)
+pub record IsUnhappy (g : Goal) (happy : ℕ) (entries : List Request) (reached : ℕ)
     (blocking : List ℕ) : Type 0 where
-  pub few : reached < wanted
+  pub few : reached < happy
   pub pairs : List Pair
   pub happiness : IsHappiness (acked_pairs g entries) pairs blocking
   pub reaches : length pairs ≡ reached
@@ -113,14 +113,14 @@ pub record IsUnhappy (g : Goal) (wanted : ℕ) (entries : List Request) (reached
 -- No placing would be enough: the acknowledged pairs with all pairs of shares and of servers that
 -- take shares and did not fail have no matching of as many as wanted.
 abbrev pub IsHopeless : Goal → ℕ → List Request → Type 0
-IsHopeless g wanted entries =
+IsHopeless g happy entries =
     (pairs : List Pair)
     → IsMatching
     (placeable (acked_pairs g entries) (writable_servers g entries) (length g.digests)) pairs
-    → length pairs < wanted
+    → length pairs < happy
 
 abbrev pub EndsAs : Goal → ℕ → List Request → UploadStatus → Type 0
-EndsAs g wanted entries Running = ⊥
-EndsAs g wanted entries (Failed fault) = ⊥
-EndsAs g wanted entries (Happy pairs) = IsHappy g wanted entries pairs
-EndsAs g wanted entries (Unhappy reached blocking) = IsUnhappy g wanted entries reached blocking
+EndsAs g happy entries Running = ⊥
+EndsAs g happy entries (Failed fault) = ⊥
+EndsAs g happy entries (Happy pairs) = IsHappy g happy entries pairs
+EndsAs g happy entries (Unhappy reached blocking) = IsUnhappy g happy entries reached blocking

@@ -11,11 +11,11 @@ pub record Goal : Type 0 where
   pub digests : List (List ℕ)
   pub share_length : ℕ
 
--- `servers`: all of them, in the order of the file. `round`: the place of the first transfer of the
--- last placing, 0 before the first.
+-- `happy`: the happiness that is wanted. `servers`: all of them, in the order of the file. `round`:
+-- the place of the first transfer of the last placing, 0 before the first.
 pub record UploadState : Type 0 where
   pub goal : Goal
-  pub wanted : ℕ
+  pub happy : ℕ
   pub servers : List ℕ
   pub requests : RequestsState
   pub round : ℕ

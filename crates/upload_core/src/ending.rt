@@ -19,10 +19,10 @@ use wire::message::NodeId;
 impl Course {
     /// Are shares to be placed again, where the acknowledged pairs reach so much happiness?
     pub(crate) fn is_to_place_again(&self, reached: usize) -> bool
-        ensures { result ≡ nat_lt reached self.now.wanted
+        ensures { result ≡ nat_lt reached self.now.happy
             && has_failed_since self.now.goal self.now.round self.now.requests.entries }
     {
-        reached < usize::from(self.wanted)
+        reached < usize::from(self.happy)
             && has_failed_in(&self.goal, self.requests.kept_since(self.round))
     }
 
@@ -34,7 +34,7 @@ impl Course {
     {
         let Matching { pairs, blocking } = matching;
         let reached = pairs.len();
-        self.status = if reached >= usize::from(self.wanted) {
+        self.status = if reached >= usize::from(self.happy) {
             UploadStatus::Happy(PairList::from_vec(pairs))
         } else {
             UploadStatus::Unhappy(reached as u16, NodeList::from_vec(blocking))

@@ -21,7 +21,9 @@ use wire::message::{NodeId, StorageIndex};
 #[derive(Drop)]
 pub(crate) struct Course {
     pub(crate) goal: UploadGoal,
-    pub(crate) wanted: u16,
+    /// The happiness that is wanted.
+    pub(crate) happy: u16,
+    /// All of them, in the order of the file.
     pub(crate) servers: Vec<NodeId>,
     pub(crate) requests: Ledger,
     /// The place of the first transfer of the last placing, 0 before the first.
@@ -37,7 +39,7 @@ impl Model for Course {
 
     ghost view = { λ c. record {
       goal = c.goal;
-      wanted = c.wanted;
+      happy = c.happy;
       servers = c.servers.items;
       requests = c.requests;
       round = c.round;
@@ -46,7 +48,7 @@ impl Model for Course {
 
     ghost invariant = { λ c. IsCourse (record {
       goal = c.goal;
-      wanted = c.wanted;
+      happy = c.happy;
       servers = c.servers.items;
       requests = c.requests;
       round = c.round;
@@ -59,20 +61,20 @@ impl Course {
     pub(crate) fn begin(
         alloc: Global,
         goal: UploadGoal,
-        wanted: u16,
+        happy: u16,
         servers: &[ServerInfo],
         session: u64,
         now: u64,
     ) -> Result<Course, AllocError>
         requires distinct { IsDistinct nat_eq (map (λ (s : ServerInfo). s.node) servers.now) }
-        ensures ok { IfOk result (Begins goal wanted servers.now session now) }
+        ensures ok { IfOk result (Begins goal happy servers.now session now) }
         ensures right { IfOk result IsCourse }
     {
         let servers = nodes_in_order(alloc, &goal, servers)?;
         let requests = Ledger::begin(alloc, servers.as_slice(), session, now)?;
         let mut course = Course {
             goal,
-            wanted,
+            happy,
             servers,
             requests,
             round: 0,
@@ -92,6 +94,7 @@ impl Course {
         &self.status
     }
 
+    /// Does it run?
     pub(crate) fn is_running(&self) -> bool
         ensures { IsTrue result ↔ (self.now.status ≡ UploadStatus.Running) }
     {

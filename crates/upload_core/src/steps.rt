@@ -30,7 +30,7 @@ use wire::message::{Body, Message, NodeId, ShareLength};
 
 impl Course {
     /// Takes a message over, at a second.
-    pub(crate) fn answer(
+    pub(crate) fn hear(
         &mut self,
         from: NodeId,
         message: Message,

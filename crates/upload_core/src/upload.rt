@@ -170,7 +170,7 @@ impl<P: Pieces + Drop> Operation for Upload<P> {
         ensures ended { self.old.course.status ≢ Running → IsOk result }
         ensures pieces { self.new.pieces ≡ self.old.pieces }
     {
-        let outcome = self.course.answer(from, message, now);
+        let outcome = self.course.hear(from, message, now);
         self.course.fail_by(&outcome);
         outcome
     }

@@ -10,7 +10,7 @@ use Rattle.upload_core.proofs.state.Course.fail_by.Goals.{then-is_err+in-Happy-1
 
 -- the fields as an upload
 abbrev seen : Inside → UploadState
-seen s = record { goal = s.goal; wanted = s.wanted; servers = s.servers.items; requests = s.requests; round = s.round; status = s.status }
+seen s = record { goal = s.goal; happy = s.happy; servers = s.servers.items; requests = s.requests; round = s.round; status = s.status }
 
 pub invariant_of-self : goal.invariant_of-self
 invariant_of-self c =

@@ -27,7 +27,7 @@ follows_loss u place r next there lost given =
 
 pub ask_next-requires : goal.ask_next-requires
 ask_next-requires c =
-    let u : UploadState = record { goal = c.self.inside.goal; wanted = c.self.inside.wanted; servers = c.self.inside.servers.items; requests = c.self.inside.requests; round = c.self.inside.round; status = c.self.inside.status } in
+    let u : UploadState = record { goal = c.self.inside.goal; happy = c.self.inside.happy; servers = c.self.inside.servers.items; requests = c.self.inside.requests; round = c.self.inside.round; status = c.self.inside.status } in
     let v : UploadState = c.args.self.now in
     let r : Request = c.request-request.result.now in
     let there : slice_get u.requests.entries c.args.place ≡ Some r = c.request-request.ensures in

@@ -16,7 +16,7 @@ use Rattle.upload_core.proofs.state.Course.placing.Goals as goal
 
 pub place-requires-clause-distinct : goal.place-requires-clause-distinct
 place-requires-clause-distinct c =
-    let u : UploadState = record { goal = c.self.inside.goal; wanted = c.self.inside.wanted; servers = c.self.inside.servers.items; requests = c.self.inside.requests; round = c.self.inside.round; status = c.self.inside.status } in
+    let u : UploadState = record { goal = c.self.inside.goal; happy = c.self.inside.happy; servers = c.self.inside.servers.items; requests = c.self.inside.requests; round = c.self.inside.round; status = c.self.inside.status } in
     let es : List Request = u.requests.entries in
     let ro : c.deref.result.now ≡ readonly_servers u.goal es = c.deref.ensures.value ∙ c.in_ok-servers.ensures.readonly ∙ ap (readonly_servers u.goal) c.kept_since.ensures ∙ readonly_kept u.goal u.requests.entries in
     let w : c.deref-2.result.now ≡ writable_servers u.goal es = c.deref-2.ensures.value ∙ c.in_ok-servers.ensures.writable ∙ ap (writable_servers u.goal) c.kept_since.ensures ∙ writable_kept u.goal u.requests.entries in
@@ -24,7 +24,7 @@ place-requires-clause-distinct c =
 
 pub place-requires-clause-known : goal.place-requires-clause-known
 place-requires-clause-known c =
-    let u : UploadState = record { goal = c.self.inside.goal; wanted = c.self.inside.wanted; servers = c.self.inside.servers.items; requests = c.self.inside.requests; round = c.self.inside.round; status = c.self.inside.status } in
+    let u : UploadState = record { goal = c.self.inside.goal; happy = c.self.inside.happy; servers = c.self.inside.servers.items; requests = c.self.inside.requests; round = c.self.inside.round; status = c.self.inside.status } in
     let es : List Request = u.requests.entries in
     let ro : c.deref.result.now ≡ readonly_servers u.goal es = c.deref.ensures.value ∙ c.in_ok-servers.ensures.readonly ∙ ap (readonly_servers u.goal) c.kept_since.ensures ∙ readonly_kept u.goal u.requests.entries in
     let w : c.deref-2.result.now ≡ writable_servers u.goal es = c.deref-2.ensures.value ∙ c.in_ok-servers.ensures.writable ∙ ap (writable_servers u.goal) c.kept_since.ensures ∙ writable_kept u.goal u.requests.entries in
@@ -41,7 +41,7 @@ the_plan c = record { m3 = c.in-Ok.plan.m3.items; leftovers = c.in-Ok.plan.lefto
 
 is_plan : (c : goal.After-drop-servers-in-Ok-2) → IsPlan (readonly_servers c.args.self.now.goal c.args.self.now.requests.entries) (writable_servers c.args.self.now.goal c.args.self.now.requests.entries) (acked_pairs c.args.self.now.goal c.args.self.now.requests.entries) (length c.args.self.now.goal.digests) c.in-Ok.plan.m1.items c.in-Ok.plan.m2.items c.in-Ok.plan.m3.items c.in-Ok.plan.leftovers.items c.in-Ok.plan.unplaced.items
 is_plan c =
-    let u : UploadState = record { goal = c.self.inside.goal; wanted = c.self.inside.wanted; servers = c.self.inside.servers.items; requests = c.self.inside.requests; round = c.self.inside.round; status = c.self.inside.status } in
+    let u : UploadState = record { goal = c.self.inside.goal; happy = c.self.inside.happy; servers = c.self.inside.servers.items; requests = c.self.inside.requests; round = c.self.inside.round; status = c.self.inside.status } in
     let v : UploadState = c.args.self.now in
     let ro : c.deref.result.now ≡ readonly_servers v.goal v.requests.entries = c.deref.ensures.value ∙ c.in_ok-servers.ensures.readonly ∙ ap (readonly_servers u.goal) c.kept_since.ensures ∙ readonly_kept u.goal u.requests.entries ∙ ap (λ (s : UploadState). readonly_servers s.goal s.requests.entries) c.self.view_is in
     let w : c.deref-2.result.now ≡ writable_servers v.goal v.requests.entries = c.deref-2.ensures.value ∙ c.in_ok-servers.ensures.writable ∙ ap (writable_servers u.goal) c.kept_since.ensures ∙ writable_kept u.goal u.requests.entries ∙ ap (λ (s : UploadState). writable_servers s.goal s.requests.entries) c.self.view_is in

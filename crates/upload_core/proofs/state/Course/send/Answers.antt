@@ -4,5 +4,5 @@ use Rattle.upload_core.proofs.state.Course.send.Goals as goal
 
 pub invariant_of-self : goal.invariant_of-self
 invariant_of-self c =
-    let u : UploadState = record { goal = c.self.inside.goal; wanted = c.self.inside.wanted; servers = c.self.inside.servers.items; requests = c.self.inside.requests; round = c.self.inside.round; status = c.self.inside.status } in
+    let u : UploadState = record { goal = c.self.inside.goal; happy = c.self.inside.happy; servers = c.self.inside.servers.items; requests = c.self.inside.requests; round = c.self.inside.round; status = c.self.inside.status } in
     taken_course u c.take_next.result c.take_next.new.self c.take_next.ensures c.self.invariant
