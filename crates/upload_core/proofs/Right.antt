@@ -11,7 +11,7 @@ use Rattle.request_record.specs.declared.requests.Asked.{Asked}
 use Rattle.request_record.specs.declared.requests.Asked.TheVariants.{Holdings, Allocation, Writing, Closing, Reading, Aborting}
 use Rattle.request_record.specs.declared.requests.Request.{Request}
 use Rattle.request_record.specs.Record.{IsRecord, RequestsState, asked_all, counts_at}
-use Rattle.request_record.specs.Asking.{AreApart, AsksOnce, after_message, after_tick, begun, lost_by_tick}
+use Rattle.request_record.specs.Asking.{AreApart, AsksOnce, after_message, after_tick, begun, lost_by_tick, one_sent}
 use Rattle.upload_core.specs.declared.status.ServerInfo.{ServerInfo}
 use Rattle.upload_core.specs.declared.status.UploadStatus.{UploadStatus}
 use Rattle.upload_core.specs.declared.status.UploadStatus.TheVariants.{Running, Failed}
@@ -20,7 +20,6 @@ use Rattle.upload_core.specs.declared.pieces.PieceFault.TheVariants.{OutOfMemory
 use Rattle.upload_core.specs.State.{Goal, UploadState, with_record}
 use Rattle.upload_core.specs.Right.{IsRight}
 use Rattle.upload_core.specs.Moves.{Advances, AdvancesAt, Begins, FailsAt, GoesOn, Stops, StopsAt, TicksOn, TicksWith, all_follow_ups, at_once, ends, follow_ups_at, initial, later, places, waits}
-use Rattle.upload_core.specs.Sending.{one_sent}
 use Rattle.upload_core.specs.Course.{CanGoOn, IsCourse, IsInside, IsKept, IsRound, Stands, asked_servers, is_holdings}
 use Rattle.upload_core.specs.Trails.{AreFollowed, rank_of, share_of}
 use Rattle.upload_core.proofs.Followed.{inside_at, followed_message, followed_placed, followed_tick}

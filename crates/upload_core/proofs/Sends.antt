@@ -10,14 +10,14 @@ use Rattle.request_record.specs.declared.requests.Outcome.{Outcome}
 use Rattle.request_record.specs.declared.requests.Outcome.TheVariants.{Unawaited, Outstanding, Answered, Lost}
 use Rattle.request_record.specs.declared.requests.Request.{Request}
 use Rattle.request_record.specs.Record.{IsRecord, is_current, is_current_in, is_outstanding}
-use Rattle.request_record.specs.Asking.{message_at}
+use Rattle.request_record.specs.Asking.{message_at, one_sent}
 use Rattle.upload_core.specs.declared.pieces.PieceFault.{PieceFault}
 use Rattle.upload_core.specs.declared.status.UploadStatus.{UploadStatus}
 use Rattle.upload_core.specs.declared.status.UploadStatus.TheVariants.{Running, Happy, Unhappy, Failed}
 use Rattle.upload_core.specs.Course.{IsKept, IsWaitedFor, is_unawaited}
 use Rattle.upload_core.specs.Right.{has_ended}
 use Rattle.upload_core.specs.State.{UploadState, with_record}
-use Rattle.upload_core.specs.Sending.{AsksAt, Faults, IsBody, Takes, Uploading, ceases, first_of, first_to_send, one_sent, sends}
+use Rattle.upload_core.specs.Sending.{AsksAt, Faults, IsBody, Takes, Uploading, ceases, first_of, first_to_send, sends}
 use Rattle.upload_core.specs.Transfers.{is_transfer}
 use Rattle.upload_core.proofs.Counts.{quiet_of}
 

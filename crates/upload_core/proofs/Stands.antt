@@ -3,7 +3,7 @@ use Rattle.std.proofs.Common.{◌≡◌, ◌≢◌, ℕ, zero, suc, ◌<◌, ◌
 use Rattle.request_record.specs.declared.requests.Asked.TheVariants.{Allocation}
 use Rattle.request_record.specs.declared.requests.Request.{Request}
 use Rattle.request_record.specs.Record.{RequestsState, outstanding_count}
-use Rattle.request_record.specs.Asking.{begun}
+use Rattle.request_record.specs.Asking.{begun, one_sent}
 use Rattle.placement.specs.Matching.{Pair}
 use Rattle.upload_core.specs.declared.status.UploadStatus.{UploadStatus}
 use Rattle.upload_core.specs.declared.status.UploadStatus.TheVariants.{Running, Happy, Unhappy, Failed}
@@ -16,7 +16,6 @@ use Rattle.upload_core.proofs.Counts.{count_allocations}
 use Rattle.upload_core.proofs.Hopeless.{hopeless_end}
 use Rattle.upload_core.specs.declared.status.ServerInfo.{ServerInfo}
 use Rattle.upload_core.specs.Moves.{AreInOrder, Begins, GoesOn, ends, initial, places, waits}
-use Rattle.upload_core.specs.Sending.{one_sent}
 
 ends_running : (g : Goal) (happy : ℕ) (es : List Request) (s : UploadStatus) → EndsAs g happy es s → s ≡ Running → ⊥
 ends_running g happy es s e is = subst (EndsAs g happy es) is e

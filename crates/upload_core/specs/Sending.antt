@@ -1,13 +1,11 @@
 -- An upload with the source of its shares' bytes, and what it sends.
-use Rattle.std.specs.Prelude.{◌≡◌, ℕ, List, Option, Some, None, Result, Ok, Err, drop, length}
-use Rattle.std.specs.Prelude.{slice_get}
+use Rattle.std.specs.Prelude.{◌≡◌, ℕ, List, Option, Some, None, Result, Ok, Err, length, slice_get}
 use Rattle.wire.specs.declared.message.Body.{Body}
 use Rattle.wire.specs.declared.message.Body.TheVariants.{Write}
 use Rattle.wire.specs.declared.message.Message.{Message}
 use Rattle.request_record.specs.declared.requests.Asked.{Asked}
 use Rattle.request_record.specs.declared.requests.Asked.TheVariants.{Writing}
-use Rattle.request_record.specs.Asking.{Spells, message_at}
-use Rattle.request_record.specs.Record.{RequestsState}
+use Rattle.request_record.specs.Asking.{Spells, message_at, one_sent}
 use Rattle.request_record.specs.declared.requests.Request.{Request}
 use Rattle.upload_core.specs.declared.pieces.PieceFault.{PieceFault}
 use Rattle.upload_core.specs.declared.status.UploadStatus.{UploadStatus}
@@ -29,10 +27,6 @@ first_of (Failed fault) outgoing = None
 -- the place of the request that is sent next
 abbrev pub first_to_send : UploadState → Option ℕ
 first_to_send u = first_of u.status u.requests.outgoing
-
--- the record after its first request to send was sent
-abbrev pub one_sent : RequestsState → RequestsState
-one_sent r = record r { outgoing = drop 1 r.outgoing }
 
 -- the request at a place asks this of a server
 abbrev pub AsksAt : UploadState → ℕ → ℕ → Asked → Type 0

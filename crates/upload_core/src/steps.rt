@@ -3,7 +3,7 @@
 ghost use Rattle.std.specs.Prelude.{◌≡◌, ◌≢◌, ◌⊎◌, ◌<◌, ℕ, All, IfOk, IfSome, IsOk, MatchOption};
 ghost use Rattle.std.specs.Prelude.{OnErr, OnOk, Some, length, nat_eq, slice_get, take};
 ghost use Rattle.std.specs.List.{IsDistinct};
-ghost use Rattle.request_record.specs.Asking.{after_message, after_tick, message_at};
+ghost use Rattle.request_record.specs.Asking.{after_message, after_tick, message_at, one_sent};
 ghost use Rattle.request_record.specs.Record.{asked_all, asked_more};
 ghost use Rattle.placement.specs.Matching.{shares_of};
 ghost use Rattle.upload_core.specs.Acknowledged.{acked_pairs};
@@ -11,7 +11,7 @@ ghost use Rattle.upload_core.specs.Course.{CanGoOn, IsCourse, MayPlace, Places, 
 ghost use Rattle.upload_core.specs.Course.{transfers};
 ghost use Rattle.upload_core.specs.Moves.{Advances, GoesOn, Stops, TicksOn, all_follow_ups};
 ghost use Rattle.upload_core.specs.Moves.{follow_ups_at};
-ghost use Rattle.upload_core.specs.Sending.{first_to_send, one_sent};
+ghost use Rattle.upload_core.specs.Sending.{first_to_send};
 ghost use Rattle.upload_core.specs.Rounds.{IsSettled};
 ghost use Rattle.upload_core.specs.State.{with_record};
 ghost use Rattle.upload_core.specs.Trails.{AreFollowed, IsAtEnd, IsLostAt};

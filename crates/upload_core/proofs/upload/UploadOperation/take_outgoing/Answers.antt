@@ -1,9 +1,10 @@
 use Rattle.std.proofs.Common.{◌≡◌, Some, sym, ap, subst, ◌∙◌}
+use Rattle.request_record.specs.Asking.{one_sent}
 use Rattle.request_record.specs.Record.{IsRecord}
 use Rattle.upload_core.specs.declared.status.UploadStatus.TheVariants.{Failed}
 use Rattle.upload_core.specs.State.{UploadState, with_record}
 use Rattle.upload_core.specs.Course.{IsKept}
-use Rattle.upload_core.specs.Sending.{AsksAt, IsBody, Uploading, first_to_send, one_sent}
+use Rattle.upload_core.specs.Sending.{AsksAt, IsBody, Uploading, first_to_send}
 use Rattle.upload_core.proofs.Right.{failed_kept, sent_kept}
 use Rattle.upload_core.proofs.Sends.{ceases_now, sends_first}
 use Rattle.upload_core.proofs.upload.UploadOperation.take_outgoing.Goals as goal
