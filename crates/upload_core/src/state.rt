@@ -1,4 +1,4 @@
-//! The course of an upload, whatever the bytes of its shares are: how it begins, and where it stands.
+//! The course of an upload, whatever the bytes of its shares: how it begins, and where it stands.
 
 ghost use Rattle.std.specs.Prelude.{◌≡◌, ◌<◌, ◌↔◌, All, IfOk, IfSome, IsTrue, length, map, nat_eq};
 ghost use Rattle.std.specs.List.{IsDistinct};
