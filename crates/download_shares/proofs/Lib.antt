@@ -1,6 +1,7 @@
 pub mod Lists
 pub mod Tables
 pub mod Records
+pub mod Sending
 pub mod BegunHoldings
 pub mod Goes
 pub mod HoldingTicking

@@ -7,8 +7,7 @@ ghost use Rattle.share_layout.specs.Geometry.{IsGeometry};
 ghost use Rattle.share_reading.specs.Opening.{Advances, Agrees, next_length, next_place};
 ghost use Rattle.share_reading.specs.Refusal.{IsRefused};
 ghost use Rattle.share_reading.specs.declared.opening.Opening.{Opening};
-ghost use Rattle.request_record.specs.Asking.{after_message};
-ghost use Rattle.request_record.specs.Record.{TakesNext};
+ghost use Rattle.request_record.specs.Asking.{SendsFirst, after_message};
 ghost use Rattle.download_shares.specs.HoldingMoves as holdings;
 ghost use Rattle.download_shares.specs.HoldingMoves.{Asks, Begins, Blames, IsUnasked, Ticks};
 ghost use Rattle.download_shares.specs.Numbers.{read_count};
@@ -38,7 +37,7 @@ use share_reading::{Opened, Opening, OpeningError};
 use share_verify::Check;
 use std::alloc::{AllocError, Global};
 use std::marker::Model;
-use wire::message::{Message, NodeId, ReadLength};
+use wire::message::{Message, NodeId, ReadLength, StorageIndex};
 
 /// The shares that servers hold, with the record of what was asked of each, and how far the
 /// beginning of each is read.
@@ -108,15 +107,16 @@ impl Beginnings {
         self.begun.as_slice()
     }
 
-    /// Takes the place of the first request to send.
-    pub fn take_next(&mut self) -> Option<usize>
-        ensures takes { TakesNext self.old.holdings.requests result self.new.holdings.requests }
+    /// Sends the first request to send, as `Requests::send_next`.
+    pub fn send_next(&mut self, index: StorageIndex) -> Option<(NodeId, Message)>
+        ensures sends { SendsFirst index self.old.holdings.requests result
+            self.new.holdings.requests }
         ensures others { self.new ≡ record self.old {
           holdings = record self.old.holdings { requests = self.new.holdings.requests };
         } }
         ensures right { IsRight self.new.holdings }
     {
-        self.holdings.take_next()
+        self.holdings.send_next(index)
     }
 
     /// Takes a message from a server over, at a second, and says what it brings. After an `Err`

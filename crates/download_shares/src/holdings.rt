@@ -6,8 +6,8 @@ ghost use Rattle.std.specs.Prelude.{All, IsTrue, ◌+◌, ◌↔◌};
 ghost use Rattle.wire.specs.declared.message.Body.TheVariants.{NoShare};
 ghost use Rattle.std.specs.List.{IsDistinct};
 ghost use Rattle.wire.specs.Held.{AreRising};
-ghost use Rattle.request_record.specs.Asking.{after_message};
-ghost use Rattle.request_record.specs.Record.{TakesNext, asked_more};
+ghost use Rattle.request_record.specs.Asking.{SendsFirst, after_message};
+ghost use Rattle.request_record.specs.Record.{asked_more};
 ghost use Rattle.request_record.specs.declared.requests.Outcome.TheVariants.{Answered};
 ghost use Rattle.request_record.specs.declared.requests.Request.{Request};
 ghost use Rattle.download_shares.specs.Choice.{NoneIsFreeBefore};
@@ -25,7 +25,7 @@ use request_record::requests::{Asked, Outcome, Requests};
 use share_verify::Check;
 use std::alloc::{AllocError, Global};
 use std::marker::Model;
-use wire::message::{Body, HeldShare, Message, NodeId, ReadLength};
+use wire::message::{Body, HeldShare, Message, NodeId, ReadLength, StorageIndex};
 
 /// The record of an operation that reads shares, and the holdings that it reads.
 #[derive(Drop)]
@@ -106,13 +106,13 @@ impl Holdings {
         &self.requests
     }
 
-    /// Takes the place of the first request to send.
-    pub fn take_next(&mut self) -> Option<usize>
-        ensures takes { TakesNext self.old.requests result self.new.requests }
+    /// Sends the first request to send, as `Requests::send_next`.
+    pub fn send_next(&mut self, index: StorageIndex) -> Option<(NodeId, Message)>
+        ensures sends { SendsFirst index self.old.requests result self.new.requests }
         ensures others { self.new ≡ record self.old { requests = self.new.requests } }
         ensures right { IsRight self.new }
     {
-        self.requests.take_next()
+        self.requests.send_next(index)
     }
 
     /// The holdings in the order in which they were told.
