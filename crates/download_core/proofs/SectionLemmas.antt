@@ -10,7 +10,7 @@ use Rattle.wire.specs.declared.message.ShareId.{ShareId}
 use Rattle.request_record.specs.declared.requests.Asked.{Asked}
 use Rattle.request_record.specs.declared.requests.Asked.TheVariants.{Holdings, Allocation, Writing, Closing, Reading, Aborting}
 use Rattle.request_record.specs.declared.requests.Request.{Request}
-use Rattle.request_record.specs.Asking.{Spells}
+use Rattle.request_record.specs.Asking.{IsFrame, Spells}
 use Rattle.download_parts.specs.Plan.{IsPart, length_of, place_of}
 use Rattle.download_parts.specs.Range.{IsRange}
 use Rattle.download_parts.specs.declared.part.Part.{Part}
@@ -22,7 +22,7 @@ use Rattle.download_file.specs.State.{FileState}
 use Rattle.download_core.specs.Given.{IsFileIfFound, IsFileOfCap, IsRightIfFound}
 use Rattle.download_core.specs.Reads.{PlansMore, ReadsNoMore, MayRead}
 use Rattle.download_core.specs.Sections.{LaterReadsLieInSections, LieByFound, LieInSection, MayBeRead, ReadsInPlace, ReadsStayInPlace, block_tree, blocks, ciphertext_tree, share_hashes}
-use Rattle.download_core.specs.Sending.{IsFrame, Takes}
+use Rattle.download_core.specs.Sending.{Takes}
 use Rattle.download_core.specs.State.{DownloadState, Found}
 
 -- ---- parts of the plan
@@ -97,7 +97,7 @@ reading_of index (Reading n o l) id offset len s =
     ap (λ (x : ℕ). Reading x o l) share ∙ ap (λ (x : ℕ). Reading id.share x l) (sym s.1) ∙ ap (λ (x : ℕ). Reading id.share offset x) (sym s.2)
 
 pub frames_lie : (d : DownloadState) (place node : ℕ) (m : Message) → IsFileIfFound d.cap d.from d.to d.requests.entries d.found → IsRightIfFound d.found → ReadsNoMore d.requests.entries d.found
-    → IsFrame d place node m → ReadsInPlace d (node, m)
+    → IsFrame (verify_cap_of d.cap).storage_index d.requests place node m → ReadsInPlace d (node, m)
 frames_lie d place node m file made reads frame id offset len is =
     let says : frame.body ≡ Read id offset len = sym (ap (λ (x : Message). x.body) frame.message) ∙ is in
     let index : List ℕ = (verify_cap_of d.cap).storage_index in

@@ -1,37 +1,27 @@
 -- A request is sent: nothing else changes.
-use Rattle.std.proofs.Common.{◌≡◌, ◌≢◌, ℕ, inl, inr, List, drop, Option, Some, None, refl, sym, ap, subst, ◌∙◌}
+use Rattle.lemmas.proofs.Places.{get_of}
+use Rattle.std.proofs.Common.{◌≡◌, ◌≢◌, ℕ, ◌<◌, inl, inr, List, [], ◌∷◌, length, All, Option, Some, None, refl, ap, subst, ◌∙◌}
 use Rattle.std.specs.Prelude.{slice_get}
+use Rattle.std.proofs.lemmas.List.Elements.{All-head}
 use Rattle.cap_text.specs.Cap.{VerifyCapValue, verify_cap_of}
-use Rattle.wire.specs.declared.message.Body.{Body}
 use Rattle.wire.specs.declared.message.Message.{Message}
 use Rattle.request_record.specs.declared.requests.Request.{Request}
-use Rattle.request_record.specs.Record.{RequestsState, TakesNext}
-use Rattle.request_record.specs.Asking.{IsWriting, Spells, message_at}
-use Rattle.download_shares.specs.Right.{IsRight}
+use Rattle.request_record.specs.Record.{IsRecord, RequestsState}
+use Rattle.request_record.specs.Asking.{IsFrame, IsWriting, SendsFirst}
 use Rattle.download_shares.specs.Opening.{nobody}
 use Rattle.download_shares.specs.BeginningState.{BeginningsState}
 use Rattle.download_core.specs.Laws.{with_outgoing}
 use Rattle.download_core.proofs.Sent.{sent}
-use Rattle.download_core.proofs.ReadLemmas.{asked_of}
 use Rattle.download_core.specs.declared.machine.Machine.{Machine}
 use Rattle.download_core.specs.declared.status.DownloadStatus.{DownloadStatus}
 use Rattle.download_core.specs.declared.status.DownloadStatus.TheVariants.{Running, Done, NotEnoughShares, Inconsistent, Failed}
-use Rattle.download_core.specs.Sending.{Takes, first_of, one_sent}
-use Rattle.download_core.specs.Steps.{AreOpened, state_of}
+use Rattle.download_core.specs.Reads.{AsksOrReads}
+use Rattle.download_core.specs.Sending.{Takes, first_of}
+use Rattle.download_core.specs.Steps.{AreOpened, entries_of, state_of}
 
 -- the record with another list of what to send
 abbrev pub sent_with : BeginningsState → RequestsState → BeginningsState
 sent_with s q = record s { holdings = record s.holdings { requests = q } }
-
--- only what is still to be sent changes
-pub sent_is : (old new : RequestsState) (o : Option ℕ) → TakesNext old o new → new ≡ record old { outgoing = new.outgoing }
-sent_is old new None t = subst (λ (q : RequestsState). q ≡ record old { outgoing = q.outgoing }) (sym t.1) refl
-sent_is old new (Some place) t = t.1
-
-pub next_sent : (old new : RequestsState) (o : Option ℕ) (place : ℕ) → slice_get old.outgoing 0 ≡ Some place → TakesNext old o new → new ≡ one_sent old
-next_sent old new None place first t = absurd (let e : None ≡ Some place = ap (λ (l : List ℕ). slice_get l 0) (sym t.0) ∙ first in cc)
-next_sent old new (Some p) place first t =
-    t.1 ∙ ap (λ (l : List ℕ). record { session = old.session; entries = old.entries; outgoing = l; clock = old.clock }) (sym (ap (drop 1) t.0))
 
 -- one that has not failed sends
 pub first_still : (status : DownloadStatus) (outgoing : List ℕ) → status ≢ Failed → first_of status outgoing ≡ slice_get outgoing 0
@@ -41,33 +31,38 @@ first_still NotEnoughShares outgoing runs = refl
 first_still Inconsistent outgoing runs = refl
 first_still Failed outgoing runs = absurd (runs refl)
 
--- ---- its message
-
-pub sends : (m : Machine) (out : RequestsState) (o : Option ℕ) (place : ℕ) (r : Request) (body : Body) (message : Message) (index : List ℕ)
-    → slice_get m.beginnings.holdings.requests.outgoing 0 ≡ Some place → slice_get m.beginnings.holdings.requests.entries place ≡ Some r → Spells index r.asked body
-    → index ≡ m.verify.storage_index → m.verify ≡ verify_cap_of m.cap
-    → message ≡ message_at place body m.beginnings.holdings.requests → TakesNext m.beginnings.holdings.requests o out
-    → (servers : List ℕ) (status : DownloadStatus) → status ≢ Failed → Takes (state_of m servers status) (Some (r.server, message)) (state_of (record m { beginnings = sent_with m.beginnings out }) servers status)
-sends m out o place r body message index first there spells is verify says next servers status runs = (
-  place,
-  first_still status m.beginnings.holdings.requests.outgoing runs ∙ first,
-  record {
-    request = r;
-    there = there;
-    server = refl;
-    body = body;
-    spelled = subst (λ (i : List ℕ). Spells i r.asked body) (is ∙ ap (λ (c : VerifyCapValue). c.storage_index) verify) spells;
-    message = says;
-  },
-  ap (λ (x : RequestsState). state_of (record m { beginnings = sent_with m.beginnings x }) servers status) (next_sent m.beginnings.holdings.requests out o place first next),
-)
+-- ---- what is sent
 
 -- what a download asks is no writing
-pub no_writing : (s : BeginningsState) → IsRight s.holdings → (place : ℕ) (r : Request) → slice_get s.holdings.requests.entries place ≡ Some r → IsWriting r.asked → ⊥
-no_writing s right place r there w = elim (asked_of s.holdings right place r there) [
+no_writing : (entries : List Request) → AsksOrReads entries → (place : ℕ) (r : Request) → slice_get entries place ≡ Some r → IsWriting r.asked → ⊥
+no_writing entries asks place r there w = elim (asks place r there) [
   | inl held ↦ subst IsWriting held w
   | inr own ↦ subst IsWriting own.asked w
 ]
+
+-- where nothing is sent, there is nothing to send
+none_first : (index : List ℕ) (old new : RequestsState) → IsRecord old → AsksOrReads old.entries → SendsFirst index old None new → slice_get old.outgoing 0 ≡ None
+none_first index old new right asks nothing = by old.outgoing refl right.there
+  where
+    by : (l : List ℕ) → old.outgoing ≡ l → All (λ place. place < length old.entries) l → slice_get l 0 ≡ None
+    by [] e there = refl
+    by (place ∷ rest) e there =
+        let at = get_of old.entries place (All-head (λ (p : ℕ). p < length old.entries) place rest there) in
+        absurd (no_writing old.entries asks place at.0 at.1 (nothing.1 place at.0 (ap (λ (l : List ℕ). slice_get l 0) e) at.1))
+
+pub sends : (m : Machine) (out : RequestsState) (o : Option (ℕ × Message)) → m.verify ≡ verify_cap_of m.cap → IsRecord m.beginnings.holdings.requests → AsksOrReads (entries_of m)
+    → SendsFirst m.verify.storage_index m.beginnings.holdings.requests o out
+    → (servers : List ℕ) (status : DownloadStatus) → status ≢ Failed → Takes (state_of m servers status) o (state_of (record m { beginnings = sent_with m.beginnings out }) servers status)
+sends m out None verify right asks sent servers status runs = (
+  first_still status m.beginnings.holdings.requests.outgoing runs ∙ none_first m.verify.storage_index m.beginnings.holdings.requests out right asks sent,
+  ap (λ (x : RequestsState). state_of (record m { beginnings = sent_with m.beginnings x }) servers status) sent.0,
+)
+sends m out (Some f) verify right asks sent servers status runs = (
+  sent.0,
+  first_still status m.beginnings.holdings.requests.outgoing runs ∙ sent.1,
+  subst (λ (c : VerifyCapValue). IsFrame c.storage_index m.beginnings.holdings.requests sent.0 f.0 f.1) verify sent.2,
+  ap (λ (x : RequestsState). state_of (record m { beginnings = sent_with m.beginnings x }) servers status) sent.3,
+)
 
 -- ---- what holds of the shares that are opened
 

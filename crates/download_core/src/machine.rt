@@ -172,14 +172,8 @@ impl Machine {
         ensures kept { (status : DownloadStatus) → IsKept self.old status
             → IsKept self.new status }
     {
-        let requests = self.beginnings.holdings().requests();
-        let place = requests.first()?;
-        let request = requests.request(place);
-        let server = request.server;
-        let body = request.asked.body(*self.verify.storage_index())?;
-        let message = requests.message_at(place, body);
-        self.beginnings.take_next();
-        Some((server, message))
+        self.is_right();
+        self.beginnings.send_next(*self.verify.storage_index())
     }
 
     /// The extension block that is accepted.
