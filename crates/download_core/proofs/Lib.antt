@@ -5,6 +5,7 @@ pub mod Ended
 pub mod Fallen
 pub mod Started
 pub mod Follows
+pub mod Following
 pub mod Awaited
 pub mod Busy
 pub mod Heard

@@ -16,6 +16,7 @@ pub mod Tested
 pub mod Moves
 pub mod Prompt
 pub mod Sending
+pub mod Calls
 pub mod Right
 pub mod Sections
 pub mod Whole

@@ -5,6 +5,8 @@ ghost use Rattle.std.specs.Prelude.{IfNone, IsTrue, None, OnOk, false, is_some, 
 ghost use Rattle.std.specs.List.{IsDistinct};
 ghost use Rattle.cap_text.specs.Cap.{verify_cap_of};
 ghost use Rattle.proved_parts.specs.Evidence.{IsProved};
+ghost use Rattle.request_record.specs.Follow.{Follows, IsSaid, Nothing};
+ghost use Rattle.download_core.specs.Calls.{GivesUp, download_calls};
 ghost use Rattle.download_core.specs.Evidence.{HasAllParts, IsAcceptedBlock, IsEvidenceOf};
 ghost use Rattle.download_core.specs.Hashed.{GivenAreShown, IsGivenBy};
 ghost use Rattle.download_core.specs.Moves.{Advances, Begins, StopsAt, TakesPiece, TicksOn};
@@ -26,6 +28,7 @@ use crate::machine::{Machine, is_running};
 use crate::status::{Blame, DownloadError, DownloadStatus, Piece};
 use cap_text::ReadCap;
 use proved_parts::Evidence;
+use request_record::operation::Operation;
 use std::alloc::{AllocError, Global};
 use std::marker::Model;
 use wire::message::{Message, NodeId};
@@ -99,54 +102,6 @@ impl Download {
         })
     }
 
-    /// Takes a message from a node over, at a second. On an `Err`, which only one that runs gives,
-    /// it has failed; what it has stays.
-    pub fn on_message(&mut self, from: NodeId, message: Message, now: u64) -> Result<(), AllocError>
-        ensures advances { Advances from message now self.old self.new }
-        ensures err { OnErr result (self.new.status ≡ Failed) }
-        // Only an `Err` makes it one that failed.
-        ensures ok { OnOk result (self.old.status ≢ Failed → self.new.status ≢ Failed) }
-        ensures ended { self.old.status ≢ Running → IsOk result }
-        // What is there is handed out at once, but that eight segments may be awaited.
-        ensures prompt { self.new.status ≡ Running → HoldsNothingBack true self.new }
-    {
-        match self.machine.answer(self.status, from, message, now) {
-            Ok(status) => {
-                self.status = status;
-                Ok(())
-            }
-            Err(error) => {
-                self.status = DownloadStatus::Failed;
-                Err(error)
-            }
-        }
-    }
-
-    /// Takes note of a second. On an `Err` one that ran has failed, and what it has stays; one that
-    /// ended is as it was.
-    pub fn tick(&mut self, now: u64) -> Result<(), AllocError>
-        ensures ok { OnOk result (TicksOn now self.old self.new) }
-        ensures stops { OnErr result (StopsAt now self.old self.new) }
-        // Only an `Err` makes it one that failed.
-        ensures fails_not { OnOk result (self.old.status ≢ Failed → self.new.status ≢ Failed) }
-        // What is there is handed out at once.
-        ensures prompt { self.new.status ≡ Running → HoldsNothingBack false self.new }
-    {
-        if !is_running(self.status) {
-            return self.machine.note(now);
-        }
-        match self.machine.pass(now) {
-            Ok(status) => {
-                self.status = status;
-                Ok(())
-            }
-            Err(error) => {
-                self.status = DownloadStatus::Failed;
-                Err(error)
-            }
-        }
-    }
-
     /// Where it stands. While it runs a request is outstanding. No request is sent more than four
     /// times.
     pub fn status(&self) -> DownloadStatus
@@ -162,19 +117,6 @@ impl Download {
         ensures { result.now ≡ self.now.blamed }
     {
         self.machine.beginnings.holdings().blamed()
-    }
-
-    /// Takes the next message to send, and the node that it is for. One that failed sends nothing.
-    pub fn take_outgoing(&mut self) -> Option<(NodeId, Message)>
-        ensures takes { Takes self.old result self.new }
-        // A Read asks for bytes of a beginning, or of one section for the range.
-        ensures reads { IfSome result (ReadsInPlace self.old) }
-    {
-        if has_failed(self.status) {
-            return None;
-        }
-        self.machine.is_right();
-        self.machine.take_outgoing()
     }
 
     /// Is there a message to send?
@@ -216,6 +158,86 @@ impl Download {
     {
         self.machine.is_right();
         self.machine.evidence(alloc)
+    }
+}
+
+impl Operation for Download {
+    ghost calls = { download_calls };
+
+    fn is_running(&self) -> bool {
+        is_running(self.status)
+    }
+
+    /// Takes the next message to send, and the node that it is for. One that failed sends nothing.
+    /// It needs no memory.
+    fn take_outgoing(&mut self, _alloc: Global) -> Result<Option<(NodeId, Message)>, AllocError>
+        ensures ok { IfOk result (λ taken. Takes self.old taken self.new) }
+        ensures err { OnErr result (GivesUp self.old self.new) }
+        ensures follows { Follows Nothing self.old.requests self.new.requests }
+        ensures never_fails { IsOk result }
+        // A Read asks for bytes of a beginning, or of one section for the range.
+        ensures reads { IfOk result (λ taken. IfSome taken (ReadsInPlace self.old)) }
+    {
+        if has_failed(self.status) {
+            return Ok(None);
+        }
+        self.machine.is_right();
+        Ok(self.machine.take_outgoing())
+    }
+
+    /// Takes a message from a node over, at a second. On an `Err`, which only one that runs gives,
+    /// it has failed; what it has stays.
+    fn on_message(&mut self, from: NodeId, message: Message, now: u64) -> Result<(), AllocError>
+        ensures ok { OnOk result (Advances from message now self.old self.new) }
+        ensures err { OnErr result (GivesUp self.old self.new) }
+        ensures follows { Follows (IsSaid from message self.old.requests.session)
+            self.old.requests self.new.requests }
+        // On an `Err` too.
+        ensures advances { Advances from message now self.old self.new }
+        ensures fails { OnErr result (self.new.status ≡ Failed) }
+        // Only an `Err` makes it one that failed.
+        ensures fails_not { OnOk result (self.old.status ≢ Failed → self.new.status ≢ Failed) }
+        ensures ended { self.old.status ≢ Running → IsOk result }
+        // What is there is handed out at once, but that eight segments may be awaited.
+        ensures prompt { self.new.status ≡ Running → HoldsNothingBack true self.new }
+    {
+        match self.machine.answer(self.status, from, message, now) {
+            Ok(status) => {
+                self.status = status;
+                Ok(())
+            }
+            Err(error) => {
+                self.status = DownloadStatus::Failed;
+                Err(error)
+            }
+        }
+    }
+
+    /// Takes note of a second. On an `Err` one that ran has failed, and what it has stays; one that
+    /// ended is as it was.
+    fn tick(&mut self, now: u64) -> Result<(), AllocError>
+        ensures ok { OnOk result (TicksOn now self.old self.new) }
+        ensures err { OnErr result (GivesUp self.old self.new) }
+        ensures follows { Follows Nothing self.old.requests self.new.requests }
+        ensures stops { OnErr result (StopsAt now self.old self.new) }
+        // Only an `Err` makes it one that failed.
+        ensures fails_not { OnOk result (self.old.status ≢ Failed → self.new.status ≢ Failed) }
+        // What is there is handed out at once.
+        ensures prompt { self.new.status ≡ Running → HoldsNothingBack false self.new }
+    {
+        if !is_running(self.status) {
+            return self.machine.note(now);
+        }
+        match self.machine.pass(now) {
+            Ok(status) => {
+                self.status = status;
+                Ok(())
+            }
+            Err(error) => {
+                self.status = DownloadStatus::Failed;
+                Err(error)
+            }
+        }
     }
 }
 
