@@ -12,8 +12,8 @@ use Rattle.request_record.specs.Asking.{asks_of, begun, fresh}
 use Rattle.request_record.proofs.RecordLaws.{count_push}
 use Rattle.download_shares.specs.Left.{FewAreLeft}
 use Rattle.download_shares.specs.Opening.{nobody}
-use Rattle.download_core.specs.declared.machine.FoundFile.{FoundFile}
-use Rattle.download_core.specs.declared.machine.Machine.{Machine}
+use Rattle.download_core.specs.declared.state.FoundFile.{FoundFile}
+use Rattle.download_core.specs.declared.state.Machine.{Machine}
 use Rattle.download_core.specs.declared.status.DownloadStatus.{DownloadStatus}
 use Rattle.download_core.specs.declared.status.DownloadStatus.TheVariants.{Running, Done, NotEnoughShares, Inconsistent}
 use Rattle.download_core.specs.Given.{IsFileIfFound}

@@ -21,8 +21,8 @@ use Rattle.download_core.specs.ReadingSteps.{Continues, IsAtEnd}
 use Rattle.download_core.specs.declared.reading.Settled.{Settled}
 use Rattle.download_core.specs.declared.reading.Settled.TheVariants as settled
 use Rattle.download_segments.specs.Pieces.{AreConsecutive, IsGiven}
-use Rattle.download_core.specs.declared.machine.FoundFile.{FoundFile}
-use Rattle.download_core.specs.declared.machine.Machine.{Machine}
+use Rattle.download_core.specs.declared.state.FoundFile.{FoundFile}
+use Rattle.download_core.specs.declared.state.Machine.{Machine}
 use Rattle.download_core.specs.declared.status.DownloadStatus.{DownloadStatus}
 use Rattle.download_core.specs.declared.status.DownloadStatus.TheVariants.{Running, Done, NotEnoughShares, Inconsistent, Failed}
 use Rattle.download_core.specs.Causes.{IsCause}

@@ -17,8 +17,8 @@ use Rattle.cap_text.specs.Cap.{ReadCapValue, VerifyCapValue, verify_cap_of}
 use Rattle.request_record.specs.declared.requests.Request.{Request}
 use Rattle.share_layout.specs.Geometry.{Geometry}
 use Rattle.download_file.specs.State as file
-use Rattle.download_core.specs.declared.machine.FoundFile.{FoundFile}
-use Rattle.download_core.specs.declared.machine.Machine.{Machine}
+use Rattle.download_core.specs.declared.state.FoundFile.{FoundFile}
+use Rattle.download_core.specs.declared.state.Machine.{Machine}
 use Rattle.download_core.specs.Given.{IsFileIfFound, IsHead, IsRightIfFound}
 use Rattle.download_core.specs.Steps.{IsComplete, entries_of, found_of}
 use Rattle.std.specs.Int.{div_ceil}

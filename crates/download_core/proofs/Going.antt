@@ -37,8 +37,8 @@ use Rattle.download_core.specs.ReadingState.{ReadingState}
 use Rattle.download_core.specs.ReadingSteps.{AddsPieces, Continues}
 use Rattle.download_file.specs.Asked.{IsPlannedRead}
 use Rattle.download_core.proofs.Awaited.{goes_stays}
-use Rattle.download_core.specs.declared.machine.FoundFile.{FoundFile}
-use Rattle.download_core.specs.declared.machine.Machine.{Machine}
+use Rattle.download_core.specs.declared.state.FoundFile.{FoundFile}
+use Rattle.download_core.specs.declared.state.Machine.{Machine}
 use Rattle.download_core.specs.declared.status.DownloadStatus.{DownloadStatus}
 use Rattle.download_core.specs.declared.status.DownloadStatus.TheVariants.{Running}
 use Rattle.download_core.specs.Given.{IsFileIfFound, IsHead}

@@ -12,8 +12,8 @@ use Rattle.download_shares.specs.BeginningState.{BeginningsState}
 use Rattle.download_shares.specs.declared.beginnings.News.{News}
 use Rattle.download_shares.specs.declared.beginnings.News.TheVariants as news
 use Rattle.download_shares.proofs.Hearing.{becomes}
-use Rattle.download_core.specs.declared.machine.FoundFile.{FoundFile}
-use Rattle.download_core.specs.declared.machine.Machine.{Machine}
+use Rattle.download_core.specs.declared.state.FoundFile.{FoundFile}
+use Rattle.download_core.specs.declared.state.Machine.{Machine}
 use Rattle.download_core.specs.Steps.{AwaitsNews, HasNews, HasPassed, HearsOf, IsInPhase, IsUnderWay, PassesOn, entries_of, found_of}
 use Rattle.download_core.proofs.Records.{GoesFrom, file_stays}
 

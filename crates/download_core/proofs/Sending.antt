@@ -12,7 +12,7 @@ use Rattle.download_shares.specs.Opening.{nobody}
 use Rattle.download_shares.specs.BeginningState.{BeginningsState}
 use Rattle.download_core.specs.Laws.{with_outgoing}
 use Rattle.download_core.proofs.Sent.{sent}
-use Rattle.download_core.specs.declared.machine.Machine.{Machine}
+use Rattle.download_core.specs.declared.state.Machine.{Machine}
 use Rattle.download_core.specs.declared.status.DownloadStatus.{DownloadStatus}
 use Rattle.download_core.specs.declared.status.DownloadStatus.TheVariants.{Running, Done, NotEnoughShares, Inconsistent, Failed}
 use Rattle.download_core.specs.Reads.{AsksOrReads}

@@ -10,8 +10,8 @@ use Rattle.download_segments.specs.NoCodeWord.{IsNoCodeWord}
 use Rattle.download_core.specs.Reading.{AreReading}
 use Rattle.download_core.specs.ReadingState.{ReadingState}
 use Rattle.download_core.proofs.HashedLemmas.{handed_given}
-use Rattle.download_core.specs.declared.machine.FoundFile.{FoundFile}
-use Rattle.download_core.specs.declared.machine.Machine.{Machine}
+use Rattle.download_core.specs.declared.state.FoundFile.{FoundFile}
+use Rattle.download_core.specs.declared.state.Machine.{Machine}
 use Rattle.download_core.specs.declared.status.DownloadStatus.{DownloadStatus}
 use Rattle.download_core.specs.Ends.{HasNoCodeWord}
 use Rattle.download_core.specs.Given.{IsFileIfFound, IsHead}

@@ -16,8 +16,8 @@ use Rattle.download_core.specs.Reading.{AreReading}
 use Rattle.download_core.specs.ReadingSteps.{AddsPieces, HasHeard, HasTicked}
 use Rattle.download_core.specs.declared.reading.Settled.{Settled}
 use Rattle.download_core.specs.declared.reading.Settled.TheVariants as settled
-use Rattle.download_core.specs.declared.machine.FoundFile.{FoundFile}
-use Rattle.download_core.specs.declared.machine.Machine.{Machine}
+use Rattle.download_core.specs.declared.state.FoundFile.{FoundFile}
+use Rattle.download_core.specs.declared.state.Machine.{Machine}
 use Rattle.download_core.specs.declared.status.DownloadStatus.{DownloadStatus}
 use Rattle.download_core.specs.declared.status.DownloadStatus.TheVariants.{Running, Done, Failed}
 use Rattle.download_core.specs.declared.status.DownloadStatus.TheVariants.{NotEnoughShares}

@@ -24,7 +24,8 @@ ghost use Rattle.download_core.specs.declared.status.DownloadStatus.TheVariants.
 ghost use Rattle.download_core.specs.declared.status.DownloadStatus.TheVariants.{Inconsistent};
 ghost use Rattle.download_core.specs.declared.status.DownloadStatus.TheVariants.{Running};
 
-use crate::machine::{Machine, is_running};
+use crate::ending::is_running;
+use crate::state::Machine;
 use crate::status::{Blame, DownloadError, DownloadStatus, Piece};
 use cap_text::ReadCap;
 use proved_parts::Evidence;

@@ -11,9 +11,10 @@ mod asking;
 mod download;
 mod ending;
 mod laws;
-mod machine;
 mod reading;
+mod state;
 pub mod status;
+mod steps;
 mod taking;
 
 pub use download::{

@@ -1,6 +1,6 @@
 use Rattle.std.proofs.Common.{◌≢◌, ◌∙◌, OnErr, OnOk, ap, inr, refl, subst, sym, true≢false}
 use Rattle.lemmas.proofs.Results.{on_ok_then}
-use Rattle.download_core.specs.declared.machine.Machine.{Machine}
+use Rattle.download_core.specs.declared.state.Machine.{Machine}
 use Rattle.download_core.specs.declared.status.DownloadStatus.TheVariants.{Failed, Running}
 use Rattle.download_core.specs.Moves.{StopsAt, TicksOn}
 use Rattle.download_core.specs.State.{DownloadState}
