@@ -18,8 +18,8 @@ use Rattle.download_file.specs.Making.{IsInconsistent}
 use Rattle.download_core.specs.Reading.{AreReading}
 use Rattle.download_core.specs.ReadingState.{ReadingState}
 use Rattle.download_core.specs.ReadingSteps.{Continues, IsAtEnd}
-use Rattle.download_core.specs.declared.reading.Settled.{Settled}
-use Rattle.download_core.specs.declared.reading.Settled.TheVariants as settled
+use Rattle.download_core.specs.declared.file_reading.Settled.{Settled}
+use Rattle.download_core.specs.declared.file_reading.Settled.TheVariants as settled
 use Rattle.download_segments.specs.Pieces.{AreConsecutive, IsGiven}
 use Rattle.download_core.specs.declared.state.FoundFile.{FoundFile}
 use Rattle.download_core.specs.declared.state.Machine.{Machine}

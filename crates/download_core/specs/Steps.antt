@@ -14,8 +14,8 @@ use Rattle.download_shares.specs.declared.beginnings.News.TheVariants.{Beginning
 use Rattle.download_file.specs.Changes.{IsSameFile}
 use Rattle.download_core.specs.Reading.{AreReading}
 use Rattle.download_core.specs.ReadingSteps.{AddsPieces, HasHeard, HasTicked}
-use Rattle.download_core.specs.declared.reading.Settled.{Settled}
-use Rattle.download_core.specs.declared.reading.Settled.TheVariants as settled
+use Rattle.download_core.specs.declared.file_reading.Settled.{Settled}
+use Rattle.download_core.specs.declared.file_reading.Settled.TheVariants as settled
 use Rattle.download_core.specs.declared.state.FoundFile.{FoundFile}
 use Rattle.download_core.specs.declared.state.Machine.{Machine}
 use Rattle.download_core.specs.declared.status.DownloadStatus.{DownloadStatus}

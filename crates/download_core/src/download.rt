@@ -109,7 +109,7 @@ impl Download {
         ensures value { result ≡ self.now.status }
         ensures right { IsRight self.now }
     {
-        self.machine.is_right();
+        self.machine.know_right();
         self.status
     }
 
@@ -142,7 +142,7 @@ impl Download {
             self.now.found block.now) }
         ensures none { IfNone result (self.now.found ≡ None) }
     {
-        self.machine.is_right();
+        self.machine.know_right();
         self.machine.extension_block()
     }
 
@@ -157,7 +157,7 @@ impl Download {
         ensures whole { self.now.status ≡ Done → self.now.from ≡ 0
             → self.now.to ≡ self.now.cap.size → IfOk result (HasAllParts self.now.found) }
     {
-        self.machine.is_right();
+        self.machine.know_right();
         self.machine.evidence(alloc)
     }
 }
@@ -182,7 +182,7 @@ impl Operation for Download {
         if has_failed(self.status) {
             return Ok(None);
         }
-        self.machine.is_right();
+        self.machine.know_right();
         Ok(self.machine.take_outgoing())
     }
 
@@ -202,7 +202,7 @@ impl Operation for Download {
         // What is there is handed out at once, but that eight segments may be awaited.
         ensures prompt { self.new.status ≡ Running → HoldsNothingBack true self.new }
     {
-        match self.machine.answer(self.status, from, message, now) {
+        match self.machine.hear(self.status, from, message, now) {
             Ok(status) => {
                 self.status = status;
                 Ok(())

@@ -12,7 +12,7 @@ ghost use Rattle.download_core.specs.ReadingSteps.{IsAtEnd, IsStuck};
 ghost use Rattle.download_core.specs.Steps.{AreOpened, EndsAs, IsFor, IsUnderWay, MovesOn};
 ghost use Rattle.download_core.specs.Steps.{entries_of, found_of, status_of};
 
-use crate::reading::{Reading, Settled};
+use crate::file_reading::{FileReading, Settled};
 use crate::state::Machine;
 use crate::status::DownloadStatus;
 use download_shares::{Beginnings, Holdings};
@@ -102,7 +102,7 @@ fn status_by(settled: Settled) -> DownloadStatus
 }
 
 /// Why nothing more is made now: something is waited for, or too few shares are left.
-pub(crate) fn why_not(reading: &Reading, beginnings: &Beginnings) -> Settled
+pub(crate) fn why_not(reading: &FileReading, beginnings: &Beginnings) -> Settled
     requires reading { AreReading beginnings.now reading.now }
     requires stuck { IsStuck beginnings.now reading.now }
     ensures waits { result ≡ Settled.Waits
@@ -118,7 +118,7 @@ pub(crate) fn why_not(reading: &Reading, beginnings: &Beginnings) -> Settled
     }
 }
 
-// A law: the holdings that are read are left. The call does nothing.
+/// A law: the holdings that are read are left. The call does nothing.
 fn know_table(holdings: &Holdings)
     ensures { IsTable holdings.now.table }
 {

@@ -11,7 +11,7 @@ ghost use Rattle.download_core.specs.Given.{IsFileIfFound, IsRightIfFound};
 ghost use Rattle.download_core.specs.Reads.{AsksOrReads};
 ghost use Rattle.download_core.specs.Steps.{AreOpened, entries_of, found_of};
 
-use crate::reading::Reading;
+use crate::file_reading::FileReading;
 use cap_text::{ReadCap, VerifyCap};
 use download_shares::{Beginnings, bytes_at};
 use proved_parts::{Bytes, Evidence, PartList};
@@ -23,7 +23,7 @@ use wire::message::NodeId;
 pub(crate) struct FoundFile {
     /// The place of the request whose answer is the extension block.
     pub(crate) place: usize,
-    pub(crate) reading: Reading,
+    pub(crate) reading: FileReading,
 }
 
 /// A download but for how it stands.
@@ -117,7 +117,7 @@ impl Machine {
     /// and for shares that they offered, no byte is asked twice of one server, and no request is
     /// sent more than four times. The call does nothing.
     #[tactic(auto, using(crate::proofs::ReadLemmas::asks_or_reads))]
-    pub(crate) fn is_right(&self)
+    pub(crate) fn know_right(&self)
         ensures file { IsRightIfFound (found_of self.now.found) }
         ensures asks { AsksOrReads (entries_of self.now) }
         ensures once { AsksOnce (entries_of self.now) }

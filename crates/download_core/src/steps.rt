@@ -15,7 +15,7 @@ ghost use Rattle.download_core.specs.Steps.{HearsOf, IsFor, IsKept, IsUnderWay, 
 ghost use Rattle.download_core.specs.Steps.{PassesOn, entries_of, found_of, state_of};
 
 use crate::ending::is_running;
-use crate::reading::Reading;
+use crate::file_reading::FileReading;
 use crate::state::{FoundFile, Machine};
 use crate::status::{DownloadStatus, Piece};
 use download_shares::News;
@@ -26,7 +26,7 @@ use wire::message::{Message, NodeId};
 impl Machine {
     /// Takes a message from a node, at a second, and tells where it stands then. Once it ended the
     /// message is noted in the record alone, which needs no memory.
-    pub(crate) fn answer(
+    pub(crate) fn hear(
         &mut self,
         status: DownloadStatus,
         from: NodeId,
@@ -94,7 +94,7 @@ impl Machine {
         ensures kept { (status : DownloadStatus) → IsKept self.old status
             → IsKept self.new status }
     {
-        self.is_right();
+        self.know_right();
         self.beginnings.send_next(*self.verify.storage_index())
     }
 
@@ -152,7 +152,7 @@ impl Machine {
         ensures way { OnOk result (IsUnderWay self.new) }
         ensures moves { MovesOn self.old self.new }
     {
-        let reading = Reading::new(
+        let reading = FileReading::new(
             self.alloc,
             self.cap.key(),
             &opened.ueb,

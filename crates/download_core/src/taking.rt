@@ -14,14 +14,14 @@ ghost use Rattle.download_core.specs.Reading.{AreReadingBut, IsGone, IsReadNow};
 ghost use Rattle.download_core.specs.ReadingSteps.{Continues, HasHeard};
 ghost use Rattle.download_core.specs.ReadingSteps.{IsTold, left_count};
 
-use crate::reading::Reading;
+use crate::file_reading::FileReading;
 use cap_text::VerifyCap;
 use download_parts::TreeFault;
 use download_shares::{Beginnings, News, bytes_at};
 use share_verify::Check;
 use std::alloc::AllocError;
 
-impl Reading {
+impl FileReading {
     // The next bytes of the beginning of a share came. Its header is compared.
     pub(crate) fn compare(
         &mut self,

@@ -11,4 +11,4 @@ returns-clause-whole c =
     let m = c.self.inside.machine in
     let k = c.self.invariant in
     subst (λ (d : DownloadState). d.status ≡ Done → d.from ≡ 0 → d.to ≡ d.cap.size → IfOk c.evidence.result (HasAllParts d.found)) c.self.view_is
-    (λ done from to. if_ok_then c.evidence.result _ _ c.evidence.ensures (λ e made. whole_of m e k.file c.is_right.ensures.file (k.done done) from to made))
+    (λ done from to. if_ok_then c.evidence.result _ _ c.evidence.ensures (λ e made. whole_of m e k.file c.know_right.ensures.file (k.done done) from to made))

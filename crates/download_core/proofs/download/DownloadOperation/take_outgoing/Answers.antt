@@ -38,4 +38,4 @@ returns-clause-reads c =
     let s = c.self.inside in
     let d : DownloadState = state_of s.machine s.servers.items s.status in
     subst (λ (e : DownloadState). IfSome c.take_outgoing.result (ReadsInPlace e)) c.self.view_is
-    (taken_lie d (state_of c.take_outgoing.new.self s.servers.items s.status) c.take_outgoing.result c.self.invariant.file c.is_right.ensures.file c.self.invariant.fair.reads (taken (goal.at.returns-clause-reads c).After-take_outgoing))
+    (taken_lie d (state_of c.take_outgoing.new.self s.servers.items s.status) c.take_outgoing.result c.self.invariant.file c.know_right.ensures.file c.self.invariant.fair.reads (taken (goal.at.returns-clause-reads c).After-take_outgoing))

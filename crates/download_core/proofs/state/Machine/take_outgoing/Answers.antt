@@ -14,7 +14,7 @@ returns-clause-takes c =
     let m = c.args.self.now in
     λ servers status runs.
     subst (λ (t : BeginningsState). Takes (state_of m servers status) c.send_next.result (state_of (record m { beginnings = t }) servers status)) (sym c.send_next.ensures.others)
-    (sends m c.send_next.new.self.holdings.requests c.send_next.result c.requires.verify c.is_right.ensures.recorded c.is_right.ensures.asks
+    (sends m c.send_next.new.self.holdings.requests c.send_next.result c.requires.verify c.know_right.ensures.recorded c.know_right.ensures.asks
     (subst (λ (index : List ℕ). SendsFirst index m.beginnings.holdings.requests c.send_next.result c.send_next.new.self.holdings.requests) c.storage_index.ensures.value c.send_next.ensures.sends) servers status runs)
 
 pub returns-clause-kept : goal.returns-clause-kept
