@@ -21,5 +21,5 @@ pub use download::{
     Download, evidence_is_of_the_given, given_are_shown, inconsistent_shows_no_code_word,
     right_blocks_lead, taken_follow, whole_files,
 };
-pub use laws::{blocks_are_answered, sending_stays};
 pub use file_reading::{FileReading, Settled};
+pub use laws::{blocks_are_answered, sending_stays};
