@@ -1,5 +1,5 @@
 -- What is kept of each check, as it goes on.
-use Rattle.std.proofs.Common.{◌≡◌, ◌≢◌, ℕ, zero, suc, ◌+◌, ◌<◌, ◌≤◌, List, [], ◌∷◌, ◌++◌, length, get_or, drop, map, replicate, eqb, append_assoc, true≢false, Bool, true, false, cond, inl, inr, Option, Some, Result, Ok, Err, ap, refl, sym, subst, ◌∙◌, arith}
+use Rattle.std.proofs.Common.{◌≡◌, ◌≢◌, ℕ, zero, suc, ◌+◌, ◌<◌, ◌≤◌, List, [], ◌∷◌, ◌++◌, length, get_or, drop, map, replicate, eqb, append_assoc, true≢false, Bool, true, false, cond, inl, inr, Some, Result, Ok, Err, ap, refl, sym, subst, ◌∙◌, arith}
 use Rattle.std.specs.Prelude.{Contains, slice_get}
 use Rattle.std.specs.Result.{OnErr}
 use Rattle.std.specs.List.{AllByRecursion, IsDistinct}
@@ -10,14 +10,14 @@ use Rattle.std.proofs.lemmas.List.Elements.{All-append, All-nil, Contains-get_or
 use Rattle.std.proofs.lemmas.Option.{none-some, same_Some}
 use Rattle.std.proofs.lemmas.Bool.{eq-eqb}
 use Rattle.lemmas.proofs.Members.{contains_head, contains_none}
-use Rattle.request_record.proofs.StepLaws.{asked_joined, sent_entries}
+use Rattle.request_record.proofs.StepLaws.{asked_joined}
 use Rattle.lemmas.proofs.Places.{get_of}
 use Rattle.cap_text.specs.Cap.{VerifyCapValue}
 use Rattle.request_record.specs.declared.requests.Asked.{Asked}
 use Rattle.request_record.specs.declared.requests.Asked.TheVariants.{Holdings, Allocation, Writing, Closing, Reading, Aborting}
 use Rattle.request_record.specs.declared.requests.Outcome.TheVariants.{Lost}
 use Rattle.request_record.specs.declared.requests.Request.{Request}
-use Rattle.request_record.specs.Record.{IsRecord, RequestsState, TakesNext, asked_all, asked_more, first_request, is_outstanding, outstanding_count}
+use Rattle.request_record.specs.Record.{IsRecord, RequestsState, asked_all, asked_more, first_request, is_outstanding, outstanding_count}
 use Rattle.request_record.specs.Asking.{AsksOnce, asks_of, begun, fresh}
 use Rattle.checker.specs.Moves.{GoesOn, Stops, is_read}
 use Rattle.checker.specs.Right.{AreOfShares, IsRight, MayAsk}
@@ -50,9 +50,6 @@ kept_same m r status same k = record {
   idle = λ e. ap outstanding_count same ∙ k.idle e;
   begun = k.begun;
 }
-
-pub kept_sent : (m : Machine) (out : RequestsState) (o : Option ℕ) (status : CheckStatus) → TakesNext m.requests o out → IsKept m status → IsKept (with_requests m out) status
-kept_sent m out o status next k = kept_same m out status (sent_entries m.requests out o next) k
 
 -- ---- more is asked
 

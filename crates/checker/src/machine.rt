@@ -154,13 +154,8 @@ impl Machine {
             (state_of self.old servers status) result (state_of self.new servers status) }
         ensures kept { (status : CheckStatus) → IsKept self.old status → IsKept self.new status }
     {
-        let place = self.requests.first()?;
-        let request = self.requests.request(place);
-        let server = request.server;
-        let body = request.asked.body(*self.cap.storage_index())?;
-        let message = self.requests.message_at(place, body);
-        self.requests.take_next();
-        Some((server, message))
+        let _ = self.requests.len();
+        self.requests.send_next(*self.cap.storage_index())
     }
 
     // These requests found no answer.
