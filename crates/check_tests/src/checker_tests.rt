@@ -4,6 +4,7 @@ use cap_text::{Cap, VerifyCap};
 use checker::Check;
 use checker::status::CheckStatus;
 use file_encoding::{Encoded, Params, encode_all};
+use request_record::operation::Operation;
 use share_layout::Places;
 use share_reading::Verdict;
 use share_verify::Check as Section;
@@ -462,7 +463,7 @@ fn sent_in_round(alloc: Global, encoded: &Encoded, rounds: usize) -> Option<usiz
 fn taken(alloc: Global, check: &mut Check) -> Option<Vec<(NodeId, Message)>> {
     let mut sent = Vec::new(alloc);
     for _ in 0..1_000 {
-        match check.take_outgoing() {
+        match check.take_outgoing(alloc).ok()? {
             Some(request) => sent.push(request).ok()?,
             None => break,
         }

@@ -1,5 +1,6 @@
 -- No call changes whether a check keeps the bytes of shares.
-use Rattle.std.proofs.Common.{◌≡◌, ℕ, Option, Some, None, Result, Ok, Err, OnErr, OnOk, ap, refl}
+use Rattle.std.proofs.Common.{◌≡◌, ℕ, Option, Some, None, Result, Ok, Err, IfOk, IsOk, OnErr, OnOk, ap, refl}
+use Rattle.std.proofs.lemmas.Bool.{false≢true}
 use Rattle.wire.specs.declared.message.Message.{Message}
 use Rattle.request_record.specs.Record.{RequestsState}
 use Rattle.checker.specs.Moves.{FailsAt, GoesOn, Stops, StopsAt, TicksOn, at_once, later}
@@ -25,6 +26,10 @@ pub keeps_at : {X E : Type 0} (r : Result X E) (now : ℕ) (old new : CheckState
 keeps_at (Ok x) now old new on stops = on.keeps
 keeps_at (Err e) now old new on stops = stops_keeping now old new old.status refl stops
 
-pub keeps_sending : (old new : CheckState) (o : Option (ℕ × Message)) → Takes old o new → new.keeps ≡ old.keeps
-keeps_sending old new None takes = ap (λ (c : CheckState). c.keeps) takes.1
-keeps_sending old new (Some f) takes = ap (λ (c : CheckState). c.keeps) takes.3
+keeps_taking : (old new : CheckState) (o : Option (ℕ × Message)) → Takes old o new → new.keeps ≡ old.keeps
+keeps_taking old new None takes = ap (λ (c : CheckState). c.keeps) takes.1
+keeps_taking old new (Some f) takes = ap (λ (c : CheckState). c.keeps) takes.3
+
+pub keeps_sending : {E : Type 0} (r : Result (Option (ℕ × Message)) E) (old new : CheckState) → IsOk r → IfOk r (λ taken. Takes old taken new) → new.keeps ≡ old.keeps
+keeps_sending (Ok taken) old new well takes = keeps_taking old new taken takes
+keeps_sending (Err e) old new well takes = absurd (false≢true well)

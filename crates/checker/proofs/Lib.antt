@@ -12,3 +12,4 @@ mod ApartLemmas
 mod FoundLemmas
 mod GoodLemmas
 mod KeepingCheckLemmas
+pub mod Following

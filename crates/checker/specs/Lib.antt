@@ -3,6 +3,7 @@ pub mod State
 pub mod Shares
 pub mod Moves
 pub mod Sending
+pub mod Calls
 pub mod Report
 pub mod Good
 pub mod Right

@@ -4,6 +4,8 @@ ghost use Rattle.std.specs.Prelude.{◌≡◌, ◌≢◌, ◌↔◌, ◌⊎◌, 
 ghost use Rattle.std.specs.Prelude.{false, is_some, map, nat_eq, true};
 ghost use Rattle.std.specs.List.{IsDistinct};
 ghost use Rattle.request_record.specs.Asking.{after_message};
+ghost use Rattle.request_record.specs.Follow.{Follows, IsSaid, Nothing};
+ghost use Rattle.checker.specs.Calls.{GivesUp, check_calls};
 ghost use Rattle.checker.specs.Good.{AreGoodShares};
 ghost use Rattle.checker.specs.Moves.{Advances, Begins, Stops, StopsAt, TicksOn};
 ghost use Rattle.checker.specs.Report.{IsReport};
@@ -16,6 +18,7 @@ use crate::machine::{Machine, is_running};
 use crate::report::report_of;
 use crate::status::{CheckStatus, Report};
 use cap_text::VerifyCap;
+use request_record::operation::Operation;
 use std::alloc::{AllocError, Global};
 use std::marker::Model;
 use wire::message::{Message, NodeId};
@@ -97,47 +100,6 @@ impl Check {
         })
     }
 
-    /// Takes a message from a node over, at a second. On an `Err`, which only one that runs gives,
-    /// it has failed; the record goes on all the same.
-    pub fn on_message(&mut self, from: NodeId, message: Message, now: u64) -> Result<(), AllocError>
-        ensures ok { OnOk result (Advances from message now self.old self.new) }
-        ensures err { OnErr result (self.new.status ≡ Failed) }
-        ensures stops { OnErr result
-            (Stops (after_message from message now self.old.requests) self.old self.new) }
-        ensures ended { self.old.status ≢ Running → IsOk result }
-    {
-        match self.machine.answer(self.status, from, message, now) {
-            Ok(status) => {
-                self.status = status;
-                Ok(())
-            }
-            Err(error) => {
-                self.status = CheckStatus::Failed;
-                Err(error)
-            }
-        }
-    }
-
-    /// Takes note of a second. On an `Err` one that ran has failed; one that ended is as it was.
-    pub fn tick(&mut self, now: u64) -> Result<(), AllocError>
-        ensures ok { OnOk result (TicksOn now self.old self.new) }
-        ensures stops { OnErr result (StopsAt now self.old self.new) }
-    {
-        if !is_running(self.status) {
-            return self.machine.note(now);
-        }
-        match self.machine.pass(now) {
-            Ok(status) => {
-                self.status = status;
-                Ok(())
-            }
-            Err(error) => {
-                self.status = CheckStatus::Failed;
-                Err(error)
-            }
-        }
-    }
-
     /// Where it stands. While it runs a request is outstanding, and once it is done none is. No
     /// server is asked the same thing twice, nor for a byte of a share twice, nor anything else but
     /// which shares it holds, and bytes of those that it offered. Only the check's own servers are
@@ -155,13 +117,6 @@ impl Check {
         ensures { result.now ≡ self.now.cap }
     {
         &self.machine.cap
-    }
-
-    /// Takes the next message to send, and the node that it is for.
-    pub fn take_outgoing(&mut self) -> Option<(NodeId, Message)>
-        ensures { Takes self.old result self.new }
-    {
-        self.machine.take_outgoing()
     }
 
     /// Is there a message to send?
@@ -199,6 +154,69 @@ impl Check {
         match self.status {
             CheckStatus::Done => Ok(Some(good_shares_of(alloc, &self.machine)?)),
             CheckStatus::Running | CheckStatus::Failed => Ok(None),
+        }
+    }
+}
+
+impl Operation for Check {
+    ghost calls = { check_calls };
+
+    fn is_running(&self) -> bool {
+        is_running(self.status)
+    }
+
+    /// It needs no memory.
+    fn take_outgoing(&mut self, _alloc: Global) -> Result<Option<(NodeId, Message)>, AllocError>
+        ensures ok { IfOk result (λ taken. Takes self.old taken self.new) }
+        ensures err { OnErr result (GivesUp self.old self.new) }
+        ensures follows { Follows Nothing self.old.requests self.new.requests }
+        ensures never_fails { IsOk result }
+    {
+        Ok(self.machine.take_outgoing())
+    }
+
+    /// On an `Err`, which only one that runs gives, it has failed; the record goes on all the same.
+    fn on_message(&mut self, from: NodeId, message: Message, now: u64) -> Result<(), AllocError>
+        ensures ok { OnOk result (Advances from message now self.old self.new) }
+        ensures err { OnErr result (GivesUp self.old self.new) }
+        ensures follows { Follows (IsSaid from message self.old.requests.session)
+            self.old.requests self.new.requests }
+        ensures fails { OnErr result (self.new.status ≡ Failed) }
+        ensures stops { OnErr result
+            (Stops (after_message from message now self.old.requests) self.old self.new) }
+        ensures ended { self.old.status ≢ Running → IsOk result }
+    {
+        match self.machine.answer(self.status, from, message, now) {
+            Ok(status) => {
+                self.status = status;
+                Ok(())
+            }
+            Err(error) => {
+                self.status = CheckStatus::Failed;
+                Err(error)
+            }
+        }
+    }
+
+    /// On an `Err` one that ran has failed; one that ended is as it was.
+    fn tick(&mut self, now: u64) -> Result<(), AllocError>
+        ensures ok { OnOk result (TicksOn now self.old self.new) }
+        ensures err { OnErr result (GivesUp self.old self.new) }
+        ensures follows { Follows Nothing self.old.requests self.new.requests }
+        ensures stops { OnErr result (StopsAt now self.old self.new) }
+    {
+        if !is_running(self.status) {
+            return self.machine.note(now);
+        }
+        match self.machine.pass(now) {
+            Ok(status) => {
+                self.status = status;
+                Ok(())
+            }
+            Err(error) => {
+                self.status = CheckStatus::Failed;
+                Err(error)
+            }
         }
     }
 }

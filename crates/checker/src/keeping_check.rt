@@ -1,10 +1,12 @@
 //! A check that keeps the bytes of shares.
 
-ghost use Rattle.std.specs.Prelude.{◌≡◌, ◌≢◌, ◌↔◌, None, IfOk, IfSome, IsOk, OnOk};
+ghost use Rattle.std.specs.Prelude.{◌≡◌, ◌≢◌, ◌↔◌, None, IfOk, IfSome, IsOk, OnErr, OnOk};
 ghost use Rattle.std.specs.Prelude.{map, nat_eq};
 ghost use Rattle.std.specs.List.{IsDistinct};
+ghost use Rattle.request_record.specs.Follow.{Follows, IsSaid, Nothing};
+ghost use Rattle.checker.specs.Calls.{GivesUp, check_calls};
 ghost use Rattle.checker.specs.Good.{AreGoodShares};
-ghost use Rattle.checker.specs.Moves.{Advances, Begins, TicksOn};
+ghost use Rattle.checker.specs.Moves.{Advances, Begins};
 ghost use Rattle.checker.specs.Report.{IsReport};
 ghost use Rattle.checker.specs.Right.{IsRight};
 ghost use Rattle.checker.specs.Sending.{Takes};
@@ -13,6 +15,7 @@ ghost use Rattle.checker.specs.declared.status.CheckStatus.TheVariants.{Done, Ru
 use crate::check::Check;
 use crate::status::{CheckStatus, Report};
 use cap_text::VerifyCap;
+use request_record::operation::Operation;
 use std::alloc::{AllocError, Global};
 use std::marker::Model;
 use wire::message::{Message, NodeId};
@@ -51,21 +54,6 @@ impl KeepingCheck {
         Ok(KeepingCheck { check })
     }
 
-    /// Takes a message from a node over, at a second, as `Check::on_message`.
-    pub fn on_message(&mut self, from: NodeId, message: Message, now: u64) -> Result<(), AllocError>
-        ensures ok { OnOk result (Advances from message now self.old self.new) }
-        ensures ended { self.old.status ≢ Running → IsOk result }
-    {
-        self.check.on_message(from, message, now)
-    }
-
-    /// Takes note of a second, as `Check::tick`.
-    pub fn tick(&mut self, now: u64) -> Result<(), AllocError>
-        ensures ok { OnOk result (TicksOn now self.old self.new) }
-    {
-        self.check.tick(now)
-    }
-
     /// Where it stands.
     pub fn status(&self) -> CheckStatus
         ensures value { result ≡ self.now.status }
@@ -79,13 +67,6 @@ impl KeepingCheck {
         ensures { result.now ≡ self.now.cap }
     {
         self.check.cap()
-    }
-
-    /// Takes the next message to send, and the node that it is for.
-    pub fn take_outgoing(&mut self) -> Option<(NodeId, Message)>
-        ensures { Takes self.old result self.new }
-    {
-        self.check.take_outgoing()
     }
 
     /// What it found, once it is done; `None` before, and where it failed.
@@ -106,5 +87,39 @@ impl KeepingCheck {
         ensures none { IfOk result (λ told. (told ≡ None) ↔ (self.now.status ≢ Done)) }
     {
         self.check.good_shares(alloc)
+    }
+}
+
+impl Operation for KeepingCheck {
+    ghost calls = { check_calls };
+
+    fn is_running(&self) -> bool {
+        self.check.is_running()
+    }
+
+    /// It needs no memory.
+    fn take_outgoing(&mut self, alloc: Global) -> Result<Option<(NodeId, Message)>, AllocError>
+        ensures ok { IfOk result (λ taken. Takes self.old taken self.new) }
+        ensures err { OnErr result (GivesUp self.old self.new) }
+        ensures follows { Follows Nothing self.old.requests self.new.requests }
+        ensures never_fails { IsOk result }
+    {
+        self.check.take_outgoing(alloc)
+    }
+
+    /// As `Check::on_message`.
+    fn on_message(&mut self, from: NodeId, message: Message, now: u64) -> Result<(), AllocError>
+        ensures ok { OnOk result (Advances from message now self.old self.new) }
+        ensures err { OnErr result (GivesUp self.old self.new) }
+        ensures follows { Follows (IsSaid from message self.old.requests.session)
+            self.old.requests self.new.requests }
+        ensures ended { self.old.status ≢ Running → IsOk result }
+    {
+        self.check.on_message(from, message, now)
+    }
+
+    /// As `Check::tick`.
+    fn tick(&mut self, now: u64) -> Result<(), AllocError> {
+        self.check.tick(now)
     }
 }

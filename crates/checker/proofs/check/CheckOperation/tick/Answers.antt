@@ -1,12 +1,15 @@
 use Rattle.std.proofs.Common.{◌≡◌, ◌≢◌, ◌∙◌, ℕ, inl, inr, Result, Ok, Err, OnErr, OnOk, ap, refl, subst, sym, true≢false}
 use Rattle.lemmas.proofs.Results.{on_ok_then, settled_by}
+use Rattle.request_record.specs.Follow.{Follows, Nothing}
+use Rattle.request_record.proofs.FollowLaws.{follows_itself}
 use Rattle.checker.specs.Book.{AsksItsOwn, IsKept, state_of}
 use Rattle.checker.specs.Moves.{StopsAt, TicksOn}
 use Rattle.checker.specs.State.{CheckState}
 use Rattle.checker.specs.declared.machine.Machine.{Machine}
 use Rattle.checker.specs.declared.status.CheckStatus.TheVariants.{Failed, Running}
+use Rattle.checker.proofs.Following.{follows_fails, follows_ticks}
 use Rattle.checker.proofs.Own.{own_fail, own_tick}
-use Rattle.checker.proofs.check.Check.tick.Goals as goal
+use Rattle.checker.proofs.check.CheckOperation.tick.Goals as goal
 
 stands_by : {X E : Type 0} (r : Result X E) (now : ℕ) (old new : CheckState) → old.status ≢ Running → OnErr r (new ≡ old) → OnErr r (StopsAt now old new)
 stands_by (Ok x) now old new ended same = tt
@@ -30,6 +33,16 @@ returns-then-not-is_running-clause-stops c =
     subst (λ (d : CheckState). OnErr c.note.result (StopsAt c.args.now d (state_of n s.servers.items s.status))) c.self.view_is
     (stands_by c.note.result c.args.now (state_of s.machine s.servers.items s.status) (state_of n s.servers.items s.status) ended
     (on_err_then c.note.result _ _ c.note.ensures.err (ap (λ (m : Machine). state_of m s.servers.items s.status))))
+
+pub returns-then-not-is_running-clause-follows : goal.returns-then-not-is_running-clause-follows
+returns-then-not-is_running-clause-follows c =
+    let s = c.self.inside in
+    let servers = s.servers.items in
+    let n = c.note.new.self in
+    subst (λ (d : CheckState). Follows Nothing d.requests n.requests) c.self.view_is (elim (settled_by c.note.result _ _ c.note.ensures.ok c.note.ensures.err) [
+      | inl goes ↦ follows_ticks c.args.now (state_of s.machine servers s.status) (state_of n servers s.status) (goes s.status servers)
+      | inr same ↦ subst (λ (m : Machine). Follows Nothing s.machine.requests m.requests) (sym same) (follows_itself Nothing s.machine.requests)
+    ])
 
 pub invariant_of-self : goal.invariant_of-self
 invariant_of-self c =
@@ -58,6 +71,22 @@ returns-in-Err-clause-stops c =
     let runs = c.is_running.ensures.0 c.if-not-is_running.false in
     subst (λ (d : CheckState). StopsAt c.args.now d (state_of c.pass.new.self s.servers.items Failed)) (ap (state_of s.machine s.servers.items) (sym runs) ∙ c.self.view_is)
     (record { running = λ _. c.in-Err.ensures.err s.servers.items; ended = λ other. absurd (other refl) })
+
+pub returns-in-Ok-clause-follows : goal.returns-in-Ok-clause-follows
+returns-in-Ok-clause-follows c =
+    let s = c.self.inside in
+    let servers = s.servers.items in
+    let new = state_of c.pass.new.self servers c.in-Ok.status in
+    subst (λ (d : CheckState). Follows Nothing d.requests new.requests) c.self.view_is
+    (follows_ticks c.args.now (state_of s.machine servers Running) new (c.in-Ok.ensures.ok servers))
+
+pub returns-in-Err-clause-follows : goal.returns-in-Err-clause-follows
+returns-in-Err-clause-follows c =
+    let s = c.self.inside in
+    let servers = s.servers.items in
+    let new = state_of c.pass.new.self servers Failed in
+    subst (λ (d : CheckState). Follows Nothing d.requests new.requests) c.self.view_is
+    (follows_fails c.args.now (state_of s.machine servers Running) new (c.in-Err.ensures.err servers))
 
 pub invariant_of-self-in-Ok : goal.invariant_of-self-in-Ok
 invariant_of-self-in-Ok c =

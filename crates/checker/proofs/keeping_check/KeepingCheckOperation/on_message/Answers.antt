@@ -1,7 +1,7 @@
 use Rattle.std.proofs.Common.{◌∙◌}
 use Rattle.request_record.specs.Asking.{after_message}
 use Rattle.checker.proofs.KeepingCheckLemmas.{keeps_on}
-use Rattle.checker.proofs.keeping_check.KeepingCheck.on_message.Goals as goal
+use Rattle.checker.proofs.keeping_check.KeepingCheckOperation.on_message.Goals as goal
 
 pub invariant_of-self : goal.invariant_of-self
 invariant_of-self c =
