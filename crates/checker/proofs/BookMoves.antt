@@ -17,7 +17,7 @@ use Rattle.share_reading.specs.declared.reading.Reading as readings
 use Rattle.checker.specs.Offers.{key_of}
 use Rattle.checker.specs.Shares.{offered_in}
 use Rattle.checker.specs.Book.{AreKeys, HasTold, IsAbout, IsAt, IsBook, IsOffer, IsOwner, IsStarted, IsTold}
-use Rattle.checker.specs.declared.machine.Told.{Told}
+use Rattle.checker.specs.declared.state.Told.{Told}
 use Rattle.checker.specs.declared.offers.Offer.{Offer}
 use Rattle.checker.specs.declared.offers.Stage.TheVariants.{Read}
 use Rattle.checker.proofs.Entries.{GoesTo, about_by, about_one, about_same, get_kept, get_set_same, was_at}

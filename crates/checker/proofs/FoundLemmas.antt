@@ -22,8 +22,8 @@ use Rattle.checker.specs.Shares.{offered_pairs, offered_to, settled_of}
 use Rattle.checker.specs.Report.{AreVerdicts, IsVerdictBy, pair_of}
 use Rattle.checker.specs.Book.{HasBook, IsAt, IsEnded, IsKept, IsReading}
 use Rattle.checker.specs.Found.{IsDone, IsOver, found_among, found_of, verdict_in}
-use Rattle.checker.specs.declared.machine.Machine.{Machine}
-use Rattle.checker.specs.declared.machine.Told.{Told}
+use Rattle.checker.specs.declared.state.Machine.{Machine}
+use Rattle.checker.specs.declared.state.Told.{Told}
 use Rattle.checker.specs.declared.offers.Offer.{Offer}
 use Rattle.checker.specs.declared.offers.Stage.{Stage}
 use Rattle.checker.specs.declared.offers.Stage.TheVariants.{Waiting, Read, Ended}

@@ -27,7 +27,7 @@ use Rattle.checker.specs.Found.{IsDone, IsOver, found_among, found_of, verdict_i
 use Rattle.checker.specs.Good.{AreGoodShares, AreRising, HasGood, IsFound}
 use Rattle.checker.specs.Report.{AreVerdicts, pair_of}
 use Rattle.checker.specs.Shares.{offered_in, offered_to, settled_of}
-use Rattle.checker.specs.declared.machine.Machine.{Machine}
+use Rattle.checker.specs.declared.state.Machine.{Machine}
 use Rattle.checker.specs.declared.offers.Offer.{Offer}
 use Rattle.checker.specs.declared.offers.Stage.TheVariants.{Ended}
 use Rattle.checker.specs.declared.status.ShareVerdict.{ShareVerdict}

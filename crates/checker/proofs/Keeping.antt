@@ -23,8 +23,8 @@ use Rattle.checker.specs.Moves.{GoesOn, Stops, is_read}
 use Rattle.checker.specs.Right.{AreOfShares, IsRight, MayAsk}
 use Rattle.checker.specs.Book.{AllAskOrRead, AreKeys, AreLost, AsksItsOwn, AsksMore, AsksOrReads, HasBook, IsBook, IsFresh, IsKept, IsSafe, state_of}
 use Rattle.checker.specs.Shares.{offered_in}
-use Rattle.checker.specs.declared.machine.Machine.{Machine}
-use Rattle.checker.specs.declared.machine.Told.{Told}
+use Rattle.checker.specs.declared.state.Machine.{Machine}
+use Rattle.checker.specs.declared.state.Told.{Told}
 use Rattle.checker.proofs.Entries.{GoesTo, get_kept, was_at}
 use Rattle.checker.proofs.BookMoves.{book_goes}
 use Rattle.checker.proofs.RecordMoves.{IsCounted, IsTicked, may_more, offered_goes, shares_go}

@@ -32,8 +32,8 @@ use Rattle.checker.specs.Pieces.{HasPieces}
 use Rattle.checker.specs.Moves.{is_read}
 use Rattle.checker.specs.Right.{AreOfShares}
 use Rattle.checker.specs.Book.{AllAskOrRead, AreReadAt, AsksMore, AsksNothing, AsksOrReads, HasAsked, HasBook, HasEnded, IsAbout, IsAt, IsBook, IsEnded, IsHeld, IsReading, IsSafe, IsSettledAt, IsStarted, IsUnread}
-use Rattle.checker.specs.declared.machine.Machine.{Machine}
-use Rattle.checker.specs.declared.machine.Told.{Told}
+use Rattle.checker.specs.declared.state.Machine.{Machine}
+use Rattle.checker.specs.declared.state.Told.{Told}
 use Rattle.checker.specs.declared.offers.Offer.{Offer}
 use Rattle.checker.specs.declared.offers.Stage.TheVariants.{Waiting, Read, Ended}
 use Rattle.checker.proofs.OfferMoves.{waits_about}

@@ -23,7 +23,7 @@ use Rattle.checker.specs.Pieces.{HasPieces, IsEmpty}
 use Rattle.checker.specs.declared.pieces.Pieces.{Pieces}
 use Rattle.checker.specs.Shares.{offered_in}
 use Rattle.checker.specs.Book.{AreKeys, ArePushed, HasTold, IsAbout, IsAt, IsBook, IsOffer, IsOwner, IsReadOnlyAt, IsTakenOnce, IsTold}
-use Rattle.checker.specs.declared.machine.Told.{Told}
+use Rattle.checker.specs.declared.state.Told.{Told}
 use Rattle.checker.specs.declared.offers.Offer.{Offer}
 use Rattle.checker.proofs.Entries.{about_one, about_read, get_set_same}
 use Rattle.checker.proofs.OfferMoves.{offer_other}

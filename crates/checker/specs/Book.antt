@@ -29,8 +29,8 @@ use Rattle.checker.specs.Moves.{is_read}
 use Rattle.checker.specs.Right.{AreOfShares}
 use Rattle.checker.specs.Shares.{is_about, offered_in, offered_pairs, settled_of}
 use Rattle.checker.specs.State.{CheckState}
-use Rattle.checker.specs.declared.machine.Machine.{Machine}
-use Rattle.checker.specs.declared.machine.Told.{Told}
+use Rattle.checker.specs.declared.state.Machine.{Machine}
+use Rattle.checker.specs.declared.state.Told.{Told}
 use Rattle.checker.specs.declared.offers.Offer.{Offer}
 use Rattle.checker.specs.declared.offers.Stage.{Stage}
 use Rattle.checker.specs.declared.offers.Stage.TheVariants.{Waiting, Read, Ended}

@@ -3,8 +3,8 @@ use Rattle.std.specs.Prelude.{◌≡◌, ◌+◌, ◌≤◌, List, [], length, m
 use Rattle.share_reading.specs.declared.verdict.Verdict.{Verdict}
 use Rattle.share_reading.specs.declared.verdict.Verdict.TheVariants as verdicts
 use Rattle.checker.specs.Book.{HasBook, IsSafe}
-use Rattle.checker.specs.declared.machine.Machine.{Machine}
-use Rattle.checker.specs.declared.machine.Told.{Told}
+use Rattle.checker.specs.declared.state.Machine.{Machine}
+use Rattle.checker.specs.declared.state.Told.{Told}
 use Rattle.checker.specs.declared.offers.Offer.{Offer}
 use Rattle.checker.specs.declared.offers.Stage.{Stage}
 use Rattle.checker.specs.declared.offers.Stage.TheVariants.{Waiting, Read, Ended}

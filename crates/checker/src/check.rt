@@ -14,8 +14,8 @@ ghost use Rattle.checker.specs.Sending.{Takes, first_to_send};
 ghost use Rattle.checker.specs.declared.status.CheckStatus.TheVariants.{Done, Failed, Running};
 
 use crate::good::good_shares_of;
-use crate::machine::{Machine, is_running};
 use crate::report::report_of;
+use crate::state::{Machine, is_running};
 use crate::status::{CheckStatus, Report};
 use cap_text::VerifyCap;
 use request_record::operation::Operation;
@@ -186,7 +186,7 @@ impl Operation for Check {
             (Stops (after_message from message now self.old.requests) self.old self.new) }
         ensures ended { self.old.status ≢ Running → IsOk result }
     {
-        match self.machine.answer(self.status, from, message, now) {
+        match self.machine.hear(self.status, from, message, now) {
             Ok(status) => {
                 self.status = status;
                 Ok(())

@@ -8,8 +8,8 @@ ghost use Rattle.checker.specs.Good.{AreGoodShares, HasGood, IsFound};
 ghost use Rattle.checker.specs.declared.offers.Offer.{Offer};
 ghost use Rattle.checker.specs.declared.offers.Stage.TheVariants.{Ended};
 
-use crate::machine::Machine;
 use crate::offers::{Offer, Stage};
+use crate::state::Machine;
 use share_reading::Verdict;
 use std::alloc::{AllocError, Global};
 

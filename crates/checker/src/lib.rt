@@ -16,13 +16,15 @@
 #![tactic(auto)]
 
 mod check;
+mod ending;
 mod good;
 mod keeping_check;
-mod machine;
 mod offers;
 mod pieces;
 mod report;
+mod state;
 pub mod status;
+mod steps;
 
 pub use check::Check;
 pub use keeping_check::KeepingCheck;

@@ -8,8 +8,8 @@ ghost use Rattle.placement.specs.Matching.{IsLargestMatching, Pair, shares_of};
 ghost use Rattle.checker.specs.Found.{IsDone, IsOver, found_among, found_of};
 ghost use Rattle.checker.specs.Report.{IsReport, good_pairs, is_good};
 
-use crate::machine::Machine;
 use crate::offers::{Offer, Stage};
+use crate::state::Machine;
 use crate::status::{Report, ShareVerdict, VerdictList};
 use placement::{PlacementError, happiness};
 use share_reading::Verdict;

@@ -5,7 +5,7 @@ use Rattle.request_record.proofs.FollowLaws.{follows_itself}
 use Rattle.checker.specs.Book.{AsksItsOwn, IsKept, state_of}
 use Rattle.checker.specs.Moves.{StopsAt, TicksOn}
 use Rattle.checker.specs.State.{CheckState}
-use Rattle.checker.specs.declared.machine.Machine.{Machine}
+use Rattle.checker.specs.declared.state.Machine.{Machine}
 use Rattle.checker.specs.declared.status.CheckStatus.TheVariants.{Failed, Running}
 use Rattle.checker.proofs.Following.{follows_fails, follows_ticks}
 use Rattle.checker.proofs.Own.{own_fail, own_tick}

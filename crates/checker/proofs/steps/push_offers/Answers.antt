@@ -2,8 +2,8 @@ use Rattle.std.proofs.Common.{◌<◌, ◌≤◌, ◌+◌, ◌∙◌, take, ap, 
 use Rattle.checker.specs.Book.{ArePushed}
 use Rattle.checker.specs.declared.offers.Offer.{Offer}
 use Rattle.checker.proofs.Joining.{pushed_all, pushed_more, pushed_none, pushed_same}
-use Rattle.checker.proofs.machine.push_offers.Goals.{then-from-total+in_ok-push, else-from-total}
-use Rattle.checker.proofs.machine.push_offers.Goals as goal
+use Rattle.checker.proofs.steps.push_offers.Goals.{then-from-total+in_ok-push, else-from-total}
+use Rattle.checker.proofs.steps.push_offers.Goals as goal
 
 pub loop-share-init : goal.loop-share-init
 loop-share-init c = pushed_none c.args.keeps c.args.total c.args.server c.args.held.now c.args.offers.now.items

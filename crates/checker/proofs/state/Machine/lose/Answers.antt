@@ -4,7 +4,7 @@ use Rattle.wire.specs.declared.message.Body.TheVariants.{Data}
 use Rattle.request_record.specs.declared.requests.Outcome.TheVariants.{Answered, Lost}
 use Rattle.request_record.specs.Record.{is_outstanding}
 use Rattle.checker.proofs.Keeping.{asks_trans, losing_first, losing_more, losing_none, losing_settled}
-use Rattle.checker.proofs.machine.Machine.lose.Goals as goal
+use Rattle.checker.proofs.state.Machine.lose.Goals as goal
 
 pub loop-place-init : goal.loop-place-init
 loop-place-init c = losing_none c.args.self.now c.args.places.now c.requires.book c.requires.lost c.requires.safe

@@ -1,6 +1,6 @@
 use Rattle.std.proofs.Common.{take}
 use Rattle.checker.specs.Book.{ArePushed}
-use Rattle.checker.proofs.machine.push_offers.Given as goal
+use Rattle.checker.proofs.steps.push_offers.Given as goal
 
 -- those before this one are added
 abbrev pub invariant-loop-share : goal.invariant-loop-share

@@ -7,7 +7,7 @@ use Rattle.share_reading.specs.declared.reading.Reading.{Reading}
 use Rattle.checker.specs.Book.{HasAsked}
 use Rattle.checker.proofs.AnswerMoves.{safe_first}
 use Rattle.checker.proofs.MachineMoves.{asks_asked, asks_nothing, book_begun, kinds_asked_now, listed_at, once_asked_now, shares_asked_now, unread_at}
-use Rattle.checker.proofs.machine.Machine.begin_next.Goals as goal
+use Rattle.checker.proofs.state.Machine.begin_next.Goals as goal
 
 pub overflow_add-self : goal.overflow_add-self
 overflow_add-self c =

@@ -1,16 +1,14 @@
-//! How a check takes what comes, and what it asks.
+//! What a message, a tick and a send do to a check.
 
-ghost use Rattle.std.specs.Prelude.{◌≡◌, ◌≢◌, ◌↔◌, ◌<◌, ◌≤◌, ◌+◌, ◌++◌, ◌∷◌, List, ℕ, []};
-ghost use Rattle.std.specs.Prelude.{None, Some, IfOk, IsOk, IsTrue, OnErr, OnOk, false};
+ghost use Rattle.std.specs.Prelude.{◌≡◌, ◌≢◌, ◌<◌, ◌≤◌, ◌∷◌, List, ℕ, []};
+ghost use Rattle.std.specs.Prelude.{Some, IfOk, IsOk, OnErr, OnOk};
 ghost use Rattle.std.specs.Prelude.{filter, length, map, nat_lt, option_map, slice_get};
 ghost use Rattle.wire.specs.Held.{AreRising};
 ghost use Rattle.wire.specs.declared.message.HeldShare.{HeldShare};
 ghost use Rattle.request_record.specs.Asking.{after_message};
-ghost use Rattle.request_record.specs.Record.{outstanding_count};
-ghost use Rattle.checker.specs.Book.{AsksMore, AsksNothing, AwaitsAt, HasAsked, HasBook};
-ghost use Rattle.checker.specs.Book.{HasEnded, IsBrought, IsFresh, IsKept, IsSafe, IsSettledAt};
-ghost use Rattle.checker.specs.Book.{AreLost, ArePushed, IsStanding, IsTakenOnce};
-ghost use Rattle.checker.specs.Book.{state_of};
+ghost use Rattle.checker.specs.Book.{AreLost, ArePushed, AsksMore, AsksNothing, AwaitsAt};
+ghost use Rattle.checker.specs.Book.{HasAsked, HasBook, IsBrought, IsKept, IsSafe, IsSettledAt};
+ghost use Rattle.checker.specs.Book.{IsTakenOnce, state_of};
 ghost use Rattle.checker.specs.Moves.{Advances, FailsAt, Stops, TicksOn};
 ghost use Rattle.checker.specs.Sending.{Takes};
 ghost use Rattle.checker.specs.Shares.{offered_in};
@@ -18,82 +16,21 @@ ghost use Rattle.checker.specs.declared.offers.Offer.{Offer};
 ghost use Rattle.checker.specs.declared.status.CheckStatus.{CheckStatus};
 ghost use Rattle.checker.specs.declared.status.CheckStatus.TheVariants.{Failed, Running};
 
-use crate::offers::{Offer, end, reading_at, wait};
+use crate::offers::{Offer, reading_at, wait};
+use crate::state::{Machine, Told, is_running};
 use crate::status::CheckStatus;
-use cap_text::VerifyCap;
-use request_record::ledger::Ledger;
 use request_record::requests::{Asked, Outcome};
 use share_reading::{Found, Reading, Verdict};
 use std::alloc::{AllocError, Global};
 use wire::message::{Body, HeldShare, Message, NodeId, ReadLength};
 
-/// How many requests may wait at once beside one for each server.
-const MORE_AT_ONCE: usize = 64;
-
 /// How many bytes the shares that are read at once may need to be judged.
 const JUDGED_AT_ONCE: u64 = 64 << 20;
 
-/// Which of the offers are those of one server.
-#[derive(Clone, Copy)]
-pub(crate) struct Told {
-    /// The place of the first.
-    pub(crate) first: usize,
-    /// How many there are.
-    pub(crate) count: usize,
-}
-
-/// A check but for how it stands.
-#[derive(Drop)]
-pub(crate) struct Machine {
-    alloc: Global,
-    pub(crate) cap: VerifyCap,
-    /// Whether it keeps the bytes of shares.
-    pub(crate) keeps: bool,
-    pub(crate) requests: Ledger,
-    /// The shares that each server offered: none before it answered. The first requests, as many,
-    /// ask for them.
-    pub(crate) told: Vec<Told>,
-    /// The share that each further request reads, by its place among the offers.
-    pub(crate) owners: Vec<usize>,
-    /// The shares that were offered.
-    pub(crate) offers: Vec<Offer>,
-    /// The place of the first that is not begun.
-    pub(crate) begun: usize,
-    /// How many are read.
-    reading: usize,
-    /// How many may be read at once.
-    room: usize,
-}
-
 impl Machine {
-    /// Asks each of these servers which shares it holds.
-    pub(crate) fn begin(
-        alloc: Global,
-        cap: VerifyCap,
-        servers: &[NodeId],
-        session: u64,
-        now: u64,
-        keeps: bool,
-    ) -> Result<Machine, AllocError>
-        ensures { IfOk result (IsFresh cap servers.now session now keeps) }
-    {
-        Ok(Machine {
-            alloc,
-            cap,
-            keeps,
-            requests: Ledger::begin(alloc, servers, session, now)?,
-            told: vec![in alloc; Told { first: 0, count: 0 }; servers.len()]?,
-            owners: Vec::new(alloc),
-            offers: Vec::new(alloc),
-            begun: 0,
-            reading: 0,
-            room: 1,
-        })
-    }
-
     /// Takes a message from a node, at a second, and tells where it stands then. Only one that runs
     /// may find no memory.
-    pub(crate) fn answer(
+    pub(crate) fn hear(
         &mut self,
         status: CheckStatus,
         from: NodeId,
@@ -265,18 +202,8 @@ impl Machine {
         }
     }
 
-    // This is the verdict on a share.
-    fn end(&mut self, offer: usize, verdict: Verdict)
-        requires { offer < length self.old.offers.items }
-        ensures { (o : Offer) → slice_get self.old.offers.items offer ≡ Some o
-            → HasEnded self.old offer verdict o self.new }
-    {
-        end(&mut self.offers, offer, verdict);
-        self.reading = self.reading.saturating_sub(1);
-    }
-
-    // Asks for the next bytes of a share.
-    fn ask(&mut self, offer: usize, reading: &Reading) -> Result<(), AllocError>
+    /// Asks for the next bytes of a share.
+    pub(crate) fn ask(&mut self, offer: usize, reading: &Reading) -> Result<(), AllocError>
         requires { offer < length self.old.offers.items }
         ensures ok { OnOk result ((o : Offer) → slice_get self.old.offers.items offer ≡ Some o
             → HasAsked self.old offer reading.now o self.new) }
@@ -291,69 +218,6 @@ impl Machine {
         wait(&mut self.offers, offer, reading, place);
         Ok(())
     }
-
-    // Begins to read more shares, as many as may be read at once, and tells where it stands.
-    fn settle(&mut self) -> Result<CheckStatus, AllocError>
-        requires safe { IsSafe self.old }
-        requires book { HasBook self.old [] }
-        ensures kept { IfOk result (IsKept self.new) }
-        ensures asks { AsksMore self.old self.new }
-        ensures stands { IfOk result (λ status. status ≢ Failed) }
-        ensures failed { IsSafe self.new }
-    {
-        while self.begins_more() {
-            self.begin_next()?;
-        }
-        Ok(self.standing())
-    }
-
-    // Whether one more share is begun: one is where no request waits. Else no more are begun than
-    // there is room for, and no more than so many requests may wait.
-    fn begins_more(&self) -> bool
-        ensures more { IsTrue result → self.now.begun < length self.now.offers.items }
-        ensures all { result ≡ false → outstanding_count self.now.requests.entries ≡ 0
-            → length self.now.offers.items ≤ self.now.begun }
-    {
-        let waiting = self.requests.outstanding();
-        let most = self.told.len().saturating_add(MORE_AT_ONCE);
-        let has_room = waiting < most && self.reading < self.room;
-        self.begun < self.offers.len() && (waiting == 0 || has_room)
-    }
-
-    // Begins to read the next share.
-    fn begin_next(&mut self) -> Result<(), AllocError>
-        requires safe { IsSafe self.old }
-        requires book { HasBook self.old [] }
-        requires more { self.old.begun < length self.old.offers.items }
-        ensures book { OnOk result (HasBook self.new []) }
-        ensures asks { AsksMore self.old self.new }
-        ensures safe { IsSafe self.new }
-        ensures less { OnOk result ((self.new.begun ≡ self.old.begun + 1)
-            × (length self.new.offers.items ≡ length self.old.offers.items)) }
-    {
-        self.ask(self.begun, &Reading::start())?;
-        self.begun += 1;
-        self.reading = self.reading.saturating_add(1);
-        Ok(())
-    }
-
-    // Where it stands.
-    fn standing(&self) -> CheckStatus
-        ensures { IsStanding self.now.requests.entries result }
-    {
-        if 0 < self.requests.outstanding() {
-            CheckStatus::Running
-        } else {
-            CheckStatus::Done
-        }
-    }
-}
-
-/// Whether a check that stands so runs.
-pub(crate) fn is_running(status: CheckStatus) -> bool
-    ensures { IsTrue result ↔ (status ≡ Running) }
-{
-    matches!(status, CheckStatus::Running)
 }
 
 // How many shares may be read at once, where the reading of one goes on so: one at least, and as

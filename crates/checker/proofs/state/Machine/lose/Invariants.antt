@@ -1,6 +1,6 @@
 use Rattle.std.proofs.Common.{drop}
 use Rattle.checker.proofs.Keeping.{IsLosing}
-use Rattle.checker.proofs.machine.Machine.lose.Given as goal
+use Rattle.checker.proofs.state.Machine.lose.Given as goal
 
 -- those before this one are taken in
 abbrev pub invariant-loop-place : goal.invariant-loop-place

@@ -7,7 +7,7 @@ use Rattle.checker.specs.Moves.{GoesOn, Stops, later}
 use Rattle.checker.specs.declared.status.CheckStatus.TheVariants.{Running, Failed}
 use Rattle.checker.proofs.Keeping.{asks_trans, book_ticked, goes_on_running, on_err_all, safe_goes, stops_with}
 use Rattle.checker.proofs.RecordMoves.{once_as, ticked_as}
-use Rattle.checker.proofs.machine.Machine.pass.Goals as goal
+use Rattle.checker.proofs.state.Machine.pass.Goals as goal
 
 running_not_failed : Running ≡ Failed → ⊥
 running_not_failed e = cc

@@ -1,10 +1,10 @@
 use Rattle.std.proofs.Common.{◌≡◌, ◌∙◌, ℕ, ◌-◌, ◌<◌, ◌≤◌, List, ◌∷◌, length, slice_index_or, ap, sym, refl, arith}
 use Rattle.std.proofs.lemmas.Option.{get_or_from_slice_get, slice_get_read, slice_get_within}
 use Rattle.checker.specs.Book.{HasBook}
-use Rattle.checker.specs.declared.machine.Machine.{Machine}
+use Rattle.checker.specs.declared.state.Machine.{Machine}
 use Rattle.checker.specs.declared.offers.Offer.{Offer}
 use Rattle.checker.proofs.MachineMoves.{IsOwned, book_passed, owned_at}
-use Rattle.checker.proofs.machine.Machine.take_in.Goals as goal
+use Rattle.checker.proofs.state.Machine.take_in.Goals as goal
 
 -- the owner of a request, by what was read of the owners
 owner_of : (m : Machine) (todo : List ℕ) (place len k : ℕ) → HasBook m (place ∷ todo) → len ≡ length m.told.items → len ≤ place

@@ -12,7 +12,7 @@ use Rattle.checker.specs.declared.status.CheckStatus.TheVariants.{Running, Faile
 use Rattle.checker.specs.declared.status.CheckStatus.{CheckStatus}
 use Rattle.checker.proofs.Keeping.{asks_trans, book_counted, goes_on_running, kept_counted, kept_failed, on_err_all, safe_goes, stops_with}
 use Rattle.checker.proofs.RecordMoves.{IsCounted, counted_at_place, message_brought}
-use Rattle.checker.proofs.machine.Machine.answer.Goals as goal
+use Rattle.checker.proofs.state.Machine.hear.Goals as goal
 
 runs_well : (s : CheckStatus) → s ≡ Running → s ≡ Failed → ⊥
 runs_well s e f = clash (sym e ∙ f)

@@ -1,5 +1,5 @@
 use Rattle.checker.proofs.Keeping.{asks_trans}
-use Rattle.checker.proofs.machine.Machine.settle.Goals as goal
+use Rattle.checker.proofs.state.Machine.settle.Goals as goal
 
 pub loop-self-preserved : goal.loop-self-preserved
 loop-self-preserved c = record {

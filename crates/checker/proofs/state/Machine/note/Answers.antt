@@ -5,7 +5,7 @@ use Rattle.checker.specs.Book.{state_of}
 use Rattle.checker.specs.Moves.{GoesOn}
 use Rattle.checker.proofs.Keeping.{goes_on_ended, kept_same, kept_ticked}
 use Rattle.checker.proofs.RecordMoves.{once_as, ticked_as}
-use Rattle.checker.proofs.machine.Machine.note.Goals as goal
+use Rattle.checker.proofs.state.Machine.note.Goals as goal
 
 pub returns-clause-ok : goal.returns-clause-ok
 returns-clause-ok c status servers =

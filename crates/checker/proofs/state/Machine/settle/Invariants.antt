@@ -1,6 +1,6 @@
 use Rattle.std.proofs.Common.{◌-◌, length}
 use Rattle.checker.proofs.Keeping.{IsSettling}
-use Rattle.checker.proofs.machine.Machine.settle.Given as goal
+use Rattle.checker.proofs.state.Machine.settle.Given as goal
 
 -- all that was begun is as it has to be
 abbrev pub invariant-loop-self : goal.invariant-loop-self

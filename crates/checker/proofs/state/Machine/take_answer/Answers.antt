@@ -17,7 +17,7 @@ use Rattle.checker.specs.declared.offers.Offer.{Offer}
 use Rattle.checker.proofs.Entries.{get_set_same}
 use Rattle.checker.proofs.AnswerMoves.{advances_long}
 use Rattle.checker.proofs.MachineMoves.{asks_asked, asks_nothing, book_found, book_judged, book_lost, book_stopped, found_nothing, is_reading, safe_same, set_set, taken_book, taken_kinds, taken_once, taken_shares}
-use Rattle.checker.proofs.machine.Machine.take_answer.Goals as goal
+use Rattle.checker.proofs.state.Machine.take_answer.Goals as goal
 
 abbrev bytes_of : Vec ℕ Global → List ℕ
 bytes_of v = v.items

@@ -1,5 +1,5 @@
 use Rattle.std.proofs.Common.{refl}
-use Rattle.checker.proofs.machine.Machine.end.Goals as goal
+use Rattle.checker.proofs.state.Machine.end.Goals as goal
 
 pub returns : goal.returns
 returns c o at =

@@ -3,7 +3,7 @@ use Rattle.lemmas.proofs.Places.{get_of}
 use Rattle.request_record.proofs.EntrySteps.{holdings_kept}
 use Rattle.request_record.specs.declared.requests.Request.{Request}
 use Rattle.checker.proofs.ToldMoves.{told_pushed}
-use Rattle.checker.proofs.machine.Machine.take_holdings.Goals as goal
+use Rattle.checker.proofs.state.Machine.take_holdings.Goals as goal
 
 -- It asks which shares a server holds, so it is in memory.
 pub request-request-requires : goal.request-request-requires
