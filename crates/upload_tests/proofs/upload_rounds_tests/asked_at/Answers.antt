@@ -1,7 +1,0 @@
-use Rattle.std.specs.List.{IsDistinct}
-use Rattle.upload_tests.proofs.upload_rounds_tests.asked_at.Goals as goal
-
-pub begun_one-requires : goal.begun_one-requires
-unfolding IsDistinct
-begun_one-requires c =
-    (tt, tt)
