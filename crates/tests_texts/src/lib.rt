@@ -5,6 +5,8 @@
 #[cfg(test)]
 mod cap_text_tests;
 #[cfg(test)]
+mod faulty_io_tests;
+#[cfg(test)]
 mod frames_tests;
 #[cfg(test)]
 mod ledger_tests;

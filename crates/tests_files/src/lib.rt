@@ -5,8 +5,6 @@
 #[cfg(test)]
 mod evidence_tests;
 #[cfg(test)]
-mod faulty_io_tests;
-#[cfg(test)]
 mod file_encoding_tests;
 #[cfg(test)]
 mod reading_tests;
