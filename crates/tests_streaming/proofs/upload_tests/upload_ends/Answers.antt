@@ -1,5 +1,5 @@
 use Rattle.std.specs.List.{IsDistinct}
-use Rattle.streaming_tests.proofs.upload_tests.upload_ends.Goals as goal
+use Rattle.tests_streaming.proofs.upload_tests.upload_ends.Goals as goal
 
 pub start-requires : goal.start-requires
 unfolding IsDistinct
