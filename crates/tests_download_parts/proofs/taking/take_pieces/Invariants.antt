@@ -1,5 +1,5 @@
 use Rattle.std.proofs.Common.{◌≡◌}
-use Rattle.tree_tests.proofs.taking.take_pieces.Given as goal
+use Rattle.tests_download_parts.proofs.taking.take_pieces.Given as goal
 
 abbrev pub invariant-loop-level : goal.invariant-loop-level
 invariant-loop-level l = record {

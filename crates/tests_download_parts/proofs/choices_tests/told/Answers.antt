@@ -1,6 +1,6 @@
 use Rattle.std.proofs.Common.{refl}
 use Rattle.std.specs.List.{IsDistinct}
-use Rattle.holdings_tests.proofs.choices_tests.told.Goals as goal
+use Rattle.tests_download_parts.proofs.choices_tests.told.Goals as goal
 
 pub begin-requires : goal.begin-requires
 unfolding IsDistinct

@@ -1,5 +1,5 @@
 use Rattle.std.proofs.Common.{◌≡◌, All, length}
-use Rattle.segment_tests.proofs.row_tests.row.Given as goal
+use Rattle.tests_download_parts.proofs.row_tests.row.Given as goal
 
 abbrev pub invariant-loop-i : goal.invariant-loop-i
 invariant-loop-i l = record {

@@ -1,5 +1,5 @@
 use Rattle.std.proofs.Common.{◌≡◌}
-use Rattle.tree_tests.proofs.share_tests.refuses_changed_hashes.Given as goal
+use Rattle.tests_download_parts.proofs.share_tests.refuses_changed_hashes.Given as goal
 
 abbrev pub invariant-loop-place : goal.invariant-loop-place
 invariant-loop-place l = l.trees.geometry ≡ l.geometry
