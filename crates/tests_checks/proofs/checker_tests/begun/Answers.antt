@@ -1,6 +1,6 @@
 use Rattle.std.proofs.Common.{◌∷◌, [], nat_eq, refl}
 use Rattle.std.specs.List.{IsDistinct}
-use Rattle.check_tests.proofs.checker_tests.begun.Goals as goal
+use Rattle.tests_checks.proofs.checker_tests.begun.Goals as goal
 
 -- the ten nodes are distinct
 distinct : IsDistinct nat_eq (0 ∷ 1 ∷ 2 ∷ 3 ∷ 4 ∷ 5 ∷ 6 ∷ 7 ∷ 8 ∷ 9 ∷ [])

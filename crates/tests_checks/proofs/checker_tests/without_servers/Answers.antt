@@ -1,5 +1,5 @@
 use Rattle.std.specs.List.{IsDistinct}
-use Rattle.check_tests.proofs.checker_tests.without_servers.Goals as goal
+use Rattle.tests_checks.proofs.checker_tests.without_servers.Goals as goal
 
 pub start_keeping-requires : goal.start_keeping-requires
 unfolding IsDistinct

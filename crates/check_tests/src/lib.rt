@@ -1,5 +1,0 @@
-//! The tests of checks.
-#![tactic(auto)]
-
-#[cfg(test)]
-mod checker_tests;
