@@ -1,6 +1,6 @@
 //! A server's folder, as it is found.
 
-use crate::bytes_tests::{Count, EMPTY, THREE};
+use crate::scrub_bytes_tests::{Count, EMPTY, THREE};
 use share_scrub::{Action, Finding, Handling, Mended, OPEN_SECONDS, Scrub, ShareFile, State, mend};
 use share_store::error::StoreError;
 use std::alloc::AllocError;
