@@ -1,6 +1,6 @@
 use Rattle.std.proofs.Common.{refl}
 use Rattle.std.specs.List.{IsDistinct}
-use Rattle.download_tests.proofs.course.ends_at.Goals as goal
+use Rattle.tests_downloads.proofs.course.ends_at.Goals as goal
 
 pub start-requires : goal.start-requires
 unfolding IsDistinct
