@@ -1,11 +1,16 @@
 //! The tests of the program's commands that no row of `grid_rows` can have: a call on a file that
-//! fails in mid-stream, a writer that fails, memory that is refused, and words that are none.
+//! fails in mid-stream, a writer that fails, memory that is refused, and words that are none; and
+//! those of a grid's folders and of what is read of a file or of standard input.
 #![tactic(auto)]
 
 #[cfg(test)]
 mod failing_files_tests;
 #[cfg(test)]
 mod failing_writers_tests;
+#[cfg(test)]
+mod folders_tests;
+#[cfg(test)]
+mod input_tests;
 #[cfg(test)]
 mod refused_memory_tests;
 #[cfg(test)]
