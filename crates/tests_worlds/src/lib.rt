@@ -8,8 +8,6 @@ mod changing_tests;
 #[cfg(test)]
 mod course;
 #[cfg(test)]
-mod ends;
-#[cfg(test)]
 mod liars;
 #[cfg(test)]
 mod lies_tests;

@@ -1,9 +1,11 @@
 //! Worlds, driven.
 
-use crate::ends::{are_without_clash, blames, ends_so, finds, is_said, kept_end, reads_lie, says};
 use crate::liars::liars_of;
 use crate::steps::{Case, File, Kept, Liars, Step, event_of};
 use std::alloc::Global;
+use test_outcomes::{
+    are_without_clash, blames, ends_so, finds, is_said, kept_end, reads_lie, says,
+};
 use test_shares::no_code_word::SIZE;
 use wire::message::NodeId;
 use world::World;
@@ -89,7 +91,7 @@ impl Course {
             Step::Ends(number, status, pieces, bytes, byte) => {
                 ends_so(world, *number, *status, (*pieces, *bytes), Some(*byte))
             }
-            Step::KeptEnd => kept_end(self.alloc, world, &self.kept),
+            Step::KeptEnd => kept_end(self.alloc, world, self.kept.told, self.kept.pairs),
             Step::Blames(number, wanted) => blames(world.operations(), *number, wanted),
             Step::Finds(number, good, wanted) => {
                 finds(self.alloc, world.operations(), *number, *good, wanted)

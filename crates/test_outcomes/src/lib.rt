@@ -1,6 +1,7 @@
-//! What came of worlds.
+//! What tests of worlds look at: how operations ended, what they handed out, which shares they
+//! blame or find, and what was sent.
+#![tactic(auto)]
 
-use crate::steps::Kept;
 use checker::KeepingCheck;
 use checker::status::ShareVerdict;
 use download_core::Download;
@@ -18,9 +19,9 @@ use world_operations::operation::Operation;
 use world_operations::status::Status;
 use world_operations::task::Task;
 
-// Did an operation come to this, and hand out so many pieces of so many bytes, which are all this
-// one, if there is one?
-pub(crate) fn ends_so(
+/// Did an operation come to this, and hand out so many pieces of so many bytes, which are all this
+/// one, if there is one?
+pub fn ends_so(
     world: &World,
     number: usize,
     status: Status,
@@ -56,8 +57,8 @@ fn are_all(pieces: &[Piece], byte: Option<u8>) -> bool {
     true
 }
 
-// Is the message at this place so, or is there none?
-pub(crate) fn is_said(world: &World, place: usize, said: Option<(NodeId, NodeId, u8)>) -> bool {
+/// Is the message at this place so, or is there none?
+pub fn is_said(world: &World, place: usize, said: Option<(NodeId, NodeId, u8)>) -> bool {
     match (world.sent().get(place), said) {
         (Some(sent), Some((from, to, byte))) => {
             sent.from == from && sent.to == to && sent.body.as_slice() == [byte].as_slice()
@@ -67,12 +68,8 @@ pub(crate) fn is_said(world: &World, place: usize, said: Option<(NodeId, NodeId,
     }
 }
 
-// Does a download blame these shares at servers, in this order, and no others?
-pub(crate) fn blames(
-    operations: &[Operation],
-    number: usize,
-    wanted: &[(NodeId, u8, Section)],
-) -> bool {
+/// Does a download blame these shares at servers, in this order, and no others?
+pub fn blames(operations: &[Operation], number: usize, wanted: &[(NodeId, u8, Section)]) -> bool {
     match operations.get(number) {
         Some(operation) => match &operation.task {
             Task::Downloading(download) => are_these(download.blamed(), wanted),
@@ -94,8 +91,8 @@ fn are_these(blamed: &[Blame], wanted: &[(NodeId, u8, Section)]) -> bool {
     true
 }
 
-// Does a check find so many shares good, and this of each other?
-pub(crate) fn finds(
+/// Does a check find so many shares good, and this of each other?
+pub fn finds(
     alloc: Global,
     operations: &[Operation],
     number: usize,
@@ -136,8 +133,8 @@ fn are_found(verdicts: &[ShareVerdict], good: usize, wanted: &[(NodeId, u8, Verd
     count == good && verdicts.len() == good.saturating_add(wanted.len())
 }
 
-// Does each Read of a share that was sent to a node lie in one of these parts?
-pub(crate) fn reads_lie(
+/// Does each Read of a share that was sent to a node lie in one of these parts?
+pub fn reads_lie(
     alloc: Global,
     all: &[Sent],
     node: NodeId,
@@ -178,8 +175,8 @@ fn is_within(from: u64, to: u64, parts: &[(u64, u64)]) -> bool {
     false
 }
 
-// Did a node say so many messages at least?
-pub(crate) fn says(all: &[Sent], node: NodeId, count: usize) -> bool {
+/// Did a node say so many messages at least?
+pub fn says(all: &[Sent], node: NodeId, count: usize) -> bool {
     let mut said: usize = 0;
     for sent in all {
         if sent.from == node {
@@ -189,12 +186,13 @@ pub(crate) fn says(all: &[Sent], node: NodeId, count: usize) -> bool {
     count <= said
 }
 
-// Did the downloads of the file that is no code word end as they have to? From the right pair of
-// servers all of the file comes, and from any other its first segment, which is a code word, and no
-// more. No place has two bytes.
-pub(crate) fn kept_end(alloc: Global, world: &World, kept: &Kept) -> bool {
-    for (number, pair) in kept.pairs.iter().enumerate() {
-        let (status, counts) = if is_right(kept.told, *pair) {
+/// Did the first downloads, each from a pair of servers of the file that is no code word, end as
+/// they have to? Its ciphertext tree tells that its second segment is bytes `told`. From the right
+/// pair all of the file comes, and from any other its first segment, which is a code word, and no
+/// more. No place has two bytes.
+pub fn kept_end(alloc: Global, world: &World, told: u8, pairs: &[(u8, u8)]) -> bool {
+    for (number, pair) in pairs.iter().enumerate() {
+        let (status, counts) = if is_right(told, *pair) {
             (Status::Done, (2, SIZE))
         } else {
             (Status::Inconsistent, (1, SEGMENT_SIZE))
@@ -203,7 +201,7 @@ pub(crate) fn kept_end(alloc: Global, world: &World, kept: &Kept) -> bool {
             return false;
         }
     }
-    match world.operations().get(..kept.pairs.len()) {
+    match world.operations().get(..pairs.len()) {
         Some(operations) => agree(alloc, operations),
         None => false,
     }
@@ -244,8 +242,8 @@ fn agrees(known: &mut [Option<u8>], piece: &Piece) -> bool {
     true
 }
 
-// Has no evidence of the downloads a clash with another? Each of them has some.
-pub(crate) fn are_without_clash(alloc: Global, operations: &[Operation]) -> bool {
+/// Has no evidence of the downloads a clash with another? Each of them has some.
+pub fn are_without_clash(alloc: Global, operations: &[Operation]) -> bool {
     let mut kept = Vec::new(alloc);
     for operation in operations {
         if let Task::Downloading(download) = &operation.task {
