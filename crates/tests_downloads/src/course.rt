@@ -6,6 +6,7 @@ use crate::taken::{Site, Taken};
 use download_core::Download;
 use download_core::status::DownloadStatus;
 use proved_parts::{Evidence, find_clash};
+use request_record::operation::Operation;
 use std::alloc::Global;
 use wire::message::NodeId;
 
@@ -94,7 +95,10 @@ fn run(download: &mut Download, grid: &Grid, site: &mut Site, taken: &mut Taken)
 // The next message goes to its server, and the answer comes back. Where there is none five seconds
 // pass.
 fn turn(download: &mut Download, grid: &Grid, site: &mut Site) -> bool {
-    let Some((node, request)) = download.take_outgoing() else {
+    let Ok(sent) = download.take_outgoing(site.alloc) else {
+        return false;
+    };
+    let Some((node, request)) = sent else {
         site.now = site.now.saturating_add(5);
         return download.tick(site.now).is_ok();
     };

@@ -19,7 +19,7 @@ struct Asked {
 // The servers of a download.
 #[derive(Drop)]
 pub(crate) struct Site {
-    alloc: Global,
+    pub(crate) alloc: Global,
     wrong: Wrong,
     pub(crate) now: u64,
     // How many answers servers gave that are silent at some time.

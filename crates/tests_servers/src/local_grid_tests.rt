@@ -1,13 +1,13 @@
-//! A client of the tests' own over servers in memory, some of which fail, and links that go wrong.
+//! An operation of the tests' own over servers in memory, some of which fail, and links that go wrong.
 //!
 //! The test whose name begins with `refused_memory` passes too where any one allocation of its is
 //! refused.
 
-use local_grid::client::Client;
 use local_grid::error::LoopError;
 use local_grid::grid::LocalGrid;
 use local_grid::link::{Link, MemoryLink, Way};
 use local_grid::node::Node;
+use request_record::operation::Operation;
 use server_core::server::Server;
 use share_store::memory::MemoryStore;
 use share_store::store::Store;
@@ -76,7 +76,7 @@ fn heard_of(body: &Body) -> Said {
     }
 }
 
-// A client that sends its requests in turn, and is at its end after so many ticks.
+// An operation that sends its requests in turn, and is at its end after so many ticks.
 #[derive(Drop)]
 struct Asker<'a> {
     requests: &'a [(NodeId, Request)],
@@ -98,8 +98,11 @@ impl<'a> Asker<'a> {
     }
 }
 
-impl<'a> Client for Asker<'a> {
+impl<'a> Operation for Asker<'a> {
+    ghost use Rattle.request_record.specs.Asking.{fresh};
+
     ghost calls = { record {
+      requests = λ asker. fresh 1 0;
       runs = λ asker. asker.running;
       takes = λ old taken new. Unit {0};
       hears = λ old from message now new. Unit {0};
@@ -385,7 +388,7 @@ static CASES: [Case; 8] = [
             silent: 1,
         },
     },
-    // A client that is at its end is not asked.
+    // An operation that is at its end is not asked.
     Case {
         kinds: &[Honest],
         requests: &WHOLE_SHARE,

@@ -7,6 +7,7 @@ use crate::prepare_tests::Halting;
 use file_encoding::{Params, encode_all};
 use file_streaming::PrepareError;
 use placement::ServerId;
+use request_record::operation::Operation;
 use server_core::server::Server;
 use share_store::memory::MemoryStore;
 use share_store::store::Store;

@@ -2,6 +2,7 @@
 
 use crate::upload_core_tests::{Conduct, answer, servers};
 use cap_text::VerifyCap;
+use request_record::operation::Operation;
 use server_core::server::Server;
 use share_store::memory::MemoryStore;
 use share_store::store::Store;

@@ -6,6 +6,7 @@ ghost use Rattle.upload_core.specs.declared.status.ServerInfo.{ServerInfo};
 
 use cap_text::{ReadCap, VerifyCap};
 use placement::ServerId;
+use request_record::operation::Operation;
 use server_core::server::Server;
 use share_store::memory::MemoryStore;
 use share_store::store::Store;

@@ -12,6 +12,7 @@ use cap_text::{ReadCap, VerifyCap};
 use file_encoding::{Params, encode_all};
 use file_upload::prepared::{FileUpload, PreparedUpload, prepare};
 use placement::ServerId;
+use request_record::operation::Operation;
 use server_core::server::Server;
 use share_store::memory::MemoryStore;
 use share_store::store::Store;
