@@ -3,10 +3,11 @@
 ghost use Rattle.std.specs.Prelude.{◌≡◌, ◌≢◌, ◌↔◌, None, IfOk, IfSome, IsOk, OnErr, OnOk};
 ghost use Rattle.std.specs.Prelude.{map, nat_eq};
 ghost use Rattle.std.specs.List.{IsDistinct};
+ghost use Rattle.request_record.specs.Asking.{after_message};
 ghost use Rattle.request_record.specs.Follow.{Follows, IsSaid, Nothing};
 ghost use Rattle.checker.specs.Calls.{GivesUp, check_calls};
 ghost use Rattle.checker.specs.Good.{AreGoodShares};
-ghost use Rattle.checker.specs.Moves.{Advances, Begins};
+ghost use Rattle.checker.specs.Moves.{Advances, Begins, Stops, StopsAt, TicksOn};
 ghost use Rattle.checker.specs.Report.{IsReport};
 ghost use Rattle.checker.specs.Right.{IsRight};
 ghost use Rattle.checker.specs.Sending.{Takes};
@@ -113,13 +114,20 @@ impl Operation for KeepingCheck {
         ensures err { OnErr result (GivesUp self.old self.new) }
         ensures follows { Follows (IsSaid from message self.old.requests.session)
             self.old.requests self.new.requests }
+        ensures stops { OnErr result
+            (Stops (after_message from message now self.old.requests) self.old self.new) }
         ensures ended { self.old.status ≢ Running → IsOk result }
     {
         self.check.on_message(from, message, now)
     }
 
     /// As `Check::tick`.
-    fn tick(&mut self, now: u64) -> Result<(), AllocError> {
+    fn tick(&mut self, now: u64) -> Result<(), AllocError>
+        ensures ok { OnOk result (TicksOn now self.old self.new) }
+        ensures err { OnErr result (GivesUp self.old self.new) }
+        ensures follows { Follows Nothing self.old.requests self.new.requests }
+        ensures stops { OnErr result (StopsAt now self.old self.new) }
+    {
         self.check.tick(now)
     }
 }

@@ -28,7 +28,8 @@ use Rattle.world_operations.specs.declared.task.Task.TheVariants.{Uploading, Dow
 use Rattle.all_asked.specs.Asked.{AsksAll}
 use Rattle.enough_binding.specs.Servers.{TellsAll}
 use Rattle.world_operations.specs.Asked.{HasAsked}
-use Rattle.world_operations.specs.Follow.{GoesOn, IsFrameOf, IsLostTask, IsNewTask, IsRequestBy, IsSameOperation, Moves, Said, SendsSome}
+use Rattle.request_record.specs.Follow.{Said}
+use Rattle.world_operations.specs.Follow.{GoesOn, IsFrameOf, IsNewTask, IsRequestBy, IsSameOperation, Moves, SendsSome}
 use Rattle.world_operations.specs.Given.{AreGivenBy}
 use Rattle.world_operations.specs.Jobs.{IsFor}
 use Rattle.world_operations.specs.Moves.{sent_to}
@@ -325,36 +326,6 @@ fine_on New honest sent i old new same g came right given f = record {
   asked = g.asked (range_with_len 0 honest) f.asked;
 }
 
-for_gone : (job : Job) (task : Task) (number : ℕ) → IsFor job task → IsFor job (Gone number)
-for_gone (Upload file secret p) (Uploading u) number h = h.2
-for_gone (Upload file secret p) (Gone n) number h = h
-for_gone (Upload file secret p) (Downloading d) number h = absurd h
-for_gone (Upload file secret p) (Checking c) number h = absurd h
-for_gone (Changing file other after secret p) (Uploading u) number h = h.2
-for_gone (Changing file other after secret p) (Gone n) number h = h
-for_gone (Changing file other after secret p) (Downloading d) number h = absurd h
-for_gone (Changing file other after secret p) (Checking c) number h = absurd h
-for_gone (Download cap from to) task number h = tt
-for_gone (Check cap) task number h = tt
-for_gone (Repair cap happy) task number h = tt
-for_gone (NoRepair cap why) task number h = tt
-
--- where it is gone nothing is left to be said
-fine_gone : (honest : ℕ) (sent : List Sent) (i : ℕ) (old new : Operation) → IsSameOperation old new → new.task ≡ Gone i → IsRightTask new.task
-    → (AreGivenBy old.task old.given → AreGivenBy new.task new.given) → IsFine honest sent i old → IsFine honest sent i new
-fine_gone honest sent i old new same is right given f = record {
-  given = given f.given;
-  node = subst (λ (n : ℕ). n < honest) (sym same.node) f.node;
-  started = subst (IsFor new.job) (sym is) (for_gone new.job old.task i (subst (λ (j : Job). IsFor j old.task) (sym same.job) f.started));
-  session = ap (λ (t : Task). (requests_of t).session) is;
-  before = subst (λ (n : ℕ). n ≤ length sent) (sym same.sent_before) f.before;
-  answers = λ place r said e o. absurd (nothing place r (ap (λ (t : Task). slice_get (requests_of t).entries place) (sym is) ∙ e));
-  right = right;
-  asked = subst (HasAsked (range_with_len 0 honest)) (sym is) tt;
-} where
-  nothing : (place : ℕ) (r : Request) → None ≡ Some r → ⊥
-  nothing place r e = cc
-
 -- a frame of an operation's request is recorded, and is no answer
 founded : (servers : List (Machine MemoryState)) (operations : List Operation) (sent : List Sent) (i : ℕ) (op : Operation) (node : ℕ) (x : Sent)
     → slice_get operations i ≡ Some op → op.node ≡ node → (requests_of op.task).session ≡ i → IsFrameOf op.task node x → IsFounded servers operations sent x
@@ -384,31 +355,17 @@ founded servers operations sent i op node x at own session f = record {
 
 -- what every call of an operation does keeps the world consistent
 pub operation_moves : (New : Said) (servers : List (Machine MemoryState)) (operations : List Operation) (sent after : List Sent) (i : ℕ) (old new : Operation) → slice_get operations i ≡ Some old
-    → Moves New i old new sent after → ((place server : ℕ) (asks : Asked) (said : Body) → New place server asks said → CameFrom sent i old.node place server asks said) → IsRightTask new.task
+    → Moves New old new sent after → ((place server : ℕ) (asks : Asked) (said : Body) → New place server asks said → CameFrom sent i old.node place server asks said) → IsRightTask new.task
     → AreConsistent servers operations sent → AreConsistent servers (slice_set operations i new) after
-operation_moves New servers operations sent after i old new at moves came right c = by moves.task where
-  fine : IsFine (length servers) sent i old
-  fine = c.fine i old at
-
-  goes : SendsSome New old.node old.task new.task sent after → AreConsistent servers (slice_set operations i new) after
-  goes s =
-      let here : slice_get (slice_set operations i new) i ≡ Some new = get_set_same operations i old new at in
-      let stays : IsFine (length servers) sent i new = fine_on New (length servers) sent i old new moves.same s.goes came right moves.given fine in
-      let changed : AreConsistent servers (slice_set operations i new) sent =
-      one_changes servers operations sent i old new at (λ x m r. request_moves New old new x m moves.same.node s.goes r) moves.same.sent_before stays c in
-      subst (AreConsistent servers (slice_set operations i new)) (sym s.appended)
-      (all_sent servers (slice_set operations i new) sent s.more
-      (λ t y k. founded servers (slice_set operations i new) t i new old.node y here moves.same.node stays.session (s.frames y k)) changed)
-
-  lost : IsLostTask i old.task new.task sent after → AreConsistent servers (slice_set operations i new) after
-  lost l =
-      let stays : IsFine (length servers) sent i new = fine_gone (length servers) sent i old new moves.same l.gone right moves.given fine in
-      subst (AreConsistent servers (slice_set operations i new)) (sym l.nothing)
-      (one_changes servers operations sent i old new at (λ x m r. gone i l.gone) moves.same.sent_before stays c)
-
-  by : SendsSome New old.node old.task new.task sent after ⊎ IsLostTask i old.task new.task sent after → AreConsistent servers (slice_set operations i new) after
-  by (inl s) = goes s
-  by (inr l) = lost l
+operation_moves New servers operations sent after i old new at moves came right c =
+    let s = moves.task in
+    let here : slice_get (slice_set operations i new) i ≡ Some new = get_set_same operations i old new at in
+    let stays : IsFine (length servers) sent i new = fine_on New (length servers) sent i old new moves.same s.goes came right moves.given (c.fine i old at) in
+    let changed : AreConsistent servers (slice_set operations i new) sent =
+    one_changes servers operations sent i old new at (λ x m r. request_moves New old new x m moves.same.node s.goes r) moves.same.sent_before stays c in
+    subst (AreConsistent servers (slice_set operations i new)) (sym s.appended)
+    (all_sent servers (slice_set operations i new) sent s.more
+    (λ t y k. founded servers (slice_set operations i new) t i new old.node y here moves.same.node stays.session (s.frames y k)) changed)
 
 -- ---- an operation begins
 

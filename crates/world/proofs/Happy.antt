@@ -28,8 +28,8 @@ for_upload w number file secret p op u c of = for_file op.job file secret p u of
 right_upload : (w : WorldState) (number : ℕ) (file secret : List ℕ) (p : UploadParameters) (op : Operation) (u : Up) → IsConsistent w → IsUploadOf w number file secret p op u → IsRight u.course
 right_upload w number file secret p op u c of = subst IsRightTask of.task (c.fine number op of.at).right
 
-ends_happy : (u : UploadState) (pairs : List Pair) → IsRight u → u.status ≡ Happy pairs → IsHappy u.goal u.wanted u.requests.entries pairs
-ends_happy u pairs right e = subst (EndsAs u.goal u.wanted u.requests.entries) e (right.over (ap has_ended e))
+ends_happy : (u : UploadState) (pairs : List Pair) → IsRight u → u.status ≡ Happy pairs → IsHappy u.goal u.happy u.requests.entries pairs
+ends_happy u pairs right e = subst (EndsAs u.goal u.happy u.requests.entries) e (right.over (ap has_ended e))
 
 pub happy_is_matched : (w : WorldState) → IsConsistent w → HappyIsMatched w
 happy_is_matched w c file secret p pairs up =
@@ -38,5 +38,5 @@ happy_is_matched w c file secret p pairs up =
     let ends = ends_happy u pairs (right_upload w up.number file secret p up.operation up.upload c up.upload_of) up.status in
     record {
       matching = subst (λ (g : Goal). IsMatching (acked_pairs g u.requests.entries) pairs) is_for.goal ends.largest.matching;
-      enough = subst (λ (n : ℕ). n ≤ length pairs) is_for.wanted ends.enough;
+      enough = subst (λ (n : ℕ). n ≤ length pairs) is_for.happy_is ends.enough;
     }

@@ -15,11 +15,12 @@ use Rattle.world_operations.specs.declared.message.Sent.{Sent}
 use Rattle.world_operations.specs.declared.operation.Operation.{Operation}
 use Rattle.world_operations.specs.declared.task.Task.{Task}
 use Rattle.world_operations.specs.declared.task.Task.TheVariants.{Uploading, Downloading, Checking, Gone}
-use Rattle.world_operations.specs.Follow.{IsLostTask, Moves, Said, SendsSome, StillAsks}
+use Rattle.request_record.specs.Follow.{Said, StillAsks}
+use Rattle.world_operations.specs.Follow.{Moves}
 use Rattle.world_operations.specs.Given.{IsHashedBy}
 use Rattle.world_operations.specs.declared.job.Job.{Job}
 use Rattle.world_operations.specs.Jobs.{HasOneKey, Uploads}
-use Rattle.world_operations.specs.Tasks.{HasShares, IsHappyTask, is_download, requests_of}
+use Rattle.world_operations.specs.Tasks.{HasShares, IsHappyTask, requests_of}
 use Rattle.world_operations.proofs.Places.{append_none, get_push_old, get_set_back, member_at, place_of_member, same_some}
 use Rattle.world.specs.State.{WorldState}
 use Rattle.world.specs.Step.{with_life}
@@ -93,51 +94,24 @@ lives_grow old new h i op e = (let f = h.on i op e in (
 pub one_more : (operations : List Operation) (new : Operation) → AllGrow operations (operations ++ new ∷ [])
 one_more operations new i op e = (op, get_push_old operations i op new e, same_operation op)
 
-hashes_nothing : (t : Task) → is_download t ≡ false → (input : List ℕ) → IsHashedBy t input → ⊥
-hashes_nothing (Uploading u) none input h = h
-hashes_nothing (Downloading d) none input h = false≢true (sym none)
-hashes_nothing (Checking c) none input h = h
-hashes_nothing (Gone number) none input h = h
+pub moves_grow : (New : Said) (old new : Operation) (before after : List Sent) → Moves New old new before after → GrowsAs old new
+moves_grow New old new before after m =
+    let goes = m.task.goes in
+    record {
+      node = m.same.node;
+      job = m.same.job;
+      sent_before = m.same.sent_before;
+      gone = λ h. (h.0, goes.gone h.0 h.1);
+      asked = λ place r at. inr (goes.follows.keeps place r at);
+      hashed = goes.hashed;
+      happy = goes.happy;
+      shares = λ pairs these h k. goes.shares these k;
+      pieces = m.same.pieces;
+      given = m.same.given;
+    }
 
-pub moves_grow : (New : Said) (number : ℕ) (old new : Operation) (before after : List Sent) → Moves New number old new before after → GrowsAs old new
-moves_grow New number old new before after m = record {
-  node = m.same.node;
-  job = m.same.job;
-  sent_before = m.same.sent_before;
-  gone = gone m.task;
-  asked = asked m.task;
-  hashed = hashed m.task;
-  happy = λ pairs h. by m.task pairs h;
-  shares = λ pairs these h k. has m.task pairs these h k;
-  pieces = m.same.pieces;
-  given = m.same.given;
-} where
-  gone : SendsSome New old.node old.task new.task before after ⊎ IsLostTask number old.task new.task before after → IsGone old.task → IsGone new.task
-  gone (inl s) h = (h.0, s.goes.gone h.0 h.1)
-  gone (inr l) h = (number, l.gone)
-
-  asked : SendsSome New old.node old.task new.task before after ⊎ IsLostTask number old.task new.task before after → (place : ℕ) (r : Request)
-      → slice_get (requests_of old.task).entries place ≡ Some r → IsGone new.task ⊎ StillAsks (requests_of new.task).entries place r
-  asked (inl s) place r at = inr (s.goes.follows.keeps place r at)
-  asked (inr l) place r at = inl (number, l.gone)
-
-  hashed : SendsSome New old.node old.task new.task before after ⊎ IsLostTask number old.task new.task before after → (input : List ℕ) → IsHashedBy old.task input → IsHashedBy new.task input
-  hashed (inl s) input h = s.goes.hashed input h
-  hashed (inr l) input h = absurd (hashes_nothing old.task l.no_download input h)
-
-  by : SendsSome New old.node old.task new.task before after ⊎ IsLostTask number old.task new.task before after → (pairs : List Pair) → IsHappyTask old.task pairs → IsHappyTask new.task pairs
-  by (inl s) pairs h = s.goes.happy pairs h
-  by (inr l) pairs h = absurd (l.unhappy pairs h)
-
-  has : SendsSome New old.node old.task new.task before after ⊎ IsLostTask number old.task new.task before after → (pairs : List Pair) (these : List (List ℕ)) → IsHappyTask old.task pairs → HasShares old.task these → HasShares new.task these
-  has (inl s) pairs these h k = s.goes.shares these k
-  has (inr l) pairs these h k = absurd (l.unhappy pairs h)
-
-pub moves_send : (New : Said) (number : ℕ) (old new : Operation) (before after : List Sent) → Moves New number old new before after → (more : List Sent) × (after ≡ before ++ more)
-moves_send New number old new before after m = by m.task where
-  by : SendsSome New old.node old.task new.task before after ⊎ IsLostTask number old.task new.task before after → (more : List Sent) × (after ≡ before ++ more)
-  by (inl s) = (s.more, s.appended)
-  by (inr l) = ([], l.nothing ∙ sym (append_none before))
+pub moves_send : (New : Said) (old new : Operation) (before after : List Sent) → Moves New old new before after → (more : List Sent) × (after ≡ before ++ more)
+moves_send New old new before after m = (m.task.more, m.task.appended)
 
 -- ---- servers
 

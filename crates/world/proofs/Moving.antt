@@ -19,7 +19,8 @@ use Rattle.world_operations.specs.declared.operation.Life.{Life}
 use Rattle.world_operations.specs.declared.operation.Life.TheVariants.{Forgotten, Live, Refused}
 use Rattle.world_operations.specs.declared.operation.Operation.{Operation}
 use Rattle.world_operations.specs.declared.task.Task.{Task}
-use Rattle.world_operations.specs.Follow.{IsNewTask, IsSaid, Moves}
+use Rattle.request_record.specs.Follow.{IsSaid}
+use Rattle.world_operations.specs.Follow.{IsNewTask, Moves}
 use Rattle.world_operations.specs.Moves.{IsFlushed, OperationGets, sent_to}
 use Rattle.world_operations.specs.Tasks.{IsRightTask, requests_of}
 use Rattle.world_operations.proofs.Places.{append_none, get_below, push_last, same_some}
@@ -103,8 +104,8 @@ pub task_keeps : (w : WorldState) (x : Sent) (m : Message) (from to : ℕ) (op :
 task_keeps w x m from to op new after sender receiver at live b there spelled =
     let same : b.op ≡ op = same_some b.op op (sym b.at ∙ at) in
     let l = live_of to op live in
-    let moves : Moves (IsSaid x.from m (requests_of b.op.task).session) m.session b.op b.next w.sent after =
-    subst (λ (n : ℕ). Moves (IsSaid n m (requests_of b.op.task).session) m.session b.op b.next w.sent after) (sym sender) b.moves in
+    let moves : Moves (IsSaid x.from m (requests_of b.op.task).session) b.op b.next w.sent after =
+    subst (λ (n : ℕ). Moves (IsSaid n m (requests_of b.op.task).session) b.op b.next w.sent after) (sym sender) b.moves in
     subst (λ (o : List Operation). Preserves w (record w { operations = o; sent = after })) (sym b.is)
     (preserves_got w x m b.op b.next after b.at (ap (λ (o : Operation). o.node) same ∙ l.0 ∙ sym receiver) there spelled moves b.right)
 

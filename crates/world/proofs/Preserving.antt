@@ -22,7 +22,8 @@ use Rattle.world_operations.specs.declared.job.Job.{Job}
 use Rattle.world_operations.specs.declared.message.Sent.{Sent}
 use Rattle.world_operations.specs.declared.operation.Operation.{Operation}
 use Rattle.world_operations.specs.declared.task.Task.{Task}
-use Rattle.world_operations.specs.Follow.{IsNewTask, IsSaid, Moves, Nothing, Said}
+use Rattle.request_record.specs.Follow.{IsSaid, Nothing, Said}
+use Rattle.world_operations.specs.Follow.{IsNewTask, Moves}
 use Rattle.world_operations.specs.Moves.{sent_to}
 use Rattle.world_operations.specs.Tasks.{IsRightTask, requests_of}
 use Rattle.world_operations.proofs.Places.{get_set_same, length_set, member_none, same_some}
@@ -151,18 +152,18 @@ preserves_said w from to body liar c = (
 
 -- ---- operations
 
-operation_goes : (New : Said) (w : WorldState) (i : ℕ) (old new : Operation) (after : List Sent) → slice_get w.operations i ≡ Some old → Moves New i old new w.sent after
+operation_goes : (New : Said) (w : WorldState) (i : ℕ) (old new : Operation) (after : List Sent) → slice_get w.operations i ≡ Some old → Moves New old new w.sent after
     → ((place server : ℕ) (asks : Asked) (said : Body) → New place server asks said → CameFrom w.sent i old.node place server asks said) → IsRightTask new.task
     → Preserves w (record w { operations = slice_set w.operations i new; sent = after })
 operation_goes New w i old new after at moves came right c = (
   operation_moves New w.servers w.operations w.sent after i old new at moves came right c,
   later_from w (record w { operations = slice_set w.operations i new; sent = after }) (none_change w.servers)
-      (one_grows w.operations i old new at (moves_grow New i old new w.sent after moves)) (moves_send New i old new w.sent after moves) (refl, refl),
+      (one_grows w.operations i old new at (moves_grow New old new w.sent after moves)) (moves_send New old new w.sent after moves) (refl, refl),
 )
 
 -- an answer comes to the operation of its session
 pub preserves_got : (w : WorldState) (x : Sent) (m : Message) (old new : Operation) (after : List Sent) → slice_get w.operations m.session ≡ Some old → old.node ≡ x.to
-    → Contains w.sent x → IsBodyOf m x.body → Moves (IsSaid x.from m (requests_of old.task).session) m.session old new w.sent after → IsRightTask new.task
+    → Contains w.sent x → IsBodyOf m x.body → Moves (IsSaid x.from m (requests_of old.task).session) old new w.sent after → IsRightTask new.task
     → Preserves w (record w { operations = slice_set w.operations m.session new; sent = after })
 preserves_got w x m old new after at node there spelled moves right c =
     let session : (requests_of old.task).session ≡ m.session = (c.fine m.session old at).session in
@@ -177,7 +178,7 @@ preserves_got w x m old new after at node there spelled moves right c =
     }) right c
 
 -- an operation ticks, or hands out and sends
-pub preserves_moved : (w : WorldState) (i : ℕ) (old new : Operation) (after : List Sent) → slice_get w.operations i ≡ Some old → Moves Nothing i old new w.sent after → IsRightTask new.task
+pub preserves_moved : (w : WorldState) (i : ℕ) (old new : Operation) (after : List Sent) → slice_get w.operations i ≡ Some old → Moves Nothing old new w.sent after → IsRightTask new.task
     → Preserves w (record w { operations = slice_set w.operations i new; sent = after })
 preserves_moved w i old new after at moves right c = operation_goes Nothing w i old new after at moves (λ place server asks said n. absurd n) right c
 

@@ -176,10 +176,10 @@ repairs_are_matched w c cap happy shares pairs r =
     let u : UploadState = r.upload.course in
     let is = for_repair w r.number cap happy r.operation r.upload c r.repair_of in
     let right : IsRight u = subst IsRightTask r.repair_of.task (c.fine r.number r.operation r.repair_of.at).right in
-    let ends : IsHappy u.goal u.wanted u.requests.entries pairs = subst (EndsAs u.goal u.wanted u.requests.entries) r.status (right.over (ap has_ended r.status)) in
+    let ends : IsHappy u.goal u.happy u.requests.entries pairs = subst (EndsAs u.goal u.happy u.requests.entries) r.status (right.over (ap has_ended r.status)) in
     record {
       matching = subst (λ (g : Goal). IsMatching (acked_pairs g u.requests.entries) pairs) (goal_of_shares cap happy r.upload shares is r.shares_are) ends.largest.matching;
-      enough = subst (λ (n : ℕ). n ≤ length pairs) is.wanted ends.enough;
+      enough = subst (λ (n : ℕ). n ≤ length pairs) is.happy_is ends.enough;
     }
 
 repairs_are_acknowledged : (w : WorldState) → IsConsistent w → RepairsAreAcknowledged w

@@ -17,7 +17,8 @@ use Rattle.world_operations.specs.declared.message.Sent.{Sent}
 use Rattle.world_operations.specs.declared.operation.Operation.{Operation}
 use Rattle.world_operations.specs.declared.task.Task.TheVariants.{Gone}
 use Rattle.world_operations.specs.Asked.{HasAsked}
-use Rattle.world_operations.specs.Follow.{IsRequestBy, IsSaid}
+use Rattle.request_record.specs.Follow.{IsSaid}
+use Rattle.world_operations.specs.Follow.{IsRequestBy}
 use Rattle.world_operations.specs.Given.{AreGivenBy}
 use Rattle.world_operations.specs.Jobs.{IsFor}
 use Rattle.world_operations.specs.Tasks.{IsRightTask, requests_of}

@@ -28,7 +28,7 @@ use Rattle.world_operations.specs.declared.operation.Operation.{Operation}
 use Rattle.world_operations.specs.declared.task.Task.{Task}
 use Rattle.world_operations.specs.declared.task.Task.TheVariants.{Uploading, Gone}
 use Rattle.world_operations.specs.declared.upload_pieces.UploadPieces.{UploadPieces}
-use Rattle.world_operations.specs.Follow.{StillAsks}
+use Rattle.request_record.specs.Follow.{StillAsks}
 use Rattle.world_operations.specs.Given.{IsHashedBy}
 use Rattle.world_operations.specs.Jobs.{HasOneKey, Uploads}
 use Rattle.world_operations.specs.Tasks.{requests_of}

@@ -5,7 +5,8 @@ use Rattle.share_store.specs.Memory.{MemoryState, memory_calls}
 use Rattle.server_core.specs.Machine.{Machine, Outcome, Serves}
 use Rattle.world_operations.specs.declared.message.Sent.{Sent}
 use Rattle.world_operations.specs.declared.operation.Operation.{Operation}
-use Rattle.world_operations.specs.Follow.{IsSaid, Moves, Nothing, Said}
+use Rattle.request_record.specs.Follow.{IsSaid, Nothing, Said}
+use Rattle.world_operations.specs.Follow.{Moves}
 use Rattle.world_operations.specs.Tasks.{IsRightTask, requests_of}
 
 -- the server at a place becomes another, by a relation
@@ -39,7 +40,7 @@ pub record OperationMoves (New : Operation → Said) (old : List Operation) (pla
   pub op : Operation
   pub next : Operation
   pub at : slice_get old place ≡ Some op
-  pub moves : Moves (New op) place op next before after
+  pub moves : Moves (New op) op next before after
   pub right : IsRightTask next.task
   pub is : new ≡ slice_set old place next
 

@@ -9,7 +9,8 @@ ghost use Rattle.server_core.specs.Machine.{RestartsTo, Ticks};
 ghost use Rattle.server_core.specs.Sound.{is_request};
 ghost use Rattle.share_store.specs.Memory.{memory_calls};
 ghost use Rattle.checker.specs.State.{CheckState};
-ghost use Rattle.world_operations.specs.Follow.{Moves, Nothing};
+ghost use Rattle.request_record.specs.Follow.{Nothing};
+ghost use Rattle.world_operations.specs.Follow.{Moves};
 ghost use Rattle.world_operations.specs.Moves.{IsFlushed, OperationGets};
 ghost use Rattle.world_operations.specs.Status.{status_of};
 ghost use Rattle.world_operations.specs.declared.message.Sent.{Sent};
@@ -117,7 +118,7 @@ pub(crate) fn is_live_at(operation: &Operation, node: NodeId) -> bool
 pub(crate) fn is_running(operation: &Operation) -> bool
     ensures { result ≡ is_running operation.now }
 {
-    operation.life == Life::Live && operation.task.is_running()
+    operation.life == Life::Live && operation.task.runs()
 }
 
 /// The check that an operation is, if it is done.
@@ -155,8 +156,8 @@ pub(crate) fn answer_at(
         operations.new.items sent.new.items }
 {
     let operation = &mut operations[place];
-    let outcome = operation.on_message(alloc, place as u64, from, message, now, sent);
-    operation.is_right();
+    let outcome = operation.on_message(alloc, from, message, now, sent);
+    operation.know_right();
     outcome
 }
 
@@ -175,7 +176,7 @@ pub(crate) fn flush_at(
 {
     let operation = &mut operations[place];
     let outcome = operation.flush(alloc, sent);
-    operation.is_right();
+    operation.know_right();
     outcome
 }
 
@@ -183,20 +184,18 @@ pub(crate) fn flush_at(
 fn tick_one(
     alloc: Global,
     operation: &mut Operation,
-    number: u64,
     node: NodeId,
     now: u64,
     sent: &mut Vec<Sent>,
 ) -> Result<(), AllocError>
     ensures ok { OnOk result ((more : List Sent) × (sent.new.items ≡ sent.old.items ++ more)
         × TicksOrStays node now operation.old more operation.new) }
-    ensures some { Moves Nothing number operation.old operation.new sent.old.items
-        sent.new.items }
+    ensures some { Moves Nothing operation.old operation.new sent.old.items sent.new.items }
 {
     if !is_live_at(operation, node) {
         return Ok(());
     }
-    operation.tick(alloc, number, now, sent)
+    operation.tick(alloc, now, sent)
 }
 
 /// The operation at a place takes note of a second, if it is a live one of this node.
@@ -215,8 +214,8 @@ pub(crate) fn tick_at(
         operations.new.items sent.new.items }
 {
     let operation = &mut operations[place];
-    let outcome = tick_one(alloc, operation, place as u64, node, now, sent);
-    operation.is_right();
+    let outcome = tick_one(alloc, operation, node, now, sent);
+    operation.know_right();
     outcome
 }
 

@@ -99,7 +99,7 @@ impl Scene {
             session,
             self.clock,
         )?;
-        task.is_right();
+        task.know_right();
         Ok((job, task))
     }
 

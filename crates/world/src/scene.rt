@@ -153,7 +153,7 @@ impl Scene {
         let nodes = nodes_up_to(self.alloc, self.servers.len() + self.heard.len())?;
         let servers = servers_at(self.alloc, &nodes)?;
         let task = Task::begin(self.alloc, job, &servers, &nodes, number, self.clock)?;
-        task.is_right();
+        task.know_right();
         Ok(task)
     }
 

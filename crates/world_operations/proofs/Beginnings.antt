@@ -26,13 +26,14 @@ use Rattle.world_operations.specs.declared.job.Job.TheVariants as jobs
 use Rattle.world_operations.specs.declared.job.Unmade.{Unmade}
 use Rattle.world_operations.specs.declared.task.Task.{Task}
 use Rattle.world_operations.specs.declared.task.Task.TheVariants.{Uploading, Downloading, Checking, Gone}
-use Rattle.world_operations.specs.Follow.{Follows, IsNewTask, Nothing}
+use Rattle.request_record.specs.Follow.{Follows, Nothing}
+use Rattle.world_operations.specs.Follow.{IsNewTask}
 use Rattle.world_operations.specs.declared.upload_pieces.UploadPieces.{UploadPieces}
 use Rattle.world_operations.specs.Jobs.{HasOneKey, IsRepair, IsUpload, MayStart, changing, second_read}
 use Rattle.world_operations.specs.Moves.{Begins, BeginsChanging}
 use Rattle.world_operations.specs.Repairs.{BeginsRepair, contradicts, lacks, makes}
-use Rattle.world_operations.proofs.Records.{follows_asks, follows_itself, follows_on}
-use Rattle.world_operations.proofs.TaskMoves.{placed}
+use Rattle.request_record.proofs.FollowLaws.{follows_asks, follows_itself, follows_on}
+use Rattle.upload_core.proofs.Following.{placed}
 
 begun_follows : (servers : List ℕ) (session now : ℕ) (r : RequestsState) → r ≡ begun servers session now → Follows Nothing (fresh session now) r
 begun_follows servers session now r is = subst (Follows Nothing (fresh session now)) (sym is) (follows_asks (asks_of servers) (fresh session now))
@@ -81,7 +82,7 @@ new_task servers nodes session now (jobs.Upload file secret p) (Uploading u) may
     let first : UploadState = upload.initial _ p.happy u.course.servers session now in
     let goes = placed Nothing first u.course (begun u.course.servers session now) (follows_itself Nothing (begun u.course.servers session now)) c.goes in
     record {
-      is_for = (c.goal_is, c.wanted, may);
+      is_for = (c.goal_is, c.happy_is, may);
       asked = tt;
       clock = now;
       follows = follows_on Nothing (fresh session now) (begun u.course.servers session now) u.course.requests (begun_follows u.course.servers session now (begun u.course.servers session now) refl) goes.follows;
@@ -92,7 +93,7 @@ new_task servers nodes session now (jobs.Changing file other after secret p) (Up
     let first : UploadState = upload.initial _ p.happy u.course.servers session now in
     let goes = placed Nothing first u.course (begun u.course.servers session now) (follows_itself Nothing (begun u.course.servers session now)) c.goes in
     record {
-      is_for = (c.goal_is ∙ is.goal, c.wanted, is.may, is.one_key);
+      is_for = (c.goal_is ∙ is.goal, c.happy_is, is.may, is.one_key);
       asked = tt;
       clock = now;
       follows = follows_on Nothing (fresh session now) (begun u.course.servers session now) u.course.requests (begun_follows u.course.servers session now (begun u.course.servers session now) refl) goes.follows;
@@ -126,7 +127,7 @@ new_repair nodes cap happy numbers strings servers session now job task may (mak
       shares = shares;
       pieces = pieces;
       goal = b.goal_is;
-      wanted = b.wanted;
+      happy_is = b.happy_is;
       may = may;
       passing = regenerated_pass cap numbers strings shares made;
     } in

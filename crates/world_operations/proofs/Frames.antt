@@ -20,9 +20,10 @@ use Rattle.world_operations.specs.Tasks.{index_of, requests_of}
 use Rattle.world_operations.specs.Moves.{Takes, sent_to}
 use Rattle.world_operations.specs.UploadPieces.{fails, gives}
 use Rattle.world_operations.specs.declared.upload_pieces.UploadPieces.{UploadPieces}
-use Rattle.world_operations.specs.Follow.{GoesOn, IsFrameOf, IsRequestBy, Nothing, Said, SendsSome}
+use Rattle.request_record.specs.Follow.{Nothing, Said}
+use Rattle.world_operations.specs.Follow.{GoesOn, IsFrameOf, IsRequestBy, SendsSome}
 use Rattle.world_operations.proofs.Places.{append_none, member_cases, member_none}
-use Rattle.world_operations.proofs.TaskMoves.{State, goes_on, taken}
+use Rattle.world_operations.proofs.TaskMoves.{State, by_taking, goes_on, taken}
 
 -- a body that asks is a request
 pub asks : (index : List ℕ) (asked : Asked) (body : Body) → Spells index asked body → is_request body ≡ true
@@ -91,21 +92,10 @@ upload_framed u v node to m (upload_sends.sends place server asked body first th
     framed (Uploading u) node to place m there.0 body there.1 (ap (λ (p : ℕ × Message). p.0) pair ∙ sym there.2) spelled (ap (λ (p : ℕ × Message). p.1) pair) spoken
 
 pub frame_taken : (old new : Task) (node to : ℕ) (m : Message) → Takes old (Some (to, m)) new → IsMessage m → IsFrameOf old node (sent_to node to m)
-frame_taken (Uploading u) (Uploading v) node to m t spoken = upload_framed u v node to m t spoken
-frame_taken (Downloading d) (Downloading e) node to m t spoken =
-    (let f = t.2 in framed (Downloading d) node to t.0 m f.request f.body f.there f.server f.spelled f.message spoken)
-frame_taken (Checking c) (Checking e) node to m t spoken =
-    (let f = t.2 in framed (Checking c) node to t.0 m f.request f.body f.there f.server f.spelled f.message spoken)
-frame_taken (Gone number) new node to m t spoken = absurd cc
-frame_taken (Uploading u) (Downloading e) node to m t spoken = absurd t
-frame_taken (Uploading u) (Checking e) node to m t spoken = absurd t
-frame_taken (Uploading u) (Gone n) node to m t spoken = absurd t
-frame_taken (Downloading d) (Uploading e) node to m t spoken = absurd t
-frame_taken (Downloading d) (Checking e) node to m t spoken = absurd t
-frame_taken (Downloading d) (Gone n) node to m t spoken = absurd t
-frame_taken (Checking c) (Uploading e) node to m t spoken = absurd t
-frame_taken (Checking c) (Downloading e) node to m t spoken = absurd t
-frame_taken (Checking c) (Gone n) node to m t spoken = absurd t
+frame_taken old new node to m t spoken =
+    by_taking (Some (to, m)) (λ (a b : Task). IsFrameOf a node (sent_to node to m)) (λ u v t. upload_framed u v node to m t spoken)
+    (λ d e t. (let f = t.2 in framed (Downloading d) node to t.0 m f.request f.body f.there f.server f.spelled f.message spoken))
+    (λ c e t. (let f = t.2 in framed (Checking c) node to t.0 m f.request f.body f.there f.server f.spelled f.message spoken)) (λ n new none is. absurd cc) old new t
 
 -- ---- sending
 

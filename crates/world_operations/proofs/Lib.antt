@@ -1,5 +1,4 @@
 pub mod Places
-pub mod Records
 pub mod TaskMoves
 pub mod Frames
 pub mod Beginnings

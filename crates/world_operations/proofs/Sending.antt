@@ -20,14 +20,15 @@ use Rattle.world_operations.specs.declared.operation.Operation.{Operation}
 use Rattle.world_operations.specs.declared.task.Task.{Task}
 use Rattle.world_operations.specs.declared.task.Task.TheVariants.{Uploading, Downloading, Checking, Gone}
 use Rattle.world_operations.specs.Given.{AreGivenBy, IsGivenBy}
-use Rattle.world_operations.specs.Tasks.{MayFail, is_download, requests_of}
+use Rattle.world_operations.specs.Tasks.{requests_of}
 use Rattle.world_operations.specs.Moves.{HandsOne, HandsOut, HandsSome, IsFlushed, Sends, SendsAll, SendsOne, Takes, TakesPiece, sent_to}
 use Rattle.world_operations.specs.UploadPieces.{fails, gives}
 use Rattle.world_operations.specs.declared.upload_pieces.UploadPieces.{UploadPieces}
-use Rattle.world_operations.specs.Follow.{GoesOn, IsSameOperation, Moves, Nothing, Said, SendsSome}
+use Rattle.request_record.specs.Follow.{Nothing, Said}
+use Rattle.world_operations.specs.Follow.{GoesOn, IsSameOperation, Moves, SendsSome}
 use Rattle.world_operations.proofs.Places.{append_none}
 use Rattle.world_operations.proofs.Frames.{sends_none, sends_on}
-use Rattle.world_operations.proofs.TaskMoves.{fails_unhappy, goes_nowhere, goes_on, handed}
+use Rattle.world_operations.proofs.TaskMoves.{by_taking, goes_nowhere, goes_on, handed}
 
 -- ---- messages
 
@@ -84,19 +85,10 @@ upload_less u v f (upload_sends.sends place server asked body first there tells 
 
 -- one less is to be sent
 taken_less : (old new : Task) (f : ℕ × Message) → Takes old (Some f) new → length (requests_of new).outgoing < length (requests_of old).outgoing
-taken_less (Uploading u) (Uploading v) f t = upload_less u v f t
-taken_less (Downloading d) (Downloading e) f t = download_dropped d.status d.requests.outgoing e.requests.outgoing t.0 t.1 (ap (λ (x : DownloadState). x.requests.outgoing) t.3)
-taken_less (Checking c) (Checking e) f t = dropped c.requests.outgoing e.requests.outgoing t.0 t.1 (ap (λ (x : CheckState). x.requests.outgoing) t.3)
-taken_less (Gone number) new f t = absurd cc
-taken_less (Uploading u) (Downloading e) f t = absurd t
-taken_less (Uploading u) (Checking e) f t = absurd t
-taken_less (Uploading u) (Gone n) f t = absurd t
-taken_less (Downloading d) (Uploading e) f t = absurd t
-taken_less (Downloading d) (Checking e) f t = absurd t
-taken_less (Downloading d) (Gone n) f t = absurd t
-taken_less (Checking c) (Uploading e) f t = absurd t
-taken_less (Checking c) (Downloading e) f t = absurd t
-taken_less (Checking c) (Gone n) f t = absurd t
+taken_less old new f t =
+    by_taking (Some f) (λ (a b : Task). length (requests_of b).outgoing < length (requests_of a).outgoing) (λ u v t. upload_less u v f t)
+    (λ d e t. download_dropped d.status d.requests.outgoing e.requests.outgoing t.0 t.1 (ap (λ (x : DownloadState). x.requests.outgoing) t.3))
+    (λ c e t. dropped c.requests.outgoing e.requests.outgoing t.0 t.1 (ap (λ (x : CheckState). x.requests.outgoing) t.3)) (λ n new none is. absurd cc) old new t
 
 pub sending_less : (node : ℕ) (old new : Task) (before after : List Sent) → SendsOne node old before true new after
     → length (requests_of new).outgoing < length (requests_of old).outgoing
@@ -171,45 +163,29 @@ flushed old handed last given before after h s = (
 )
 
 -- first it goes on, and then it hands out and sends
-pub moves_by : (New : Said) (number : ℕ) (old new : Operation) (mid : Task) (before after : List Sent) → GoesOn New old.task mid → IsSameOperation (record old { task = mid }) new
-    → (AreGivenBy mid old.given → AreGivenBy new.task new.given) → SendsSome Nothing old.node mid new.task before after → Moves New number old new before after
-moves_by New number old new mid before after goes same given some = record {
+pub moves_by : (New : Said) (old new : Operation) (mid : Task) (before after : List Sent) → GoesOn New old.task mid → IsSameOperation (record old { task = mid }) new
+    → (AreGivenBy mid old.given → AreGivenBy new.task new.given) → SendsSome Nothing old.node mid new.task before after → Moves New old new before after
+moves_by New old new mid before after goes same given some = record {
   given = λ all. given (λ p among. goes.given p (all p among));
   same = record { node = same.node; job = same.job; sent_before = same.sent_before; life = same.life; pieces = same.pieces; given = same.given };
-  task = inl (sends_on New old.node old.task mid new.task before before after (sends_none New old.node old.task mid before goes) some);
+  task = sends_on New old.node old.task mid new.task before before after (sends_none New old.node old.task mid before goes) some;
 }
 
 -- it stays as it is
-pub moves_nowhere : (New : Said) (number : ℕ) (op : Operation) (sent : List Sent) → Moves New number op op sent sent
-moves_nowhere New number op sent = record {
+pub moves_nowhere : (New : Said) (op : Operation) (sent : List Sent) → Moves New op op sent sent
+moves_nowhere New op sent = record {
   given = λ all. all;
   same = record { node = refl; job = refl; sent_before = refl; life = refl; pieces = []; given = sym (append_none op.given) };
-  task = inl (sends_none New op.node op.task op.task sent (goes_nowhere New op.task));
+  task = sends_none New op.node op.task op.task sent (goes_nowhere New op.task);
 }
 
--- a download goes on, whatever came of the call
-pub moves_on : (New : Said) (number : ℕ) (old new : Operation) (sent : List Sent) → new ≡ record old { task = new.task } → GoesOn New old.task new.task → Moves New number old new sent sent
-moves_on New number old new sent same goes = subst (λ (op : Operation). Moves New number old op sent sent) (sym same) (record {
+-- its machine goes on, and no more is done
+pub moves_on : (New : Said) (old new : Operation) (sent : List Sent) → new ≡ record old { task = new.task } → GoesOn New old.task new.task → Moves New old new sent sent
+moves_on New old new sent same goes = subst (λ (op : Operation). Moves New old op sent sent) (sym same) (record {
   same = record { node = refl; job = refl; sent_before = refl; life = refl; pieces = []; given = sym (append_none old.given) };
-  task = inl (sends_none New old.node old.task new.task sent goes);
+  task = sends_none New old.node old.task new.task sent goes;
   given = λ all p among. goes.given p (all p among);
 })
-
--- nothing was given by a machine that is no download
-pub none_given : (task : Task) (p : Piece) → is_download task ≡ false → IsGivenBy task p → ⊥
-none_given (Downloading d) p not_one g = absurd cc
-none_given (Uploading u) p not_one g = g
-none_given (Checking c) p not_one g = g
-none_given (Gone number) p not_one g = g
-
--- any other machine is gone
-pub moves_lost : (New : Said) (number : ℕ) (old : Operation) (sent : List Sent) → MayFail old.task → is_download old.task ≡ false
-    → Moves New number old (record old { task = Gone number }) sent sent
-moves_lost New number old sent may not_one = record {
-  same = record { node = refl; job = refl; sent_before = refl; life = refl; pieces = []; given = sym (append_none old.given) };
-  task = inr (record { unhappy = fails_unhappy old.task may; no_download = not_one; gone = refl; nothing = refl });
-  given = λ all p among. none_given old.task p not_one (all p among);
-}
 
 -- a piece more is given
 pub given_more : (task : Task) (given : List Piece) (p : Piece) → AreGivenBy task given → IsGivenBy task p → AreGivenBy task (given ++ p ∷ [])

@@ -1,20 +1,20 @@
 -- How a machine goes on: what it is for stays, its record goes on, and each frame that it sends is of one of its requests.
-use Rattle.std.proofs.Common.{◌≡◌, ◌≢◌, ℕ, List, [], ◌∷◌, Option, Some, None, Result, Ok, Err, OnOk, OnErr, refl, sym, subst, ap, ◌∙◌, inl, inr, ◌⊎◌}
-use Rattle.std.specs.Prelude.{slice_get}
+use Rattle.std.proofs.Common.{◌≡◌, ◌≢◌, ℕ, List, [], ◌∷◌, Option, Some, None, Result, Ok, Err, OnOk, OnErr, IsOk, false≢true, refl, sym, subst, ap, ◌∙◌, inl, inr, ◌⊎◌}
 use Rattle.cap_text.specs.Cap.{ReadCapValue, VerifyCapValue, verify_cap_of}
 use Rattle.placement.specs.Matching.{Pair}
 use Rattle.wire.specs.declared.message.Body.{Body}
 use Rattle.wire.specs.declared.message.Message.{Message}
 use Rattle.request_record.specs.declared.requests.Asked.{Asked}
 use Rattle.request_record.specs.declared.requests.Asked.TheVariants.{Holdings, Allocation, Writing, Closing, Reading, Aborting}
-use Rattle.request_record.specs.Asking.{after_message, after_tick, lost_by_tick}
-use Rattle.request_record.specs.Record.{RequestsState, asked_all, counts_at}
+use Rattle.request_record.specs.Asking.{after_message, after_tick}
+use Rattle.request_record.specs.Record.{RequestsState, asked_all}
 use Rattle.upload_core.specs.declared.pieces.PieceFault.{PieceFault}
 use Rattle.upload_core.specs.declared.status.UploadStatus.{UploadStatus}
 use Rattle.upload_core.specs.declared.status.UploadStatus.TheVariants as uploads
-use Rattle.upload_core.specs.State.{Goal, UploadState, with_record}
+use Rattle.upload_core.specs.Calls.{MovesCourse}
+use Rattle.upload_core.specs.State.{Goal, UploadState}
 use Rattle.upload_core.specs.Moves as upload
-use Rattle.upload_core.specs.Rounds.{transfers_of}
+use Rattle.upload_core.proofs.Following.{Continues, advances_continue, stops_at_continue, stops_continue, takes_continue, ticks_continue}
 use Rattle.upload_core.specs.Sending as upload_sends
 use Rattle.download_core.specs.Hashed.{StaysGiven, StaysHashed}
 use Rattle.download_core.specs.State.{DownloadState}
@@ -25,24 +25,28 @@ use Rattle.download_core.specs.Sending as download_sends
 use Rattle.checker.specs.State.{CheckState}
 use Rattle.checker.specs.Moves as check
 use Rattle.checker.specs.Sending as check_sends
+use Rattle.checker.proofs.Following.{follows_stops_at}
 use Rattle.checker.specs.declared.status.CheckStatus.{CheckStatus}
 use Rattle.checker.specs.declared.status.CheckStatus.TheVariants as checks
 use Rattle.world_operations.specs.declared.job.Job.{Job}
 use Rattle.world_operations.specs.declared.job.Job.TheVariants as jobs
 use Rattle.world_operations.specs.declared.task.Task.{Task}
 use Rattle.world_operations.specs.declared.task.Task.TheVariants.{Uploading, Downloading, Checking, Gone}
-use Rattle.world_operations.specs.Tasks.{IsHappyTask, MayFail, requests_of}
+use Rattle.world_operations.specs.Tasks.{IsHappyTask, requests_of}
 use Rattle.world_operations.specs.Jobs.{IsFor}
-use Rattle.world_operations.specs.Moves.{Advances, CheckTicks, Takes, TakesPiece, TicksOn, UploadAdvances, UploadTicks}
+use Rattle.world_operations.specs.Moves.{Calls, Takes, TakesPiece}
 use Rattle.world_operations.specs.UploadPieces.{fails, gives}
 use Rattle.world_operations.specs.declared.upload_pieces.UploadPieces.{UploadPieces}
 use Rattle.world_operations.specs.declared.upload_pieces.UploadPieces.TheVariants.{Whole, Streamed}
 use Rattle.all_asked.specs.Checks.{CheckAsksAll}
 use Rattle.all_asked.specs.Downloads.{DownloadAsksAll}
+use Rattle.all_asked.specs.Asked.{AsksAll}
 use Rattle.all_asked.proofs.Checks.{checks_ask_all}
+use Rattle.all_asked.proofs.Records.{asked_after_asks, asked_after_message}
 use Rattle.all_asked.proofs.Downloads.{downloads_ask_all}
-use Rattle.world_operations.specs.Follow.{Follows, GoesOn, IsSaid, Nothing, Said}
-use Rattle.world_operations.proofs.Records.{follows_asks, follows_itself, follows_message, follows_on, follows_same, follows_tick}
+use Rattle.request_record.specs.Follow.{Follows, IsSaid, Nothing, Said}
+use Rattle.world_operations.specs.Follow.{GoesOn}
+use Rattle.request_record.proofs.FollowLaws.{follows_asks, follows_itself, follows_message, follows_on, follows_same, follows_tick}
 
 pub goes_on : (New : Said) (a b c : Task) → GoesOn New a b → GoesOn Nothing b c → GoesOn New a c
 goes_on New a b c f g = record {
@@ -75,7 +79,7 @@ State = upload_sends.Uploading UploadPieces
 
 record SameUpload (u v : UploadState) : Type 0 where
   pub goal : v.goal ≡ u.goal
-  pub wanted : v.wanted ≡ u.wanted
+  pub happy_is : v.happy ≡ u.happy
   pub happy : (pairs : List Pair) → u.status ≡ uploads.Happy pairs → v.status ≡ uploads.Happy pairs
 
 -- shares in memory stay
@@ -96,46 +100,19 @@ upload_goes New u v pieces same f = record {
 }
   where
     kept : (e : Job) → IsFor e (Uploading u) → IsFor e (Uploading v)
-    kept (jobs.Upload file secret p) h = (same.goal ∙ h.0, same.wanted ∙ h.1, h.2)
-    kept (jobs.Changing file other after secret p) h = (same.goal ∙ h.0, same.wanted ∙ h.1, h.2, h.3)
+    kept (jobs.Upload file secret p) h = (same.goal ∙ h.0, same.happy_is ∙ h.1, h.2)
+    kept (jobs.Changing file other after secret p) h = (same.goal ∙ h.0, same.happy_is ∙ h.1, h.2, h.3)
     kept (jobs.Download cap from to) h = absurd h
     kept (jobs.Check cap) h = absurd h
     kept (jobs.Repair cap happy) h = record {
       shares = h.shares;
       pieces = pieces h.shares h.pieces;
       goal = same.goal ∙ h.goal;
-      wanted = same.wanted ∙ h.wanted;
+      happy_is = same.happy_is ∙ h.happy_is;
       may = h.may;
       passing = h.passing;
     }
     kept (jobs.NoRepair cap why) h = absurd h
-
--- the moves of an upload that runs
-pub record Runs (New : Said) (u v : UploadState) : Type 0 where
-  pub goal : v.goal ≡ u.goal
-  pub wanted : v.wanted ≡ u.wanted
-  pub follows : Follows New u.requests v.requests
-
-recorded : (New : Said) (u v : UploadState) (r : RequestsState) → v ≡ with_record u r → Follows New u.requests r → Runs New u v
-recorded New u v r is f = subst (Runs New u) (sym is) record { goal = refl; wanted = refl; follows = f }
-
-pub placed : (New : Said) (u v : UploadState) (r : RequestsState) → Follows New u.requests r → upload.GoesOn u r v → Runs New u v
-placed New u v r f (upload.waits not_settled is) = recorded New u v r is f
-placed New u v r f (upload.places p settled place placing some is) =
-    subst (Runs New u) (sym is) record { goal = refl; wanted = refl; follows = asks_more New u.requests r (transfers_of u.goal p) f }
-placed New u v r f (upload.ends status settled over ends is) = subst (Runs New u) (sym is) record { goal = refl; wanted = refl; follows = f }
-
-answered : (New : Said) (u v : UploadState) (o : Option ℕ) (r : RequestsState) → Follows New u.requests r → upload.AdvancesAt o r u v → Runs New u v
-answered New u v None r f a = recorded New u v r a f
-answered New u v (Some place) r f a =
-    let asks : List (ℕ × Asked) = upload.follow_ups_at u.goal (slice_get r.entries place) in
-    placed New u v (asked_all asks r) (asks_more New u.requests r asks f) a
-
-lost : (New : Said) (u v : UploadState) (places : List ℕ) (r : RequestsState) → Follows New u.requests r → upload.TicksWith places r u v → Runs New u v
-lost New u v [] r f a = recorded New u v r a f
-lost New u v (q ∷ qs) r f a =
-    let asks : List (ℕ × Asked) = upload.all_follow_ups u.goal r.entries (q ∷ qs) in
-    placed New u v (asked_all asks r) (asks_more New u.requests r asks f) a
 
 -- does an upload run?
 runs : (s : UploadStatus) → (s ≡ uploads.Running) ⊎ (s ≢ uploads.Running)
@@ -149,25 +126,35 @@ runs_not_happy s pairs e f = clash (sym e ∙ f) where
   clash : uploads.Running ≡ uploads.Happy pairs → ⊥
   clash g = cc
 
-running_goes : (New : Said) (u v : State) → KeepWhole u.pieces v.pieces → u.course.status ≡ uploads.Running → Runs New u.course v.course → GoesOn New (Uploading u) (Uploading v)
-running_goes New u v pieces e r =
-    upload_goes New u v pieces record { goal = r.goal; wanted = r.wanted; happy = λ pairs h. absurd (runs_not_happy u.course.status pairs e h) } r.follows
-
-upload_advances : (from now : ℕ) (m : Message) (u v : State) → UploadAdvances from m now u v → GoesOn (IsSaid from m u.course.requests.session) (Uploading u) (Uploading v)
-upload_advances from now m u v a =
-    let New : Said = IsSaid from m u.course.requests.session in
-    elim (runs u.course.status) [
-      | inl e ↦ running_goes New u v (λ shares h. a.pieces ∙ h) e
-          (answered New u.course v.course (counts_at from m u.course.requests) (after_message from m now u.course.requests) (follows_message from now m u.course.requests) ((a.running e).running e))
-      | inr e ↦ same_goes New (Uploading u) (Uploading v) (ap Uploading (a.ended e))
-    ]
-
-upload_ticks : (now : ℕ) (u v : State) → UploadTicks now u v → GoesOn Nothing (Uploading u) (Uploading v)
-upload_ticks now u v a = elim (runs u.course.status) [
-  | inl e ↦ running_goes Nothing u v (λ shares h. a.pieces ∙ h) e
-      (lost Nothing u.course v.course (lost_by_tick now u.course.requests) (after_tick now u.course.requests) (follows_tick now u.course.requests) ((a.running e).running e))
-  | inr e ↦ same_goes Nothing (Uploading u) (Uploading v) (ap Uploading (a.ended e))
+-- a Happy upload stays so, where one that ended does
+stays_happy : (u v : UploadState) → (u.status ≢ uploads.Running → v.status ≡ u.status) → (pairs : List Pair) → u.status ≡ uploads.Happy pairs → v.status ≡ uploads.Happy pairs
+stays_happy u v ended pairs h = elim (runs u.status) [
+  | inl running ↦ absurd (runs_not_happy u.status pairs running h)
+  | inr over ↦ ended over ∙ h
 ]
+
+upload_continues : (New : Said) (u v : State) → KeepWhole u.pieces v.pieces → (u.course.status ≢ uploads.Running → v.course.status ≡ u.course.status) → Continues New u.course v.course
+    → GoesOn New (Uploading u) (Uploading v)
+upload_continues New u v pieces ended c = upload_goes New u v pieces record { goal = c.goal; happy_is = c.happy; happy = stays_happy u.course v.course ended } c.follows
+
+-- a message, whatever came of the call
+pub upload_heard : {X E : Type 0} (r : Result X E) (from now : ℕ) (m : Message) (u v : State) → OnOk r (MovesCourse (upload.Advances from m now) u v)
+    → OnErr r (upload.Stops (after_message from m now u.course.requests) u.course v.course) → (u.course.status ≢ uploads.Running → IsOk r) → v.pieces ≡ u.pieces
+    → GoesOn (IsSaid from m u.course.requests.session) (Uploading u) (Uploading v)
+upload_heard (Ok x) from now m u v a s ended same =
+    upload_continues (IsSaid from m u.course.requests.session) u v (λ shares h. same ∙ h) (λ over. ap (λ (c : UploadState). c.status) (a.moved.ended over))
+    (advances_continue from m now u.course v.course a.moved)
+upload_heard (Err x) from now m u v a s ended same =
+    upload_continues (IsSaid from m u.course.requests.session) u v (λ shares h. same ∙ h) (λ over. absurd (false≢true (ended over)))
+    (stops_continue (IsSaid from m u.course.requests.session) (after_message from m now u.course.requests) u.course v.course (follows_message from now m u.course.requests) s)
+
+-- a tick
+pub upload_ticked : {X E : Type 0} (r : Result X E) (now : ℕ) (u v : State) → OnOk r (MovesCourse (upload.TicksOn now) u v) → OnErr r (upload.StopsAt now u.course v.course) → v.pieces ≡ u.pieces
+    → GoesOn Nothing (Uploading u) (Uploading v)
+upload_ticked (Ok x) now u v a s same =
+    upload_continues Nothing u v (λ shares h. same ∙ h) (λ over. ap (λ (c : UploadState). c.status) (a.moved.ended over)) (ticks_continue now u.course v.course a.moved)
+upload_ticked (Err x) now u v a s same =
+    upload_continues Nothing u v (λ shares h. same ∙ h) (λ over. ap (λ (c : UploadState). c.status) (s.ended over)) (stops_at_continue now u.course v.course s)
 
 -- shares in memory stay when bytes of them are given, and they always are
 none_fail : (old new : UploadPieces) (asked : Asked) (fault : PieceFault) → upload_sends.Faults fails old asked fault new → KeepWhole old new
@@ -195,19 +182,11 @@ tells_keep index old new (Aborting share) body t = λ shares e. t.1 ∙ e
 upload_takes : (u v : State) (f : Option (ℕ × Message)) → upload_sends.Takes gives fails u f v → GoesOn Nothing (Uploading u) (Uploading v)
 upload_takes u v f (upload_sends.nothing first none is) = same_goes Nothing (Uploading u) (Uploading v) (ap Uploading is)
 upload_takes u v f (upload_sends.ceases place server asked fault running first there faults none is) =
-    running_goes Nothing u v (none_fail u.pieces v.pieces asked fault faults) running record {
-      goal = ap (λ (x : UploadState). x.goal) is;
-      wanted = ap (λ (x : UploadState). x.wanted) is;
-      follows = follows_same Nothing u.course.requests v.course.requests (ap (λ (x : UploadState). x.requests.session) is) (ap (λ (x : UploadState). x.requests.entries) is);
-    }
+    upload_continues Nothing u v (none_fail u.pieces v.pieces asked fault faults) (λ over. absurd (over running))
+    (takes_continue gives fails u v f (upload_sends.ceases place server asked fault running first there faults none is))
 upload_takes u v f (upload_sends.sends place server asked body first there tells some is) =
-    upload_goes Nothing u v (tells_keep u.course.goal.cap.storage_index u.pieces v.pieces asked body tells)
-    record {
-      goal = ap (λ (x : UploadState). x.goal) is;
-      wanted = ap (λ (x : UploadState). x.wanted) is;
-      happy = λ pairs h. ap (λ (x : UploadState). x.status) is ∙ h;
-    }
-    (follows_same Nothing u.course.requests v.course.requests (ap (λ (x : UploadState). x.requests.session) is) (ap (λ (x : UploadState). x.requests.entries) is))
+    upload_continues Nothing u v (tells_keep u.course.goal.cap.storage_index u.pieces v.pieces asked body tells) (λ over. ap (λ (x : UploadState). x.status) is)
+    (takes_continue gives fails u v f (upload_sends.sends place server asked body first there tells some is))
 
 -- ---- downloads and checks
 
@@ -298,17 +277,36 @@ check_goes New c e same f asked = record {
 check_moves : (New : Said) (c e : CheckState) (r : RequestsState) → Follows New c.requests r → check.GoesOn r c e → StaysAskedBy c e → GoesOn New (Checking c) (Checking e)
 check_moves New c e r f a asked = check_goes New c e a.cap (asks_follow New c.requests r e.requests a.asks f a.requests) asked
 
+-- a message, whatever came of the call
+pub check_heard : {X E : Type 0} (r : Result X E) (from now : ℕ) (m : Message) (c e : CheckState) → OnOk r (check.Advances from m now c e) → OnErr r (check.Stops (after_message from m now c.requests) c e)
+    → GoesOn (IsSaid from m c.requests.session) (Checking c) (Checking e)
+check_heard (Ok x) from now m c e a s =
+    check_moves (IsSaid from m c.requests.session) c e (after_message from m now c.requests) (follows_message from now m c.requests) a (λ servers h. checks_ask_all.advances from m now servers c e a h)
+check_heard (Err x) from now m c e a s =
+    check_goes (IsSaid from m c.requests.session) c e s.cap (asks_follow (IsSaid from m c.requests.session) c.requests (after_message from m now c.requests) e.requests s.asks (follows_message from now m c.requests) s.requests)
+    (λ servers h. subst (λ (q : RequestsState). AsksAll servers q.entries) (sym s.requests)
+    (asked_after_asks servers s.asks (after_message from m now c.requests) (asked_after_message servers from m now c.requests h)))
+
+fails_cap : (now : ℕ) (c e : CheckState) → check.FailsAt now c e → e.cap ≡ c.cap
+fails_cap now c e (check.at_once is) = ap (λ (x : CheckState). x.cap) is
+fails_cap now c e (check.later failed s) = s.cap
+
 -- does a check run?
 check_runs : (s : CheckStatus) → (s ≡ checks.Running) ⊎ (s ≢ checks.Running)
 check_runs checks.Running = inl refl
 check_runs checks.Done = inr (λ e. absurd cc)
 check_runs checks.Failed = inr (λ e. absurd cc)
 
-check_ticks : (now : ℕ) (c e : CheckState) → CheckTicks now c e → GoesOn Nothing (Checking c) (Checking e)
-check_ticks now c e a = elim (check_runs c.status) [
-  | inl runs ↦ check_moves Nothing c e (after_tick now c.requests) (follows_tick now c.requests) (a.running runs) (λ servers h. checks_ask_all.ticks now servers c e (a.running runs) h)
-  | inr over ↦ same_goes Nothing (Checking c) (Checking e) (ap Checking (a.ended over))
+stops_cap : (now : ℕ) (c e : CheckState) → check.StopsAt now c e → e.cap ≡ c.cap
+stops_cap now c e s = elim (check_runs c.status) [
+  | inl running ↦ fails_cap now c e (s.running running)
+  | inr over ↦ ap (λ (x : CheckState). x.cap) (s.ended over)
 ]
+
+-- a tick
+pub check_ticked : {X E : Type 0} (r : Result X E) (now : ℕ) (c e : CheckState) → OnOk r (check.TicksOn now c e) → OnErr r (check.StopsAt now c e) → GoesOn Nothing (Checking c) (Checking e)
+check_ticked (Ok x) now c e a s = check_moves Nothing c e (after_tick now c.requests) (follows_tick now c.requests) a (λ servers h. checks_ask_all.ticks now servers c e a h)
+check_ticked (Err x) now c e a s = check_goes Nothing c e (stops_cap now c e s) (follows_stops_at now c e s) (λ servers h. checks_ask_all.stops now servers c e s h)
 
 check_takes : (c e : CheckState) (f : Option (ℕ × Message)) → check_sends.Takes c f e → GoesOn Nothing (Checking c) (Checking e)
 check_takes c e None t = same_goes Nothing (Checking c) (Checking e) (ap Checking t.1)
@@ -316,38 +314,6 @@ check_takes c e (Some f) t = (let is = t.3 in
     check_goes Nothing c e (ap (λ (x : CheckState). x.cap) is)
     (follows_same Nothing c.requests e.requests (ap (λ (x : CheckState). x.requests.session) is) (ap (λ (x : CheckState). x.requests.entries) is))
     (λ servers h. checks_ask_all.sends (Some f) servers c e t h))
-
--- ---- machines of any kind
-
-pub advanced : (from now : ℕ) (m : Message) (old new : Task) → Advances from m now old new → GoesOn (IsSaid from m (requests_of old).session) old new
-advanced from now m (Uploading u) (Uploading v) a = upload_advances from now m u v a
-advanced from now m (Downloading d) (Downloading e) a = download_moves (IsSaid from m d.requests.session) d e (after_message from m now d.requests) (follows_message from now m d.requests) a.0 (λ servers h. downloads_ask_all.advances from m now servers d e a.0 h)
-advanced from now m (Checking c) (Checking e) a = check_moves (IsSaid from m c.requests.session) c e (after_message from m now c.requests) (follows_message from now m c.requests) a (λ servers h. checks_ask_all.advances from m now servers c e a h)
-advanced from now m (Gone number) new a = same_goes (IsSaid from m number) (Gone number) new a
-advanced from now m (Uploading u) (Downloading e) a = absurd a
-advanced from now m (Uploading u) (Checking e) a = absurd a
-advanced from now m (Uploading u) (Gone n) a = absurd a
-advanced from now m (Downloading d) (Uploading e) a = absurd a
-advanced from now m (Downloading d) (Checking e) a = absurd a
-advanced from now m (Downloading d) (Gone n) a = absurd a
-advanced from now m (Checking c) (Uploading e) a = absurd a
-advanced from now m (Checking c) (Downloading e) a = absurd a
-advanced from now m (Checking c) (Gone n) a = absurd a
-
-pub ticked_on : (now : ℕ) (old new : Task) → TicksOn now old new → GoesOn Nothing old new
-ticked_on now (Uploading u) (Uploading v) a = upload_ticks now u v a
-ticked_on now (Downloading d) (Downloading e) a = download_ticks now d e a.0
-ticked_on now (Checking c) (Checking e) a = check_ticks now c e a
-ticked_on now (Gone number) new a = same_goes Nothing (Gone number) new a
-ticked_on now (Uploading u) (Downloading e) a = absurd a
-ticked_on now (Uploading u) (Checking e) a = absurd a
-ticked_on now (Uploading u) (Gone n) a = absurd a
-ticked_on now (Downloading d) (Uploading e) a = absurd a
-ticked_on now (Downloading d) (Checking e) a = absurd a
-ticked_on now (Downloading d) (Gone n) a = absurd a
-ticked_on now (Checking c) (Uploading e) a = absurd a
-ticked_on now (Checking c) (Downloading e) a = absurd a
-ticked_on now (Checking c) (Gone n) a = absurd a
 
 -- a download, whatever came of the call
 pub download_advanced : (from now : ℕ) (m : Message) (d e : DownloadState) → download.Advances from m now d e → GoesOn (IsSaid from m d.requests.session) (Downloading d) (Downloading e)
@@ -357,20 +323,37 @@ pub download_ticked : {X E : Type 0} (r : Result X E) (now : ℕ) (d e : Downloa
 download_ticked (Ok x) now d e a b = download_ticks now d e a
 download_ticked (Err x) now d e a b = download_stops now d e b
 
+-- ---- machines of any kind
+
+-- A call of a task is one of its machine: what holds of the calls of each kind, and of one that is
+-- gone, holds of all.
+pub by_machine : (U : State → State → Type 0) (D : DownloadState → DownloadState → Type 0) (C : CheckState → CheckState → Type 0) (gone : Type 0) (P : Task → Task → Type 0)
+    → ((u v : State) → U u v → P (Uploading u) (Uploading v)) → ((d e : DownloadState) → D d e → P (Downloading d) (Downloading e)) → ((c e : CheckState) → C c e → P (Checking c) (Checking e))
+    → ((n : ℕ) (new : Task) → gone → new ≡ Gone n → P (Gone n) new) → (old new : Task) → Calls U D C gone old new → P old new
+by_machine U D C gone P up down chk lost (Uploading u) (Uploading v) t = up u v t
+by_machine U D C gone P up down chk lost (Downloading d) (Downloading e) t = down d e t
+by_machine U D C gone P up down chk lost (Checking c) (Checking e) t = chk c e t
+by_machine U D C gone P up down chk lost (Gone n) new t = lost n new t.0 t.1
+by_machine U D C gone P up down chk lost (Uploading u) (Downloading e) t = absurd t
+by_machine U D C gone P up down chk lost (Uploading u) (Checking e) t = absurd t
+by_machine U D C gone P up down chk lost (Uploading u) (Gone n) t = absurd t
+by_machine U D C gone P up down chk lost (Downloading d) (Uploading e) t = absurd t
+by_machine U D C gone P up down chk lost (Downloading d) (Checking e) t = absurd t
+by_machine U D C gone P up down chk lost (Downloading d) (Gone n) t = absurd t
+by_machine U D C gone P up down chk lost (Checking c) (Uploading e) t = absurd t
+by_machine U D C gone P up down chk lost (Checking c) (Downloading e) t = absurd t
+by_machine U D C gone P up down chk lost (Checking c) (Gone n) t = absurd t
+
+-- a message that is taken
+pub by_taking : (f : Option (ℕ × Message)) (P : Task → Task → Type 0) → ((u v : State) → upload_sends.Takes gives fails u f v → P (Uploading u) (Uploading v))
+    → ((d e : DownloadState) → download_sends.Takes d f e → P (Downloading d) (Downloading e)) → ((c e : CheckState) → check_sends.Takes c f e → P (Checking c) (Checking e))
+    → ((n : ℕ) (new : Task) → f ≡ None → new ≡ Gone n → P (Gone n) new) → (old new : Task) → Takes old f new → P old new
+by_taking f P up down chk lost old new t =
+    by_machine (λ u v. upload_sends.Takes gives fails u f v) (λ d e. download_sends.Takes d f e) (λ c e. check_sends.Takes c f e) (f ≡ None) P up down chk lost old new t
+
 pub taken : (old new : Task) (f : Option (ℕ × Message)) → Takes old f new → GoesOn Nothing old new
-taken (Uploading u) (Uploading v) f t = upload_takes u v f t
-taken (Downloading d) (Downloading e) f t = download_takes d e f t
-taken (Checking c) (Checking e) f t = check_takes c e f t
-taken (Gone number) new f t = same_goes Nothing (Gone number) new t.1
-taken (Uploading u) (Downloading e) f t = absurd t
-taken (Uploading u) (Checking e) f t = absurd t
-taken (Uploading u) (Gone n) f t = absurd t
-taken (Downloading d) (Uploading e) f t = absurd t
-taken (Downloading d) (Checking e) f t = absurd t
-taken (Downloading d) (Gone n) f t = absurd t
-taken (Checking c) (Uploading e) f t = absurd t
-taken (Checking c) (Downloading e) f t = absurd t
-taken (Checking c) (Gone n) f t = absurd t
+taken old new f t =
+    by_taking f (GoesOn Nothing) (λ u v t. upload_takes u v f t) (λ d e t. download_takes d e f t) (λ c e t. check_takes c e f t) (λ n new none is. same_goes Nothing (Gone n) new is) old new t
 
 pub handed : (old new : Task) (p : Option Piece) → TakesPiece old p new → GoesOn Nothing old new
 handed (Downloading d) (Downloading e) p t = download_hands d e p t
@@ -380,10 +363,3 @@ handed (Gone number) new p t = same_goes Nothing (Gone number) new t.1
 handed (Downloading d) (Uploading e) p t = absurd t
 handed (Downloading d) (Checking e) p t = absurd t
 handed (Downloading d) (Gone n) p t = absurd t
-
--- one that may fail is no Happy upload
-pub fails_unhappy : (t : Task) → MayFail t → (pairs : List Pair) → IsHappyTask t pairs → ⊥
-fails_unhappy (Uploading u) may pairs h = runs_not_happy u.course.status pairs may h
-fails_unhappy (Downloading d) may pairs h = h
-fails_unhappy (Checking c) may pairs h = h
-fails_unhappy (Gone number) may pairs h = h

@@ -13,19 +13,19 @@ use Rattle.world_operations.specs.Jobs.{HasOneKey, IsFor, IsUpload, Uploads, str
 -- the goal is that of the file's shares
 pub record IsForFile (job : Job) (file secret : List ℕ) (p : UploadParameters) (u : upload_sends.Uploading UploadPieces) : Type 0 where
   pub goal : u.course.goal ≡ goal_of (prepared_of file secret p)
-  pub wanted : u.course.wanted ≡ p.happy
+  pub happy_is : u.course.happy ≡ p.happy
   pub may : IsUpload file secret p
   pub one_key : HasOneKey job
 
 pub for_file : (job : Job) (file secret : List ℕ) (p : UploadParameters) (u : upload_sends.Uploading UploadPieces) → Uploads job file secret p → IsFor job (Uploading u) → IsForFile job file secret p u
 for_file job file secret p u (whole is) h =
     let k : IsFor (Upload file secret p) (Uploading u) = subst (λ (j : Job). IsFor j (Uploading u)) is h in
-    record { goal = k.0; wanted = k.1; may = k.2; one_key = subst HasOneKey (sym is) tt }
+    record { goal = k.0; happy_is = k.1; may = k.2; one_key = subst HasOneKey (sym is) tt }
 for_file job file secret p u (streamed one other after is file_is) h =
     let k : IsFor (Changing one other after secret p) (Uploading u) = subst (λ (j : Job). IsFor j (Uploading u)) is h in
     record {
       goal = k.0 ∙ ap (λ (f : List ℕ). goal_of (prepared_of f secret p)) (sym file_is);
-      wanted = k.1;
+      happy_is = k.1;
       may = subst (λ (f : List ℕ). IsUpload f secret p) (sym file_is) k.2;
       one_key = subst HasOneKey (sym is) k.3;
     }

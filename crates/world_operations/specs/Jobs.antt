@@ -74,7 +74,7 @@ pub record IsRepair (cap : VerifyCapValue) (happy : ℕ) (u : upload_sends.Uploa
   pub shares : List (List ℕ)
   pub pieces : u.pieces ≡ Whole shares
   pub goal : u.course.goal ≡ shares_goal cap shares
-  pub wanted : u.course.wanted ≡ happy
+  pub happy_is : u.course.happy ≡ happy
   pub may : MayWant cap happy
   pub passing : ArePassing cap shares
 
@@ -82,13 +82,13 @@ pub record IsRepair (cap : VerifyCapValue) (happy : ℕ) (u : upload_sends.Uploa
 -- was one that may start, and of another operation nothing.
 abbrev pub IsFor : Job → Task → Type 0
 IsFor (Upload file secret p) (Uploading u) =
-    (u.course.goal ≡ goal_of (prepared_of file secret p)) × (u.course.wanted ≡ p.happy)
+    (u.course.goal ≡ goal_of (prepared_of file secret p)) × (u.course.happy ≡ p.happy)
     × IsUpload file secret p
 IsFor (Upload file secret p) (Gone number) = IsUpload file secret p
 IsFor (Upload file secret p) task = ⊥
 IsFor (Changing one other after secret p) (Uploading u) =
     let file = second_read one other after in
-    (u.course.goal ≡ goal_of (prepared_of file secret p)) × (u.course.wanted ≡ p.happy)
+    (u.course.goal ≡ goal_of (prepared_of file secret p)) × (u.course.happy ≡ p.happy)
     × IsUpload file secret p × HasOneKey (Changing one other after secret p)
 IsFor (Changing one other after secret p) (Gone number) =
     IsUpload (second_read one other after) secret p

@@ -1,5 +1,5 @@
 -- What the calls of an operation do, whatever its machine is.
-use Rattle.std.specs.Prelude.{◌≡◌, ◌≢◌, ℕ, Bool, true, false, List, [], ◌∷◌, ◌++◌, length}
+use Rattle.std.specs.Prelude.{◌≡◌, ◌≢◌, ℕ, Bool, true, false, List, [], ◌∷◌, ◌++◌, length, ⊤}
 use Rattle.std.specs.Prelude.{Option, Some, None}
 use Rattle.wire.specs.declared.message.Message.{Message}
 use Rattle.wire.specs.Frames.{IsMessage, spelling}
@@ -11,18 +11,18 @@ use Rattle.file_upload.specs.Prepared.{goal_of, prepared_of}
 use Rattle.streamed_upload.specs.Ready.{goal_of as kept_goal}
 use Rattle.streamed_upload.specs.Streamed.{Streaming}
 use Rattle.upload_core.specs.declared.status.ServerInfo.{ServerInfo}
-use Rattle.upload_core.specs.declared.status.UploadStatus.TheVariants as uploads
+use Rattle.request_record.specs.Operations.{OperationCalls}
+use Rattle.upload_core.specs.Calls.{upload_calls}
 use Rattle.upload_core.specs.Moves as upload
 use Rattle.upload_core.specs.Sending as upload_sends
 use Rattle.download_segments.specs.declared.piece.Piece.{Piece}
 use Rattle.download_core.specs.Moves as download
-use Rattle.download_core.specs.Sending as download_sends
+use Rattle.download_core.specs.Calls.{download_calls}
 use Rattle.download_core.specs.State.{DownloadState}
 use Rattle.download_core.specs.declared.status.DownloadStatus.TheVariants.{Failed}
 use Rattle.checker.specs.Moves as check
-use Rattle.checker.specs.Sending as check_sends
+use Rattle.checker.specs.Calls.{check_calls}
 use Rattle.checker.specs.State.{CheckState}
-use Rattle.checker.specs.declared.status.CheckStatus.TheVariants as checks
 use Rattle.world_operations.specs.declared.job.Job.{Job}
 use Rattle.world_operations.specs.declared.job.Job.TheVariants as jobs
 use Rattle.world_operations.specs.declared.message.Sent.{Sent}
@@ -33,6 +33,7 @@ use Rattle.world_operations.specs.declared.task.Task.{Task}
 use Rattle.world_operations.specs.declared.task.Task.TheVariants.{Uploading, Downloading}
 use Rattle.world_operations.specs.declared.task.Task.TheVariants.{Checking, Gone}
 use Rattle.world_operations.specs.Jobs.{changing}
+use Rattle.world_operations.specs.Tasks.{requests_of}
 use Rattle.world_operations.specs.UploadPieces.{fails, gives}
 
 -- An upload begins of a source that changes: it was read twice, and what is kept is of what the
@@ -66,51 +67,57 @@ Begins (jobs.Check cap) servers nodes session now (Checking c) =
     check.Begins cap nodes session now c
 Begins job servers nodes session now task = ⊥
 
--- An upload goes on only while it runs: once it ended nothing is outstanding.
-pub record UploadAdvances (from : ℕ) (m : Message) (now : ℕ)
-    (old new : upload_sends.Uploading UploadPieces) : Type 0 where
-  pub pieces : new.pieces ≡ old.pieces
-  pub running : old.course.status ≡ uploads.Running
-      → upload.Advances from m now old.course new.course
-  pub ended : old.course.status ≢ uploads.Running → new ≡ old
-
-pub record UploadTicks (now : ℕ) (old new : upload_sends.Uploading UploadPieces) : Type 0 where
-  pub pieces : new.pieces ≡ old.pieces
-  pub running : old.course.status ≡ uploads.Running → upload.TicksOn now old.course new.course
-  pub ended : old.course.status ≢ uploads.Running → new ≡ old
-
--- A check takes note of a second only while it runs: once it is done nothing is outstanding.
-pub record CheckTicks (now : ℕ) (old new : CheckState) : Type 0 where
-  pub running : old.status ≡ checks.Running → check.TicksOn now old new
-  pub ended : old.status ≢ checks.Running → new ≡ old
-
 -- a call that succeeds makes no download fail
 abbrev pub StaysWell : DownloadState → DownloadState → Type 0
 StaysWell old new = old.status ≢ Failed → new.status ≢ Failed
 
--- a message, a tick, a message that is taken, and a piece that is taken
+-- A call of a task is a call of its machine, by a relation for each kind. One that is gone stays
+-- so, and this holds of its calls.
+abbrev pub Calls : (upload_sends.Uploading UploadPieces → upload_sends.Uploading UploadPieces
+    → Type 0) → (DownloadState → DownloadState → Type 0) → (CheckState → CheckState → Type 0)
+    → Type 0 → Task → Task → Type 0
+Calls uploads downloads checks gone (Uploading old) (Uploading new) = uploads old new
+Calls uploads downloads checks gone (Downloading old) (Downloading new) = downloads old new
+Calls uploads downloads checks gone (Checking old) (Checking new) = checks old new
+Calls uploads downloads checks gone (Gone number) new = gone × (new ≡ Gone number)
+Calls uploads downloads checks gone old new = ⊥
+
+-- a message, a tick, a message that is taken, and what a call does that was refused memory
 abbrev pub Advances : ℕ → Message → ℕ → Task → Task → Type 0
-Advances from m now (Uploading old) (Uploading new) = UploadAdvances from m now old new
-Advances from m now (Downloading old) (Downloading new) =
-    download.Advances from m now old new × StaysWell old new
-Advances from m now (Checking old) (Checking new) = check.Advances from m now old new
-Advances from m now (Gone number) new = new ≡ Gone number
-Advances from m now old new = ⊥
+Advances from m now = Calls (λ old new. (upload_calls gives fails).hears old from m now new)
+    (λ old new. download_calls.hears old from m now new × StaysWell old new)
+    (λ old new. check_calls.hears old from m now new) ⊤
 
 abbrev pub TicksOn : ℕ → Task → Task → Type 0
-TicksOn now (Uploading old) (Uploading new) = UploadTicks now old new
-TicksOn now (Downloading old) (Downloading new) =
-    download.TicksOn now old new × StaysWell old new
-TicksOn now (Checking old) (Checking new) = CheckTicks now old new
-TicksOn now (Gone number) new = new ≡ Gone number
-TicksOn now old new = ⊥
+TicksOn now = Calls (λ old new. (upload_calls gives fails).ticks old now new)
+    (λ old new. download_calls.ticks old now new × StaysWell old new)
+    (λ old new. check_calls.ticks old now new) ⊤
 
 abbrev pub Takes : Task → Option (ℕ × Message) → Task → Type 0
-Takes (Uploading old) frame (Uploading new) = upload_sends.Takes gives fails old frame new
-Takes (Downloading old) frame (Downloading new) = download_sends.Takes old frame new
-Takes (Checking old) frame (Checking new) = check_sends.Takes old frame new
-Takes (Gone number) frame new = (frame ≡ None) × (new ≡ Gone number)
-Takes old frame new = ⊥
+Takes old taken new = Calls (λ u v. (upload_calls gives fails).takes u taken v)
+    (λ d e. download_calls.takes d taken e) (λ c e. check_calls.takes c taken e) (taken ≡ None)
+    old new
+
+abbrev pub GivesUp : Task → Task → Type 0
+GivesUp = Calls (upload_calls gives fails).gives_up download_calls.gives_up check_calls.gives_up ⊥
+
+-- has it still to be carried on?
+abbrev pub is_to_carry : Task → Bool
+is_to_carry (Uploading u) = (upload_calls gives fails).runs u
+is_to_carry (Downloading d) = download_calls.runs d
+is_to_carry (Checking c) = check_calls.runs c
+is_to_carry (Gone number) = false
+
+-- what the calls of a task do
+abbrev pub task_calls : OperationCalls Task
+task_calls = record {
+  requests = requests_of;
+  runs = is_to_carry;
+  takes = Takes;
+  hears = λ old from m now new. Advances from m now old new;
+  ticks = λ old now new. TicksOn now old new;
+  gives_up = GivesUp;
+}
 
 -- only a download hands pieces out
 abbrev pub TakesPiece : Task → Option Piece → Task → Type 0

@@ -78,17 +78,3 @@ HasShares (Uploading u) shares = u.pieces ≡ Whole shares
 HasShares (Downloading d) shares = ⊥
 HasShares (Checking c) shares = ⊥
 HasShares (Gone number) shares = ⊥
-
-abbrev pub is_download : Task → Bool
-is_download (Downloading d) = true
-is_download (Uploading u) = false
-is_download (Checking c) = false
-is_download (Gone number) = false
-
--- A call of it may find no memory. One of an upload that ended is not made, and one of a check that
--- ended needs none.
-abbrev pub MayFail : Task → Type 0
-MayFail (Uploading u) = u.course.status ≡ uploads.Running
-MayFail (Downloading d) = ⊤
-MayFail (Checking c) = c.status ≡ checks.Running
-MayFail (Gone number) = ⊥

@@ -6,8 +6,10 @@ ghost use Rattle.std.specs.List.{IsDistinct};
 ghost use Rattle.upload_core.specs.declared.status.ServerInfo.{ServerInfo};
 ghost use Rattle.download_segments.specs.declared.piece.Piece.{Piece};
 ghost use Rattle.world_operations.specs.declared.message.Sent.{Sent};
-ghost use Rattle.world_operations.specs.Follow.{GoesOn, IsSaid, IsSameOperation, Moves};
-ghost use Rattle.world_operations.specs.Follow.{Nothing, SendsSome};
+ghost use Rattle.request_record.specs.Follow.{IsSaid};
+ghost use Rattle.world_operations.specs.Follow.{GoesOn, IsSameOperation, Moves};
+ghost use Rattle.request_record.specs.Follow.{Nothing};
+ghost use Rattle.world_operations.specs.Follow.{SendsSome};
 ghost use Rattle.world_operations.specs.Given.{AreGivenBy};
 ghost use Rattle.world_operations.specs.Jobs.{MayStart};
 ghost use Rattle.world_operations.specs.Moves.{HandsOne, HandsOut, IsFlushed, OperationGets};
@@ -18,6 +20,7 @@ use crate::job::Job;
 use crate::message::{Sent, push_sent, spell};
 use crate::pieces::PieceList;
 use crate::task::{StartError, Task};
+use request_record::operation::Operation as _;
 use std::alloc::{AllocError, Global};
 use upload_core::status::ServerInfo;
 use wire::message::{Message, NodeId};
@@ -71,13 +74,11 @@ impl Operation {
         }
     }
 
-    /// Takes a message from a node over, at a second. `number` is the operation's own: without
-    /// memory its machine is gone, unless it is a download, or less was handed out and sent than
-    /// there was.
+    /// Takes a message from a node over, at a second. Without memory its machine failed, or less was
+    /// handed out and sent than there was.
     pub fn on_message(
         &mut self,
         alloc: Global,
-        number: u64,
         from: NodeId,
         message: Message,
         now: u64,
@@ -85,43 +86,21 @@ impl Operation {
     ) -> Result<(), AllocError>
         ensures ok { OnOk result ((more : List Sent) × (sent.new.items ≡ sent.old.items ++ more)
             × OperationGets from message now self.old more self.new) }
-        ensures some { Moves (IsSaid from message (requests_of self.old.task).session) number
+        ensures some { Moves (IsSaid from message (requests_of self.old.task).session)
             self.old self.new sent.old.items sent.new.items }
     {
-        let stays = self.task.is_download();
-        match self.task.on_message(from, message, now) {
-            Ok(()) => self.flush(alloc, sent),
-            Err(error) => {
-                if !stays {
-                    self.task = Task::Gone(number);
-                }
-                Err(error)
-            }
-        }
+        self.task.on_message(from, message, now)?;
+        self.flush(alloc, sent)
     }
 
     /// Takes note of a second; else as `on_message`.
-    pub fn tick(
-        &mut self,
-        alloc: Global,
-        number: u64,
-        now: u64,
-        sent: &mut Vec<Sent>,
-    ) -> Result<(), AllocError>
+    pub fn tick(&mut self, alloc: Global, now: u64, sent: &mut Vec<Sent>) -> Result<(), AllocError>
         ensures ok { OnOk result ((more : List Sent) × (sent.new.items ≡ sent.old.items ++ more)
             × OperationTicks now self.old more self.new) }
-        ensures some { Moves Nothing number self.old self.new sent.old.items sent.new.items }
+        ensures some { Moves Nothing self.old self.new sent.old.items sent.new.items }
     {
-        let stays = self.task.is_download();
-        match self.task.tick(now) {
-            Ok(()) => self.flush(alloc, sent),
-            Err(error) => {
-                if !stays {
-                    self.task = Task::Gone(number);
-                }
-                Err(error)
-            }
-        }
+        self.task.tick(now)?;
+        self.flush(alloc, sent)
     }
 
     /// Hands out what its machine made, and sends what it has to send.
@@ -138,11 +117,11 @@ impl Operation {
         send_all(alloc, self.node, &mut self.task, sent)
     }
 
-    /// A law: its machine is right.
-    pub fn is_right(&self)
+    /// A law: its machine is right. The call does nothing.
+    pub fn know_right(&self)
         ensures { IsRightTask self.now.task }
     {
-        self.task.is_right();
+        self.task.know_right();
     }
 }
 

@@ -1,24 +1,22 @@
 //! The machine of an operation.
 
-ghost use Rattle.std.specs.Prelude.{◌≡◌, ◌↔◌, ℕ, List, IfOk, IfSome, IsErrOf, IsTrue, None, OnErr};
-ghost use Rattle.std.specs.Prelude.{OnOk, length, map, nat_eq, true};
+ghost use Rattle.std.specs.Prelude.{◌≡◌, ℕ, List, IfOk, IfSome, IsErrOf, OnErr, OnOk, length, map};
+ghost use Rattle.std.specs.Prelude.{nat_eq};
 ghost use Rattle.std.specs.List.{IsDistinct};
-ghost use Rattle.checker.specs.declared.status.CheckStatus.TheVariants as checks;
+ghost use Rattle.request_record.specs.Follow.{Follows, IsSaid, Nothing};
 ghost use Rattle.streamed_upload.specs.Ready.{goal_of};
 ghost use Rattle.upload_core.specs.Moves as upload;
 ghost use Rattle.upload_core.specs.Sending.{Uploading};
 ghost use Rattle.upload_core.specs.declared.status.ServerInfo.{ServerInfo};
-ghost use Rattle.upload_core.specs.declared.status.UploadStatus.TheVariants as uploads;
 ghost use Rattle.world_operations.specs.declared.job.Job.TheVariants as jobs;
 ghost use Rattle.world_operations.specs.declared.task.StartError.{StartError};
 ghost use Rattle.world_operations.specs.declared.upload_pieces.UploadPieces.TheVariants.{Streamed};
-ghost use Rattle.world_operations.specs.Follow.{GoesOn, IsSaid, Nothing};
+ghost use Rattle.world_operations.specs.Follow.{GoesOn};
 ghost use Rattle.world_operations.specs.Given.{IsGivenBy};
 ghost use Rattle.world_operations.specs.Jobs.{MayStart, changing};
-ghost use Rattle.world_operations.specs.Moves.{Advances, Begins, Takes, TakesPiece, TicksOn};
-ghost use Rattle.world_operations.specs.Moves.{CheckTicks, UploadAdvances, UploadTicks};
-ghost use Rattle.world_operations.specs.Tasks.{IsRightTask, MayFail, is_download, requests_of};
-ghost use Rattle.world_operations.specs.Tasks.{runs, upload_runs};
+ghost use Rattle.world_operations.specs.Moves.{Advances, Begins, GivesUp, Takes, TakesPiece, TicksOn};
+ghost use Rattle.world_operations.specs.Moves.{task_calls};
+ghost use Rattle.world_operations.specs.Tasks.{IsRightTask, requests_of, runs};
 
 use crate::job::Job;
 use crate::upload_pieces::UploadPieces;
@@ -30,6 +28,7 @@ use download_core::status::{DownloadError, DownloadStatus, Piece};
 use file_encoding::{EncodeError, MAX_SECRET_SIZE, Params};
 use file_streaming::PrepareError;
 use file_upload::prepared::{FileUpload, prepare};
+use request_record::operation::Operation;
 use sources::ChangingSource;
 use std::alloc::{AllocError, Global};
 use streamed_upload::prepared::{PreparedStream, prepare_stream};
@@ -61,9 +60,8 @@ pub enum Task {
     Uploading(Upload<UploadPieces>),
     Downloading(Download),
     Checking(KeepingCheck),
-    /// There is no machine, only the operation's number: a repair made no shares, the source of an
-    /// upload changed while it was read, or a call of an upload or of a check found no memory,
-    /// which leaves nothing to be said of the machine.
+    /// There is no machine, only the operation's number: a repair made no shares, or the source of
+    /// an upload changed while it was read.
     Gone(u64),
 }
 
@@ -113,50 +111,6 @@ impl Task {
         }
     }
 
-    /// Takes a message from a node over, at a second.
-    pub fn on_message(&mut self, from: NodeId, message: Message, now: u64) -> Result<(), AllocError>
-        ensures ok { OnOk result (Advances from message now self.old self.new) }
-        ensures err { OnErr result (MayFail self.old) }
-        // A download goes on even so.
-        ensures download { is_download self.old ≡ true
-            → GoesOn (IsSaid from message (requests_of self.old).session) self.old self.new }
-    {
-        match self {
-            Task::Uploading(upload) => answer_upload(upload, from, message, now),
-            Task::Downloading(download) => download.on_message(from, message, now),
-            Task::Checking(check) => check.on_message(from, message, now),
-            Task::Gone(_) => Ok(()),
-        }
-    }
-
-    /// Takes note of a second.
-    pub fn tick(&mut self, now: u64) -> Result<(), AllocError>
-        ensures ok { OnOk result (TicksOn now self.old self.new) }
-        ensures err { OnErr result (MayFail self.old) }
-        // A download goes on even so.
-        ensures download { is_download self.old ≡ true → GoesOn Nothing self.old self.new }
-    {
-        match self {
-            Task::Uploading(upload) => tick_upload(upload, now),
-            Task::Downloading(download) => download.tick(now),
-            Task::Checking(check) => tick_check(check, now),
-            Task::Gone(_) => Ok(()),
-        }
-    }
-
-    /// Takes the next message to send, and the node that it is for.
-    pub fn take_outgoing(&mut self, alloc: Global) -> Result<Option<(NodeId, Message)>, AllocError>
-        ensures ok { IfOk result (λ taken. Takes self.old taken self.new) }
-        ensures err { OnErr result (self.new ≡ self.old) }
-    {
-        match self {
-            Task::Uploading(upload) => upload.take_outgoing(alloc),
-            Task::Downloading(download) => Ok(download.take_outgoing()),
-            Task::Checking(check) => Ok(check.take_outgoing()),
-            Task::Gone(_) => Ok(None),
-        }
-    }
-
     /// Takes the next piece of a download's file.
     pub fn take_piece(&mut self) -> Option<Piece>
         ensures takes { TakesPiece self.old result self.new }
@@ -168,27 +122,20 @@ impl Task {
         }
     }
 
-    /// Is it a download?
-    pub fn is_download(&self) -> bool
-        ensures { result ≡ is_download self.now }
-    {
-        matches!(self, Task::Downloading(_))
-    }
-
-    /// Does it still run?
-    pub fn is_running(&self) -> bool
+    /// Does it still run, by its status?
+    pub fn runs(&self) -> bool
         ensures { result ≡ runs self.now }
     {
         match self {
-            Task::Uploading(upload) => is_running(upload),
+            Task::Uploading(upload) => matches!(upload.status(), UploadStatus::Running),
             Task::Downloading(download) => download.status() == DownloadStatus::Running,
             Task::Checking(check) => check.status() == CheckStatus::Running,
             Task::Gone(_) => false,
         }
     }
 
-    /// A law: its machine is right.
-    pub fn is_right(&self)
+    /// A law: its machine is right. The call does nothing.
+    pub fn know_right(&self)
         ensures { IsRightTask self.now }
     {
         match self {
@@ -202,6 +149,66 @@ impl Task {
                 let _ = check.status();
             }
             Task::Gone(_) => {}
+        }
+    }
+}
+
+impl Operation for Task {
+    ghost calls = { task_calls };
+
+    fn is_running(&self) -> bool {
+        match self {
+            Task::Uploading(upload) => upload.is_running(),
+            Task::Downloading(download) => download.is_running(),
+            Task::Checking(check) => check.is_running(),
+            Task::Gone(_) => false,
+        }
+    }
+
+    /// Without memory it is as it was.
+    fn take_outgoing(&mut self, alloc: Global) -> Result<Option<(NodeId, Message)>, AllocError>
+        ensures ok { IfOk result (λ taken. Takes self.old taken self.new) }
+        ensures err { OnErr result (GivesUp self.old self.new) }
+        ensures follows { Follows Nothing (requests_of self.old) (requests_of self.new) }
+        ensures same { OnErr result (self.new ≡ self.old) }
+    {
+        match self {
+            Task::Uploading(upload) => upload.take_outgoing(alloc),
+            Task::Downloading(download) => download.take_outgoing(alloc),
+            Task::Checking(check) => check.take_outgoing(alloc),
+            Task::Gone(_) => Ok(None),
+        }
+    }
+
+    /// On an `Err` its machine failed, or it had ended; it goes on even so.
+    fn on_message(&mut self, from: NodeId, message: Message, now: u64) -> Result<(), AllocError>
+        ensures ok { OnOk result (Advances from message now self.old self.new) }
+        ensures err { OnErr result (GivesUp self.old self.new) }
+        ensures follows { Follows (IsSaid from message (requests_of self.old).session)
+            (requests_of self.old) (requests_of self.new) }
+        ensures goes { GoesOn (IsSaid from message (requests_of self.old).session)
+            self.old self.new }
+    {
+        match self {
+            Task::Uploading(upload) => upload.on_message(from, message, now),
+            Task::Downloading(download) => download.on_message(from, message, now),
+            Task::Checking(check) => check.on_message(from, message, now),
+            Task::Gone(_) => Ok(()),
+        }
+    }
+
+    /// As `on_message`.
+    fn tick(&mut self, now: u64) -> Result<(), AllocError>
+        ensures ok { OnOk result (TicksOn now self.old self.new) }
+        ensures err { OnErr result (GivesUp self.old self.new) }
+        ensures follows { Follows Nothing (requests_of self.old) (requests_of self.new) }
+        ensures goes { GoesOn Nothing self.old self.new }
+    {
+        match self {
+            Task::Uploading(upload) => upload.tick(now),
+            Task::Downloading(download) => download.tick(now),
+            Task::Checking(check) => check.tick(now),
+            Task::Gone(_) => Ok(()),
         }
     }
 }
@@ -356,51 +363,5 @@ fn begin_check(
     match KeepingCheck::start(alloc, cap, nodes, session, now) {
         Ok(check) => Ok(Task::Checking(check)),
         Err(_) => Err(StartError::OutOfMemory),
-    }
-}
-
-// Does it still run?
-fn is_running(upload: &Upload<UploadPieces>) -> bool
-    ensures state { result ≡ upload_runs upload.now.course.status }
-    ensures runs { IsTrue result ↔ (upload.now.course.status ≡ uploads.Running) }
-{
-    matches!(upload.status(), UploadStatus::Running)
-}
-
-// A message comes to an upload, which takes it while it runs.
-fn answer_upload(
-    upload: &mut Upload<UploadPieces>,
-    from: NodeId,
-    message: Message,
-    now: u64,
-) -> Result<(), AllocError>
-    ensures ok { OnOk result (UploadAdvances from message now upload.old upload.new) }
-    ensures err { OnErr result (upload.old.course.status ≡ uploads.Running) }
-{
-    if !is_running(upload) {
-        return Ok(());
-    }
-    upload.on_message(from, message, now)
-}
-
-// An upload takes note of a second while it runs.
-fn tick_upload(upload: &mut Upload<UploadPieces>, now: u64) -> Result<(), AllocError>
-    ensures ok { OnOk result (UploadTicks now upload.old upload.new) }
-    ensures err { OnErr result (upload.old.course.status ≡ uploads.Running) }
-{
-    if !is_running(upload) {
-        return Ok(());
-    }
-    upload.tick(now)
-}
-
-// A check takes note of a second while it runs.
-fn tick_check(check: &mut KeepingCheck, now: u64) -> Result<(), AllocError>
-    ensures ok { OnOk result (CheckTicks now check.old check.new) }
-    ensures err { OnErr result (check.old.status ≡ checks.Running) }
-{
-    match check.status() {
-        CheckStatus::Running => check.tick(now),
-        CheckStatus::Done | CheckStatus::Failed => Ok(()),
     }
 }

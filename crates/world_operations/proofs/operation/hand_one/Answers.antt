@@ -1,6 +1,7 @@
 use Rattle.std.proofs.Common.{List, Contains, sym, subst}
 use Rattle.download_segments.specs.declared.piece.Piece.{Piece}
-use Rattle.world_operations.specs.Follow.{GoesOn, Nothing}
+use Rattle.request_record.specs.Follow.{Nothing}
+use Rattle.world_operations.specs.Follow.{GoesOn}
 use Rattle.world_operations.specs.Given.{AreGivenBy}
 use Rattle.world_operations.proofs.Sending.{given_more}
 use Rattle.world_operations.proofs.TaskMoves.{handed}

@@ -1,5 +1,5 @@
 use Rattle.std.proofs.Common.{Bool, subst}
-use Rattle.world_operations.specs.Follow.{Nothing}
+use Rattle.request_record.specs.Follow.{Nothing}
 use Rattle.world_operations.specs.Moves.{HandsOne}
 use Rattle.world_operations.proofs.TaskMoves.{goes_on}
 use Rattle.world_operations.proofs.Sending.{handing_begins, handing_ends, handing_less, handing_more, more_pieces}

@@ -1,5 +1,5 @@
 use Rattle.std.proofs.Common.{Bool, subst}
-use Rattle.world_operations.specs.Follow.{Nothing}
+use Rattle.request_record.specs.Follow.{Nothing}
 use Rattle.world_operations.specs.Moves.{SendsOne}
 use Rattle.world_operations.proofs.Frames.{sends_on}
 use Rattle.world_operations.proofs.Sending.{sending_begins, sending_ends, sending_less, sending_more}

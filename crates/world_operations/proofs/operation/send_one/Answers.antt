@@ -1,7 +1,8 @@
 use Rattle.std.proofs.Common.{◌≡◌, ◌∙◌, ◌++◌, ◌∷◌, [], ℕ, Option, Some, ap, subst, sym}
 use Rattle.wire.specs.declared.message.Message.{Message}
 use Rattle.world_operations.specs.declared.message.Sent.{Sent}
-use Rattle.world_operations.specs.Follow.{Nothing, SendsSome}
+use Rattle.request_record.specs.Follow.{Nothing}
+use Rattle.world_operations.specs.Follow.{SendsSome}
 use Rattle.world_operations.specs.Moves.{Takes, sent_to}
 use Rattle.world_operations.proofs.Frames.{sends_none, sends_one}
 use Rattle.world_operations.proofs.TaskMoves.{same_goes, taken}

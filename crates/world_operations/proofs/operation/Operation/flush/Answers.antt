@@ -1,4 +1,4 @@
-use Rattle.world_operations.specs.Follow.{Nothing}
+use Rattle.request_record.specs.Follow.{Nothing}
 use Rattle.world_operations.proofs.Frames.{sends_none, sends_on}
 use Rattle.lemmas.proofs.Results.{on_ok}
 use Rattle.world_operations.proofs.Sending.{flushed}
