@@ -1,5 +1,4 @@
-//! The tests of the server, and of the loop in which clients have its answers: what no contract
-//! says, and calls on their happy paths.
+//! The tests of the server and of the loop: what no contract says, and calls on their happy paths.
 #![tactic(auto)]
 
 #[cfg(test)]
