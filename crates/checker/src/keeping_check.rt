@@ -21,8 +21,8 @@ use std::alloc::{AllocError, Global};
 use std::marker::Model;
 use wire::message::{Message, NodeId};
 
-/// A check that keeps the bytes of the shares that it reads, so that it hands out the good ones once
-/// it is done: a repair may follow.
+/// A check that keeps the bytes of the shares that it reads, so that it hands out the good ones
+/// once it is done: a repair may follow.
 #[derive(Drop)]
 pub struct KeepingCheck {
     check: Check,
