@@ -1,5 +1,5 @@
 -- The record of a download goes on, whatever a call does.
-use Rattle.std.proofs.Common.{◌≡◌, ◌≢◌, ℕ, ◌⊎◌, inl, inr, List, Option, Some, None, Result, Ok, Err, OnErr, OnOk, refl, sym, ap, subst}
+use Rattle.std.proofs.Common.{◌≡◌, ◌≢◌, ℕ, inl, inr, List, Option, Some, None, Result, Ok, Err, OnErr, OnOk, refl, sym, ap, subst, ◌∙◌}
 use Rattle.wire.specs.declared.message.Message.{Message}
 use Rattle.request_record.specs.declared.requests.Asked.{Asked}
 use Rattle.request_record.specs.Asking.{after_message, after_tick}
