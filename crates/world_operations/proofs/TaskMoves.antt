@@ -1,5 +1,5 @@
 -- How a machine goes on: what it is for stays, its record goes on, and each frame that it sends is of one of its requests.
-use Rattle.std.proofs.Common.{◌≡◌, ◌≢◌, ℕ, List, [], ◌∷◌, Option, Some, None, Result, Ok, Err, OnOk, OnErr, IsOk, false≢true, refl, sym, subst, ap, ◌∙◌, inl, inr, ◌⊎◌}
+use Rattle.std.proofs.Common.{◌≡◌, ◌≢◌, ℕ, List, [], ◌∷◌, Option, Some, None, Result, Ok, Err, OnOk, OnErr, IsOk, true≢false, refl, sym, subst, ap, ◌∙◌, inl, inr, ◌⊎◌}
 use Rattle.cap_text.specs.Cap.{ReadCapValue, VerifyCapValue, verify_cap_of}
 use Rattle.placement.specs.Matching.{Pair}
 use Rattle.wire.specs.declared.message.Body.{Body}
@@ -145,7 +145,7 @@ upload_heard (Ok x) from now m u v a s ended same =
     upload_continues (IsSaid from m u.course.requests.session) u v (λ shares h. same ∙ h) (λ over. ap (λ (c : UploadState). c.status) (a.moved.ended over))
     (advances_continue from m now u.course v.course a.moved)
 upload_heard (Err x) from now m u v a s ended same =
-    upload_continues (IsSaid from m u.course.requests.session) u v (λ shares h. same ∙ h) (λ over. absurd (false≢true (ended over)))
+    upload_continues (IsSaid from m u.course.requests.session) u v (λ shares h. same ∙ h) (λ over. absurd (true≢false (sym (ended over))))
     (stops_continue (IsSaid from m u.course.requests.session) (after_message from m now u.course.requests) u.course v.course (follows_message from now m u.course.requests) s)
 
 -- a tick

@@ -10,7 +10,7 @@ use Rattle.world_operations.proofs.operation.send_one.Goals as goal
 
 pub returns-in_err-to-clause-some : goal.returns-in_err-to-clause-some
 returns-in_err-to-clause-some c =
-    sends_none Nothing c.args.node c.args.task.now c.take_outgoing.new.self c.args.sent.now.items (same_goes Nothing c.args.task.now c.take_outgoing.new.self c.in_err-to.ensures.err)
+    sends_none Nothing c.args.node c.args.task.now c.take_outgoing.new.self c.args.sent.now.items (same_goes Nothing c.args.task.now c.take_outgoing.new.self c.in_err-to.ensures.same)
 
 pub returns-in_default-clause-some : goal.returns-in_default-clause-some
 returns-in_default-clause-some c =

@@ -13,13 +13,13 @@ returns-in-Uploading-clause-goes c =
 
 pub returns-in-Downloading-clause-goes : goal.returns-in-Downloading-clause-goes
 returns-in-Downloading-clause-goes c =
-    subst (λ (t : Task). GoesOn Nothing t (Downloading c.tick.new.self)) (sym c.in-Downloading.is)
-    (download_ticked c.tick.result c.args.now c.in-Downloading.download c.tick.new.self c.tick.ensures.ok c.tick.ensures.stops)
+    subst (λ (t : Task). GoesOn Nothing t (Downloading c.tick-in-Downloading.new.self)) (sym c.in-Downloading.is)
+    (download_ticked c.tick-in-Downloading.result c.args.now c.in-Downloading.download c.tick-in-Downloading.new.self c.tick-in-Downloading.ensures.ok c.tick-in-Downloading.ensures.stops)
 
 pub returns-in-Checking-clause-goes : goal.returns-in-Checking-clause-goes
 returns-in-Checking-clause-goes c =
-    subst (λ (t : Task). GoesOn Nothing t (Checking c.tick.new.self)) (sym c.in-Checking.is)
-    (check_ticked c.tick.result c.args.now c.in-Checking.check c.tick.new.self c.tick.ensures.ok c.tick.ensures.stops)
+    subst (λ (t : Task). GoesOn Nothing t (Checking c.tick-in-Checking.new.self)) (sym c.in-Checking.is)
+    (check_ticked c.tick-in-Checking.result c.args.now c.in-Checking.check c.tick-in-Checking.new.self c.tick-in-Checking.ensures.ok c.tick-in-Checking.ensures.stops)
 
 pub returns-in-Gone-clause-goes : goal.returns-in-Gone-clause-goes
 returns-in-Gone-clause-goes c = goes_nowhere Nothing c.args.self.now
