@@ -1,7 +1,7 @@
 //! How far a command is, told in one line of a terminal, and notes beside it.
 
-use local_grid::watched::Watch;
 use grid_rules::{Amount, Remark, Verb, encoding_line, progress_line, seconds_left};
+use local_grid::watched::Watch;
 use std::alloc::{AllocError, Global};
 use std::io::{IsTerminal, Write};
 use std::rt::Clock;
