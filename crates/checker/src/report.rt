@@ -11,7 +11,7 @@ ghost use Rattle.checker.specs.Report.{IsReport, good_pairs, is_good};
 use crate::offers::{Offer, Stage};
 use crate::state::Machine;
 use crate::status::{Report, ShareVerdict, VerdictList};
-use placement::{PlacementError, happiness};
+use placement::happiness;
 use share_reading::Verdict;
 use std::alloc::{AllocError, Global};
 use wire::message::NodeId;
@@ -119,8 +119,6 @@ fn happiness_of(alloc: Global, pairs: &[(NodeId, u16)]) -> Result<usize, AllocEr
     ensures { IfOk result (λ size. (chosen : List Pair)
         × IsLargestMatching pairs.now chosen × (size ≡ length chosen)) }
 {
-    match happiness(alloc, pairs) {
-        Ok(matching) => Ok(matching.pairs.len()),
-        Err(PlacementError::OutOfMemory) => Err(AllocError),
-    }
+    let matching = happiness(alloc, pairs)?;
+    Ok(matching.pairs.len())
 }

@@ -169,10 +169,7 @@ impl FileTrees {
             siblings.items)) }
         ensures right { AreTrees self.now }
     {
-        match self.ciphertext.path(segment) {
-            Ok(path) => Ok(path),
-            Err(_) => Err(AllocError),
-        }
+        self.ciphertext.path(segment)
     }
 }
 

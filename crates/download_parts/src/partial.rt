@@ -25,13 +25,9 @@ pub(crate) fn tree_with(
     ensures hashes { IfOk result KnowsHashes }
 {
     is_hash(root);
-    match Partial::new(alloc, root, padding) {
-        Ok(tree) => {
-            let _ = tree.node(0);
-            Ok(tree)
-        }
-        Err(_) => Err(AllocError),
-    }
+    let tree = Partial::new(alloc, root, padding)?;
+    let _ = tree.node(0);
+    Ok(tree)
 }
 
 /// What is known of a leaf of a tree over so many.

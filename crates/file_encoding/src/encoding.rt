@@ -26,7 +26,7 @@ use crate::draft::Begun;
 use crate::error::EncodeError;
 use crate::params::Params;
 use crate::share::Share;
-use crate::shares::{Common, begin_shares, build_share_tree, build_tree, finish_shares};
+use crate::shares::{Common, begin_shares, build_share_tree, finish_shares};
 use aes_ctr::Aes128;
 use cap_text::{Cap, LitCap, ReadCap};
 use merkle::Tree;
@@ -62,7 +62,7 @@ fn ciphertext_tree(
         (segments_of geometry.now ciphertext.now)) }
 {
     let segments = Segments::of(geometry, ciphertext);
-    build_tree(alloc, &segments.hashes(alloc)?)
+    Tree::build(alloc, &segments.hashes(alloc)?)
 }
 
 // A text with zero bytes behind it, up to a multiple of the shares needed.

@@ -14,7 +14,7 @@ use crate::decoded::{DecodedFile, decode_shares};
 use crate::encoding::begin_file;
 use crate::reading::ReadError;
 use crate::share::Share;
-use crate::shares::{build_share_tree, build_tree, finish_shares};
+use crate::shares::{build_share_tree, finish_shares};
 use cap_text::VerifyCap;
 use merkle::Tree;
 use std::alloc::Global;
@@ -133,7 +133,7 @@ impl DecodedFile {
         ensures no_other { IfErr result (λ e. (e ≡ ReadError.OutOfMemory)
             ⊎ (e ≡ ReadError.Inconsistent)) }
     {
-        let ciphertext_tree = build_tree(alloc, &self.leaves)?;
+        let ciphertext_tree = Tree::build(alloc, &self.leaves)?;
         let begun = begin_file(alloc, &self.geometry, &self.text, &ciphertext_tree)?;
         let share_tree = build_share_tree(alloc, &begun)?;
         if !is_root(&share_tree, &self.share_root) {

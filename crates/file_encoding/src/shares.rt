@@ -37,15 +37,6 @@ pub(crate) struct Common<'a> {
     ghost fit: { FitTogether geometry.now code.now padded.now unused.now ciphertext_tree.now },
 }
 
-/// The tree over these leaves.
-pub(crate) fn build_tree(alloc: Global, leaves: &[[u8; 32]]) -> Result<Tree, AllocError>
-    requires some { 0 < length leaves.now }
-    requires few { length leaves.now ≤ 2 ^ 20 }
-    ensures { IfOk result (λ tree. tree ≡ leaves.now) }
-{
-    Tree::build(alloc, leaves).map_err(|_| AllocError)
-}
-
 impl<'a> Common<'a> {
     /// Begins the share of this number. The block is a buffer for each block of it.
     pub(crate) fn begin_share(
@@ -103,7 +94,7 @@ impl<'a> Common<'a> {
             block.len(),
             &mut hashes,
         );
-        build_tree(alloc, &hashes)
+        Tree::build(alloc, &hashes)
     }
 
     // Writes a share's block of a padded segment.
@@ -190,7 +181,7 @@ pub(crate) fn build_share_tree(alloc: Global, begun: &[Begun]) -> Result<Tree, A
     for share in begun {
         roots.push(share.root)?;
     }
-    build_tree(alloc, &roots)
+    Tree::build(alloc, &roots)
 }
 
 /// Finishes begun shares: the share hashes of each, and the extension block behind its length.
@@ -238,7 +229,7 @@ fn needed_nodes(alloc: Global, tree: &Tree, leaf: u16) -> Result<Vec<u32>, Alloc
     ensures numbers { IfOk result (λ numbers. numbers.items ≡ needed_numbers
         (height (length tree.now)) leaf) }
 {
-    tree.needed(alloc, u32::from(leaf)).map_err(|_| AllocError)
+    tree.needed(alloc, u32::from(leaf))
 }
 
 // Writes the nodes of these numbers, each behind its number in two bytes.

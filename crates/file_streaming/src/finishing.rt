@@ -23,7 +23,7 @@ ghost use Rattle.file_streaming.specs.Gathered.{Gathered, IsGathered};
 ghost use Rattle.file_streaming.specs.Shares.{HoldShares};
 ghost use Rattle.file_streaming.specs.Wholes.{AreGiven, IsGivenAt};
 
-use crate::geometry::{build_tree, write_extension_block};
+use crate::geometry::write_extension_block;
 use crate::shares::ShareSoFar;
 use crate::wholes::WholeHashers;
 use merkle::Tree;
@@ -65,7 +65,7 @@ fn build_block_trees(alloc: Global, shares: Vec<ShareSoFar>) -> Result<Vec<Tree>
 {
     let mut trees = Vec::with_capacity(alloc, shares.len())?;
     for share in shares {
-        trees.push(build_tree(alloc, &share.leaves)?)?;
+        trees.push(Tree::build(alloc, &share.leaves)?)?;
     }
     Ok(trees)
 }
@@ -80,7 +80,7 @@ fn build_share_tree(alloc: Global, block_trees: &[Tree]) -> Result<Tree, AllocEr
     for tree in block_trees {
         roots.push(tree.root())?;
     }
-    build_tree(alloc, &roots)
+    Tree::build(alloc, &roots)
 }
 
 // The trees over the leaves of a file's segments and of its shares.
@@ -98,7 +98,7 @@ fn build_trees(
         (λ trees. trees.blocks.items ≡ map (λ share. share.leaves.items) shares.items) }
     ensures shares { IfOk result (λ trees. trees.shares ≡ map tree_root trees.blocks.items) }
 {
-    let ciphertext = build_tree(alloc, leaves)?;
+    let ciphertext = Tree::build(alloc, leaves)?;
     let blocks = build_block_trees(alloc, shares)?;
     let shares = build_share_tree(alloc, &blocks)?;
     Ok(Trees {
@@ -114,7 +114,7 @@ fn needed_nodes(alloc: Global, tree: &Tree, leaf: u16) -> Result<Vec<u32>, Alloc
     ensures numbers { IfOk result (λ numbers. numbers.items ≡ needed_numbers
         (height (length tree.now)) leaf) }
 {
-    tree.needed(alloc, u32::from(leaf)).map_err(|_| AllocError)
+    tree.needed(alloc, u32::from(leaf))
 }
 
 // The nodes of these numbers, each behind its number in two bytes.

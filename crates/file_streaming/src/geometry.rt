@@ -10,7 +10,6 @@ ghost use Rattle.file_encoding.specs.Params.{HasTooManySegments, IsEncodable};
 use crate::error::PrepareError;
 use cap_text::ReadCap;
 use file_encoding::Params;
-use merkle::Tree;
 use share_layout::Geometry;
 use std::alloc::{AllocError, Global};
 use ueb::{Expect, MAX_FILE_SIZE, Ueb};
@@ -50,15 +49,6 @@ pub(crate) fn file_code(alloc: Global, geometry: &Geometry) -> Result<Code, Allo
         Err(CodeError::OutOfMemory) => Err(AllocError),
         Err(_) => unreachable!(),
     }
-}
-
-/// The tree over these leaves.
-pub(crate) fn build_tree(alloc: Global, leaves: &[[u8; 32]]) -> Result<Tree, AllocError>
-    requires some { 0 < length leaves.now }
-    requires few { length leaves.now ≤ 2 ^ 20 }
-    ensures { IfOk result (λ tree. tree ≡ leaves.now) }
-{
-    Tree::build(alloc, leaves).map_err(|_| AllocError)
 }
 
 /// The extension block of a file.

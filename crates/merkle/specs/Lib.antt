@@ -7,7 +7,6 @@ pub mod Partial
 pub mod Known
 pub mod OneTree
 pub mod Offers
-pub mod Error
 pub mod OfferError
 -- words of private clauses
 pub mod Taking

@@ -16,7 +16,7 @@ mod rows;
 mod taking;
 mod tree;
 
-pub use error::{OfferError, TreeError};
+pub use error::OfferError;
 pub use nodes::are_tree_nodes;
 pub use numbers::{height, needed_number, node_number, sibling, sibling_number};
 pub use one_tree::{known_nodes_are_own, siblings_agree, trees_agree};

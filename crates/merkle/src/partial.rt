@@ -1,7 +1,7 @@
 //! Trees of which some nodes are known.
 
 ghost use Rattle.std.specs.Prelude.{◌≡◌, ◌<◌, ◌≤◌, ◌^◌, ℕ, List, Some, Err, is_some};
-ghost use Rattle.std.specs.Prelude.{IfOk, IfSome, IsOkUnless, OnErr, OnOk};
+ghost use Rattle.std.specs.Prelude.{IfOk, IfSome, OnErr, OnOk};
 ghost use Rattle.merkle.specs.Path.{LeadsBy};
 ghost use Rattle.merkle.specs.Known.{KnownPathsAreKnown};
 ghost use Rattle.merkle.specs.Offers.{OwnNodesAreConsistent};
@@ -10,12 +10,12 @@ ghost use Rattle.merkle.specs.Partial.{KnownLeavesLead, PartialState, Takes, kno
 ghost use Rattle.merkle.specs.Partial.{known_siblings, leaf_number, missing_numbers, starting};
 ghost use Rattle.merkle.specs.Tree.{max_leaves};
 
-use crate::error::{OfferError, TreeError};
+use crate::error::OfferError;
 use crate::numbers::{node_number, sibling_number};
 use crate::padding::Padding;
 use crate::taking::{is_known, known_node, take, take_out};
 use crate::tree::needed_in;
-use std::alloc::Global;
+use std::alloc::{AllocError, Global};
 use std::collections::HashMap;
 use std::marker::Model;
 
@@ -51,9 +51,8 @@ impl Model for Partial {
 
 impl Partial {
     /// The tree with this root over as many leaves as the padding is of.
-    pub fn new(alloc: Global, root: &[u8; 32], padding: &Padding) -> Result<Partial, TreeError>
-        ensures tree { IfOk result (λ p. p ≡ starting root.now padding.now) }
-        ensures refused { IsOkUnless result TreeError.OutOfMemory }
+    pub fn new(alloc: Global, root: &[u8; 32], padding: &Padding) -> Result<Partial, AllocError>
+        ensures { IfOk result (λ p. p ≡ starting root.now padding.now) }
     {
         let mut nodes = HashMap::new(alloc);
         nodes.insert(0, *root)?;
@@ -110,10 +109,9 @@ impl Partial {
 
     /// The numbers of the nodes that lead from a leaf to the root and are not known yet, rising.
     /// There is such a leaf.
-    pub fn needed(&self, leaf: u32) -> Result<Vec<u32>, TreeError>
+    pub fn needed(&self, leaf: u32) -> Result<Vec<u32>, AllocError>
         requires { leaf < self.now.leaf_count }
-        ensures numbers { IfOk result (λ numbers. numbers.items ≡ missing_numbers self.now leaf) }
-        ensures refused { IsOkUnless result TreeError.OutOfMemory }
+        ensures { IfOk result (λ numbers. numbers.items ≡ missing_numbers self.now leaf) }
     {
         let numbers = needed_in(self.alloc, self.padded.height(), leaf)?;
         let mut missing = Vec::new(self.alloc);
@@ -127,7 +125,7 @@ impl Partial {
 
     /// The siblings of a leaf that is known and of the nodes above it, from the leaf upward, as
     /// `check_path` takes them. There is such a leaf.
-    pub fn path(&self, leaf: u32) -> Result<Option<Vec<[u8; 32]>>, TreeError>
+    pub fn path(&self, leaf: u32) -> Result<Option<Vec<[u8; 32]>>, AllocError>
         requires { leaf < self.now.leaf_count }
         ensures known { IfOk result (λ path. is_some path
             ≡ is_some (known_at self.now (leaf_number self.now.leaf_count leaf))) }
@@ -136,7 +134,6 @@ impl Partial {
         ensures leads { IfOk result (λ path. IfSome path (λ siblings. (hash : List ℕ)
             → known_at self.now (leaf_number self.now.leaf_count leaf) ≡ Some hash
             → LeadsBy self.now.leaf_count self.now.root leaf hash siblings.items)) }
-        ensures refused { IsOkUnless result TreeError.OutOfMemory }
     {
         let height = self.padded.height();
         if self.node(node_number(height, leaf)).is_none() {

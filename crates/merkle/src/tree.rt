@@ -1,14 +1,13 @@
 //! Trees that keep all their nodes.
 
 ghost use Rattle.std.specs.Prelude.{◌≡◌, ◌+◌, ◌-◌, ◌*◌, ◌^◌, ◌<◌, ◌≤◌, ℕ, List, [], length};
-ghost use Rattle.std.specs.Prelude.{map, slice_index_or, IfOk, IsOkUnless};
+ghost use Rattle.std.specs.Prelude.{map, slice_index_or, IfOk};
 ghost use Rattle.std.specs.List.{range_with_len};
 ghost use Rattle.merkle.specs.Path.{LeadsBy, siblings_of};
 ghost use Rattle.merkle.specs.Tree.{height, leaves_among, max_leaves, needed_numbers, padded_to};
 ghost use Rattle.merkle.specs.Tree.{sibling_number, tree_nodes, tree_root};
 ghost use Rattle.tagged_hash.specs.TaggedHash.{node_hash};
 
-use crate::error::TreeError;
 use crate::numbers::{height, needed_number, sibling_number};
 use crate::rows::parents_from;
 use std::alloc::{AllocError, Global};
@@ -35,11 +34,10 @@ impl Model for Tree {
 
 impl Tree {
     /// The tree over `leaves`, which are 1 to 2^20. It takes 32 bytes a node: less than 128 a leaf.
-    pub fn build(alloc: Global, leaves: &[[u8; 32]]) -> Result<Tree, TreeError>
+    pub fn build(alloc: Global, leaves: &[[u8; 32]]) -> Result<Tree, AllocError>
         requires some { 0 < length leaves.now }
         requires few { length leaves.now ≤ max_leaves }
-        ensures tree { IfOk result (λ tree. tree ≡ leaves.now) }
-        ensures refused { IsOkUnless result TreeError.OutOfMemory }
+        ensures { IfOk result (λ tree. tree ≡ leaves.now) }
     {
         let leaf_count = leaves.len() as u32;
         let width = 1usize << height(leaf_count);
@@ -65,26 +63,24 @@ impl Tree {
     /// The numbers of the nodes that lead from a leaf to the root, rising: the leaf, its sibling
     /// and those of the nodes above it, without the root unless it is the leaf. There is such a
     /// leaf.
-    pub fn needed(&self, alloc: Global, leaf: u32) -> Result<Vec<u32>, TreeError>
+    pub fn needed(&self, alloc: Global, leaf: u32) -> Result<Vec<u32>, AllocError>
         requires { leaf < length self.now }
-        ensures numbers { IfOk result (λ numbers.
+        ensures { IfOk result (λ numbers.
             numbers.items ≡ needed_numbers (height (length self.now)) leaf) }
-        ensures refused { IsOkUnless result TreeError.OutOfMemory }
     {
-        Ok(needed_in(alloc, height(self.leaf_count), leaf)?)
+        needed_in(alloc, height(self.leaf_count), leaf)
     }
 
     /// The siblings of a leaf and of the nodes above it, from the leaf upward, as `check_path`
     /// takes them. There is such a leaf.
-    pub fn path(&self, alloc: Global, leaf: u32) -> Result<Vec<[u8; 32]>, TreeError>
+    pub fn path(&self, alloc: Global, leaf: u32) -> Result<Vec<[u8; 32]>, AllocError>
         requires { leaf < length self.now }
         ensures siblings { IfOk result (λ siblings. siblings.items ≡ siblings_of self.now leaf) }
         ensures leads { IfOk result (λ siblings. LeadsBy (length self.now) (tree_root self.now) leaf
             (slice_index_or self.now leaf []) siblings.items) }
-        ensures refused { IsOkUnless result TreeError.OutOfMemory }
     {
         let height = height(self.leaf_count);
-        Ok(siblings_in(alloc, &self.nodes, height, leaf)?)
+        siblings_in(alloc, &self.nodes, height, leaf)
     }
 }
 

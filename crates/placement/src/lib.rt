@@ -5,14 +5,12 @@
 //! Servers and shares go by number. A pair `(server, share)` says that the server holds the share.
 #![tactic(auto)]
 
-mod error;
 mod matching;
 mod pairs;
 mod plan;
 mod ranking;
 mod search;
 
-pub use error::PlacementError;
 pub use matching::{Matching, check, happiness};
 pub use plan::{Plan, place};
 pub use ranking::{ServerId, order};

@@ -4,12 +4,11 @@ ghost use Rattle.std.specs.Prelude.{◌≡◌, ◌≢◌, ℕ, ◌<◌, ◌≤�
 ghost use Rattle.std.specs.Prelude.{slice_index, All, Contains, IfOk};
 ghost use Rattle.std.specs.List.{IsDistinct, zip};
 ghost use Rattle.placement.specs.Matching.{IsLargestMatching};
-ghost use Rattle.placement.specs.Plan.{IsPlan, IsSpread, Spreads, held_by, load_of, placeable};
+ghost use Rattle.placement.specs.Plan.{IsSpread, Spreads, held_by, load_of, placeable};
 ghost use Rattle.placement.specs.Plan.{remaining, shares_below, spare, untaken, unused};
 ghost use Rattle.placement.specs.Plan.{without_shares};
 
-use crate::error::PlacementError;
-use crate::matching::largest_matching;
+use crate::matching::happiness;
 use crate::pairs::{has_number, has_server, has_share};
 use std::alloc::{AllocError, Global};
 
@@ -42,7 +41,7 @@ pub fn place(
     writable: &[u16],
     held: &[(u16, u16)],
     n: u16,
-) -> Result<Plan, PlacementError>
+) -> Result<Plan, AllocError>
     // No server is given twice, and the pairs held are of these servers and shares.
     requires distinct { IsDistinct nat_eq (readonly.now ++ writable.now) }
     requires known { All (λ p. Contains (readonly.now ++ writable.now) p.0 × (p.1 < n)) held.now }
@@ -64,22 +63,6 @@ pub fn place(
     ensures best { IfOk result
         (λ plan. IsLargestMatching (placeable held.now writable.now n)
         (plan.m1.items ++ plan.m2.items ++ plan.m3.items)) }
-{
-    Ok(planned(alloc, readonly, writable, held, n)?)
-}
-
-/// The same, where only memory can fail.
-fn planned(
-    alloc: Global,
-    readonly: &[u16],
-    writable: &[u16],
-    held: &[(u16, u16)],
-    n: u16,
-) -> Result<Plan, AllocError>
-    requires { IsDistinct nat_eq writable.now }
-    ensures { IfOk result
-        (λ plan. IsPlan readonly.now writable.now held.now n plan.m1.items plan.m2.items
-        plan.m3.items plan.leftovers.items plan.unplaced.items) }
 {
     let m1 = kept_pairs(alloc, readonly, held)?;
     let m2 = open_pairs(alloc, writable, held, &m1)?;
@@ -128,7 +111,7 @@ fn open_pairs(
 fn largest_pairs(alloc: Global, pairs: &[(u16, u16)]) -> Result<Vec<(u16, u16)>, AllocError>
     ensures { IfOk result (λ chosen. IsLargestMatching pairs.now chosen.items) }
 {
-    let matching = largest_matching(alloc, pairs)?;
+    let matching = happiness(alloc, pairs)?;
     Ok(matching.pairs)
 }
 

@@ -67,5 +67,5 @@ pub(crate) fn largest(alloc: Global, pairs: &[(NodeId, u16)]) -> Result<Matching
     ensures { IfOk result
         (λ matching. IsHappiness pairs.now matching.pairs.items matching.blocking.items) }
 {
-    happiness(alloc, pairs).map_err(|_| AllocError)
+    happiness(alloc, pairs)
 }

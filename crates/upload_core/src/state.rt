@@ -143,10 +143,8 @@ fn nodes_in_order(
         (λ nodes. AreInOrder goal.now.cap.storage_index servers.now nodes.items) }
 {
     let ids = ids_of(alloc, servers)?;
-    match order(alloc, goal.cap().storage_index(), &ids) {
-        Ok(places) => nodes_at(alloc, servers, &places),
-        Err(_) => Err(AllocError),
-    }
+    let places = order(alloc, goal.cap().storage_index(), &ids)?;
+    nodes_at(alloc, servers, &places)
 }
 
 fn ids_of(alloc: Global, servers: &[ServerInfo]) -> Result<Vec<ServerId>, AllocError>

@@ -202,14 +202,10 @@ impl Course {
     {
         let servers = servers_of(alloc, &self.goal, self.requests.kept_since(0))?;
         let count = self.goal.share_count() as u16;
-        match place(alloc, &servers.readonly, &servers.writable, acked, count) {
-            Ok(plan) => {
-                let mut pairs = plan.m3;
-                pairs.extend_from_slice(&plan.leftovers)?;
-                Ok(pairs)
-            }
-            Err(_) => Err(AllocError),
-        }
+        let plan = place(alloc, &servers.readonly, &servers.writable, acked, count)?;
+        let mut pairs = plan.m3;
+        pairs.extend_from_slice(&plan.leftovers)?;
+        Ok(pairs)
     }
 
     // Begins the transfer of each pair.

@@ -3,6 +3,6 @@ use Rattle.merkle.specs.Known.{KnowsHashes}
 use Rattle.merkle.proofs.KnownLemmas.{starting_knows}
 use Rattle.download_parts.proofs.partial.tree_with.Goals as goal
 
-pub returns-in-Ok-clause-hashes : goal.returns-in-Ok-clause-hashes
-returns-in-Ok-clause-hashes c =
-    subst KnowsHashes (sym c.in-Ok.ensures.tree) (starting_knows c.args.root.now c.args.padding.now c.is_hash.ensures)
+pub returns-clause-hashes : goal.returns-clause-hashes
+returns-clause-hashes c =
+    subst KnowsHashes (sym c.in_ok-tree.ensures) (starting_knows c.args.root.now c.args.padding.now c.is_hash.ensures)

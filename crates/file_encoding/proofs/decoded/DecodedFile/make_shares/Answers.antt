@@ -11,12 +11,12 @@ use Rattle.file_encoding.proofs.DecodedFiles.{leaf_count, other_regenerated, reg
 use Rattle.file_encoding.proofs.Making.{count, length-tree, shares_are, some_segments, total_is, tree_is}
 use Rattle.file_encoding.proofs.decoded.DecodedFile.make_shares.Goals as goal
 
-pub build_tree-requires-clause-some : goal.build_tree-requires-clause-some
-build_tree-requires-clause-some c =
+pub build-requires-clause-some : goal.build-requires-clause-some
+build-requires-clause-some c =
     omega (arith, ap length c.deref.ensures.value, leaf_count _ c.self.invariant, some_segments c.self.inside.geometry c.self.invariant.valid)
 
-pub build_tree-requires-clause-few : goal.build_tree-requires-clause-few
-build_tree-requires-clause-few c = omega (arith, ap length c.deref.ensures.value, leaf_count _ c.self.invariant, c.self.invariant.valid.few)
+pub build-requires-clause-few : goal.build-requires-clause-few
+build-requires-clause-few c = omega (arith, ap length c.deref.ensures.value, leaf_count _ c.self.invariant, c.self.invariant.valid.few)
 
 pub begin_file-requires-clause-leaves : goal.begin_file-requires-clause-leaves
 begin_file-requires-clause-leaves c = ap length (c.in_ok-ciphertext_tree.ensures ∙ c.deref.ensures.value) ∙ leaf_count _ c.self.invariant

@@ -36,10 +36,10 @@ place-requires-clause-known c =
     (subst (λ (xs : List ℕ). All (λ (p : Pair). Contains (xs ++ c.deref-2.result.now) p.0 × (p.1 < length u.goal.digests)) (acked_pairs u.goal es)) (sym ro)
     (subst (λ (xs : List ℕ). All (λ (p : Pair). Contains (readonly_servers u.goal es ++ xs) p.0 × (p.1 < length u.goal.digests)) (acked_pairs u.goal es)) (sym w) known)))
 
-abbrev the_plan : goal.After-drop-servers-in-Ok-2 → Placing
-the_plan c = record { m3 = c.in-Ok.plan.m3.items; leftovers = c.in-Ok.plan.leftovers.items }
+abbrev the_plan : goal.After-drop-servers-2 → Placing
+the_plan c = record { m3 = c.in_ok-plan.plan.m3.items; leftovers = c.in_ok-plan.plan.leftovers.items }
 
-is_plan : (c : goal.After-drop-servers-in-Ok-2) → IsPlan (readonly_servers c.args.self.now.goal c.args.self.now.requests.entries) (writable_servers c.args.self.now.goal c.args.self.now.requests.entries) (acked_pairs c.args.self.now.goal c.args.self.now.requests.entries) (length c.args.self.now.goal.digests) c.in-Ok.plan.m1.items c.in-Ok.plan.m2.items c.in-Ok.plan.m3.items c.in-Ok.plan.leftovers.items c.in-Ok.plan.unplaced.items
+is_plan : (c : goal.After-drop-servers-2) → IsPlan (readonly_servers c.args.self.now.goal c.args.self.now.requests.entries) (writable_servers c.args.self.now.goal c.args.self.now.requests.entries) (acked_pairs c.args.self.now.goal c.args.self.now.requests.entries) (length c.args.self.now.goal.digests) c.in_ok-plan.plan.m1.items c.in_ok-plan.plan.m2.items c.in_ok-plan.plan.m3.items c.in_ok-plan.plan.leftovers.items c.in_ok-plan.plan.unplaced.items
 is_plan c =
     let u : UploadState = record { goal = c.self.inside.goal; happy = c.self.inside.happy; servers = c.self.inside.servers.items; requests = c.self.inside.requests; round = c.self.inside.round; status = c.self.inside.status } in
     let v : UploadState = c.args.self.now in
@@ -47,24 +47,24 @@ is_plan c =
     let w : c.deref-2.result.now ≡ writable_servers v.goal v.requests.entries = c.deref-2.ensures.value ∙ c.in_ok-servers.ensures.writable ∙ ap (writable_servers u.goal) c.kept_since.ensures ∙ writable_kept u.goal u.requests.entries ∙ ap (λ (s : UploadState). writable_servers s.goal s.requests.entries) c.self.view_is in
     let n : c.share_count-count.result ≡ length v.goal.digests = c.share_count-count.ensures.count ∙ ap (λ (s : UploadState). length s.goal.digests) c.self.view_is in
     plan_at c.deref.result.now (readonly_servers v.goal v.requests.entries) c.deref-2.result.now (writable_servers v.goal v.requests.entries) c.args.acked.now (acked_pairs v.goal v.requests.entries) c.share_count-count.result (length v.goal.digests)
-    c.in-Ok.plan.m1.items c.in-Ok.plan.m2.items c.in-Ok.plan.m3.items c.in-Ok.plan.leftovers.items c.in-Ok.plan.unplaced.items ro w c.requires.acked n
-    (record { first_largest = c.in-Ok.ensures.m1; second_largest = c.in-Ok.ensures.m2; third_paired = c.in-Ok.ensures.m3; rest_spread = c.in-Ok.ensures.leftovers })
+    c.in_ok-plan.plan.m1.items c.in_ok-plan.plan.m2.items c.in_ok-plan.plan.m3.items c.in_ok-plan.plan.leftovers.items c.in_ok-plan.plan.unplaced.items ro w c.requires.acked n
+    (record { first_largest = c.in_ok-plan.ensures.m1; second_largest = c.in_ok-plan.ensures.m2; third_paired = c.in_ok-plan.ensures.m3; rest_spread = c.in_ok-plan.ensures.leftovers })
 
-pub returns-in-Ok-clause-placing : goal.returns-in-Ok-clause-placing
-returns-in-Ok-clause-placing c = (
+pub returns-clause-placing : goal.returns-clause-placing
+returns-clause-placing c = (
   the_plan c,
-  record { m1 = c.in-Ok.plan.m1.items; m2 = c.in-Ok.plan.m2.items; unplaced = c.in-Ok.plan.unplaced.items; plan = is_plan c },
-  c.in_ok-extend_from_slice-in-Ok.ensures.items ∙ ap (λ (l : List Pair). c.in-Ok.plan.m3.items ++ l) c.deref-in-Ok.ensures.value,
+  record { m1 = c.in_ok-plan.plan.m1.items; m2 = c.in_ok-plan.plan.m2.items; unplaced = c.in_ok-plan.plan.unplaced.items; plan = is_plan c },
+  c.in_ok-extend_from_slice.ensures.items ∙ ap (λ (l : List Pair). c.in_ok-plan.plan.m3.items ++ l) c.deref-3.ensures.value,
 )
 
-pub returns-in-Ok-clause-may : goal.returns-in-Ok-clause-may
-returns-in-Ok-clause-may c =
+pub returns-clause-may : goal.returns-clause-may
+returns-clause-may c =
     let v : UploadState = c.args.self.now in
-    let items : c.extend_from_slice.new.self.items ≡ c.in-Ok.plan.m3.items ++ c.in-Ok.plan.leftovers.items = c.in_ok-extend_from_slice-in-Ok.ensures.items ∙ ap (λ (l : List Pair). c.in-Ok.plan.m3.items ++ l) c.deref-in-Ok.ensures.value in
+    let items : c.extend_from_slice.new.self.items ≡ c.in_ok-plan.plan.m3.items ++ c.in_ok-plan.plan.leftovers.items = c.in_ok-extend_from_slice.ensures.items ∙ ap (λ (l : List Pair). c.in_ok-plan.plan.m3.items ++ l) c.deref-3.ensures.value in
     subst (All (MayPlace v)) (sym items) (plan_may v _ _ _ _ _ (is_plan c) c.requires.settled c.requires.followed)
 
-pub returns-in-Ok-clause-once : goal.returns-in-Ok-clause-once
-returns-in-Ok-clause-once c =
+pub returns-clause-once : goal.returns-clause-once
+returns-clause-once c =
     let v : UploadState = c.args.self.now in
-    let items : c.extend_from_slice.new.self.items ≡ c.in-Ok.plan.m3.items ++ c.in-Ok.plan.leftovers.items = c.in_ok-extend_from_slice-in-Ok.ensures.items ∙ ap (λ (l : List Pair). c.in-Ok.plan.m3.items ++ l) c.deref-in-Ok.ensures.value in
+    let items : c.extend_from_slice.new.self.items ≡ c.in_ok-plan.plan.m3.items ++ c.in_ok-plan.plan.leftovers.items = c.in_ok-extend_from_slice.ensures.items ∙ ap (λ (l : List Pair). c.in_ok-plan.plan.m3.items ++ l) c.deref-3.ensures.value in
     subst (λ (ps : List Pair). IsDistinct eqb (shares_of ps)) (sym items) (placed_once v _ _ _ _ _ (is_plan c))
