@@ -118,7 +118,7 @@ pub(crate) fn why_not(reading: &FileReading, beginnings: &Beginnings) -> Settled
     }
 }
 
-/// A law: the holdings that are read are left. The call does nothing.
+// A law: the holdings that are read are left. The call does nothing.
 fn know_table(holdings: &Holdings)
     ensures { IsTable holdings.now.table }
 {

@@ -24,7 +24,7 @@ pub(crate) fn tree_with(
     ensures right { IfOk result IsPartial }
     ensures hashes { IfOk result KnowsHashes }
 {
-    is_hash(root);
+    know_hash(root);
     let tree = Partial::new(alloc, root, padding)?;
     let _ = tree.node(0);
     Ok(tree)
@@ -80,8 +80,8 @@ pub(crate) fn offer_nodes(
     offer(tree, &offers, check)
 }
 
-// That a hash has 32 bytes, which nothing else tells. It does nothing.
-fn is_hash(hash: &[u8; 32])
+// A law: a hash has 32 bytes. The call does nothing.
+fn know_hash(hash: &[u8; 32])
     ensures { length hash.now ≡ 32 }
 {
     let _ = hash;

@@ -239,7 +239,7 @@ impl Handout {
         let Some(path) = self.trees.path(number)? else {
             unreachable!();
         };
-        are_hashes(&path);
+        know_hashes(&path);
         Ok(Some(path))
     }
 
@@ -451,8 +451,8 @@ fn cut(text: Vec<u8>, skipped: usize, count: usize) -> Vec<u8>
     text
 }
 
-// That hashes have 32 bytes each, which nothing else tells. It does nothing.
-fn are_hashes(hashes: &[[u8; 32]])
+// A law: hashes have 32 bytes each. The call does nothing.
+fn know_hashes(hashes: &[[u8; 32]])
     ensures { AreHashes hashes.now }
 {
     let _ = hashes;

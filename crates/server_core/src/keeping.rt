@@ -25,7 +25,7 @@ pub fn start<S: Keeping>(alloc: Global, store: S, capacity: u64, readonly: bool)
     } }
     ensures sound { HaveDigests (S.shelf store).closed → IsSound (over S.shelf result) }
 {
-    store.stands_in_order();
+    store.know_order();
     Server::start(alloc, store, capacity, readonly)
 }
 

@@ -195,8 +195,8 @@ fn move_closed(
     Ok(())
 }
 
-// The closed shares stand in the order of their places.
-fn rises(closed: &BTreeMap<Place, ClosedShare>)
+// A law: the closed shares stand in the order of their places. The call does nothing.
+fn know_rising(closed: &BTreeMap<Place, ClosedShare>)
     ensures { AreRising closed.now.entries }
 {
     let _ = closed.len();
@@ -276,8 +276,8 @@ impl Store for MemoryStore {
 impl Keeping for MemoryStore {
     ghost shelf = { λ s. s.shelf };
 
-    fn stands_in_order(&self) {
-        rises(&self.closed);
+    fn know_order(&self) {
+        know_rising(&self.closed);
     }
 
     ghost kept = { memory_keeps };

@@ -84,8 +84,9 @@ pub trait Keeping: Store {
     /// What it holds.
     ghost shelf: { Self → Shelf };
 
-    /// A law: its closed shares stand in the order of their places, each once.
-    fn stands_in_order(&self)
+    /// A law: its closed shares stand in the order of their places, each once. The call does
+    /// nothing.
+    fn know_order(&self)
         ensures { AreRising (shelf self.now).closed };
 
     /// What it does is what the shelf does.

@@ -7,4 +7,4 @@ use Rattle.server_core.proofs.keeping.start.Goals as goal
 pub returns-clause-sound : goal.returns-clause-sound
 returns-clause-sound g c = λ digests.
     subst (λ (s : Machine _). IsSound (over g.S.Keeping.shelf s)) (sym c.start.ensures)
-    (starts_sound (g.S.Keeping.shelf c.args.store) c.args.capacity c.args.readonly (record { rising = c.stands_in_order.ensures; digests = digests }))
+    (starts_sound (g.S.Keeping.shelf c.args.store) c.args.capacity c.args.readonly (record { rising = c.know_order.ensures; digests = digests }))
