@@ -1,6 +1,6 @@
 -- Whom a record asked, it asked still as it goes on.
-use Rattle.std.proofs.Common.{◌≡◌, ◌⊎◌, ℕ, Bool, true, false, max, List, [], ◌∷◌, length, map, Option, Some, None, refl, sym, subst, ap, ◌∙◌, inl, inr}
-use Rattle.std.specs.Prelude.{Contains, slice_get, option_map, if◌then◌else◌}
+use Rattle.std.proofs.Common.{◌≡◌, ◌⊎◌, ℕ, max, List, [], ◌∷◌, length, map, Option, Some, None, refl, sym, subst, ap, ◌∙◌, inl, inr}
+use Rattle.std.specs.Prelude.{Contains, slice_get, option_map}
 use Rattle.std.proofs.lemmas.Bool.{cases_eq}
 use Rattle.std.proofs.lemmas.Option.{same_Some, slice_get-map}
 use Rattle.lemmas.proofs.Members.{contains_cases, contains_none}
@@ -12,7 +12,8 @@ use Rattle.request_record.specs.declared.requests.Asked.TheVariants.{Holdings, A
 use Rattle.request_record.specs.declared.requests.Outcome.TheVariants.{Answered, Lost, Unawaited}
 use Rattle.request_record.specs.declared.requests.Request.{Request}
 use Rattle.request_record.specs.Asking.{after_message, after_tick, asks_of, begun, fresh}
-use Rattle.request_record.specs.Record.{RequestsState, answered_in, asked_all, asked_more, at, counted_at, counts_at, first_outcome, first_request, is_lost_at, is_resent_at, resent_one, ticked_one, with_outcome}
+use Rattle.request_record.specs.Record.{RequestsState, answered_in, asked_all, asked_more, at, counted_at, counts_at, first_outcome, first_request, ticked_one, with_outcome}
+use Rattle.request_record.proofs.FollowLaws.{some_of, ticks_one}
 use Rattle.all_asked.specs.Asked.{AsksAll, IsAsked}
 
 -- the request that stands at a place now asks the same of the same server
@@ -139,22 +140,6 @@ stays_counted m r None = itself r.entries
 stays_counted m r (Some place) = stays_answered r.entries place (slice_get r.entries place) m.body refl
 
 -- ---- ticks
-
-record Ticks (old new : Request) : Type 0 where
-  pub server : new.server ≡ old.server
-  pub asked : new.asked ≡ old.asked
-  pub outcome : (new.outcome ≡ old.outcome) ⊎ (new.outcome ≡ Lost)
-
-ticks_one : (now : ℕ) (r : Request) → Ticks r (ticked_one now r)
-ticks_one now r = by (is_lost_at now r) (is_resent_at now r) where
-  by : (lost again : Bool) → Ticks r (if lost then with_outcome r Lost else (if again then resent_one now r else r))
-  by true again = record { server = refl; asked = refl; outcome = inr refl }
-  by false true = record { server = refl; asked = refl; outcome = inl refl }
-  by false false = record { server = refl; asked = refl; outcome = inl refl }
-
-some_of : (now : ℕ) (o : Option Request) (s : Request) → option_map (ticked_one now) o ≡ Some s → (r : Request) × (o ≡ Some r) × (s ≡ ticked_one now r)
-some_of now None s e = absurd cc
-some_of now (Some r) s e = (r, refl, same_Some s (ticked_one now r) (sym e))
 
 stays_ticked : (now : ℕ) (entries : List Request) → Stays entries (map (ticked_one now) entries)
 stays_ticked now entries = record {

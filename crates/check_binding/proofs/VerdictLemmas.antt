@@ -36,7 +36,7 @@ use Rattle.share_reading.specs.declared.verdict.Verdict.TheVariants.{Good, Corru
 use Rattle.share_reading.proofs.ConsecutiveLemmas.{append, are_one, covers, inside, push}
 use Rattle.share_reading.proofs.ReadingLemmas.{led_by, places_are}
 use Rattle.share_reading.proofs.VerdictLemmas.{brought_from, brought_has}
-use Rattle.download_binding.proofs.OpeningCopies.{header_begins, told_length}
+use Rattle.share_reading.proofs.BlameLemmas.{header_begins, told_length}
 use Rattle.download_binding.proofs.OpeningLemmas.{own_at, own_long, own_not_refused}
 use Rattle.check_binding.specs.Reads.{BringOwn, OwnReadsAreGood}
 

@@ -3,7 +3,6 @@ pub mod PieceSiblings
 pub mod HashSiblings
 pub mod OwnPieces
 pub mod OwnBlock
-pub mod OpeningCopies
 pub mod OpeningLemmas
 pub mod AnswerLemmas
 pub mod OwnReaders

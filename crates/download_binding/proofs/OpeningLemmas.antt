@@ -23,8 +23,7 @@ use Rattle.share_reading.specs.declared.error.OpeningError.{OpeningError}
 use Rattle.share_reading.specs.declared.header.ShareHeader.{ShareHeader}
 use Rattle.share_reading.specs.declared.opening.Opening.{Opening}
 use Rattle.share_reading.specs.declared.opening.Opening.TheVariants.{Start, Second, Header, Block}
-use Rattle.share_reading.proofs.BlameLemmas.{refused_fail}
-use Rattle.download_binding.proofs.OpeningCopies.{Begins, header_begins, known, layout_take, told_length}
+use Rattle.share_reading.proofs.BlameLemmas.{Begins, header_begins, known, layout_take, refused_fail, told_length}
 
 -- bytes of a share, as many as were asked for where it has them
 pub own_at : (share bytes : List ℕ) (place len : ℕ) → bytes ≡ take len (drop place share) → HasAt share place bytes

@@ -116,7 +116,7 @@ reaches : (g : Geometry) → HaveBounds g → (l : Layout) → IsReachable (plac
 reaches g b One = omega (arith, b.few_blocks, b.few_nodes, b.few_hashes)
 reaches g b Two = omega (arith, b.few_blocks, b.few_nodes, b.few_hashes)
 
-known : (cap : VerifyCapValue) (num : ℕ) (share : List ℕ) (u : Contents) (s : Sections) → ReadsAs cap num share u s → Known u share
+pub known : (cap : VerifyCapValue) (num : ℕ) (share : List ℕ) (u : Contents) (s : Sections) → ReadsAs cap num share u s → Known u share
 known cap num share u s reads =
     let g = geometry_by u in
     let valid : IsGeometry g = is_geometry u reads.ueb.grammar.contents in
@@ -145,7 +145,7 @@ text_begins Two reads share text long led has =
     has _ led.1 ∙ ap (λ n. take n (drop 36 share)) (let f : length (drop 36 text) ≡ 32 = omega (arith, length-drop 36 text, long) in f) in
     sym (take-append-drop 36 text) ∙ (λ i. first i ++ rest i) ∙ sym (take-add 36 32 share) ∙ ap (λ n. take n share) (sym long)
 
-header_begins : (reads : List Brought) (share : List ℕ) (h : ShareHeader) → IsHeaderBy reads h.places.layout (text_of h) → HasReads reads share → Begins (text_of h) share
+pub header_begins : (reads : List Brought) (share : List ℕ) (h : ShareHeader) → IsHeaderBy reads h.places.layout (text_of h) → HasReads reads share → Begins (text_of h) share
 header_begins reads share h led has =
     let same : h.places.layout ≡ layout_in (text_of h) = ap (λ (p : Places). p.layout) h.right.places in
     begins (text_of h) share (length-text_of h ∙ ap header_size same) (text_begins h.places.layout reads share (text_of h) (length-text_of h) led has)
@@ -178,7 +178,7 @@ no_empty block u is none = empty is.fields is.are_fields.rising (is.known Size) 
         let some : 0 < length (fields_text (f ∷ fields)) = behind f.key _ _ rising.0.some in absurd (omega (arith, some, none))
 
 -- the length of the extension block that was read is the share's
-told_length : (share : List ℕ) (h : ShareHeader) (bytes : List ℕ) → Begins (text_of h) share → HasAt share h.places.extension_block bytes
+pub told_length : (share : List ℕ) (h : ShareHeader) (bytes : List ℕ) → Begins (text_of h) share → HasAt share h.places.extension_block bytes
     → length bytes ≡ width h.places.layout → number_at h.places.layout bytes 0 ≡ extension_length (places_in share) share
 told_length share h bytes b has long =
     let p : h.places ≡ places_in share = h.right.places ∙ b.places in
