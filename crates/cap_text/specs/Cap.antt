@@ -11,6 +11,11 @@ pub record ReadCapValue : Type 0 where
   pub total : ℕ
   pub size : ℕ
 
+-- the read cap that says this
+abbrev pub read_cap_value : List ℕ → List ℕ → ℕ → ℕ → ℕ → ReadCapValue
+read_cap_value key ueb_hash needed total size =
+    record { key = key; ueb_hash = ueb_hash; needed = needed; total = total; size = size }
+
 -- what a verify cap says
 pub record VerifyCapValue : Type 0 where
   pub storage_index : List ℕ
@@ -18,6 +23,17 @@ pub record VerifyCapValue : Type 0 where
   pub needed : ℕ
   pub total : ℕ
   pub size : ℕ
+
+-- the verify cap that says this
+abbrev pub verify_cap_value : List ℕ → List ℕ → ℕ → ℕ → ℕ → VerifyCapValue
+verify_cap_value storage_index ueb_hash needed total size =
+    record {
+      storage_index = storage_index;
+      ueb_hash = ueb_hash;
+      needed = needed;
+      total = total;
+      size = size;
+    }
 
 -- so many shares are needed of so many, and the file is of such a size
 pub record AreParameters (needed total size : ℕ) : Type 0 where
@@ -53,10 +69,5 @@ pub record IsLitCap (file : List ℕ) : Type 0 where
 
 -- the verify cap of a read cap's file
 abbrev pub verify_cap_of : ReadCapValue → VerifyCapValue
-verify_cap_of c = record {
-  storage_index = storage_index_of c.key;
-  ueb_hash = c.ueb_hash;
-  needed = c.needed;
-  total = c.total;
-  size = c.size;
-}
+verify_cap_of c =
+    verify_cap_value (storage_index_of c.key) c.ueb_hash c.needed c.total c.size

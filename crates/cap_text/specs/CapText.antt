@@ -15,7 +15,7 @@ use Rattle.cap_text.specs.declared.error.CapError.TheVariants.{LitTooLong}
 use Rattle.tagged_hash.specs.Decimal.{IsDecimal}
 use Rattle.cap_text.specs.Base32.{base32, IsBytes}
 use Rattle.cap_text.specs.Cap.{ReadCapValue, VerifyCapValue, AreParameters, max_lit_letters}
-use Rattle.cap_text.specs.Cap.{IsReadCap, IsVerifyCap, IsLitCap}
+use Rattle.cap_text.specs.Cap.{IsReadCap, IsVerifyCap, IsLitCap, read_cap_value, verify_cap_value}
 
 -- this is the base32 text of so many bytes
 abbrev pub IsBase32 : ℕ → List ℕ → Type 0
@@ -184,19 +184,7 @@ Answers text (Err OutOfMemory) = ⊥
 
 -- the caps of some fields, of which the first is a key, or a storage index
 abbrev pub read_cap_of : Fields → ReadCapValue
-read_cap_of f = record {
-  key = f.first;
-  ueb_hash = f.ueb_hash;
-  needed = f.needed;
-  total = f.total;
-  size = f.size;
-}
+read_cap_of f = read_cap_value f.first f.ueb_hash f.needed f.total f.size
 
 abbrev pub verify_cap_from : Fields → VerifyCapValue
-verify_cap_from f = record {
-  storage_index = f.first;
-  ueb_hash = f.ueb_hash;
-  needed = f.needed;
-  total = f.total;
-  size = f.size;
-}
+verify_cap_from f = verify_cap_value f.first f.ueb_hash f.needed f.total f.size

@@ -3,7 +3,8 @@
 ghost use Rattle.std.specs.Prelude.{◌≡◌, ◌<◌, ◌≤◌, ◌↔◌, Err, IsTrue, length};
 ghost use Rattle.std.specs.Result.{OkIff};
 ghost use Rattle.cap_text.specs.Cap.{ReadCapValue, VerifyCapValue, AreParameters, IsReadCap};
-ghost use Rattle.cap_text.specs.Cap.{IsVerifyCap, IsLitCap, max_lit_size};
+ghost use Rattle.cap_text.specs.Cap.{IsVerifyCap, IsLitCap, max_lit_size, read_cap_value};
+ghost use Rattle.cap_text.specs.Cap.{verify_cap_value};
 
 use crate::error::CapError;
 use crate::fields::Fields;
@@ -49,13 +50,7 @@ pub struct ReadCap {
 impl Model for ReadCap {
     ghost Value = { ReadCapValue };
 
-    ghost view = { λ c. record {
-      key = c.key;
-      ueb_hash = c.ueb_hash;
-      needed = c.needed;
-      total = c.total;
-      size = c.size;
-    } };
+    ghost view = { λ c. read_cap_value c.key c.ueb_hash c.needed c.total c.size };
 
     ghost inverse = { λ v. record {
       key = v.key;
@@ -65,13 +60,8 @@ impl Model for ReadCap {
       size = v.size;
     } };
 
-    ghost invariant = { λ c. IsReadCap (record {
-      key = c.key;
-      ueb_hash = c.ueb_hash;
-      needed = c.needed;
-      total = c.total;
-      size = c.size;
-    }) };
+    ghost invariant = { λ c.
+        IsReadCap (read_cap_value c.key c.ueb_hash c.needed c.total c.size) };
 }
 
 impl ReadCap {
@@ -90,13 +80,7 @@ impl ReadCap {
         size: u64,
     ) -> Result<ReadCap, CapError>
         ensures value { OkIff result (AreParameters needed total size)
-            (record {
-              key = key;
-              ueb_hash = ueb_hash;
-              needed = needed;
-              total = total;
-              size = size;
-            }) }
+            (read_cap_value key ueb_hash needed total size) }
         ensures refused { (result ≡ Err CapError.BadParameters)
             ↔ ¬ (AreParameters needed total size) }
     {
@@ -197,13 +181,8 @@ pub struct VerifyCap {
 impl Model for VerifyCap {
     ghost Value = { VerifyCapValue };
 
-    ghost view = { λ c. record {
-      storage_index = c.storage_index;
-      ueb_hash = c.ueb_hash;
-      needed = c.needed;
-      total = c.total;
-      size = c.size;
-    } };
+    ghost view = { λ c.
+        verify_cap_value c.storage_index c.ueb_hash c.needed c.total c.size };
 
     ghost inverse = { λ v. record {
       storage_index = v.storage_index;
@@ -213,13 +192,8 @@ impl Model for VerifyCap {
       size = v.size;
     } };
 
-    ghost invariant = { λ c. IsVerifyCap (record {
-      storage_index = c.storage_index;
-      ueb_hash = c.ueb_hash;
-      needed = c.needed;
-      total = c.total;
-      size = c.size;
-    }) };
+    ghost invariant = { λ c.
+        IsVerifyCap (verify_cap_value c.storage_index c.ueb_hash c.needed c.total c.size) };
 }
 
 impl VerifyCap {
