@@ -8,7 +8,7 @@ use Rattle.std.proofs.lemmas.Grind.{div_ceil_times}
 use Rattle.lemmas.proofs.Numbers.{div_ceil_le}
 use Rattle.ueb.specs.Shape.{rounded_up}
 use Rattle.ueb.specs.Limits.{max_file_size, max_segment_size, max_segments}
-use Rattle.share_layout.specs.Geometry.{Geometry, geometry_of, segment_count, AreParameters, HasGeometry, IsGeometry}
+use Rattle.share_layout.specs.Geometry.{Geometry, geometry_of, geometry_with, segment_count, AreParameters, HasGeometry, IsGeometry}
 
 pub rounded_up_le : (m n k : ℕ) → 0 < k → m ≤ n → rounded_up m k ≤ rounded_up n k
 rounded_up_le m n k some le = mul-le-mul_right k (div_ceil_le m n k some le)
@@ -42,10 +42,10 @@ is_geometry size needed total max h =
 -- the same of a segment size that is found to be that
 pub is_geometry_with : (size needed total max segment : ℕ) → AreParameters size needed total max → size ≤ max_file_size
     → segment ≡ rounded_up (min max size) needed → div_ceil size segment ≤ max_segments
-    → IsGeometry (record { size = size; needed = needed; total = total; segment_size = segment })
+    → IsGeometry (geometry_with size needed total segment)
 is_geometry_with size needed total max segment p large same few =
     let few' : div_ceil size (rounded_up (min max size) needed) ≤ max_segments = subst (λ s. div_ceil size s ≤ max_segments) same few in
-    subst (λ s. IsGeometry (record { size = size; needed = needed; total = total; segment_size = s })) (sym same)
+    subst (λ s. IsGeometry (geometry_with size needed total s)) (sym same)
     (is_geometry size needed total max (record { parameters = p; not_large = large; few = few' }))
 
 -- the segment size of a geometry, as a greatest length, gives itself
@@ -65,7 +65,7 @@ pub gives_itself : (g : Geometry) → IsGeometry g → g.segment_size ≤ max_se
 gives_itself g v low =
     let e = same_segment_size g v in
     let same : geometry_of g.size g.needed g.total g.segment_size ≡ g =
-    ap (λ n. record { size = g.size; needed = g.needed; total = g.total; segment_size = n }) e in (
+    ap (geometry_with g.size g.needed g.total) e in (
       record {
         parameters = record { some = v.some; some_needed = v.some_needed; enough = v.enough; shares = v.shares; some_max = v.some_segment; max_not_large = low };
         not_large = v.not_large;

@@ -15,16 +15,16 @@ pub record Geometry : Type 0 where
   pub total : ℕ
   pub segment_size : ℕ
 
--- of a file of this size, of which `needed` of `total` shares are needed, with segments of at most
--- `max` bytes
+-- of a file of this size, of which `needed` of `total` shares are needed, with segments of this
+-- size
+abbrev pub geometry_with : ℕ → ℕ → ℕ → ℕ → Geometry
+geometry_with size needed total segment_size =
+    record { size = size; needed = needed; total = total; segment_size = segment_size }
+
+-- the same with segments of at most `max` bytes
 abbrev pub geometry_of : ℕ → ℕ → ℕ → ℕ → Geometry
 geometry_of size needed total max =
-    record {
-      size = size;
-      needed = needed;
-      total = total;
-      segment_size = rounded_up (min max size) needed;
-    }
+    geometry_with size needed total (rounded_up (min max size) needed)
 
 -- the number of segments
 abbrev pub segment_count : Geometry → ℕ

@@ -32,23 +32,14 @@ pub struct Geometry {
 }
 
 impl Model for Geometry {
-    ghost use Rattle.share_layout.specs.Geometry.{Geometry, IsGeometry};
+    ghost use Rattle.share_layout.specs.Geometry.{Geometry, IsGeometry, geometry_with};
 
     ghost Value = { Geometry };
 
-    ghost view = { λ g. record {
-      size = g.size;
-      needed = g.needed;
-      total = g.total;
-      segment_size = g.segment_size;
-    } };
+    ghost view = { λ g. geometry_with g.size g.needed g.total g.segment_size };
 
-    ghost invariant = { λ g. IsGeometry (record {
-      size = g.size;
-      needed = g.needed;
-      total = g.total;
-      segment_size = g.segment_size;
-    }) };
+    ghost invariant = { λ g.
+        IsGeometry (geometry_with g.size g.needed g.total g.segment_size) };
 
     ghost inverse = { λ g. record {
       size = g.size;
