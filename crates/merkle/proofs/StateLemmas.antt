@@ -10,17 +10,13 @@ use Rattle.std.proofs.lemmas.Option.{none-some}
 use Rattle.tagged_hash.specs.TaggedHash.{node_hash}
 use Rattle.merkle.specs.Path.{path_root}
 use Rattle.merkle.specs.Tree.{height, node_number, sibling}
-use Rattle.merkle.specs.Partial.{IsJoined, IsPartial, Known, KnownLeavesLead, PartialState, all_known, is_padding, known_at, known_by, known_siblings, leaf_number, only_root, padding, padding_hash, parent, place_in_row, row_of, starting}
+use Rattle.merkle.specs.Partial.{IsJoined, IsPartial, Known, KnownLeavesLead, PartialState, all_known, is_padding, known_at, known_by, known_siblings, leaf_number, only_root, padding, padding_hash, parent, place_in_row, row_of, starting, partial_state}
 use Rattle.merkle.specs.Tree.{node_count}
 use Rattle.merkle.specs.Taking.{IsGrown, IsKept, IsListed}
 use Rattle.merkle.proofs.HeightLemmas.{height_is, height_room}
 use Rattle.merkle.proofs.PaddingLemmas.{padding-before, padding-false, padding-outside, padding-true}
 use Rattle.merkle.proofs.PartialLemmas.{joined_from_told, known-told, known-untold, not_both, one_value, some_or_none}
 use Rattle.merkle.proofs.PathLemmas.{path_root-left, path_root-right, path_root-whole}
-
--- a tree of so many leaves of which these nodes were told
-abbrev pub state_of : List ℕ → ℕ → Known → PartialState
-state_of root leaf_count told = record { root = root; leaf_count = leaf_count; nodes = all_known leaf_count (known_by (padding leaf_count) told) }
 
 module _ (root : List ℕ) (n : ℕ) (told : Known) (kept : IsKept n (padding n) root told) where
   -- nothing is known beside the tree
@@ -31,7 +27,7 @@ module _ (root : List ℕ) (n : ℕ) (told : Known) (kept : IsKept n (padding n)
         | inr none ↦ known-untold (padding n) told q none ∙ padding-outside n q far
       ]
 
-  pub known_at-state : (q : ℕ) → known_at (state_of root n told) q ≡ known_by (padding n) told q
+  pub known_at-state : (q : ℕ) → known_at (partial_state root n told) q ≡ known_by (padding n) told q
   known_at-state q =
       elim (cases_lt q (node_count n)) [
         | inl inside ↦ get_or-map-range_with_len (known_by (padding n) told) 0 (node_count n) q q None inside (zero-add q)
@@ -39,10 +35,10 @@ module _ (root : List ℕ) (n : ℕ) (told : Known) (kept : IsKept n (padding n)
             get_or_past (all_known n (known_by (padding n) told)) q None (omega (arith, length-map-range_with_len (known_by (padding n) told) 0 (node_count n), far)) ∙ sym (known-outside q far)
       ]
 
-  pub known-state : known_at (state_of root n told) ≡ known_by (padding n) told
+  pub known-state : known_at (partial_state root n told) ≡ known_by (padding n) told
   known-state = λ i q. known_at-state q i
 
-  pub state_is_partial : 0 < n → n ≤ 2 ^ 20 → IsPartial (state_of root n told)
+  pub state_is_partial : 0 < n → n ≤ 2 ^ 20 → IsPartial (partial_state root n told)
   state_is_partial some few = record {
     some = some;
     few = few;
@@ -259,11 +255,11 @@ pub only_root-none : (root : List ℕ) (q : ℕ) → q ≢ 0 → only_root root 
 only_root-none root q other = ap (λ (b : Bool). if b then Some root else None) (apart q other)
 
 -- the root alone was told
-pub starting_is : (root : List ℕ) (n : ℕ) (told : Known) → told 0 ≡ Some root → ((q : ℕ) → q ≢ 0 → told q ≡ None) → state_of root n told ≡ starting root n
+pub starting_is : (root : List ℕ) (n : ℕ) (told : Known) → told 0 ≡ Some root → ((q : ℕ) → q ≢ 0 → told q ≡ None) → partial_state root n told ≡ starting root n
 starting_is root n told first rest =
     let same : (q : ℕ) → told q ≡ only_root root q =
     λ q. elim (cases_eq q 0) [
       | inl top ↦ ap told top ∙ first ∙ sym (ap (only_root root) top)
       | inr other ↦ rest q other ∙ sym (only_root-none root q other)
     ] in
-    ap (state_of root n) (λ i q. same q i)
+    ap (partial_state root n) (λ i q. same q i)

@@ -73,13 +73,17 @@ all_known leaf_count known = map known (range_with_len 0 (node_count leaf_count)
 abbrev pub only_root : List ℕ → Known
 only_root root number = if number == 0 then Some root else None
 
--- what is known at first: the root, and the nodes over empty leaves alone
-abbrev pub starting : List ℕ → ℕ → PartialState
-starting root leaf_count = record {
+-- a tree with this root over so many leaves, of which these nodes were told
+abbrev pub partial_state : List ℕ → ℕ → Known → PartialState
+partial_state root leaf_count told = record {
   root = root;
   leaf_count = leaf_count;
-  nodes = all_known leaf_count (known_by (padding leaf_count) (only_root root));
+  nodes = all_known leaf_count (known_by (padding leaf_count) told);
 }
+
+-- what is known at first: the root, and the nodes over empty leaves alone
+abbrev pub starting : List ℕ → ℕ → PartialState
+starting root leaf_count = partial_state root leaf_count (only_root root)
 
 -- both children of the parent of this node are known, and so is the parent, which is the hash of
 -- the two

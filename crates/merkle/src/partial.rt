@@ -33,17 +33,13 @@ pub struct Partial {
 impl Model for Partial {
     ghost use Rattle.std.specs.Prelude.{◌<◌, ◌≤◌, nat_eq};
     ghost use Rattle.std.specs.HashMap.{get};
-    ghost use Rattle.merkle.specs.Partial.{PartialState, all_known, known_by, padding};
+    ghost use Rattle.merkle.specs.Partial.{PartialState, padding, partial_state};
     ghost use Rattle.merkle.specs.Taking.{IsKept};
     ghost use Rattle.merkle.specs.Tree.{max_leaves};
 
     ghost Value = { PartialState };
 
-    ghost view = { λ p. record {
-      root = p.root;
-      leaf_count = p.padded;
-      nodes = all_known p.padded (known_by (padding p.padded) (get nat_eq p.nodes));
-    } };
+    ghost view = { λ p. partial_state p.root p.padded (get nat_eq p.nodes) };
 
     ghost invariant = { λ p. (0 < p.padded) × (p.padded ≤ max_leaves)
         × IsKept p.padded (padding p.padded) p.root (get nat_eq p.nodes) };

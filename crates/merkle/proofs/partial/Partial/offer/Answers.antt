@@ -1,9 +1,9 @@
 use Rattle.std.proofs.Common.{◌≡◌, ◌⊎◌, ℕ, List, None, Err, nat_eq, ap, refl, subst, sym, ◌∙◌, rules}
 use Rattle.std.specs.HashMap.{get}
-use Rattle.merkle.specs.Partial.{IsExtended, IsNotConsistent, Known, PartialState, Takes, known_at, known_by, padding}
+use Rattle.merkle.specs.Partial.{IsExtended, IsNotConsistent, Known, PartialState, Takes, known_at, known_by, padding, partial_state}
 use Rattle.merkle.specs.Taking.{IsKept, IsGrown, IsListed}
 use Rattle.merkle.specs.declared.error.OfferError.TheVariants.{NotConsistent}
-use Rattle.merkle.proofs.StateLemmas.{known-state, state_of, taken_out}
+use Rattle.merkle.proofs.StateLemmas.{known-state, taken_out}
 use Rattle.merkle.proofs.partial.Partial.offer.Goals as goal
 
 -- what was added is taken out again
@@ -28,9 +28,9 @@ returns-in-Ok-clause-taken c =
     let taken : IsExtended n (known_by (padding n) old) c.args.offers.now (known_by (padding n) new) = search rules in
     let before = known-state p.root n old c.self.invariant.2 in
     let after = known-state p.root n new (kept p.root c.self.invariant.2) in
-    let known = subst (λ (k : Known). IsExtended n (known_at (state_of p.root n old)) c.args.offers.now k) (sym after)
+    let known = subst (λ (k : Known). IsExtended n (known_at (partial_state p.root n old)) c.args.offers.now k) (sym after)
     (subst (λ (k : Known). IsExtended n k c.args.offers.now (known_by (padding n) new)) (sym before) taken) in
-    subst (λ (s : PartialState). Takes s c.args.offers.now (state_of p.root n new)) c.self.view_is
+    subst (λ (s : PartialState). Takes s c.args.offers.now (partial_state p.root n new)) c.self.view_is
     record { root = refl; leaf_count = refl; known = known }
 
 pub invariant_of-self-in-Err : goal.invariant_of-self-in-Err
@@ -54,4 +54,4 @@ returns-clause-unchanged c =
     let p = c.self.inside in
     let back = restored (get nat_eq p.nodes) (get nat_eq c.take.new.nodes) (get nat_eq c.take_out.new.nodes) c.take.new.added.items c.deref.result.now
     c.deref.ensures.value c.take.ensures.grown c.take_out.ensures.out c.take_out.ensures.rest in
-    ap (state_of p.root p.padded) back ∙ c.self.view_is
+    ap (partial_state p.root p.padded) back ∙ c.self.view_is
