@@ -6,7 +6,7 @@ use Rattle.tagged_hash.specs.declared.tag.Tag.TheVariants.{ExtensionBlock}
 use Rattle.cap_text.specs.Cap.{VerifyCapValue}
 use Rattle.ueb.specs.Block.{IsUeb}
 use Rattle.ueb.specs.Shape.{Contents}
-use Rattle.share_layout.specs.Geometry.{Geometry}
+use Rattle.share_layout.specs.Geometry.{Geometry, geometry_with}
 
 -- these bytes are the extension block of the cap's file, with these contents, which agree with the
 -- cap
@@ -19,9 +19,4 @@ pub record IsUebFor (cap : VerifyCapValue) (extension_block : List ℕ) (u : Con
 
 -- the geometry of a file with this extension block
 abbrev pub geometry_by : Contents → Geometry
-geometry_by u = record {
-  size = u.size;
-  needed = u.needed_shares;
-  total = u.total_shares;
-  segment_size = u.segment_size;
-}
+geometry_by u = geometry_with u.size u.needed_shares u.total_shares u.segment_size
