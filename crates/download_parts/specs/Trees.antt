@@ -40,6 +40,11 @@ pub record FileTreesState : Type 0 where
   pub shares : PartialState
   pub ciphertext : PartialState
 
+-- the value of trees with these fields
+abbrev pub trees_state : Geometry → PartialState → PartialState → FileTreesState
+trees_state geometry shares ciphertext =
+    record { geometry = geometry; shares = shares; ciphertext = ciphertext }
+
 -- what is known by the extension block alone
 abbrev pub starting_trees : Contents → Geometry → FileTreesState
 starting_trees u g = record {

@@ -33,21 +33,13 @@ pub struct FileTrees {
 }
 
 impl Model for FileTrees {
-    ghost use Rattle.download_parts.specs.Trees.{AreTrees, FileTreesState};
+    ghost use Rattle.download_parts.specs.Trees.{AreTrees, FileTreesState, trees_state};
 
     ghost Value = { FileTreesState };
 
-    ghost view = { λ t. record {
-      geometry = t.geometry;
-      shares = t.shares;
-      ciphertext = t.ciphertext;
-    } };
+    ghost view = { λ t. trees_state t.geometry t.shares t.ciphertext };
 
-    ghost invariant = { λ t. AreTrees (record {
-      geometry = t.geometry;
-      shares = t.shares;
-      ciphertext = t.ciphertext;
-    }) };
+    ghost invariant = { λ t. AreTrees (trees_state t.geometry t.shares t.ciphertext) };
 }
 
 impl FileTrees {
