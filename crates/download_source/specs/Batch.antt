@@ -44,6 +44,17 @@ pub record BatchState : Type 0 where
   pub reached : Cursors
   pub wanted : List Wanted
 
+-- the value of a batch with these fields
+abbrev pub batch_state : Geometry → ℕ → ℕ → Cursors → Cursors → List Wanted → BatchState
+batch_state geometry first end begun reached wanted = record {
+  geometry = geometry;
+  first = first;
+  end = end;
+  begun = begun;
+  reached = reached;
+  wanted = wanted;
+}
+
 -- what holds of each batch
 pub record IsBatch (b : BatchState) : Type 0 where
   pub reads : All (IsReadBy b.geometry b.first b.end) b.wanted

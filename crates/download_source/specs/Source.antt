@@ -30,6 +30,21 @@ pub record SourceState : Type 0 where
   -- the places of the answers that are the pieces of the data, in order
   pub held : List ℕ
 
+-- the value of a source with these fields
+abbrev pub source_state : Geometry → ℕ → ℕ → ℕ → List ℕ → Cursors → Cursors → Option PartialState
+    → List ℕ → SourceState
+source_state geometry start first end given asked taken tree held = record {
+  geometry = geometry;
+  start = start;
+  first = first;
+  end = end;
+  given = given;
+  asked = asked;
+  taken = taken;
+  tree = tree;
+  held = held;
+}
+
 -- The first segment of the plan that a part is of. The ciphertext tree is read by the plan of the
 -- whole download, all else by the source's own.
 abbrev pub first_of : SourceState → Part → ℕ
@@ -42,17 +57,8 @@ IsPartOf s part = IsPart s.geometry (first_of s part) s.end part
 
 -- a source of which nothing was asked
 abbrev pub new_source : Geometry → ℕ → ℕ → ℕ → SourceState
-new_source g start first end = record {
-  geometry = g;
-  start = start;
-  first = first;
-  end = end;
-  given = no_parts.ciphertext_tree;
-  asked = no_parts;
-  taken = no_parts;
-  tree = None;
-  held = [];
-}
+new_source g start first end =
+    source_state g start first end no_parts.ciphertext_tree no_parts no_parts None []
 
 -- the source where it gives the ciphertext tree from these pieces on
 abbrev pub gives_from : SourceState → List ℕ → SourceState

@@ -25,27 +25,15 @@ pub(crate) struct Batch {
 }
 
 impl Model for Batch {
-    ghost use Rattle.download_source.specs.Batch.{BatchState, IsBatch};
+    ghost use Rattle.download_source.specs.Batch.{BatchState, IsBatch, batch_state};
 
     ghost Value = { BatchState };
 
-    ghost view = { λ b. record {
-      geometry = b.plan.geometry;
-      first = b.plan.first;
-      end = b.plan.end;
-      begun = b.begun;
-      reached = b.reached;
-      wanted = b.wanted.items;
-    } };
+    ghost view = { λ b. batch_state b.plan.geometry b.plan.first b.plan.end b.begun b.reached
+        b.wanted.items };
 
-    ghost invariant = { λ b. IsBatch (record {
-      geometry = b.plan.geometry;
-      first = b.plan.first;
-      end = b.plan.end;
-      begun = b.begun;
-      reached = b.reached;
-      wanted = b.wanted.items;
-    }) };
+    ghost invariant = { λ b. IsBatch (batch_state b.plan.geometry b.plan.first b.plan.end b.begun
+        b.reached b.wanted.items) };
 }
 
 impl Batch {

@@ -36,33 +36,15 @@ pub struct Source {
 }
 
 impl Model for Source {
-    ghost use Rattle.download_source.specs.Source.{IsSource, SourceState};
+    ghost use Rattle.download_source.specs.Source.{IsSource, SourceState, source_state};
 
     ghost Value = { SourceState };
 
-    ghost view = { λ s. record {
-      geometry = s.plan.geometry;
-      start = s.start;
-      first = s.plan.first;
-      end = s.plan.end;
-      given = s.given;
-      asked = s.asked;
-      taken = s.taken;
-      tree = s.tree;
-      held = s.held.items;
-    } };
+    ghost view = { λ s. source_state s.plan.geometry s.start s.plan.first s.plan.end s.given
+        s.asked s.taken s.tree s.held.items };
 
-    ghost invariant = { λ s. IsSource (record {
-      geometry = s.plan.geometry;
-      start = s.start;
-      first = s.plan.first;
-      end = s.plan.end;
-      given = s.given;
-      asked = s.asked;
-      taken = s.taken;
-      tree = s.tree;
-      held = s.held.items;
-    }) };
+    ghost invariant = { λ s. IsSource (source_state s.plan.geometry s.start s.plan.first
+        s.plan.end s.given s.asked s.taken s.tree s.held.items) };
 }
 
 impl Source {
