@@ -13,7 +13,7 @@ use Rattle.request_record.specs.declared.requests.Asked.TheVariants.{Holdings, A
 use Rattle.request_record.specs.declared.requests.Outcome.TheVariants.{Answered, Lost}
 use Rattle.request_record.specs.declared.requests.Request.{Request}
 use Rattle.request_record.specs.Asking.{after_message, after_tick}
-use Rattle.request_record.specs.Record.{RequestsState, answered_in, asked_all, asked_more, at, awaits_at, counted, counted_at, first_outcome, first_request, fits, is_lost_at, is_outstanding, is_resent_at, resent_one, ticked, ticked_one, with_outcome, without}
+use Rattle.request_record.specs.Record.{RequestsState, answered_in, asked_all, asked_more, at, awaits_at, counted, counted_at, first_outcome, first_request, fits, is_lost_at, is_outstanding, is_resent_at, resent_one, ticked, ticked_one, with_outcome, without, requests_state}
 use Rattle.request_record.specs.Follow.{Follows, IsSaid, Nothing, Said, StillAsks}
 
 itself : (entries : List Request) (place : ℕ) (r : Request) → slice_get entries place ≡ Some r → StillAsks entries place r
@@ -75,7 +75,7 @@ some_number (suc n) e = omega arith
 
 module _ (from : ℕ) (m : Message) (r : RequestsState) where
   abbrev answered_at : Option Request → RequestsState
-  answered_at o = record { session = r.session; entries = answered_in r.entries (m.number - 1) o m.body; outgoing = without (m.number - 1) r.outgoing; clock = r.clock }
+  answered_at o = requests_state r.session (answered_in r.entries (m.number - 1) o m.body) (without (m.number - 1) r.outgoing) r.clock
 
   answered_one : (o : Option Request) → m.session ≡ r.session → m.number ≡ m.number - 1 + 1 → slice_get r.entries (m.number - 1) ≡ o → awaits_at from m.body o ≡ true
       → Follows (IsSaid from m r.session) r (answered_at o)

@@ -8,7 +8,7 @@ use Rattle.lemmas.proofs.Bools.{both}
 use Rattle.request_record.specs.declared.requests.Outcome.{Outcome}
 use Rattle.request_record.specs.declared.requests.Outcome.TheVariants.{Lost}
 use Rattle.request_record.specs.declared.requests.Request.{Request}
-use Rattle.request_record.specs.Record.{AreInOrder, IsRecord, IsIndexed, is_current_in, was_sent_again, was_sent_again_in, sent_to, without, without_lost, is_outstanding, with_outcome, passed, age_of, is_lost_at, is_resent_at, is_lost_in, resent_one, ticked_one, places_from, resent_places}
+use Rattle.request_record.specs.Record.{AreInOrder, IsRecord, IsIndexed, is_current_in, was_sent_again, was_sent_again_in, sent_to, without, without_lost, is_outstanding, with_outcome, passed, age_of, is_lost_at, is_resent_at, is_lost_in, resent_one, ticked_one, places_from, resent_places, requests_state}
 
 -- the request at a place was sent again
 abbrev IsAgain : List Request → ℕ → Type 0
@@ -99,8 +99,8 @@ pub asked_order : (sent : ℕ) (entries : List Request) (r : Request) (outgoing 
 asked_order sent entries r outgoing within there o =
     order_push (entries ++ r ∷ []) (length entries) sent outgoing there within (order_stays entries (entries ++ r ∷ []) (stays_pushed entries r) sent sent (omega arith) outgoing o)
 
-pub taken_right : (session clock place : ℕ) (entries : List Request) (rest : List ℕ) → IsRecord (record { session = session; entries = entries; outgoing = place ∷ rest; clock = clock })
-    → IsRecord (record { session = session; entries = entries; outgoing = rest; clock = clock })
+pub taken_right : (session clock place : ℕ) (entries : List Request) (rest : List ℕ) → IsRecord (requests_state session entries (place ∷ rest) clock)
+    → IsRecord (requests_state session entries rest clock)
 taken_right session clock place entries rest right = record {
   few = right.few;
   there = All-tail (λ p. p < length entries) place rest right.there;

@@ -26,6 +26,11 @@ pub record RequestsState : Type 0 where
   pub outgoing : List ℕ
   pub clock : ℕ
 
+-- the value of a record with these fields
+abbrev pub requests_state : ℕ → List Request → List ℕ → ℕ → RequestsState
+requests_state session entries outgoing clock =
+    record { session = session; entries = entries; outgoing = outgoing; clock = clock }
+
 -- the kinds of answer that fit a request
 abbrev pub fits : Asked → Body → Bool
 fits Holdings (Have readonly held) = true

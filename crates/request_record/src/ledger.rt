@@ -51,23 +51,14 @@ pub struct Ledger {
 impl Model for Ledger {
     ghost use Rattle.std.specs.Prelude.{◌≡◌};
     ghost use Rattle.request_record.specs.Record.{RequestsState, IsRecord, IsIndexed};
+    ghost use Rattle.request_record.specs.Record.{requests_state};
 
     ghost Value = { RequestsState };
 
-    ghost view = { λ r. record {
-      session = r.session;
-      entries = r.entries;
-      outgoing = r.outgoing.items;
-      clock = r.clock;
-    } };
+    ghost view = { λ r. requests_state r.session r.entries r.outgoing.items r.clock };
 
     ghost invariant = { λ r.
-        IsRecord (record {
-          session = r.session;
-          entries = r.entries;
-          outgoing = r.outgoing.items;
-          clock = r.clock;
-        })
+        IsRecord (requests_state r.session r.entries r.outgoing.items r.clock)
         × IsIndexed r.outstanding r.settled r.sent r.entries r.outgoing.items };
 }
 

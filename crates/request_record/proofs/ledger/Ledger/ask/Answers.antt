@@ -2,7 +2,7 @@ use Rattle.std.proofs.Common.{◌≡◌, ◌+◌, ◌++◌, ◌∷◌, ◌≤◌
 use mir.Val.{bool_byte}
 use Rattle.std.proofs.lemmas.List.{length-append}
 use Rattle.request_record.specs.declared.requests.Request.{Request}
-use Rattle.request_record.specs.Record.{RequestsState, first_request, is_outstanding}
+use Rattle.request_record.specs.Record.{RequestsState, first_request, is_outstanding, requests_state}
 use Rattle.request_record.specs.Written.{is_written}
 use Rattle.request_record.proofs.RecordLaws.{asked_right, asked_indexed, count_le}
 use Rattle.request_record.proofs.QueueLaws.{asked_order}
@@ -31,7 +31,7 @@ overflow_add-self c =
 pub invariant_of-self-2 : goal.invariant_of-self-2
 invariant_of-self-2 c =
     let entries : List Request = c.self.inside.entries in
-    let state : RequestsState = record { session = c.self.inside.session; entries = entries; outgoing = c.self.inside.outgoing.items; clock = c.self.inside.clock } in
+    let state : RequestsState = requests_state c.self.inside.session entries c.self.inside.outgoing.items c.self.inside.clock in
     let request : Request = first_request c.args.server c.args.asked c.self.inside.clock in
     let all : c.push.new.self ≡ entries ++ request ∷ [] = c.in_ok-push.ensures.ok ∙ ap (λ (r : Request). entries ++ r ∷ []) c.new-request.ensures in
     let places : c.push_back_reserved.new.self.items ≡ c.self.inside.outgoing.items ++ length entries ∷ [] = rw (c.push_back_reserved.ensures.items, c.in_ok-reserve.ensures.items, c.len-place.ensures) refl in

@@ -1,7 +1,7 @@
 use Rattle.std.proofs.Common.{◌≡◌, ◌+◌, ◌-◌, ◌<◌, List, Some, length, sym, ap, subst, ◌∙◌, arith}
 use Rattle.request_record.specs.declared.requests.Outcome.TheVariants.{Answered}
 use Rattle.request_record.specs.declared.requests.Request.{Request}
-use Rattle.request_record.specs.Record.{RequestsState, IsIndexed, counts_at, without}
+use Rattle.request_record.specs.Record.{RequestsState, IsIndexed, counts_at, without, requests_state}
 use Rattle.request_record.proofs.RecordLaws.{Awaits, settled, counts_is, count_settled, answered_right, answered_indexed}
 use Rattle.request_record.proofs.QueueLaws.{answered_order}
 use Rattle.request_record.proofs.EntrySteps.{waits_unwritten}
@@ -9,7 +9,7 @@ use Rattle.request_record.proofs.ledger.Ledger.take_answer.Goals as goal
 
 pub overflow_sub-self : goal.overflow_sub-self
 overflow_sub-self c =
-    let state : RequestsState = record { session = c.self.inside.session; entries = c.self.inside.entries; outgoing = c.self.inside.outgoing.items; clock = c.self.inside.clock } in
+    let state : RequestsState = requests_state c.self.inside.session c.self.inside.entries c.self.inside.outgoing.items c.self.inside.clock in
     let found : counts_at c.args.from c.args.message state ≡ Some c.in-Some.place = ap (counts_at c.args.from c.args.message) c.self.view_is ∙ sym c.in-Some.ensures.value in
     let a : Awaits c.self.inside.entries c.in-Some.place = counts_is c.args.from c.args.message state c.in-Some.place found in
     let there : c.in-Some.place < length c.self.inside.entries = subst (λ (s : RequestsState). c.in-Some.place < length s.entries) (sym c.self.view_is) c.in-Some.ensures.there in
@@ -18,7 +18,7 @@ overflow_sub-self c =
 pub invariant_of-self : goal.invariant_of-self
 invariant_of-self c =
     let entries : List Request = c.self.inside.entries in
-    let state : RequestsState = record { session = c.self.inside.session; entries = entries; outgoing = c.self.inside.outgoing.items; clock = c.self.inside.clock } in
+    let state : RequestsState = requests_state c.self.inside.session entries c.self.inside.outgoing.items c.self.inside.clock in
     let found : counts_at c.args.from c.args.message state ≡ Some c.in-Some.place = ap (counts_at c.args.from c.args.message) c.self.view_is ∙ sym c.in-Some.ensures.value in
     let a : Awaits entries c.in-Some.place = counts_is c.args.from c.args.message state c.in-Some.place found in
     let there : c.in-Some.place < length entries = subst (λ (s : RequestsState). c.in-Some.place < length s.entries) (sym c.self.view_is) c.in-Some.ensures.there in

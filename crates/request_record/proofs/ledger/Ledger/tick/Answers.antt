@@ -3,7 +3,7 @@ use Rattle.std.proofs.Common.{◌≡◌, ◌-◌, ◌≤◌, ◌++◌, List, ℕ
 use Rattle.std.proofs.lemmas.List.{length-map}
 use Rattle.std.proofs.lemmas.List.Elements.{All-same}
 use Rattle.request_record.specs.declared.requests.Request.{Request}
-use Rattle.request_record.specs.Record.{RequestsState, AreSettled, lost_places, resent_places, ticked_one, without_lost, outstanding_count, ticked}
+use Rattle.request_record.specs.Record.{RequestsState, AreSettled, lost_places, resent_places, ticked_one, without_lost, outstanding_count, ticked, requests_state}
 use Rattle.request_record.specs.Written.{IsKeptAt}
 use Rattle.request_record.specs.Asking.{after_tick, lost_by_tick}
 use Rattle.request_record.proofs.RecordLaws.{count_ticked, settled_ticked, ticked_right}
@@ -27,7 +27,7 @@ invariant_of-self-2 c =
     let entries : List Request = c.self.inside.entries in
     let from : ℕ = c.self.inside.settled in
     let now = c.max-now.result in
-    let state : RequestsState = record { session = c.self.inside.session; entries = entries; outgoing = c.self.inside.outgoing.items; clock = c.self.inside.clock } in
+    let state : RequestsState = requests_state c.self.inside.session entries c.self.inside.outgoing.items c.self.inside.clock in
     let new : c.tick.new.self ≡ map (ticked_one now) entries = c.tick.ensures in
     let resent : c.in_ok-resent.resent.items ≡ resent_places now entries = c.in_ok-resent.ensures in
     let lost : c.in_ok-lost.lost.items ≡ lost_places now entries = c.in_ok-lost.ensures in
@@ -46,7 +46,7 @@ returns-clause-lost c =
     let from : ℕ = c.self.inside.settled in
     let now = c.max-now.result in
     let lost : c.in_ok-lost.lost.items ≡ lost_places now entries = c.in_ok-lost.ensures in
-    let time : lost_places now entries ≡ lost_by_tick c.args.now (record { session = c.self.inside.session; entries = entries; outgoing = c.self.inside.outgoing.items; clock = c.self.inside.clock }) = ap (λ (t : ℕ). lost_places t entries) c.max-now.ensures in
+    let time : lost_places now entries ≡ lost_by_tick c.args.now (requests_state c.self.inside.session entries c.self.inside.outgoing.items c.self.inside.clock) = ap (λ (t : ℕ). lost_places t entries) c.max-now.ensures in
     lost ∙ time ∙ ap (lost_by_tick c.args.now) c.self.view_is
 
 pub returns-clause-ok : goal.returns-clause-ok
@@ -54,7 +54,7 @@ returns-clause-ok c =
     let entries : List Request = c.self.inside.entries in
     let from : ℕ = c.self.inside.settled in
     let now = c.max-now.result in
-    let state : RequestsState = record { session = c.self.inside.session; entries = entries; outgoing = c.self.inside.outgoing.items; clock = c.self.inside.clock } in
+    let state : RequestsState = requests_state c.self.inside.session entries c.self.inside.outgoing.items c.self.inside.clock in
     let new : c.tick.new.self ≡ map (ticked_one now) entries = c.tick.ensures in
     let resent : c.in_ok-resent.resent.items ≡ resent_places now entries = c.in_ok-resent.ensures in
     let all : c.append.new.self.items ≡ c.self.inside.outgoing.items ++ resent_places now entries = c.in_ok-append.ensures.items ∙ ap (λ (xs : List ℕ). c.self.inside.outgoing.items ++ xs) resent in
