@@ -1,7 +1,7 @@
 //! Why a piece of a share is not had.
 
 ghost use Rattle.std.specs.Prelude.{◌≡◌};
-ghost use Rattle.block_making.specs.PieceError.{piece_error_of, piece_number};
+ghost use Rattle.block_making.specs.PieceError.{piece_error_of};
 
 use sources::PartFault;
 
@@ -12,18 +12,6 @@ pub enum PieceError {
     SourceChanged,
     /// A read of the source failed (number 75).
     SourceFault,
-}
-
-impl PieceError {
-    /// The number of the refusal.
-    pub fn number(self) -> u8
-        ensures { result ≡ piece_number self }
-    {
-        match self {
-            PieceError::SourceChanged => 74,
-            PieceError::SourceFault => 75,
-        }
-    }
 }
 
 impl From<PartFault> for PieceError {

@@ -1,8 +1,5 @@
 //! Where a download stands, and why one does not begin.
 
-ghost use Rattle.std.specs.Prelude.{◌≡◌};
-ghost use Rattle.download_core.specs.Refusals.{refusal_number};
-
 pub use download_segments::Piece;
 pub use download_shares::holding::Blame;
 
@@ -23,20 +20,8 @@ pub enum DownloadStatus {
 /// Why a download does not begin.
 #[derive(Clone, Copy, PartialEq, Eq)]
 pub enum DownloadError {
-    /// No memory.
+    /// No memory (number 1).
     OutOfMemory,
-    /// The range ends before it begins, or behind the file's end.
+    /// The range ends before it begins, or behind the file's end (number 73).
     BadRange,
-}
-
-impl DownloadError {
-    /// The number that the program prints with this refusal: 1 or 73.
-    pub fn number(self) -> u8
-        ensures { result ≡ refusal_number self }
-    {
-        match self {
-            DownloadError::OutOfMemory => 1,
-            DownloadError::BadRange => 73,
-        }
-    }
 }

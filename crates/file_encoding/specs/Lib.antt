@@ -1,6 +1,4 @@
 -- what public contracts rest on
-pub mod EncodeError
-pub mod ReadError
 pub mod Encoding
 pub mod Inputs
 pub mod Params

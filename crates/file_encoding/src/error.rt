@@ -1,7 +1,6 @@
 //! Why a file is not encoded.
 
 ghost use Rattle.std.specs.Prelude.{◌≡◌};
-ghost use Rattle.file_encoding.specs.EncodeError.{refusal_number};
 
 use std::alloc::{AllocError, AllocFailed};
 
@@ -16,20 +15,6 @@ pub enum EncodeError {
     TooLarge,
     /// The file has more than `ueb::MAX_SEGMENTS` segments of this size (number 31).
     TooManySegments,
-}
-
-impl EncodeError {
-    /// The number of the refusal.
-    pub fn number(self) -> u8
-        ensures { result ≡ refusal_number self }
-    {
-        match self {
-            EncodeError::OutOfMemory => 1,
-            EncodeError::BadParameters => 2,
-            EncodeError::TooLarge => 30,
-            EncodeError::TooManySegments => 31,
-        }
-    }
 }
 
 impl From<AllocError> for EncodeError {

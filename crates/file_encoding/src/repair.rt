@@ -8,7 +8,6 @@ ghost use Rattle.file_encoding.specs.Decoded.{AreMade, IsDecodedFrom};
 ghost use Rattle.file_encoding.specs.Reading.{LacksShares};
 ghost use Rattle.file_encoding.specs.Regenerated.{AreRegenerated, CannotRegenerate};
 ghost use Rattle.file_encoding.specs.Regenerated.{IsRegenerated};
-ghost use Rattle.file_encoding.specs.RegenerateError.{regenerate_refusal_number};
 
 use crate::decoded::{DecodedFile, decode_shares};
 use crate::encoding::begin_file;
@@ -31,20 +30,6 @@ pub enum RegenerateError {
     /// The shares pass, but they contradict one another, or are no code word of the file (number
     /// 72).
     Inconsistent,
-}
-
-impl RegenerateError {
-    /// The number of the refusal.
-    pub fn number(self) -> u8
-        ensures { result ≡ regenerate_refusal_number self }
-    {
-        match self {
-            RegenerateError::OutOfMemory => 1,
-            RegenerateError::BadNumber => 2,
-            RegenerateError::NotEnoughShares => 71,
-            RegenerateError::Inconsistent => 72,
-        }
-    }
 }
 
 impl From<ReadError> for RegenerateError {

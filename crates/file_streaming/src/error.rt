@@ -1,8 +1,7 @@
 //! Why a file is not made ready.
 
 ghost use Rattle.std.specs.Prelude.{◌≡◌};
-ghost use Rattle.block_making.specs.PieceError.{piece_error_of, piece_number};
-ghost use Rattle.file_streaming.specs.PrepareError.{error_of, refusal_number};
+ghost use Rattle.file_streaming.specs.PrepareError.{error_of};
 
 use sources::PartFault;
 use std::alloc::{AllocError, AllocFailed};
@@ -20,21 +19,6 @@ pub enum PrepareError {
     SourceChanged,
     /// A read of the source failed (number 75).
     SourceFault,
-}
-
-impl PrepareError {
-    /// The number of the refusal.
-    pub fn number(self) -> u8
-        ensures { result ≡ refusal_number self }
-    {
-        match self {
-            PrepareError::OutOfMemory => 1,
-            PrepareError::TooLarge => 30,
-            PrepareError::TooManySegments => 31,
-            PrepareError::SourceChanged => 74,
-            PrepareError::SourceFault => 75,
-        }
-    }
 }
 
 impl From<AllocError> for PrepareError {

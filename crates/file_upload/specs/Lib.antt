@@ -1,4 +1,3 @@
 -- what public contracts rest on
 pub mod Shares
-pub mod SharesError
 pub mod Prepared

@@ -1,14 +1,12 @@
 //! Shares that are there already, made ready for their upload.
 
-ghost use Rattle.std.specs.Prelude.{◌≡◌, ◌≤◌, ◌↔◌, ◌⊎◌, ◌^◌, length, map, nat_eq};
-ghost use Rattle.std.specs.Prelude.{IfOk, IfErr, IsErrOf};
+ghost use Rattle.std.specs.Prelude.{◌≡◌, ◌↔◌, ◌^◌, length, map, nat_eq, IfOk, IsErrOf};
 ghost use Rattle.std.specs.List.{IsDistinct};
 ghost use Rattle.file_encoding.specs.RemadeLaws.{ArePassing};
 ghost use Rattle.upload_core.specs.Moves.{Begins};
-ghost use Rattle.upload_core.specs.Pieces.{HaveOneLength, length_of};
+ghost use Rattle.upload_core.specs.Pieces.{length_of};
 ghost use Rattle.upload_core.specs.declared.status.ServerInfo.{ServerInfo};
 ghost use Rattle.file_upload.specs.Shares.{AreFit, MayWant, ReadyShares, shares_goal};
-ghost use Rattle.file_upload.specs.SharesError.{refusal_number};
 
 use cap_text::VerifyCap;
 use file_encoding::Share;
@@ -26,18 +24,6 @@ pub enum SharesError {
     OutOfMemory,
     /// The number of servers is outside its range (number 2).
     BadParameters,
-}
-
-impl SharesError {
-    /// The number of the refusal.
-    pub fn number(self) -> u8
-        ensures { result ≡ refusal_number self }
-    {
-        match self {
-            SharesError::OutOfMemory => 1,
-            SharesError::BadParameters => 2,
-        }
-    }
 }
 
 impl From<AllocError> for SharesError {

@@ -1,11 +1,7 @@
--- The number and the name of each refusal of nodes that are offered.
+-- The name of each refusal of nodes that are offered.
 use Rattle.std.specs.Prelude.{ℕ, List, codes}
 use Rattle.merkle.specs.declared.error.OfferError.{OfferError}
 use Rattle.merkle.specs.declared.error.OfferError.TheVariants.{OutOfMemory, NotConsistent}
-
-abbrev pub offer_refusal_number : OfferError → ℕ
-offer_refusal_number OutOfMemory = 1
-offer_refusal_number NotConsistent = 6
 
 abbrev pub offer_refusal_text : OfferError → List ℕ
 offer_refusal_text OutOfMemory = codes "OutOfMemory"

@@ -1,7 +1,6 @@
 //! Why nodes that are offered are not taken.
 
 ghost use Rattle.std.specs.Prelude.{◌≡◌};
-ghost use Rattle.merkle.specs.OfferError.{offer_refusal_number};
 
 use std::alloc::{AllocError, AllocFailed};
 use std::error::Error;
@@ -14,18 +13,6 @@ pub enum OfferError {
     OutOfMemory,
     /// The nodes do not go with the root and what is known (number 6).
     NotConsistent,
-}
-
-impl OfferError {
-    /// The number of the refusal.
-    pub fn number(self) -> u8
-        ensures { result ≡ offer_refusal_number self }
-    {
-        match self {
-            OfferError::OutOfMemory => 1,
-            OfferError::NotConsistent => 6,
-        }
-    }
 }
 
 impl fmt::Display for OfferError {

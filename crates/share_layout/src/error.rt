@@ -67,26 +67,6 @@ impl Section {
     }
 }
 
-impl LayoutError {
-    ghost use Rattle.share_layout.specs.Error.{number_of};
-
-    /// The refusal's number, which the program prints.
-    pub fn number(&self) -> u8
-        ensures { result ≡ number_of self.now }
-    {
-        match self {
-            LayoutError::BadParameters => 2,
-            LayoutError::TooLarge => 30,
-            LayoutError::TooManySegments => 31,
-            LayoutError::BadVersion => 32,
-            LayoutError::BadOffset => 33,
-            LayoutError::Truncated(_) => 34,
-            LayoutError::BadShareHashes => 35,
-            LayoutError::WriterFault => 36,
-        }
-    }
-}
-
 impl fmt::Display for LayoutError {
     ghost use Rattle.std.specs.Prelude.{Some};
     ghost use Rattle.share_layout.specs.Error.{name_of};

@@ -132,14 +132,3 @@ pub data IsFirstFault (cap : VerifyCapValue) (num : ℕ) (share : List ℕ)
   not_sound : (u : Contents) (s : Sections) → ReadsAs cap num share u s
       → IsSectionFault u num s fault
       → IsFirstFault cap num share fault
-
--- the fault's number
-abbrev pub fault_number : ShareFault → ℕ
-fault_number (Layout error) = 40
-fault_number Unused = 41
-fault_number OtherUeb = 42
-fault_number (Ueb error) = 42
-fault_number CiphertextTree = 43
-fault_number BlockTree = 44
-fault_number ShareHashes = 45
-fault_number Data = 46

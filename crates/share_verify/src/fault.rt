@@ -1,8 +1,5 @@
 //! Why a share does not pass.
 
-ghost use Rattle.std.specs.Prelude.{◌≡◌};
-ghost use Rattle.share_verify.specs.Verify.{fault_number};
-
 use share_layout::LayoutError;
 use ueb::UebError;
 
@@ -28,21 +25,4 @@ pub enum ShareFault {
     ShareHashes,
     /// The hash of a block is not its leaf in the block tree (number 46).
     Data,
-}
-
-impl ShareFault {
-    /// The fault's number.
-    pub fn number(&self) -> u8
-        ensures { result ≡ fault_number self.now }
-    {
-        match self {
-            ShareFault::Layout(_) => 40,
-            ShareFault::Unused => 41,
-            ShareFault::OtherUeb | ShareFault::Ueb(_) => 42,
-            ShareFault::CiphertextTree => 43,
-            ShareFault::BlockTree => 44,
-            ShareFault::ShareHashes => 45,
-            ShareFault::Data => 46,
-        }
-    }
 }

@@ -1,7 +1,7 @@
 // Shares of zfec's matrix over the field modulo 0x11D, computed by Python.
 
 use std::alloc::Global;
-use zfec_code::{Code, Decoder};
+use zfec_code::{Code, CodeError, Decoder};
 
 // Share values of the matrix that zfec makes of the field modulo 0x11D: k, n, column, share and
 // value.
@@ -49,33 +49,32 @@ fn decoder(alloc: Global) -> Option<Decoder> {
     code.decoder(alloc, numbers).ok()
 }
 
-// The number of the refusal of shares of two of four, which leaves `out` as it was; 0 where they
-// decode to the blocks 01 and 02, and 255 where they do otherwise.
-fn decoded(alloc: Global, shares: &[(u16, &[u8])]) -> u8 {
-    let Ok(code) = Code::new(alloc, 2, 4) else {
-        return 1;
-    };
+// Whether shares of two of four decode to the blocks 01 and 02, or their refusal, which leaves
+// `out` as it was; false too, where it does not.
+fn decoded(alloc: Global, shares: &[(u16, &[u8])]) -> Result<bool, CodeError> {
+    let code = Code::new(alloc, 2, 4)?;
     let mut out = [9u8; 2];
-    let (number, wanted) = match code.decode(alloc, shares, &mut out) {
-        Ok(()) => (0, [1, 2]),
-        Err(error) => (error.number(), [9, 9]),
-    };
-    if out == wanted { number } else { 255 }
+    match code.decode(alloc, shares, &mut out) {
+        Ok(()) => Ok(out == [1, 2]),
+        Err(error) if out == [9, 9] => Err(error),
+        Err(_) => Ok(false),
+    }
 }
 
 #[test]
 fn any_shares_give_the_blocks_back(rt: HostRuntime) {
-    assert!(rt; decoded(rt.alloc(), &[(2, &[0x07]), (3, &[0x0d])]) == 0);
-    assert!(rt; decoded(rt.alloc(), &[(3, &[0x0d]), (0, &[0x01])]) == 0);
+    assert!(rt; decoded(rt.alloc(), &[(2, &[0x07]), (3, &[0x0d])]) == Ok(true));
+    assert!(rt; decoded(rt.alloc(), &[(3, &[0x0d]), (0, &[0x01])]) == Ok(true));
 }
 
 #[test]
 fn refusals_come_in_their_order(rt: HostRuntime) {
     let alloc = rt.alloc();
-    assert!(rt; decoded(alloc, &[(3, &[1]), (3, &[2])]) == 3);
-    assert!(rt; decoded(alloc, &[(4, &[1]), (3, &[2])]) == 4);
-    assert!(rt; decoded(alloc, &[(4, &[1]), (4, &[2]), (1, &[2])]) == 5);
-    assert!(rt; decoded(alloc, &[(4, &[1]), (4, &[2, 3])]) == 5);
+    assert!(rt; decoded(alloc, &[(3, &[1]), (3, &[2])]) == Err(CodeError::RepeatedShare));
+    assert!(rt; decoded(alloc, &[(4, &[1]), (3, &[2])]) == Err(CodeError::ShareOutOfRange));
+    let wrong = Err(CodeError::LengthMismatch);
+    assert!(rt; decoded(alloc, &[(4, &[1]), (4, &[2]), (1, &[2])]) == wrong);
+    assert!(rt; decoded(alloc, &[(4, &[1]), (4, &[2, 3])]) == wrong);
     assert!(rt; Code::new(alloc, 0, 4).is_err());
     assert!(rt; Code::new(alloc, 5, 4).is_err());
     assert!(rt; Code::new(alloc, 1, 257).is_err());
@@ -83,7 +82,8 @@ fn refusals_come_in_their_order(rt: HostRuntime) {
 
 #[test]
 fn refused_memory_in_decoding(rt: HostRuntime) {
-    assert!(rt; decoded(rt.alloc(), &[(2, &[0x07]), (3, &[0x0d])]) <= 1);
+    let told = decoded(rt.alloc(), &[(2, &[0x07]), (3, &[0x0d])]);
+    assert!(rt; told == Ok(true) || told == Err(CodeError::OutOfMemory));
 }
 
 #[test]

@@ -1,6 +1,6 @@
 // Shares in the second layout, and where it begins.
 
-use crate::share_layout_tests::{geometry, has_fault, locate_number, read_number, share_three};
+use crate::share_layout_tests::{geometry, has_fault, locate_refusal, read_refusal, share_three};
 use cap_text::ReadCap;
 use file_encoding::{ShareFault, verify_share};
 use share_layout::{Geometry, Layout, LayoutError, Section, locate_ueb};
@@ -131,8 +131,8 @@ fn a_small_file_has_no_share_in_the_second_layout(rt: HostRuntime) {
         assert!(rt; false);
         return;
     };
-    assert!(rt; locate_number(&long) == 0);
-    assert!(rt; read_number(&long, 3, &geometry) == 32);
+    assert!(rt; locate_refusal(&long).is_none());
+    assert!(rt; read_refusal(&long, 3, &geometry) == Some(LayoutError::BadVersion));
 }
 
 // A share of a small file that is spelled in the second layout.

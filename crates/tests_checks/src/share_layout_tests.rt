@@ -5,9 +5,7 @@ ghost use Rattle.ueb.specs.Limits.{max_length};
 ghost use Rattle.share_layout.specs.Layout.{header_size, layout_of, places_of};
 
 use file_encoding::{Encoded, Params, Share, encode_all};
-use share_layout::{
-    Geometry, Layout, LayoutError, Places, Section, ShareView, ShareWriter, locate_ueb,
-};
+use share_layout::{Geometry, LayoutError, Places, Section, ShareView, ShareWriter, locate_ueb};
 use std::alloc::Global;
 use std::io;
 use std::test::Fail;
@@ -87,59 +85,63 @@ fn a_geometry_gives_itself(rt: HostRuntime) -> Result<(), Fail> {
     Ok(())
 }
 
-// Size, shares needed and in all, greatest segment, and the refusal's number, or 0.
-static LIMITS: [((u64, u16, u16, u32), u8); 20] = [
-    ((0, 3, 10, 131_072), 2),
-    ((1, 3, 10, 131_072), 0),
-    ((56, 0, 10, 131_072), 2),
-    ((56, 3, 2, 131_072), 2),
-    ((56, 3, 3, 131_072), 0),
-    ((56, 3, 257, 131_072), 2),
-    ((56, 256, 256, 131_072), 0),
-    ((56, 1, 1, 0), 2),
-    ((56, 1, 1, 1), 0),
-    ((56, 1, 1, 1_048_831), 0),
-    ((56, 1, 1, 1_048_832), 2),
-    ((1 << 40, 256, 256, 1_048_831), 0),
-    ((1 << 40, 1, 1, 1_048_576), 0),
-    ((1 << 40, 1, 1, 1_048_575), 31),
-    ((1 << 40, 1, 1, 131_072), 31),
-    (((1 << 40) + 1, 1, 1, 1_048_576), 30),
-    (((1 << 40) + 1, 0, 1, 1_048_576), 2),
-    ((u64::MAX, 1, 1, 1), 30),
-    ((1_048_576, 1, 1, 1), 0),
-    ((1_048_577, 1, 1, 1), 31),
+// Size, shares needed and in all, greatest segment, and the refusal, where there is one.
+static LIMITS: [((u64, u16, u16, u32), Option<LayoutError>); 20] = [
+    ((0, 3, 10, 131_072), Some(LayoutError::BadParameters)),
+    ((1, 3, 10, 131_072), None),
+    ((56, 0, 10, 131_072), Some(LayoutError::BadParameters)),
+    ((56, 3, 2, 131_072), Some(LayoutError::BadParameters)),
+    ((56, 3, 3, 131_072), None),
+    ((56, 3, 257, 131_072), Some(LayoutError::BadParameters)),
+    ((56, 256, 256, 131_072), None),
+    ((56, 1, 1, 0), Some(LayoutError::BadParameters)),
+    ((56, 1, 1, 1), None),
+    ((56, 1, 1, 1_048_831), None),
+    ((56, 1, 1, 1_048_832), Some(LayoutError::BadParameters)),
+    ((1 << 40, 256, 256, 1_048_831), None),
+    ((1 << 40, 1, 1, 1_048_576), None),
+    (
+        (1 << 40, 1, 1, 1_048_575),
+        Some(LayoutError::TooManySegments),
+    ),
+    ((1 << 40, 1, 1, 131_072), Some(LayoutError::TooManySegments)),
+    (
+        ((1 << 40) + 1, 1, 1, 1_048_576),
+        Some(LayoutError::TooLarge),
+    ),
+    (
+        ((1 << 40) + 1, 0, 1, 1_048_576),
+        Some(LayoutError::BadParameters),
+    ),
+    ((u64::MAX, 1, 1, 1), Some(LayoutError::TooLarge)),
+    ((1_048_576, 1, 1, 1), None),
+    ((1_048_577, 1, 1, 1), Some(LayoutError::TooManySegments)),
 ];
 
 #[test]
 fn geometries_have_limits(rt: HostRuntime) {
-    for &((size, needed, total, max), number) in &LIMITS {
-        let found = match Geometry::of(size, needed, total, max) {
-            Ok(_) => 0,
-            Err(error) => error.number(),
-        };
-        assert!(rt; found == number, "at {size} {needed} {total} {max}");
+    for &((size, needed, total, max), refusal) in &LIMITS {
+        let found = Geometry::of(size, needed, total, max).err();
+        assert!(rt; found == refusal, "at {size} {needed} {total} {max}");
     }
 }
 
 #[test]
-fn refusals_have_numbers_and_names(rt: HostRuntime) -> Result<(), Fail> {
+fn refusals_have_names(rt: HostRuntime) -> Result<(), Fail> {
     let rows = [
-        (LayoutError::BadParameters, 2, "BadParameters"),
-        (LayoutError::TooLarge, 30, "TooLarge"),
-        (LayoutError::TooManySegments, 31, "TooManySegments"),
-        (LayoutError::BadVersion, 32, "BadVersion"),
-        (LayoutError::BadOffset, 33, "BadOffset"),
+        (LayoutError::BadParameters, "BadParameters"),
+        (LayoutError::TooLarge, "TooLarge"),
+        (LayoutError::TooManySegments, "TooManySegments"),
+        (LayoutError::BadVersion, "BadVersion"),
+        (LayoutError::BadOffset, "BadOffset"),
         (
             LayoutError::Truncated(Section::CiphertextTree),
-            34,
             "Truncated CiphertextTree",
         ),
-        (LayoutError::BadShareHashes, 35, "BadShareHashes"),
-        (LayoutError::WriterFault, 36, "WriterFault"),
+        (LayoutError::BadShareHashes, "BadShareHashes"),
+        (LayoutError::WriterFault, "WriterFault"),
     ];
-    for (error, number, text) in rows {
-        assert!(rt; error.number() == number);
+    for (error, text) in rows {
         assert!(rt; format!(in rt.alloc(); "{error}")?.as_str() == text);
     }
     Ok(())
@@ -320,20 +322,14 @@ fn a_share_has_its_sections(rt: HostRuntime) {
     assert!(rt; has_sections(&share, &geometry));
 }
 
-// The number of the refusal of share 3, or 0.
-pub(crate) fn read_number(share: &[u8], number: u16, geometry: &Geometry) -> u8 {
-    match ShareView::read(share, number, geometry) {
-        Ok(_) => 0,
-        Err(error) => error.number(),
-    }
+// The refusal of a share of this number, where there is one.
+pub(crate) fn read_refusal(share: &[u8], number: u16, geometry: &Geometry) -> Option<LayoutError> {
+    ShareView::read(share, number, geometry).err()
 }
 
-// The number of the refusal, or 0.
-pub(crate) fn locate_number(share: &[u8]) -> u8 {
-    match locate_ueb(share) {
-        Ok(_) => 0,
-        Err(error) => error.number(),
-    }
+// The refusal of a share by its header's own numbers, where there is one.
+pub(crate) fn locate_refusal(share: &[u8]) -> Option<LayoutError> {
+    locate_ueb(share).err()
 }
 
 #[test]
@@ -342,24 +338,32 @@ fn shares_carry_the_numbers_of_their_nodes(rt: HostRuntime) {
         assert!(rt; false);
         return;
     };
-    for (number, refusal) in [(2, 0), (3, 0), (4, 35), (1, 35), (10, 35), (u16::MAX, 35)] {
+    let other = Some(LayoutError::BadShareHashes);
+    for (number, refusal) in [
+        (2, None),
+        (3, None),
+        (4, other),
+        (1, other),
+        (10, other),
+        (u16::MAX, other),
+    ] {
         assert!(rt;
-            read_number(&share, number, &geometry) == refusal,
+            read_refusal(&share, number, &geometry) == refusal,
             "at {number}"
         );
     }
     for (place, refusal) in [
-        (151, 35),
-        (152, 35),
-        (153, 0),
-        (184, 0),
-        (186, 35),
-        (288, 35),
+        (151, other),
+        (152, other),
+        (153, None),
+        (184, None),
+        (186, other),
+        (288, other),
     ] {
         if place < share.len() {
             share[place] ^= 1;
-            assert!(rt; read_number(&share, 3, &geometry) == refusal, "at {place}");
-            assert!(rt; locate_number(&share) == 0);
+            assert!(rt; read_refusal(&share, 3, &geometry) == refusal, "at {place}");
+            assert!(rt; locate_refusal(&share).is_none());
             share[place] ^= 1;
         }
     }
@@ -405,15 +409,20 @@ fn a_changed_header_is_refused(rt: HostRuntime) {
     for place in 0..36 {
         if place < share.len() {
             share[place] ^= 1;
-            let refusal = if place < 4 { 32 } else { 33 };
-            assert!(rt; read_number(&share, 3, &geometry) == refusal, "at {place}");
+            let refusal = if place < 4 {
+                LayoutError::BadVersion
+            } else {
+                LayoutError::BadOffset
+            };
+            let read = read_refusal(&share, 3, &geometry);
+            assert!(rt; read == Some(refusal), "at {place}");
             let located = match place {
-                0..=3 => 32,
-                4..=11 => 0,
-                _ => 33,
+                0..=3 => Some(LayoutError::BadVersion),
+                4..=11 => None,
+                _ => Some(LayoutError::BadOffset),
             };
             if place < 16 {
-                assert!(rt; locate_number(&share) == located, "at {place}");
+                assert!(rt; locate_refusal(&share) == located, "at {place}");
             }
             share[place] ^= 1;
         }
@@ -427,26 +436,28 @@ fn a_share_ends_with_its_extension_block(rt: HostRuntime) {
         return;
     };
     assert!(rt; share.push(0).is_ok());
-    assert!(rt; read_number(&share, 3, &geometry) == 33);
-    assert!(rt; locate_number(&share) == 33);
+    let other = Some(LayoutError::BadOffset);
+    assert!(rt; read_refusal(&share, 3, &geometry) == other);
+    assert!(rt; locate_refusal(&share) == other);
     share.pop();
+    let short = Some(LayoutError::Truncated(Section::Ueb));
     // The length of the extension block, its two low bytes.
     for (high, low, refusal) in [
-        (1, 52, 0),
-        (1, 51, 33),
-        (1, 53, 34),
-        (16, 0, 34),
-        (16, 1, 33),
-        (0, 0, 33),
+        (1, 52, None),
+        (1, 51, other),
+        (1, 53, short),
+        (16, 0, short),
+        (16, 1, other),
+        (0, 0, other),
     ] {
         if share.len() > 324 {
             share[323] = high;
             share[324] = low;
             assert!(rt;
-                read_number(&share, 3, &geometry) == refusal,
+                read_refusal(&share, 3, &geometry) == refusal,
                 "at {high} {low}"
             );
-            assert!(rt; locate_number(&share) == refusal, "at {high} {low}");
+            assert!(rt; locate_refusal(&share) == refusal, "at {high} {low}");
         }
     }
 }

@@ -13,37 +13,37 @@ const UEB_HASH: [u8; 32] = [
     0xe3, 0x04, 0xd0, 0x98, 0x78, 0xfc, 0x1c, 0x44, 0x9e, 0x88, 0x12, 0x3f, 0x54, 0x3d, 0x72, 0x68,
 ];
 
-// Places at which one bit is turned, and the fault's number.
-static FLIPS: [(usize, u8); 22] = [
+// Places at which one bit is turned, and the fault.
+static FLIPS: [(usize, ShareFault); 22] = [
     // the header
-    (3, 40),
-    (7, 40),
-    (35, 40),
+    (3, ShareFault::Layout(LayoutError::BadVersion)),
+    (7, ShareFault::Layout(LayoutError::BadOffset)),
+    (35, ShareFault::Layout(LayoutError::BadOffset)),
     // the first and the last block
-    (36, 46),
-    (95, 46),
+    (36, ShareFault::Data),
+    (95, ShareFault::Data),
     // zeros
-    (96, 41),
-    (319, 41),
+    (96, ShareFault::Unused),
+    (319, ShareFault::Unused),
     // the ciphertext tree: root, inner node, first leaf, padding
-    (320, 43),
-    (352, 43),
-    (416, 43),
-    (543, 43),
+    (320, ShareFault::CiphertextTree),
+    (352, ShareFault::CiphertextTree),
+    (416, ShareFault::CiphertextTree),
+    (543, ShareFault::CiphertextTree),
     // the block tree
-    (544, 44),
-    (576, 44),
-    (640, 44),
-    (767, 44),
+    (544, ShareFault::BlockTree),
+    (576, ShareFault::BlockTree),
+    (640, ShareFault::BlockTree),
+    (767, ShareFault::BlockTree),
     // the share hashes: a number, a node above, the share's own leaf, its sibling
-    (769, 40),
-    (770, 45),
-    (804, 45),
-    (869, 45),
+    (769, ShareFault::Layout(LayoutError::BadShareHashes)),
+    (770, ShareFault::ShareHashes),
+    (804, ShareFault::ShareHashes),
+    (869, ShareFault::ShareHashes),
     // the extension block and its length
-    (873, 40),
-    (874, 42),
-    (1178, 42),
+    (873, ShareFault::Layout(LayoutError::BadOffset)),
+    (874, ShareFault::OtherUeb),
+    (1178, ShareFault::OtherUeb),
 ];
 
 const SHARE: [u8; 1179] = *b"\
@@ -113,13 +113,9 @@ fn the_share_passes_under_its_number_alone(rt: HostRuntime) -> Result<(), Fail> 
 fn each_bit_counts(rt: HostRuntime) -> Result<(), Fail> {
     let cap = ReadCap::new([0; 16], UEB_HASH, 1, 3, 60)?.to_verify();
     let mut share = Vec::from_slice(rt.alloc(), &SHARE)?;
-    for &(place, number) in &FLIPS {
+    for &(place, fault) in &FLIPS {
         turn(&mut share, place);
-        let fault = verify_share(&cap, 2, &share).err();
-        assert!(rt;
-            fault.map(|fault| fault.number()) == Some(number),
-            "at {place}"
-        );
+        assert!(rt; verify_share(&cap, 2, &share) == Err(fault), "at {place}");
         turn(&mut share, place);
     }
     Ok(())

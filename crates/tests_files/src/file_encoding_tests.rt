@@ -184,7 +184,7 @@ fn refused_memory_in_encoding(rt: HostRuntime) {
     let secret = "friends of the grid";
     let is_right = match becomes(rt.alloc(), many, secret, CAPS[3], 16_930, &SMALL_SEGMENTS) {
         Ok(is_right) => is_right,
-        Err(error) => error.number() == 1,
+        Err(error) => error == EncodeError::OutOfMemory,
     };
     assert!(rt; is_right);
 }

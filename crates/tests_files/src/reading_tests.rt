@@ -5,16 +5,12 @@ ghost use Rattle.std.specs.Prelude.{◌≡◌, ◌∷◌, [], IfSome};
 
 use aes_ctr::Aes128;
 use cap_text::{Cap, ReadCap, VerifyCap};
-use file_encoding::{
-    Encoded, Params, ReadError, Share, ShareFault, encode_all, read_ciphertext, read_from,
-    verify_share,
-};
+use file_encoding::{Encoded, Params, ReadError, Share, encode_all, read_ciphertext, read_from};
 use proved_parts::decode_segment;
-use share_layout::{Geometry, LayoutError, locate_ueb};
+use share_layout::Geometry;
 use share_verify::read_share;
 use std::alloc::Global;
 use std::test::Fail;
-use tagged_hash::{Tag, tagged};
 use zfec_code::{Code, Decoder};
 
 // The file, whose byte i is i modulo 251.
@@ -68,22 +64,15 @@ fn gives(alloc: Global, cap: &ReadCap, strings: &[(u16, &[u8])]) -> Option<bool>
     }
 }
 
-// The number of the refusal of these strings by both readers; 0 where both give a text, and 255
-// where they do not agree.
-fn refusal(alloc: Global, cap: &ReadCap, strings: &[(u16, &[u8])]) -> u8 {
-    let text = number_of(read_ciphertext(alloc, &cap.to_verify(), strings));
-    if text == number_of(read_from(alloc, cap, strings)) {
-        text
-    } else {
-        255
-    }
-}
-
-fn number_of(outcome: Result<Vec<u8>, ReadError>) -> u8 {
-    match outcome {
-        Ok(_) => 0,
-        Err(error) => error.number(),
-    }
+// Whether both readers refuse these strings so, or give a text where there is to be no refusal.
+fn have_refusal(
+    alloc: Global,
+    cap: &ReadCap,
+    strings: &[(u16, &[u8])],
+    refusal: Option<ReadError>,
+) -> bool {
+    read_ciphertext(alloc, &cap.to_verify(), strings).err() == refusal
+        && read_from(alloc, cap, strings).err() == refusal
 }
 
 #[test]
@@ -120,9 +109,10 @@ fn ciphertexts_have_the_refusals_of_files(rt: HostRuntime) {
         (300, share(&shares, 2)),
         (2, share(&shares, 2)),
     ];
-    assert!(rt; refusal(alloc, &cap, &[]) == 71);
-    assert!(rt; refusal(alloc, &cap, &strings[..5]) == 71);
-    assert!(rt; refusal(alloc, &cap, &strings) == 0);
+    let lacking = Some(ReadError::NotEnoughShares);
+    assert!(rt; have_refusal(alloc, &cap, &[], lacking));
+    assert!(rt; have_refusal(alloc, &cap, &strings[..5], lacking));
+    assert!(rt; have_refusal(alloc, &cap, &strings, None));
     assert!(rt; gives(alloc, &cap, &strings) == Some(true));
 }
 

@@ -233,18 +233,10 @@ fn silent_nodes(grid: &LocalGrid<MemoryStore, JunkLink>) -> u64 {
     silent
 }
 
-// How the loop ended: 0, or the refusal's number.
-fn ending(outcome: Result<(), LoopError>) -> u8 {
-    match outcome {
-        Ok(()) => 0,
-        Err(refusal) => refusal.number(),
-    }
-}
-
 // What is seen after a run.
 #[derive(Clone, Copy, PartialEq, Eq)]
 struct Seen {
-    ending: u8,
+    ending: Result<(), LoopError>,
     clock: u64,
     silent: u64,
 }
@@ -303,7 +295,7 @@ static CASES: [Case; 8] = [
         limit: 8,
         heard: &WHOLE_SHARE_HEARD,
         seen: Seen {
-            ending: 0,
+            ending: Ok(()),
             clock: 5,
             silent: 0,
         },
@@ -315,7 +307,7 @@ static CASES: [Case; 8] = [
         limit: 7,
         heard: &WHOLE_SHARE_HEARD,
         seen: Seen {
-            ending: 92,
+            ending: Err(LoopError::TurnLimit),
             clock: 0,
             silent: 0,
         },
@@ -332,7 +324,7 @@ static CASES: [Case; 8] = [
             (0, 0, 6, Said::NoShare),
         ],
         seen: Seen {
-            ending: 0,
+            ending: Ok(()),
             clock: 20,
             silent: 0,
         },
@@ -345,7 +337,7 @@ static CASES: [Case; 8] = [
         limit: 100,
         heard: &[(1, 0, 1, Said::Granted), (0, 0, 4, Said::Have(0))],
         seen: Seen {
-            ending: 0,
+            ending: Ok(()),
             clock: 5,
             silent: 2,
         },
@@ -358,7 +350,7 @@ static CASES: [Case; 8] = [
         limit: 100,
         heard: &[(1, 0, 1, Said::Granted), (0, 0, 4, Said::Have(0))],
         seen: Seen {
-            ending: 0,
+            ending: Ok(()),
             clock: 5,
             silent: 2,
         },
@@ -371,7 +363,7 @@ static CASES: [Case; 8] = [
         limit: 100,
         heard: &[(0, 0, 4, Said::Have(0))],
         seen: Seen {
-            ending: 0,
+            ending: Ok(()),
             clock: 5,
             silent: 2,
         },
@@ -383,7 +375,7 @@ static CASES: [Case; 8] = [
         limit: 9,
         heard: &[],
         seen: Seen {
-            ending: 92,
+            ending: Err(LoopError::TurnLimit),
             clock: 10,
             silent: 1,
         },
@@ -396,7 +388,7 @@ static CASES: [Case; 8] = [
         limit: 100,
         heard: &[],
         seen: Seen {
-            ending: 0,
+            ending: Ok(()),
             clock: 0,
             silent: 0,
         },
@@ -407,7 +399,7 @@ static CASES: [Case; 8] = [
 fn is_right(alloc: Global, case: &Case) -> Result<bool, AllocError> {
     let mut grid = grid(alloc, case.kinds)?;
     let mut asker = Asker::new(alloc, case.requests, case.ticks);
-    let ending = ending(grid.run_within(&mut asker, case.limit));
+    let ending = grid.run_within(&mut asker, case.limit);
     let seen = Seen {
         ending,
         clock: grid.clock(),
@@ -430,10 +422,10 @@ fn goes_on_after_the_limit(rt: HostRuntime) -> Result<(), Fail> {
     let mut grid = grid(rt.alloc(), &[Honest])?;
     let mut asker = Asker::new(rt.alloc(), &WHOLE_SHARE, 2);
     for turns in [0, 3, 5] {
-        assert_eq!(rt; ending(grid.run_within(&mut asker, turns)), 92);
+        assert!(rt; grid.run_within(&mut asker, turns) == Err(LoopError::TurnLimit));
     }
     assert_eq!(rt; grid.clock(), 5);
-    assert_eq!(rt; ending(grid.run(&mut asker)), 0);
+    assert!(rt; grid.run(&mut asker) == Ok(()));
     assert_eq!(rt; grid.clock(), 10);
     assert!(rt; asker.heard.as_slice() == &WHOLE_SHARE_HEARD[..]);
     Ok(())
@@ -444,7 +436,7 @@ fn write_after(alloc: Global, ticks: u64) -> Result<Option<Said>, AllocError> {
     let mut grid = grid(alloc, &[Honest])?;
     let mut first = Asker::new(alloc, &[(0, Request::Allocate(10))], ticks);
     let mut second = Asker::new(alloc, &[(0, Request::Write(0, b"01"))], 1);
-    if ending(grid.run(&mut first)) != 0 || ending(grid.run(&mut second)) != 0 {
+    if grid.run(&mut first).is_err() || grid.run(&mut second).is_err() {
         return Err(AllocError);
     }
     Ok(match second.heard.as_slice() {
@@ -462,13 +454,13 @@ fn servers_tick(rt: HostRuntime) -> Result<(), Fail> {
 }
 
 // What the server holds at the end, with links in memory.
-fn held(alloc: Global) -> Result<(u8, Option<Digest>), AllocError> {
+fn held(alloc: Global) -> Result<(Result<(), LoopError>, Option<Digest>), AllocError> {
     let server = Server::start(alloc, MemoryStore::new(alloc), 100, false);
     let mut nodes = Vec::with_capacity(alloc, 1)?;
     nodes.push(Some(Node::new(server, MemoryLink::new(alloc))))?;
     let mut grid = LocalGrid::new(alloc, nodes);
     let mut asker = Asker::new(alloc, &WHOLE_SHARE, 1);
-    let ending = ending(grid.run(&mut asker));
+    let ending = grid.run(&mut asker);
     let digest = match grid.nodes() {
         [Some(node)] => node.server().store().closed(&SHARE),
         _ => None,
@@ -478,15 +470,15 @@ fn held(alloc: Global) -> Result<(u8, Option<Digest>), AllocError> {
 
 #[test]
 fn holds_the_share(rt: HostRuntime) -> Result<(), Fail> {
-    assert!(rt; held(rt.alloc())? == (0, Some(DIGEST)));
+    assert!(rt; held(rt.alloc())? == (Ok(()), Some(DIGEST)));
     Ok(())
 }
 
 #[test]
 fn refused_memory_holds_the_share(rt: HostRuntime) {
     let is_right = match held(rt.alloc()) {
-        Ok((0, digest)) => digest == Some(DIGEST),
-        Ok((ending, _)) => ending == 1,
+        Ok((Ok(()), digest)) => digest == Some(DIGEST),
+        Ok((Err(refusal), _)) => refusal == LoopError::OutOfMemory,
         Err(AllocError) => true,
     };
     assert!(rt; is_right);
@@ -494,8 +486,6 @@ fn refused_memory_holds_the_share(rt: HostRuntime) {
 
 #[test]
 fn refusals(rt: HostRuntime) -> Result<(), Fail> {
-    assert_eq!(rt; LoopError::OutOfMemory.number(), 1);
-    assert_eq!(rt; LoopError::TurnLimit.number(), 92);
     let text = format!(in rt.alloc(); "{} {}", LoopError::OutOfMemory, LoopError::TurnLimit)?;
     assert!(rt; text.as_str() == "OutOfMemory TurnLimit");
     Ok(())

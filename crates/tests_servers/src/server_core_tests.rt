@@ -39,7 +39,7 @@ enum Event {
 #[derive(Clone, Copy, PartialEq, Eq)]
 enum Said {
     Nothing,
-    Fault(u8),
+    Fault(ServerFault),
     Have(bool, usize),
     Granted,
     Already(Digest),
@@ -53,6 +53,8 @@ enum Said {
     NoShare,
     Request,
 }
+
+const STORE_FAULT: Said = Said::Fault(ServerFault::StoreFault);
 
 // A client's node and session.
 type Client = (u16, u64);
@@ -122,7 +124,7 @@ fn told(client: Client, answer: &Result<Option<Message>, ServerFault>) -> Said {
         Ok(None) => Said::Nothing,
         Ok(Some(answer)) if answer.session == client.1 && answer.number == 3 => heard(&answer.body),
         Ok(Some(_)) => Said::Request,
-        Err(fault) => Said::Fault(fault.number()),
+        Err(fault) => Said::Fault(*fault),
     }
 }
 
@@ -135,7 +137,7 @@ fn send(
 ) -> Said {
     match request(alloc, client, event) {
         Some(request) => told(client, &keeping::serve(server, client.0, &request, now)),
-        None => Said::Fault(ServerFault::OutOfMemory.number()),
+        None => Said::Fault(ServerFault::OutOfMemory),
     }
 }
 
@@ -171,7 +173,7 @@ fn shown(server: &Server<MemoryStore>) -> (Option<Digest>, u64) {
 fn happens_at_last(alloc: Global, server: &mut Server<MemoryStore>, row: &Row) -> Said {
     let before = shown(server);
     let said = happens(alloc, server, row);
-    if said != Said::Fault(1) || shown(server) != before {
+    if said != Said::Fault(ServerFault::OutOfMemory) || shown(server) != before {
         return said;
     }
     happens(alloc, server, row)
@@ -371,7 +373,7 @@ fn allocates(server: &mut Server<MemoryStore>, file: u8, share: u8) -> Said {
     match answer {
         Ok(Some(answer)) => heard(&answer.body),
         Ok(None) => Said::Nothing,
-        Err(fault) => Said::Fault(fault.number()),
+        Err(fault) => Said::Fault(fault),
     }
 }
 
@@ -455,22 +457,22 @@ fn another_clients_bucket(rt: HostRuntime) {
 
 static FAILING: [Row; 18] = [
     (0, FIRST, Event::StoreFails, Said::Nothing),
-    (0, FIRST, Event::Ask, Said::Fault(60)),
+    (0, FIRST, Event::Ask, STORE_FAULT),
     (0, FIRST, Event::Ask, Said::Have(false, 0)),
     (0, FIRST, Event::Allocate(3, 10), Said::Granted),
     (0, FIRST, Event::StoreFails, Said::Nothing),
-    (0, FIRST, Event::Write(3, 0, b"0123456789"), Said::Fault(60)),
+    (0, FIRST, Event::Write(3, 0, b"0123456789"), STORE_FAULT),
     (0, FIRST, Event::Write(3, 0, b"0123456789"), Said::NoShare),
     (0, FIRST, Event::Allocate(3, 10), Said::Granted),
     (0, FIRST, Event::Write(3, 0, b"0123456789"), Said::Wrote(10)),
     (0, FIRST, Event::StoreFails, Said::Nothing),
-    (0, FIRST, Event::Close(3), Said::Fault(60)),
+    (0, FIRST, Event::Close(3), STORE_FAULT),
     (0, FIRST, Event::Close(3), Said::NoShare),
     (0, FIRST, Event::Allocate(3, 10), Said::Granted),
     (0, FIRST, Event::Write(3, 0, b"0123456789"), Said::Wrote(10)),
     (0, FIRST, Event::Close(3), Said::Closed(DIGEST)),
     (0, FIRST, Event::StoreFails, Said::Nothing),
-    (0, FIRST, Event::Read(3, 0, 10), Said::Fault(60)),
+    (0, FIRST, Event::Read(3, 0, 10), STORE_FAULT),
     (0, FIRST, Event::Read(3, 0, 10), Said::Data(10)),
 ];
 

@@ -262,12 +262,6 @@ fn memory_fails(rt: HostRuntime) {
     assert_eq!(rt; store.failures(), 4);
 }
 
-#[test]
-fn errors_have_numbers(rt: HostRuntime) {
-    assert_eq!(rt; StoreError::OutOfMemory.number(), 1);
-    assert_eq!(rt; StoreError::StoreFault.number(), 60);
-}
-
 // A path in a folder that is this process's own.
 pub(crate) fn path(rt: &HostRuntime, rest: &str) -> Result<String, AllocError> {
     let process = std::process::id(rt.process());

@@ -4,7 +4,6 @@ ghost use Rattle.std.specs.Prelude.{◌≡◌, ◌+◌, ◌<◌, ◌≤◌, ℕ,
 ghost use Rattle.std.specs.Prelude.{IfOk, IfErr};
 ghost use Rattle.tagged_hash.specs.TaggedHash.{share_digest};
 ghost use Rattle.upload_core.specs.Pieces.{HaveOneLength, length_of, piece_of};
-ghost use Rattle.upload_core.specs.PieceFault.{fault_number};
 ghost use Rattle.upload_core.specs.declared.pieces.PieceFault.{PieceFault};
 
 use std::alloc::{AllocError, Global};
@@ -21,19 +20,6 @@ pub enum PieceFault {
     SourceChanged,
     /// The source could not be read (number 75).
     SourceFault,
-}
-
-impl PieceFault {
-    /// The number of the fault.
-    pub fn number(self) -> u8
-        ensures { result ≡ fault_number self }
-    {
-        match self {
-            PieceFault::OutOfMemory => 1,
-            PieceFault::SourceChanged => 74,
-            PieceFault::SourceFault => 75,
-        }
-    }
 }
 
 /// A source of the pieces of an upload's shares, by relations of its own: what each call gives,

@@ -1,5 +1,4 @@
 -- what public contracts rest on
-pub mod CodeError
 pub mod Shares
 pub mod Rows
 pub mod ShareValue

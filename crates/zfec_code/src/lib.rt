@@ -10,7 +10,6 @@ ghost use Rattle.std.specs.Prelude.{IfErr, OnOk, OnErr, IsErrOf, ◌⊎◌};
 ghost use Rattle.zfec_code.specs.Shares.{IsShareOf, Parameters, AreParameters, HaveLengths};
 ghost use Rattle.zfec_code.specs.Shares.{AreSharesOf};
 ghost use Rattle.zfec_code.specs.declared.CodeError.TheVariants.{OutOfMemory};
-ghost use Rattle.zfec_code.specs.CodeError.{refusal_number};
 ghost use Rattle.zfec_code.specs.Laws.{FormulaGivesShares, PrimariesAreUnique};
 ghost use Rattle.zfec_code.specs.Laws.{ShareValuesAreUnique};
 ghost use Rattle.zfec_code.specs.Rows.{AreDistinct, primary_points};
@@ -45,21 +44,6 @@ pub enum CodeError {
     /// There are not k shares, their lengths differ, or the output is not k times as long as one
     /// (number 5).
     LengthMismatch,
-}
-
-impl CodeError {
-    /// The number of the refusal.
-    pub fn number(self) -> u8
-        ensures { result ≡ refusal_number self }
-    {
-        match self {
-            CodeError::OutOfMemory => 1,
-            CodeError::BadParameters => 2,
-            CodeError::RepeatedShare => 3,
-            CodeError::ShareOutOfRange => 4,
-            CodeError::LengthMismatch => 5,
-        }
-    }
 }
 
 impl From<AllocError> for CodeError {
