@@ -151,7 +151,8 @@ pub(crate) fn answer_at(
 ) -> Result<(), AllocError>
     requires { place < vec_len operations.old }
     ensures ok { OnOk result (OperationBecomes (λ op more next. OperationGets from message now op
-        more next) operations.old.items place sent.old.items operations.new.items sent.new.items) }
+        more next) operations.old.items place sent.old.items operations.new.items
+        sent.new.items) }
     ensures some { OperationMoves (SaidBy from message) operations.old.items place sent.old.items
         operations.new.items sent.new.items }
 {
