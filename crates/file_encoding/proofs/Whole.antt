@@ -10,7 +10,7 @@ use Rattle.tagged_hash.specs.declared.tag.Tag.TheVariants.{ExtensionBlock}
 use Rattle.merkle.specs.Tree.{tree_nodes, tree_root}
 use Rattle.aes_ctr.specs.CounterMode.{xored}
 use Rattle.tagged_hash.specs.ConvergentKey.{convergent_key_of}
-use Rattle.cap_text.specs.Cap.{ReadCapValue}
+use Rattle.cap_text.specs.Cap.{ReadCapValue, read_cap_value}
 use Rattle.ueb.specs.Block.{ueb_text}
 use Rattle.share_layout.specs.Geometry.{Geometry, IsGeometry, geometry_of, segment_count}
 use Rattle.share_layout.specs.Layout.{layout_of, spelled}
@@ -80,11 +80,11 @@ shares_are g key text extension_block leaves drafts shares valid size done =
 
 pub cap_is : (g : Geometry) (key text extension_block ueb_hash : List ℕ) (cap : ReadCapValue)
     → extension_block ≡ ueb_text (extension_block_contents g text (segments_of g text)) → ueb_hash ≡ tagged_hash ExtensionBlock extension_block
-    → cap ≡ record { key = key; ueb_hash = ueb_hash; needed = g.needed; total = g.total; size = g.size }
+    → cap ≡ read_cap_value key ueb_hash g.needed g.total g.size
     → cap ≡ (ciphertext_encoding g key text).cap
 unfolding ciphertext_encoding
 cap_is g key text extension_block ueb_hash cap block hashed is =
-    is ∙ ap (λ h. let c : ReadCapValue = record { key = key; ueb_hash = h; needed = g.needed; total = g.total; size = g.size } in c) (hashed ∙ ap (tagged_hash ExtensionBlock) block)
+    is ∙ ap (λ h. read_cap_value key h g.needed g.total g.size) (hashed ∙ ap (tagged_hash ExtensionBlock) block)
 
 -- the encoding of a file is that of its ciphertext
 pub encoding_from : (file secret : List ℕ) (p : Parameters) (g : Geometry) (key text : List ℕ)

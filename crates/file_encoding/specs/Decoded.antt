@@ -20,6 +20,16 @@ pub record DecodedState : Type 0 where
   pub share_root : List ℕ
   pub extension_block : List ℕ
 
+-- the value of a decoded file with these fields
+abbrev pub decoded_state : Geometry → List ℕ → List (List ℕ) → List ℕ → List ℕ → DecodedState
+decoded_state geometry text leaves share_root extension_block = record {
+  geometry = geometry;
+  text = text;
+  leaves = leaves;
+  share_root = share_root;
+  extension_block = extension_block;
+}
+
 -- the text has the file's length, and its segments have these leaves
 pub record IsWholeText (d : DecodedState) : Type 0 where
   pub valid : IsGeometry d.geometry

@@ -9,7 +9,7 @@ use Rattle.tagged_hash.specs.ConvergentKey.{convergent_key_of}
 use Rattle.tagged_hash.specs.TaggedHash.{tagged_hash}
 use Rattle.tagged_hash.specs.declared.tag.Tag.TheVariants.{Ciphertext, ExtensionBlock}
 use Rattle.zfec_code.specs.ShareValue.{share_block}
-use Rattle.cap_text.specs.Cap.{ReadCapValue}
+use Rattle.cap_text.specs.Cap.{ReadCapValue, read_cap_value}
 use Rattle.ueb.specs.Shape.{Contents, rounded_up}
 use Rattle.ueb.specs.Block.{ueb_text}
 use Rattle.share_layout.specs.Geometry.{Geometry, geometry_of, tree_size}
@@ -86,13 +86,8 @@ ciphertext_encoding g key ciphertext =
     let segments = segments_of g ciphertext in
     let extension_block = ueb_text (extension_block_contents g ciphertext segments) in
     record {
-      cap = record {
-        key = key;
-        ueb_hash = tagged_hash ExtensionBlock extension_block;
-        needed = g.needed;
-        total = g.total;
-        size = g.size;
-      };
+      cap = read_cap_value key (tagged_hash ExtensionBlock extension_block) g.needed g.total
+          g.size;
       shares = map (share_of g segments extension_block) (range_with_len 0 g.total);
     }
 

@@ -8,7 +8,7 @@ ghost use Rattle.ueb.specs.Limits.{max_length};
 ghost use Rattle.share_layout.specs.Geometry.{segment_count};
 ghost use Rattle.share_layout.specs.Places.{LocatesUeb};
 ghost use Rattle.share_layout.specs.Share.{IsShare, Sections};
-ghost use Rattle.file_encoding.specs.Decoded.{IsDecodedFrom};
+ghost use Rattle.file_encoding.specs.Decoded.{IsDecodedFrom, decoded_state};
 ghost use Rattle.file_encoding.specs.Decoding.{AreBlocks};
 ghost use Rattle.file_encoding.specs.LowestShares.{HaveBlocks, TakesAt};
 ghost use Rattle.file_encoding.specs.Reading.{AreInconsistent, GivesCiphertext, HasWrongSegment};
@@ -37,25 +37,15 @@ pub struct DecodedFile {
 }
 
 impl Model for DecodedFile {
-    ghost use Rattle.file_encoding.specs.Decoded.{DecodedState, IsWholeText};
+    ghost use Rattle.file_encoding.specs.Decoded.{DecodedState, IsWholeText, decoded_state};
 
     ghost Value = { DecodedState };
 
-    ghost view = { λ d. record {
-      geometry = d.geometry;
-      text = d.text.items;
-      leaves = d.leaves.items;
-      share_root = d.share_root;
-      extension_block = d.extension_block.items;
-    } };
+    ghost view = { λ d. decoded_state d.geometry d.text.items d.leaves.items d.share_root
+        d.extension_block.items };
 
-    ghost invariant = { λ d. IsWholeText (record {
-      geometry = d.geometry;
-      text = d.text.items;
-      leaves = d.leaves.items;
-      share_root = d.share_root;
-      extension_block = d.extension_block.items;
-    }) };
+    ghost invariant = { λ d. IsWholeText (decoded_state d.geometry d.text.items d.leaves.items
+        d.share_root d.extension_block.items) };
 }
 
 impl DecodedFile {
@@ -151,13 +141,8 @@ fn decode_blocks(
     requires leaves { length leaves.now ≡ segment_count geometry.now }
     requires short { length extension_block.now ≤ max_length }
     ensures decoded { IfOk result (λ file. DecodeTo geometry.now (map (λ s. s.0) blocks.now)
-        (map (λ s. s.1.now) blocks.now) file.text × (file ≡ record {
-          geometry = geometry.now;
-          text = file.text;
-          leaves = leaves.now;
-          share_root = share_root.now;
-          extension_block = extension_block.now;
-        })) }
+        (map (λ s. s.1.now) blocks.now) file.text × (file ≡ decoded_state geometry.now
+        file.text leaves.now share_root.now extension_block.now)) }
     ensures inconsistent { IsErrOf result ReadError.Inconsistent
         → HasWrongSegment geometry.now (map (λ s. s.0) blocks.now)
         (map (λ s. s.1.now) blocks.now) leaves.now }

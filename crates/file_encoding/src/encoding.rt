@@ -5,7 +5,7 @@ ghost use Rattle.std.specs.Prelude.{map, IfOk, IfErr, IsErrOf, IsOk, IsOkUnless,
 ghost use Rattle.std.specs.List.{range_with_len};
 ghost use Rattle.aes_ctr.specs.CounterMode.{xored};
 ghost use Rattle.cap_text.specs.declared.cap.Cap.TheVariants.{Chk, Lit};
-ghost use Rattle.cap_text.specs.Cap.{ReadCapValue};
+ghost use Rattle.cap_text.specs.Cap.{ReadCapValue, read_cap_value};
 ghost use Rattle.tagged_hash.specs.ConvergentKey.{IsSecret};
 ghost use Rattle.merkle.specs.Tree.{height, tree_nodes, tree_root};
 ghost use Rattle.ueb.specs.Shape.{IsFile, IsSegmentSize, rounded_up};
@@ -144,13 +144,8 @@ fn write_extension_block(
 // The cap of a file.
 fn file_cap(geometry: &Geometry, key: [u8; 16], ueb_hash: [u8; 32]) -> ReadCap
     requires { min_file_size ≤ geometry.now.size }
-    ensures { result ≡ record {
-      key = key;
-      ueb_hash = ueb_hash;
-      needed = geometry.now.needed;
-      total = geometry.now.total;
-      size = geometry.now.size;
-    } }
+    ensures { result ≡ read_cap_value key ueb_hash geometry.now.needed geometry.now.total
+        geometry.now.size }
 {
     match ReadCap::new(
         key,
