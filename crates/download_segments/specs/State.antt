@@ -24,6 +24,20 @@ pub record HandoutState : Type 0 where
   pub reached : ℕ
   pub ready : List Piece
 
+-- the value of a handout with these fields
+abbrev pub handout_state : List ℕ → Contents → Geometry → FileTreesState → ℕ → ℕ → ℕ → List Piece
+    → HandoutState
+handout_state key ueb geometry trees to handed reached ready = record {
+  key = key;
+  ueb = ueb;
+  geometry = geometry;
+  trees = trees;
+  to = to;
+  handed = handed;
+  reached = reached;
+  ready = ready;
+}
+
 -- What holds of each: the trees are those of the extension block, and the pieces follow one
 -- another, each proved by the extension block. None passes the last byte that is wanted.
 pub record IsHandout (h : HandoutState) : Type 0 where
@@ -38,16 +52,7 @@ pub record IsHandout (h : HandoutState) : Type 0 where
 -- the bytes of a file with this extension block from a place up to another are wanted, and only
 -- the roots of its trees are known
 abbrev pub starting_handout : List ℕ → Contents → Geometry → ℕ → ℕ → HandoutState
-starting_handout key u g from to = record {
-  key = key;
-  ueb = u;
-  geometry = g;
-  trees = starting_trees u g;
-  to = to;
-  handed = from;
-  reached = from;
-  ready = [];
-}
+starting_handout key u g from to = handout_state key u g (starting_trees u g) to from from []
 
 -- the same with other trees
 abbrev pub with_trees : HandoutState → FileTreesState → HandoutState

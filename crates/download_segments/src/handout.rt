@@ -50,31 +50,15 @@ pub struct Handout {
 }
 
 impl Model for Handout {
-    ghost use Rattle.download_segments.specs.State.{HandoutState, IsHandout};
+    ghost use Rattle.download_segments.specs.State.{HandoutState, IsHandout, handout_state};
 
     ghost Value = { HandoutState };
 
-    ghost view = { λ h. record {
-      key = h.cipher;
-      ueb = h.ueb;
-      geometry = h.geometry;
-      trees = h.trees;
-      to = h.to;
-      handed = h.handed;
-      reached = h.reached;
-      ready = h.ready.items;
-    } };
+    ghost view = { λ h. handout_state h.cipher h.ueb h.geometry h.trees h.to h.handed h.reached
+        h.ready.items };
 
-    ghost invariant = { λ h. IsHandout (record {
-      key = h.cipher;
-      ueb = h.ueb;
-      geometry = h.geometry;
-      trees = h.trees;
-      to = h.to;
-      handed = h.handed;
-      reached = h.reached;
-      ready = h.ready.items;
-    }) };
+    ghost invariant = { λ h. IsHandout (handout_state h.cipher h.ueb h.geometry h.trees h.to
+        h.handed h.reached h.ready.items) };
 }
 
 impl Handout {

@@ -1,7 +1,7 @@
 use Rattle.std.proofs.Common.{◌≡◌, ◌↔◌, ◌≤◌, ◌+◌, ◌-◌, ◌%◌, ℕ, List, IsTrue, false, true≢false, length, ap, subst, sym, ◌∙◌, rules}
 use Rattle.proved_parts.specs.Parts.{IsSegmentBy}
 use Rattle.download_segments.specs.Handout.{handed_out, next_end}
-use Rattle.download_segments.specs.State.{HandoutState, IsHandout, ProvesSegment}
+use Rattle.download_segments.specs.State.{HandoutState, IsHandout, ProvesSegment, handout_state}
 use Rattle.download_segments.proofs.HandoutLemmas.{next_fits, next_within, right_handed}
 use Rattle.download_segments.proofs.TreeLemmas.{at_some, refutes}
 use Rattle.download_segments.proofs.handout.Handout.hand_out.Goals as goal
@@ -34,16 +34,7 @@ invariant_of-self-2 c =
     let siblings = c.in-Some.field-0.items in
     let by : IsSegmentBy h.ueb c.args.number segment siblings = subst (λ (s : List ℕ). IsSegmentBy h.ueb c.args.number s siblings) c.deref.ensures.value
     (at_some _ c.in_ok-path_by_hash.field-0 c.in-Some.field-0 c.in-Some.is c.in_ok-path_by_hash.ensures.by) in
-    let new : HandoutState = record {
-      key = c.self.inside.cipher;
-      ueb = c.self.inside.ueb;
-      geometry = c.self.inside.geometry;
-      trees = c.self.inside.trees;
-      to = c.self.inside.to;
-      handed = c.self.inside.handed;
-      reached = c.end_behind-end.result;
-      ready = c.push_back.new.self.items;
-    } in
+    let new : HandoutState = handout_state c.self.inside.cipher c.self.inside.ueb c.self.inside.geometry c.self.inside.trees c.self.inside.to c.self.inside.handed c.end_behind-end.result c.push_back.new.self.items in
     let is : new ≡ handed_out h segment = search rules in
     subst IsHandout (sym is) (right_handed h c.args.number segment siblings c.in_ok-path_by_hash.ensures.right c.requires.next c.requires.long by)
 

@@ -1,6 +1,6 @@
 use Rattle.std.proofs.Common.{◌≡◌, ◌++◌, ℕ, List, ap, map, refl, subst, sym, ◌∙◌, arith}
 use Rattle.download_segments.specs.Handout.{ProvesRow, first_handed_out}
-use Rattle.download_segments.specs.State.{HandoutState, IsHandout}
+use Rattle.download_segments.specs.State.{HandoutState, IsHandout, handout_state}
 use Rattle.download_segments.specs.declared.piece.Piece.{Piece}
 use Rattle.download_segments.proofs.RowLemmas.{row_state}
 use Rattle.download_segments.proofs.handout.Handout.hand_out_row.Goals as goal
@@ -13,16 +13,7 @@ invariant_of-self-2 c =
     let right : IsHandout h = subst IsHandout c.self.view_is c.self.invariant in
     let proves : ProvesRow h c.args.number segments =
     subst (λ l. ProvesRow h c.args.number (map (λ s. s.items) l)) c.deref.ensures.value (c.proves_row.ensures.0 c.if-not-proves_row.false) in
-    let base : HandoutState = record {
-      key = c.self.inside.cipher;
-      ueb = c.self.inside.ueb;
-      geometry = c.self.inside.geometry;
-      trees = c.self.inside.trees;
-      to = c.self.inside.to;
-      handed = c.self.inside.handed;
-      reached = c.self.inside.reached;
-      ready = c.self.inside.ready.items;
-    } in
+    let base : HandoutState = handout_state c.self.inside.cipher c.self.inside.ueb c.self.inside.geometry c.self.inside.trees c.self.inside.to c.self.inside.handed c.self.inside.reached c.self.inside.ready.items in
     let new : HandoutState = record base { reached = c.in_ok-pieces.reached; ready = c.append.new.self.items } in
     let is : new ≡ first_handed_out h segments 8 =
     (λ i. record base { reached = c.in_ok-pieces.reached; ready = c.in_ok-append.ensures.items i })

@@ -1,20 +1,11 @@
 use Rattle.std.proofs.Common.{◌≡◌, ◌+◌, List, ◌∷◌, ℕ, length, subst, sym, rules}
-use Rattle.download_segments.specs.State.{HandoutState, IsHandout}
+use Rattle.download_segments.specs.State.{HandoutState, IsHandout, handout_state}
 use Rattle.download_segments.proofs.HandoutLemmas.{right_taken}
 use Rattle.download_segments.proofs.handout.Handout.take.Goals as goal
 
 pub invariant_of-self-2 : goal.invariant_of-self-2
 invariant_of-self-2 c =
-    let h : HandoutState = record {
-      key = c.self.inside.cipher;
-      ueb = c.self.inside.ueb;
-      geometry = c.self.inside.geometry;
-      trees = c.self.inside.trees;
-      to = c.self.inside.to;
-      handed = c.self.inside.handed;
-      reached = c.self.inside.reached;
-      ready = c.self.inside.ready.items;
-    } in
+    let h : HandoutState = handout_state c.self.inside.cipher c.self.inside.ueb c.self.inside.geometry c.self.inside.trees c.self.inside.to c.self.inside.handed c.self.inside.reached c.self.inside.ready.items in
     let p = c.in_ok-piece.piece in
     let ps = c.pop_front.new.self.items in
     let is : h.ready ≡ p ∷ ps = search rules in
