@@ -36,10 +36,10 @@ place-requires-clause-known c =
     (subst (λ (xs : List ℕ). All (λ (p : Pair). Contains (xs ++ c.deref-2.result.now) p.0 × (p.1 < length u.goal.digests)) (acked_pairs u.goal es)) (sym ro)
     (subst (λ (xs : List ℕ). All (λ (p : Pair). Contains (readonly_servers u.goal es ++ xs) p.0 × (p.1 < length u.goal.digests)) (acked_pairs u.goal es)) (sym w) known)))
 
-abbrev the_plan : goal.After-drop-servers-2 → Placing
+abbrev the_plan : goal.After-drop-servers-3 → Placing
 the_plan c = record { m3 = c.in_ok-plan.plan.m3.items; leftovers = c.in_ok-plan.plan.leftovers.items }
 
-is_plan : (c : goal.After-drop-servers-2) → IsPlan (readonly_servers c.args.self.now.goal c.args.self.now.requests.entries) (writable_servers c.args.self.now.goal c.args.self.now.requests.entries) (acked_pairs c.args.self.now.goal c.args.self.now.requests.entries) (length c.args.self.now.goal.digests) c.in_ok-plan.plan.m1.items c.in_ok-plan.plan.m2.items c.in_ok-plan.plan.m3.items c.in_ok-plan.plan.leftovers.items c.in_ok-plan.plan.unplaced.items
+is_plan : (c : goal.After-drop-servers-3) → IsPlan (readonly_servers c.args.self.now.goal c.args.self.now.requests.entries) (writable_servers c.args.self.now.goal c.args.self.now.requests.entries) (acked_pairs c.args.self.now.goal c.args.self.now.requests.entries) (length c.args.self.now.goal.digests) c.in_ok-plan.plan.m1.items c.in_ok-plan.plan.m2.items c.in_ok-plan.plan.m3.items c.in_ok-plan.plan.leftovers.items c.in_ok-plan.plan.unplaced.items
 is_plan c =
     let u : UploadState = record { goal = c.self.inside.goal; happy = c.self.inside.happy; servers = c.self.inside.servers.items; requests = c.self.inside.requests; round = c.self.inside.round; status = c.self.inside.status } in
     let v : UploadState = c.args.self.now in
