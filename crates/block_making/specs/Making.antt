@@ -52,6 +52,11 @@ pub record Making : Type 0 where
   pub leaves : List (List (List ℕ))
   pub share : ℕ
 
+-- the value of what is made by these
+abbrev pub making_with : Geometry → List ℕ → List (List (List ℕ)) → ℕ → Making
+making_with geometry key leaves share =
+    record { geometry = geometry; key = key; leaves = leaves; share = share }
+
 -- the hashes of the share's blocks
 abbrev pub hashes_of : Making → List (List ℕ)
 hashes_of m = slice_index_or m.leaves m.share []

@@ -14,6 +14,7 @@ ghost use Rattle.sources.specs.Change.{DiffersFromFile, HasEndedEarly};
 ghost use Rattle.sources.specs.Source.{HasFailedMore};
 ghost use Rattle.block_making.specs.Making.{ArePut, AreSlots, HasOtherBlock, HaveBlocks, IsBlock};
 ghost use Rattle.block_making.specs.Making.{IsBlockPut, IsMaking, IsSegmentRead, WereRead, leaf_at};
+ghost use Rattle.block_making.specs.Making.{making_with};
 
 use crate::encoder::{Encoder, encode_lane, lane_of};
 use crate::error::PieceError;
@@ -36,23 +37,15 @@ pub struct BlockMaker<'a> {
 }
 
 impl<'a> Model for BlockMaker<'a> {
-    ghost use Rattle.block_making.specs.Making.{IsMaking, Making};
+    ghost use Rattle.block_making.specs.Making.{IsMaking, Making, making_with};
 
     ghost Value = { Making };
 
-    ghost view = { λ m. record {
-      geometry = m.geometry;
-      key = m.encoder.now.cipher;
-      leaves = m.trees.now;
-      share = m.share;
-    } };
+    ghost view = { λ m. making_with m.geometry m.encoder.now.cipher m.trees.now m.share };
 
-    ghost invariant = { λ m. IsMaking (record {
-      geometry = m.geometry;
-      key = m.encoder.now.cipher;
-      leaves = m.trees.now;
-      share = m.share;
-    }) m.encoder.now.code };
+    ghost invariant = { λ m.
+        IsMaking (making_with m.geometry m.encoder.now.cipher m.trees.now m.share)
+        m.encoder.now.code };
 }
 
 impl<'a> BlockMaker<'a> {
@@ -63,18 +56,9 @@ impl<'a> BlockMaker<'a> {
         trees: &'a [Tree],
         share: u8,
     ) -> BlockMaker<'a>
-        requires { IsMaking (record {
-          geometry = geometry;
-          key = encoder.now.cipher;
-          leaves = trees.now;
-          share = share;
-        }) encoder.now.code }
-        ensures { result ≡ record {
-          geometry = geometry;
-          key = encoder.now.cipher;
-          leaves = trees.now;
-          share = share;
-        } }
+        requires { IsMaking (making_with geometry encoder.now.cipher trees.now share)
+            encoder.now.code }
+        ensures { result ≡ making_with geometry encoder.now.cipher trees.now share }
     {
         BlockMaker {
             geometry,

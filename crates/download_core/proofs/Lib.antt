@@ -1,3 +1,4 @@
+pub mod Fields
 pub mod Begun
 pub mod Parts
 pub mod Asked

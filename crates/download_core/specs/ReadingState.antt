@@ -7,3 +7,7 @@ use Rattle.download_file.specs.State.{FileState}
 pub record ReadingState : Type 0 where
   pub file : FileState
   pub holdings : List ℕ
+
+-- the value of a reading with these fields
+abbrev pub reading_state : FileState → List ℕ → ReadingState
+reading_state file holdings = record { file = file; holdings = holdings }

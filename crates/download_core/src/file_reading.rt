@@ -62,11 +62,11 @@ pub struct FileReading {
 impl Model for FileReading {
     ghost use Rattle.std.specs.Prelude.{◌≡◌, true};
     ghost use Rattle.download_file.specs.Asked.{AreAskedUp};
-    ghost use Rattle.download_core.specs.ReadingState.{ReadingState};
+    ghost use Rattle.download_core.specs.ReadingState.{ReadingState, reading_state};
 
     ghost Value = { ReadingState };
 
-    ghost view = { λ r. record { file = r.file; holdings = r.holdings.items } };
+    ghost view = { λ r. reading_state r.file r.holdings.items };
 
     ghost invariant = { λ r. r.asked_up ≡ true → AreAskedUp r.file };
 }

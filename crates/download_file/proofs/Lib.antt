@@ -1,3 +1,4 @@
+pub mod Fields
 pub mod ListLemmas
 pub mod BlockLemmas
 pub mod GrowLemmas

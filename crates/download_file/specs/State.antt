@@ -30,6 +30,19 @@ pub record FileState : Type 0 where
   pub live : List ℕ
   pub groups : List GroupState
 
+-- the value of a file with these fields
+abbrev pub file_state : HandoutState → ℕ → ℕ → List ℕ → List ReaderState → List ℕ
+    → List GroupState → FileState
+file_state handout first end taken readers live groups = record {
+  handout = handout;
+  first = first;
+  end = end;
+  taken = taken;
+  readers = readers;
+  live = live;
+  groups = groups;
+}
+
 -- the bytes from a place up to another are wanted, and nothing is read yet
 abbrev pub new_file : List ℕ → Contents → Geometry → ℕ → ℕ → FileState
 new_file key u g from to = record {

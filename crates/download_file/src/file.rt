@@ -72,30 +72,16 @@ pub struct File {
 impl Model for File {
     ghost use Rattle.std.specs.Prelude.{◌≡◌};
     ghost use Rattle.download_file.specs.Right.{IsFile};
-    ghost use Rattle.download_file.specs.State.{FileState};
+    ghost use Rattle.download_file.specs.State.{FileState, file_state};
 
     ghost Value = { FileState };
 
-    ghost view = { λ f. record {
-      handout = f.handout;
-      first = f.plan.first;
-      end = f.plan.end;
-      taken = f.taken;
-      readers = f.readers.items;
-      live = f.live.items;
-      groups = f.groups.items;
-    } };
+    ghost view = { λ f. file_state f.handout f.plan.first f.plan.end f.taken f.readers.items
+        f.live.items f.groups.items };
 
     ghost invariant = { λ f.
-        IsFile (record {
-          handout = f.handout;
-          first = f.plan.first;
-          end = f.plan.end;
-          taken = f.taken;
-          readers = f.readers.items;
-          live = f.live.items;
-          groups = f.groups.items;
-        })
+        IsFile (file_state f.handout f.plan.first f.plan.end f.taken f.readers.items f.live.items
+        f.groups.items)
         × (f.plan.geometry ≡ f.handout.geometry) };
 }
 

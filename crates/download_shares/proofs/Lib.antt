@@ -1,3 +1,4 @@
+pub mod Fields
 pub mod Lists
 pub mod Tables
 pub mod Records

@@ -8,6 +8,10 @@ pub record BeginningsState : Type 0 where
   pub holdings : HoldingsState
   pub begun : List Begun
 
+-- the value of beginnings with these fields
+abbrev pub beginnings_state : HoldingsState → List Begun → BeginningsState
+beginnings_state holdings begun = record { holdings = holdings; begun = begun }
+
 -- how far the share of the holding at this place is read
 abbrev pub IsBegun : BeginningsState → ℕ → Begun → Type 0
 IsBegun s place b = slice_get s.begun place ≡ Some b

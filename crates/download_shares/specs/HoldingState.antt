@@ -14,6 +14,10 @@ pub record TableState : Type 0 where
   pub holdings : List Holding
   pub numbers : List NumberState
 
+-- the value of a table with these fields
+abbrev pub table_state : List Holding → List NumberState → TableState
+table_state holdings numbers = record { holdings = holdings; numbers = numbers }
+
 -- The first requests, `servers` of them, ask which shares a server holds, and each further one asks
 -- for bytes of a share: `owners` has its place among the holdings.
 pub record HoldingsState : Type 0 where
@@ -22,3 +26,13 @@ pub record HoldingsState : Type 0 where
   pub table : TableState
   pub owners : List ℕ
   pub blamed : List Blame
+
+-- the value of holdings with these fields
+abbrev pub holdings_state : RequestsState → ℕ → TableState → List ℕ → List Blame → HoldingsState
+holdings_state requests servers table owners blamed = record {
+  requests = requests;
+  servers = servers;
+  table = table;
+  owners = owners;
+  blamed = blamed;
+}

@@ -64,11 +64,11 @@ pub enum News {
 }
 
 impl Model for Beginnings {
-    ghost use Rattle.download_shares.specs.BeginningState.{BeginningsState};
+    ghost use Rattle.download_shares.specs.BeginningState.{BeginningsState, beginnings_state};
 
     ghost Value = { BeginningsState };
 
-    ghost view = { λ s. record { holdings = s.holdings; begun = s.begun.items } };
+    ghost view = { λ s. beginnings_state s.holdings s.begun.items };
 }
 
 impl Beginnings {

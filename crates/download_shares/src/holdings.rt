@@ -54,25 +54,15 @@ pub enum Heard {
 
 impl Model for Holdings {
     ghost use Rattle.download_shares.specs.Right.{IsRight};
-    ghost use Rattle.download_shares.specs.HoldingState.{HoldingsState};
+    ghost use Rattle.download_shares.specs.HoldingState.{HoldingsState, holdings_state};
 
     ghost Value = { HoldingsState };
 
-    ghost view = { λ s. record {
-      requests = s.requests;
-      servers = s.servers;
-      table = s.table;
-      owners = s.owners.items;
-      blamed = s.blamed.items;
-    } };
+    ghost view = { λ s.
+        holdings_state s.requests s.servers s.table s.owners.items s.blamed.items };
 
-    ghost invariant = { λ s. IsRight (record {
-      requests = s.requests;
-      servers = s.servers;
-      table = s.table;
-      owners = s.owners.items;
-      blamed = s.blamed.items;
-    }) };
+    ghost invariant = { λ s. IsRight
+        (holdings_state s.requests s.servers s.table s.owners.items s.blamed.items) };
 }
 
 impl Holdings {

@@ -30,15 +30,14 @@ pub(crate) struct Table {
 impl Model for Table {
     ghost use Rattle.std.specs.Prelude.{◌≡◌};
     ghost use Rattle.download_shares.specs.Numbers.{read_count};
-    ghost use Rattle.download_shares.specs.HoldingState.{TableState};
+    ghost use Rattle.download_shares.specs.HoldingState.{TableState, table_state};
     ghost use Rattle.download_shares.specs.Table.{IsTable};
 
     ghost Value = { TableState };
 
-    ghost view = { λ t. record { holdings = t.holdings.items; numbers = t.numbers.items } };
+    ghost view = { λ t. table_state t.holdings.items t.numbers.items };
 
-    ghost invariant = { λ t.
-        IsTable (record { holdings = t.holdings.items; numbers = t.numbers.items })
+    ghost invariant = { λ t. IsTable (table_state t.holdings.items t.numbers.items)
         × (t.reading ≡ read_count t.numbers.items) };
 }
 

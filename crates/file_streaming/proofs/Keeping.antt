@@ -8,7 +8,7 @@ use Rattle.aes_ctr.specs.CounterMode.{xored}
 use Rattle.aes_ctr.proofs.StreamLemmas.{length-xored_from}
 use Rattle.tagged_hash.specs.TaggedHash.{share_digest, tagged_hash}
 use Rattle.tagged_hash.specs.declared.tag.Tag.TheVariants.{Block, CiphertextSegment, ExtensionBlock}
-use Rattle.cap_text.specs.Cap.{ReadCapValue}
+use Rattle.cap_text.specs.Cap.{ReadCapValue, read_cap_value}
 use Rattle.ueb.specs.Block.{ueb_text}
 use Rattle.ueb.specs.Shape.{IsShape}
 use Rattle.share_layout.specs.Geometry.{Geometry, IsGeometry, segment_count}
@@ -23,7 +23,7 @@ use Rattle.file_streaming.specs.Finishing.{HaveLeaves, IsFinished}
 use Rattle.file_streaming.specs.Gathered.{IsGathered}
 use Rattle.file_streaming.specs.Kept.{IsKept}
 use Rattle.file_streaming.specs.Passes.{IsPassOf, gathered_of}
-use Rattle.file_streaming.specs.Prepared.{PreparedFile, prepared_by}
+use Rattle.file_streaming.specs.Prepared.{PreparedFile, prepared_by, prepared_with}
 use Rattle.file_streaming.specs.declared.finishing.Finished.{Finished}
 use Rattle.file_streaming.specs.declared.passes.Passes.{Passes}
 use Rattle.file_streaming.specs.declared.shares.ShareSoFar.{ShareSoFar}
@@ -41,14 +41,7 @@ digests_are g key text f is =
 
 -- what is kept of finished shares, with a cap
 abbrev kept_of : Geometry → ReadCapValue → Finished → PreparedFile
-kept_of g cap f = record {
-  geometry = g;
-  cap = cap;
-  extension_block = f.behind.extension_block.items;
-  leaves = f.behind.ciphertext_tree;
-  block_leaves = f.behind.block_trees.items;
-  digests = f.digests.items;
-}
+kept_of g cap f = prepared_with g cap f.behind.extension_block.items f.behind.ciphertext_tree f.behind.block_trees.items f.digests.items
 
 module _ (g : Geometry) (file : List ℕ) (p : Passes) (pass : IsPassOf g file p) (shape : IsShape g.needed g.total g.size g.segment_size) where
   abbrev text : List ℕ
@@ -91,7 +84,7 @@ module _ (g : Geometry) (file : List ℕ) (p : Passes) (pass : IsPassOf g file p
   all_alike k d low = share_long k d low ∙ sym leaves_long
 
   module _ (f : Finished) (is : IsFinished g text f) (ueb_hash : List ℕ) (cap : ReadCapValue) (hashed : ueb_hash ≡ tagged_hash ExtensionBlock f.behind.extension_block.items)
-      (made : cap ≡ record { key = p.key; ueb_hash = ueb_hash; needed = g.needed; total = g.total; size = g.size }) where
+      (made : cap ≡ read_cap_value p.key ueb_hash g.needed g.total g.size) where
     pub kept_is : kept_of g cap f ≡ prepared_by g p.key text
     kept_is = λ i. record {
       geometry = g;

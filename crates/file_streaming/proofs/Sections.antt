@@ -23,7 +23,7 @@ use Rattle.file_encoding.specs.Encoding.{Parameters, blocks_of, ciphertext_encod
 use Rattle.file_encoding.proofs.OwnShares.{lengths, valid, written}
 use Rattle.file_streaming.specs.Gathered.{behind_blocks}
 use Rattle.file_streaming.specs.Kept.{IsKept}
-use Rattle.block_making.specs.Making.{HasBlocks, IsMaking, IsPieceOf, Making, put_at}
+use Rattle.block_making.specs.Making.{HasBlocks, IsMaking, IsPieceOf, Making, making_with, put_at}
 use Rattle.file_streaming.specs.Piece.{leaves_of}
 use Rattle.file_streaming.specs.Prepared.{PreparedFile, geometry_for, key_for, prepared_by, prepared_of, share_length}
 use Rattle.file_streaming.specs.declared.gathering.Buffers.{Buffers}
@@ -103,7 +103,7 @@ module _ (p : PreparedFile) (hashes : List (List ℕ)) (e : Encoder) (b : Buffer
 
     -- the share's blocks are made by what is kept
     abbrev pub making_of : Making
-    making_of = record { geometry = g; key = e.cipher; leaves = p.block_leaves; share = share }
+    making_of = making_with g e.cipher p.block_leaves share
 
     -- they are those of each file of which it may be kept
     pub blocks_of_any : (file secret : List ℕ) (q : Parameters) → p ≡ prepared_of file secret q → HasBlocks making_of file

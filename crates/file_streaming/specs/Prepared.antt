@@ -25,6 +25,18 @@ pub record PreparedFile : Type 0 where
   pub block_leaves : List (List (List ℕ))
   pub digests : List (List ℕ)
 
+-- the value of what is kept so
+abbrev pub prepared_with : Geometry → ReadCapValue → List ℕ → List (List ℕ)
+    → List (List (List ℕ)) → List (List ℕ) → PreparedFile
+prepared_with geometry cap extension_block leaves block_leaves digests = record {
+  geometry = geometry;
+  cap = cap;
+  extension_block = extension_block;
+  leaves = leaves;
+  block_leaves = block_leaves;
+  digests = digests;
+}
+
 -- what is kept of a ciphertext and its key: the cap and the digests are those of its encoding
 abbrev pub prepared_by : Geometry → List ℕ → List ℕ → PreparedFile
 prepared_by g key ciphertext =

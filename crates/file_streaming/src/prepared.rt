@@ -48,29 +48,17 @@ pub struct Prepared {
 impl Model for Prepared {
     ghost use Rattle.std.specs.Prelude.{map};
     ghost use Rattle.file_streaming.specs.Kept.{IsHeld};
-    ghost use Rattle.file_streaming.specs.Prepared.{PreparedFile};
+    ghost use Rattle.file_streaming.specs.Prepared.{PreparedFile, prepared_with};
 
     ghost Value = { PreparedFile };
 
-    ghost view = { λ p. record {
-      geometry = p.geometry;
-      cap = p.cap;
-      extension_block = p.extension_block.items;
-      leaves = p.ciphertext_tree;
-      block_leaves = p.block_trees.items;
-      digests = p.digests.items;
-    } };
+    ghost view = { λ p. prepared_with p.geometry p.cap p.extension_block.items p.ciphertext_tree
+        p.block_trees.items p.digests.items };
 
     // It is of a file, and what is hidden belongs to it.
-    ghost invariant = { λ p. IsHeld (record {
-      geometry = p.geometry;
-      cap = p.cap;
-      extension_block = p.extension_block.items;
-      leaves = p.ciphertext_tree;
-      block_leaves = p.block_trees.items;
-      digests = p.digests.items;
-    }) (map (λ h. h.items) p.share_hashes.items) p.encoder p.buffers
-        p.slots };
+    ghost invariant = { λ p. IsHeld (prepared_with p.geometry p.cap p.extension_block.items
+        p.ciphertext_tree p.block_trees.items p.digests.items)
+        (map (λ h. h.items) p.share_hashes.items) p.encoder p.buffers p.slots };
 }
 
 impl Prepared {

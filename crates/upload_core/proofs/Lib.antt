@@ -1,3 +1,4 @@
+pub mod Fields
 pub mod Lists
 pub mod Numbers
 pub mod Counts

@@ -21,6 +21,17 @@ pub record UploadState : Type 0 where
   pub round : ℕ
   pub status : UploadStatus
 
+-- the value of an upload with these fields
+abbrev pub upload_state : Goal → ℕ → List ℕ → RequestsState → ℕ → UploadStatus → UploadState
+upload_state goal happy servers requests round status = record {
+  goal = goal;
+  happy = happy;
+  servers = servers;
+  requests = requests;
+  round = round;
+  status = status;
+}
+
 -- the same upload with another record
 abbrev pub with_record : UploadState → RequestsState → UploadState
 with_record u r = record u { requests = r }

@@ -33,27 +33,15 @@ pub(crate) struct Course {
 
 impl Model for Course {
     ghost use Rattle.upload_core.specs.Course.{IsCourse};
-    ghost use Rattle.upload_core.specs.State.{UploadState};
+    ghost use Rattle.upload_core.specs.State.{UploadState, upload_state};
 
     ghost Value = { UploadState };
 
-    ghost view = { λ c. record {
-      goal = c.goal;
-      happy = c.happy;
-      servers = c.servers.items;
-      requests = c.requests;
-      round = c.round;
-      status = c.status;
-    } };
+    ghost view = { λ c.
+        upload_state c.goal c.happy c.servers.items c.requests c.round c.status };
 
-    ghost invariant = { λ c. IsCourse (record {
-      goal = c.goal;
-      happy = c.happy;
-      servers = c.servers.items;
-      requests = c.requests;
-      round = c.round;
-      status = c.status;
-    }) };
+    ghost invariant = { λ c. IsCourse
+        (upload_state c.goal c.happy c.servers.items c.requests c.round c.status) };
 }
 
 impl Course {

@@ -3,14 +3,14 @@ use Rattle.std.proofs.lemmas.List.{get_or_default}
 use Rattle.merkle.proofs.PartialLemmas.{same_hash}
 use Rattle.share_layout.specs.Geometry.{segment_count}
 use Rattle.block_slots.specs.Slots.{KeptBlock}
-use Rattle.block_making.specs.Making.{IsBlock, Making, leaf_at}
+use Rattle.block_making.specs.Making.{IsBlock, Making, leaf_at, making_with}
 use Rattle.block_making.proofs.MadeBlocks.{hash_count}
 use Rattle.block_making.proofs.maker.BlockMaker.keep.Goals as goal
 
 pub leaf-requires : goal.leaf-requires
 leaf-requires c =
     let i = c.self.inside in
-    let m : Making = record { geometry = i.geometry; key = i.encoder.now.cipher; leaves = i.trees.now; share = c.args.share } in
+    let m : Making = making_with i.geometry i.encoder.now.cipher i.trees.now c.args.share in
     let low : c.args.share < i.geometry.total = omega (arith, c.requires.share, ap (λ (m : Making). m.geometry.total) c.self.view_is) in
     let there : c.from.result < length i.trees.now = omega (arith, c.from.ensures, low, c.self.invariant.count) in
     let tree : get_or i.trees.now c.from.result c.index-self-from.result ≡ get_or i.trees.now c.args.share [] =

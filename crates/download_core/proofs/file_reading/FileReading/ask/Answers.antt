@@ -10,7 +10,7 @@ use Rattle.download_shares.proofs.Opened.{goes_none}
 use Rattle.download_source.specs.declared.wanted.Wanted.{Wanted}
 use Rattle.download_file.specs.State.{IsLive, placed, waiting_at}
 use Rattle.download_core.specs.Reading.{AreLinked, AreReading, IsOf}
-use Rattle.download_core.specs.ReadingState.{ReadingState}
+use Rattle.download_core.specs.ReadingState.{ReadingState, reading_state}
 use Rattle.download_parts.specs.PlanLaws.{AreApart}
 use Rattle.download_file.specs.Asked.{IsAskedUp, IsOneOf}
 use Rattle.download_file.specs.Changes.{StaysAskedUp}
@@ -21,13 +21,14 @@ use Rattle.download_core.proofs.Ended.{adds_none, asks_none, planned_of}
 use Rattle.download_core.specs.ReadingSteps.{Continues}
 use Rattle.download_core.specs.ReadingSteps as steps
 use Rattle.download_core.proofs.Asked.{asked_reading, held_is, parts_unasked}
+use Rattle.download_core.proofs.Fields.{seen}
 use Rattle.download_core.proofs.file_reading.FileReading.ask.Goals as goal
 
 pub returns-in_err-wanted-clause-continues : goal.returns-in_err-wanted-clause-continues
 returns-in_err-wanted-clause-continues c =
     let bs = c.args.beginnings.now in
-    let r : ReadingState = record { file = c.self.inside.file; holdings = c.self.inside.holdings.items } in
-    let q : ReadingState = record { file = c.wanted.new.self; holdings = c.self.inside.holdings.items } in
+    let r : ReadingState = seen c.self.inside in
+    let q : ReadingState = reading_state c.wanted.new.self c.self.inside.holdings.items in
     subst (λ (x : ReadingState). Continues bs x bs q) c.self.view_is
     (record {
       goes = goes_none bs bs refl refl;
@@ -40,7 +41,7 @@ returns-in_err-wanted-clause-continues c =
 pub index-requires : goal.index-requires
 index-requires c =
     let bs = c.args.beginnings.now in
-    let r : ReadingState = record { file = c.self.inside.file; holdings = c.self.inside.holdings.items } in
+    let r : ReadingState = seen c.self.inside in
     let reading : AreLinked bs r = subst (AreLinked bs) (sym c.self.view_is) c.requires.reading.linked in
     let live : IsLive r.file c.args.reader = subst (λ (x : ReadingState). IsLive x.file c.args.reader) (sym c.self.view_is) c.requires.live in
     (let k = reading.live c.args.reader live in let w = slice_get_within r.holdings c.args.reader k.holding k.of in let o = c.self.inside.holdings.ok.0 in omega (arith, w, o))
@@ -48,7 +49,7 @@ index-requires c =
 pub ask_parts-requires-clause-there : goal.ask_parts-requires-clause-there
 ask_parts-requires-clause-there c =
     let bs = c.args.beginnings.now in
-    let r : ReadingState = record { file = c.self.inside.file; holdings = c.self.inside.holdings.items } in
+    let r : ReadingState = seen c.self.inside in
     let reading : AreLinked bs r = subst (AreLinked bs) (sym c.self.view_is) c.requires.reading.linked in
     let live : IsLive r.file c.args.reader = subst (λ (x : ReadingState). IsLive x.file c.args.reader) (sym c.self.view_is) c.requires.live in
     let of : IsOf r c.args.reader c.index.result.now = got r.holdings c.args.reader c.index.result.now (let k = reading.live c.args.reader live in slice_get_within r.holdings c.args.reader k.holding k.of) c.index.ensures in
@@ -62,7 +63,7 @@ ask_parts-requires-clause-apart c =
 pub ask_parts-requires-clause-fresh : goal.ask_parts-requires-clause-fresh
 ask_parts-requires-clause-fresh c =
     let bs = c.args.beginnings.now in
-    let r : ReadingState = record { file = c.self.inside.file; holdings = c.self.inside.holdings.items } in
+    let r : ReadingState = seen c.self.inside in
     let reading : AreLinked bs r = subst (AreLinked bs) (sym c.self.view_is) c.requires.reading.linked in
     let live : IsLive r.file c.args.reader = subst (λ (x : ReadingState). IsLive x.file c.args.reader) (sym c.self.view_is) c.requires.live in
     let of : IsOf r c.args.reader c.index.result.now = got r.holdings c.args.reader c.index.result.now (let k = reading.live c.args.reader live in slice_get_within r.holdings c.args.reader k.holding k.of) c.index.ensures in
@@ -72,11 +73,11 @@ ask_parts-requires-clause-fresh c =
 pub returns-clause-reading : goal.returns-clause-reading
 returns-clause-reading c =
     let bs = c.args.beginnings.now in
-    let r : ReadingState = record { file = c.self.inside.file; holdings = c.self.inside.holdings.items } in
+    let r : ReadingState = seen c.self.inside in
     let reading : AreLinked bs r = subst (AreLinked bs) (sym c.self.view_is) c.requires.reading.linked in
     let live : IsLive r.file c.args.reader = subst (λ (x : ReadingState). IsLive x.file c.args.reader) (sym c.self.view_is) c.requires.live in
     let of : IsOf r c.args.reader c.index.result.now = got r.holdings c.args.reader c.index.result.now (let k = reading.live c.args.reader live in slice_get_within r.holdings c.args.reader k.holding k.of) c.index.ensures in
-    let q : ReadingState = record { file = c.wanted.new.self; holdings = c.self.inside.holdings.items } in
+    let q : ReadingState = reading_state c.wanted.new.self c.self.inside.holdings.items in
     let f = c.wanted.new.self in
     let t = c.ask_parts.new.beginnings in
     let k = c.in_ok-wanted.ensures in
@@ -107,8 +108,8 @@ returns-clause-table c =
 pub returns-clause-continues : goal.returns-clause-continues
 returns-clause-continues c =
     let bs = c.args.beginnings.now in
-    let r : ReadingState = record { file = c.self.inside.file; holdings = c.self.inside.holdings.items } in
-    let q : ReadingState = record { file = c.wanted.new.self; holdings = c.self.inside.holdings.items } in
+    let r : ReadingState = seen c.self.inside in
+    let q : ReadingState = reading_state c.wanted.new.self c.self.inside.holdings.items in
     subst (λ (x : ReadingState). Continues bs x c.ask_parts.new.beginnings q) c.self.view_is
     (record {
       goes = c.ask_parts.ensures.goes;

@@ -11,12 +11,13 @@ use Rattle.download_shares.proofs.Opened.{goes_none}
 use Rattle.download_file.specs.Answers.{IsRead}
 use Rattle.download_file.specs.State.{CopyState, ReaderState, copies, copy, copy_of}
 use Rattle.download_core.specs.Reading.{AreLinked, AreReading}
-use Rattle.download_core.specs.ReadingState.{ReadingState}
+use Rattle.download_core.specs.ReadingState.{ReadingState, reading_state}
 use Rattle.download_core.specs.ReadingSteps.{Continues}
 use Rattle.download_core.proofs.Awaited.{begun_awaits}
 use Rattle.download_core.proofs.Begun.{begun_reading, free_not_taken}
 use Rattle.download_core.proofs.Busy.{busy_begun}
 use Rattle.download_core.proofs.Ended.{adds_none, asks_none}
+use Rattle.download_core.proofs.Fields.{seen}
 use Rattle.download_core.proofs.file_reading.FileReading.begin.Goals as goal
 
 abbrev nobody : Holding
@@ -43,7 +44,7 @@ begin-requires-clause-there c =
 pub begin-requires-clause-unread : goal.begin-requires-clause-unread
 begin-requires-clause-unread c reader x alive is same =
     let bs = c.args.beginnings.now in
-    let r : ReadingState = record { file = c.self.inside.file; holdings = c.self.inside.holdings.items } in
+    let r : ReadingState = seen c.self.inside in
     let reading : AreLinked bs r = subst (AreLinked bs) (sym c.self.view_is) c.requires.reading.linked in
     let h = c.requires.free.0 in
     let now = reading.live reader alive in
@@ -58,8 +59,8 @@ begin-requires-clause-unread c reader x alive is same =
 pub returns-in_err-reader-clause-continues : goal.returns-in_err-reader-clause-continues
 returns-in_err-reader-clause-continues c =
     let bs = c.args.beginnings.now in
-    let r : ReadingState = record { file = c.self.inside.file; holdings = c.self.inside.holdings.items } in
-    subst (λ (x : ReadingState). Continues bs x bs (record { file = c.begin.new.self; holdings = c.self.inside.holdings.items })) c.self.view_is
+    let r : ReadingState = seen c.self.inside in
+    subst (λ (x : ReadingState). Continues bs x bs (reading_state c.begin.new.self c.self.inside.holdings.items)) c.self.view_is
     (record {
       goes = goes_none bs bs refl refl;
       same = c.in_err-reader.ensures.same;
@@ -71,8 +72,8 @@ returns-in_err-reader-clause-continues c =
 pub returns-in_err-push-clause-continues : goal.returns-in_err-push-clause-continues
 returns-in_err-push-clause-continues c =
     let bs = c.args.beginnings.now in
-    let r : ReadingState = record { file = c.self.inside.file; holdings = c.self.inside.holdings.items } in
-    subst (λ (x : ReadingState). Continues bs x bs (record { file = c.begin.new.self; holdings = c.push.new.self.items })) c.self.view_is
+    let r : ReadingState = seen c.self.inside in
+    subst (λ (x : ReadingState). Continues bs x bs (reading_state c.begin.new.self c.push.new.self.items)) c.self.view_is
     (record {
       goes = goes_none bs bs refl refl;
       same = c.in_ok-reader.ensures.same;
@@ -85,18 +86,18 @@ pub returns-clause-reading : goal.returns-clause-reading
 returns-clause-reading c =
     let bs = c.args.beginnings.now in
     let t = c.begin_reader.new.self in
-    let r : ReadingState = record { file = c.self.inside.file; holdings = c.self.inside.holdings.items } in
+    let r : ReadingState = seen c.self.inside in
     let before : AreReading bs r = subst (AreReading bs) (sym c.self.view_is) c.requires.reading in
     let h = c.requires.free.0 in
     let k = c.in_ok-reader.ensures in
     let is = c.begin_reader.ensures.reader in
     let held = held_is bs c.holdings.result.now c.holdings-2.result.now c.args.holding h c.holdings.ensures c.holdings-2.ensures.value c.requires.free.1 in
-    subst (λ (l : List ℕ). AreReading t (record { file = c.begin.new.self; holdings = l })) (sym c.in_ok-push.ensures.items)
+    subst (λ (l : List ℕ). AreReading t (reading_state c.begin.new.self l)) (sym c.in_ok-push.ensures.items)
     (record {
       linked = begun_reading bs t r c.begin.new.self c.args.holding h before.linked c.requires.free.1 c.requires.free.2 c.in_ok-reader.reader k.place
           (k.copies ∙ ap (λ (x : Holding). copies r.file ++ copy x.server x.share ∷ []) held) k.live k.asked k.reads k.right k.same.geometry c.begin_reader.ensures.known is;
       awaits = begun_awaits bs t r c.begin.new.self c.args.holding before.linked before.awaits (ap (λ (x : HoldingsState). x.requests) is.holdings) is.takes.2 k.live k.waiting;
-      busy = busy_begun bs t r (record { file = c.begin.new.self; holdings = r.holdings ++ c.args.holding ∷ [] }) c.args.holding c.in_ok-reader.reader before.busy is (k.place ∙ sym before.linked.kept.linked) refl;
+      busy = busy_begun bs t r (reading_state c.begin.new.self (r.holdings ++ c.args.holding ∷ [])) c.args.holding c.in_ok-reader.reader before.busy is (k.place ∙ sym before.linked.kept.linked) refl;
     })
 
 pub returns-clause-continues : goal.returns-clause-continues
@@ -104,7 +105,7 @@ returns-clause-continues c =
     let bs = c.args.beginnings.now in
     let t = c.begin_reader.new.self in
     let e = c.begin_reader.ensures.reader.holdings in
-    subst (λ (x : ReadingState). Continues bs x t (record { file = c.begin.new.self; holdings = c.push.new.self.items })) c.self.view_is
+    subst (λ (x : ReadingState). Continues bs x t (reading_state c.begin.new.self c.push.new.self.items)) c.self.view_is
     (record {
       goes = goes_none bs t (ap (λ (x : HoldingsState). x.requests) e) (ap (λ (x : HoldingsState). x.blamed) e);
       same = c.in_ok-reader.ensures.same;

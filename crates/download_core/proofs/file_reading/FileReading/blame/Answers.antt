@@ -15,6 +15,7 @@ use Rattle.download_core.proofs.Ended.{OwnHolding, continues_none, continues_tra
 use Rattle.download_core.proofs.Blamed.{OwnBlamed, blamed_awaits, busy_blamed, fewer_left, own_blamed}
 use Rattle.download_core.proofs.Busy.{busy_file}
 use Rattle.download_core.proofs.Fallen.{blamed_continues, blamed_kept, blamed_live}
+use Rattle.download_core.proofs.Fields.{seen}
 use Rattle.download_core.proofs.file_reading.FileReading.blame.Goals as goal
 
 -- the reader's holding is there
@@ -26,7 +27,7 @@ there bs now r reader holding e reading live index =
 
 pub index-requires : goal.index-requires
 index-requires c =
-    let r : ReadingState = record { file = c.self.inside.file; holdings = c.self.inside.holdings.items } in
+    let r : ReadingState = seen c.self.inside in
     let o : OwnHolding c.args.beginnings.now r c.args.reader = subst (λ (x : ReadingState). OwnHolding c.args.beginnings.now x c.args.reader) (sym c.self.view_is) (own_holding c.args.beginnings.now c.args.self.now c.args.reader c.requires.reading.linked.kept c.requires.live) in
     let w = slice_get_within r.holdings c.args.reader o.holding o.of in
     let k = c.self.inside.holdings.ok.0 in
@@ -34,7 +35,7 @@ index-requires c =
 
 pub blame-requires : goal.blame-requires
 blame-requires c =
-    let r : ReadingState = record { file = c.self.inside.file; holdings = c.self.inside.holdings.items } in
+    let r : ReadingState = seen c.self.inside in
     there c.args.beginnings.now c.args.self.now r c.args.reader c.index.result.now c.self.view_is c.requires.reading.linked c.requires.live c.index.ensures
 
 pub returns-in_err-blame-clause-continues : goal.returns-in_err-blame-clause-continues
@@ -64,7 +65,7 @@ returns-clause-reading c =
     let b = c.in_ok-blame.ensures.blames in
     let k = c.end_gone.ensures in
     let own : OwnBlamed bs r c.args.reader c.index.result.now =
-    own_blamed bs r (record { file = c.self.inside.file; holdings = c.self.inside.holdings.items }) c.args.reader c.index.result.now c.self.view_is c.requires.reading.linked c.requires.live c.index.ensures in
+    own_blamed bs r (seen c.self.inside) c.args.reader c.index.result.now c.self.view_is c.requires.reading.linked c.requires.live c.index.ensures in
     record {
       linked = k.linked;
       awaits = blamed_awaits bs t r q c.args.reader c.index.result.now c.args.check c.requires.reading.linked c.requires.reading.awaits b own.of k.linked k.holdings (k.awaits (Some c.args.reader));
@@ -74,7 +75,7 @@ returns-clause-reading c =
 pub returns-clause-fewer : goal.returns-clause-fewer
 returns-clause-fewer c =
     let own : OwnBlamed c.args.beginnings.now c.args.self.now c.args.reader c.index.result.now =
-    own_blamed c.args.beginnings.now c.args.self.now (record { file = c.self.inside.file; holdings = c.self.inside.holdings.items }) c.args.reader c.index.result.now c.self.view_is c.requires.reading.linked c.requires.live c.index.ensures in
+    own_blamed c.args.beginnings.now c.args.self.now (seen c.self.inside) c.args.reader c.index.result.now c.self.view_is c.requires.reading.linked c.requires.live c.index.ensures in
     fewer_left c.index.result.now c.args.beginnings.now.holdings.table c.blame.new.self.holdings.table own.held own.is own.left c.in_ok-blame.ensures.blames.retired
 
 pub returns-in_err-blame-clause-requests : goal.returns-in_err-blame-clause-requests
@@ -92,6 +93,6 @@ returns-clause-adds c =
     let bs = c.args.beginnings.now in
     let b = c.in_ok-blame.ensures.blames in
     let own : OwnBlamed bs c.args.self.now c.args.reader c.index.result.now =
-    own_blamed bs c.args.self.now (record { file = c.self.inside.file; holdings = c.self.inside.holdings.items }) c.args.reader c.index.result.now c.self.view_is c.requires.reading.linked c.requires.live c.index.ensures in
+    own_blamed bs c.args.self.now (seen c.self.inside) c.args.reader c.index.result.now c.self.view_is c.requires.reading.linked c.requires.live c.index.ensures in
     adds_one (IsBlameOf bs c.args.self.now c.args.reader c.args.check) bs.holdings.blamed c.blame.new.self.holdings.blamed _ b.blamed
     (record { holding = c.index.result.now; of = own.of; held = b.held; is = b.is; of_server = refl; of_share = refl; check_is = refl })

@@ -2,10 +2,11 @@ use Rattle.std.proofs.Common.{◌∙◌, ℕ, ◌⊎◌, length, refl, sym, subs
 use Rattle.download_shares.proofs.Opened.{goes_none}
 use Rattle.download_file.specs.State.{IsLive, without}
 use Rattle.download_core.specs.Reading.{AreAwaited, AreKept, IsGone, IsReadNow}
-use Rattle.download_core.specs.ReadingState.{ReadingState}
+use Rattle.download_core.specs.ReadingState.{ReadingState, reading_state}
 use Rattle.download_core.specs.ReadingSteps.{Continues}
 use Rattle.download_core.proofs.Awaited.{ended_awaits}
 use Rattle.download_core.proofs.Ended.{adds_none, all_live, asks_none, continues_none, continues_trans, ended_kept, fewer, still_live}
+use Rattle.download_core.proofs.Fields.{seen}
 use Rattle.download_core.proofs.file_reading.FileReading.end_gone.Goals as goal
 
 pub loop-reader-init : goal.loop-reader-init
@@ -20,12 +21,12 @@ loop-reader-smaller c =
 pub loop-reader-preserved : goal.loop-reader-preserved
 loop-reader-preserved c =
     let bs = c.args.beginnings.now in
-    let r : ReadingState = record { file = c.self.inside.file; holdings = c.self.inside.holdings.items } in
+    let r : ReadingState = seen c.self.inside in
     let kept : AreKept bs r = subst (AreKept bs) (sym c.self.view_is) c.loop-reader.invariant.kept in
     let gone : IsGone bs r c.in-Some.reader = subst (λ (x : ReadingState). IsGone bs x c.in-Some.reader) (sym c.self.view_is) c.in-Some.ensures.gone in
     let live = subst (λ (x : ReadingState). (q : ℕ) → IsLive x.file q → IsReadNow bs x q ⊎ IsGone bs x q) (sym c.self.view_is) c.loop-reader.invariant.live in
     let k = c.end.ensures in
-    let q : ReadingState = record { file = c.end.new.self; holdings = c.self.inside.holdings.items } in
+    let q : ReadingState = reading_state c.end.new.self c.self.inside.holdings.items in
     let more : Continues bs r bs q = record { goes = goes_none bs bs refl refl; same = k.same; pieces = adds_none r.file.handout c.end.new.self.handout k.handout; answers = λ a. k.reads bs.holdings.requests.entries a; reads = asks_none r.file bs bs refl } in
     record {
       kept = ended_kept bs r c.end.new.self c.in-Some.reader kept gone k.live k.copies k.asked k.reads k.right k.same.geometry;

@@ -11,6 +11,7 @@ use Rattle.download_file.specs.State.{IsLive}
 use Rattle.download_core.specs.Reading.{AreKept, IsGone}
 use Rattle.download_core.specs.ReadingState.{ReadingState}
 use Rattle.download_core.proofs.Ended.{OwnHolding, own_holding}
+use Rattle.download_core.proofs.Fields.{seen}
 use Rattle.download_core.proofs.file_reading.FileReading.is_gone.Goals as goal
 
 abbrev nobody : Holding
@@ -22,7 +23,7 @@ own bs now r reader e kept live = subst (λ (x : ReadingState). OwnHolding bs x 
 
 pub index-requires : goal.index-requires
 index-requires c =
-    let r : ReadingState = record { file = c.self.inside.file; holdings = c.self.inside.holdings.items } in
+    let r : ReadingState = seen c.self.inside in
     let o = own c.args.beginnings.now c.args.self.now r c.args.reader c.self.view_is c.requires.kept c.requires.live in
     let w = slice_get_within r.holdings c.args.reader o.holding o.of in
     let k = c.self.inside.holdings.ok.0 in
@@ -50,13 +51,13 @@ module _ (bs : BeginningsState) (r : ReadingState) (hs : HoldingsState) (list : 
 
 pub bounds-holdings-index : goal.bounds-holdings-index
 bounds-holdings-index c =
-    let r : ReadingState = record { file = c.self.inside.file; holdings = c.self.inside.holdings.items } in
+    let r : ReadingState = seen c.self.inside in
     let o = own c.args.beginnings.now c.args.self.now r c.args.reader c.self.view_is c.requires.kept c.requires.live in
     inside c.args.beginnings.now r c.holdings.result.now c.holdings-2.result.now c.args.reader c.index.result.now o c.holdings.ensures c.holdings-2.ensures.value c.index.ensures
 
 pub offset_bounds-holdings-index : goal.offset_bounds-holdings-index
 offset_bounds-holdings-index c =
-    let r : ReadingState = record { file = c.self.inside.file; holdings = c.self.inside.holdings.items } in
+    let r : ReadingState = seen c.self.inside in
     let o = own c.args.beginnings.now c.args.self.now r c.args.reader c.self.view_is c.requires.kept c.requires.live in
     let lt = inside c.args.beginnings.now r c.holdings.result.now c.holdings-2.result.now c.args.reader c.index.result.now o c.holdings.ensures c.holdings-2.ensures.value c.index.ensures in
     let t = c.holdings-2.type_inv.1 in
@@ -64,7 +65,7 @@ offset_bounds-holdings-index c =
 
 pub returns-clause-gone : goal.returns-clause-gone
 returns-clause-gone c e =
-    let r : ReadingState = record { file = c.self.inside.file; holdings = c.self.inside.holdings.items } in
+    let r : ReadingState = seen c.self.inside in
     let o = own c.args.beginnings.now c.args.self.now r c.args.reader c.self.view_is c.requires.kept c.requires.live in
     let left = left_is c.args.beginnings.now r c.holdings.result.now c.holdings-2.result.now c.args.reader c.index.result.now o c.holdings.ensures c.holdings-2.ensures.value c.index.ensures in
     subst (λ (x : ReadingState). IsGone c.args.beginnings.now x c.args.reader) c.self.view_is
@@ -76,7 +77,7 @@ returns-clause-gone c e =
 
 pub returns-clause-left : goal.returns-clause-left
 returns-clause-left c e gone =
-    let r : ReadingState = record { file = c.self.inside.file; holdings = c.self.inside.holdings.items } in
+    let r : ReadingState = seen c.self.inside in
     let o = own c.args.beginnings.now c.args.self.now r c.args.reader c.self.view_is c.requires.kept c.requires.live in
     let left = left_is c.args.beginnings.now r c.holdings.result.now c.holdings-2.result.now c.args.reader c.index.result.now o c.holdings.ensures c.holdings-2.ensures.value c.index.ensures in
     let g : IsGone c.args.beginnings.now r c.args.reader = subst (λ (x : ReadingState). IsGone c.args.beginnings.now x c.args.reader) (sym c.self.view_is) gone in

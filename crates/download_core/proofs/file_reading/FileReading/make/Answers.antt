@@ -16,12 +16,13 @@ use Rattle.download_file.specs.State.{FileState, IsComplete}
 use Rattle.download_file.specs.declared.file.Made.{Made}
 use Rattle.download_file.specs.declared.file.Made.TheVariants as made_as
 use Rattle.download_core.specs.Reading.{AreReading}
-use Rattle.download_core.specs.ReadingState.{ReadingState}
+use Rattle.download_core.specs.ReadingState.{ReadingState, reading_state}
 use Rattle.download_core.specs.ReadingSteps.{Continues, work}
 use Rattle.download_core.proofs.Awaited.{reading_less}
 use Rattle.download_core.proofs.Ended.{continues_trans}
 use Rattle.download_core.proofs.Fallen.{made_continues, pieces_made}
 use Rattle.download_core.proofs.Made.{all_made, less_blamed, less_made}
+use Rattle.download_core.proofs.Fields.{seen}
 use Rattle.download_core.proofs.file_reading.FileReading.make.Goals as goal
 
 -- the record of the beginnings
@@ -41,30 +42,30 @@ not_wrong made reader other is e none = none (sym is ∙ ok_is made other e)
 pub make-requires : goal.make-requires
 make-requires c =
     let bs = c.args.beginnings.now in
-    let r : ReadingState = record { file = c.self.inside.file; holdings = c.self.inside.holdings.items } in
+    let r : ReadingState = seen c.self.inside in
     let before : AreReading bs r = subst (AreReading bs) (sym c.self.view_is) c.requires.reading in
     record { reads = subst (λ (q : RequestsState). IsRead q.entries r.file) (sym (c.requests.ensures.value ∙ ap (λ (x : HoldingsState). x.requests) c.holdings.ensures)) before.linked.kept.answers }
 
 pub returns-in_err-made-clause-continues : goal.returns-in_err-made-clause-continues
 returns-in_err-made-clause-continues c =
     let bs = c.args.beginnings.now in
-    let r : ReadingState = record { file = c.self.inside.file; holdings = c.self.inside.holdings.items } in
+    let r : ReadingState = seen c.self.inside in
     let before : AreReading bs r = subst (AreReading bs) (sym c.self.view_is) c.requires.reading in
     let k = c.make.ensures in
     let f = c.make.new.self in
     let read = read_in bs c.holdings.result.now c.requests.result.now f c.requests.ensures.value c.holdings.ensures k.reads in
-    subst (λ (x : ReadingState). Continues bs x bs (record { file = f; holdings = c.self.inside.holdings.items })) c.self.view_is
+    subst (λ (x : ReadingState). Continues bs x bs (reading_state f c.self.inside.holdings.items)) c.self.view_is
     (made_continues bs r f before.linked k.live k.readers k.asked read k.right k.same (pieces_made c.requests.result.now.entries r.file f c.make.result before.linked.kept.right.handout k.ready k.same_handout))
 
 pub blame-requires-clause-reading : goal.blame-requires-clause-reading
 blame-requires-clause-reading c =
     let bs = c.args.beginnings.now in
-    let r : ReadingState = record { file = c.self.inside.file; holdings = c.self.inside.holdings.items } in
+    let r : ReadingState = seen c.self.inside in
     let before : AreReading bs r = subst (AreReading bs) (sym c.self.view_is) c.requires.reading in
     let k = c.make.ensures in
     let f = c.make.new.self in
     let read = read_in bs c.holdings.result.now c.requests.result.now f c.requests.ensures.value c.holdings.ensures k.reads in
-    reading_less (Some c.in-Wrong.reader) bs (record { file = f; holdings = c.self.inside.holdings.items }) (all_made bs r f before k.live k.readers k.asked read k.right k.same)
+    reading_less (Some c.in-Wrong.reader) bs (reading_state f c.self.inside.holdings.items) (all_made bs r f before k.live k.readers k.asked read k.right k.same)
 
 pub blame-requires-clause-live : goal.blame-requires-clause-live
 blame-requires-clause-live c =
@@ -75,12 +76,12 @@ blame-requires-clause-live c =
 pub returns-in_ok-blame-in-Wrong-clause-continues : goal.returns-in_ok-blame-in-Wrong-clause-continues
 returns-in_ok-blame-in-Wrong-clause-continues c =
     let bs = c.args.beginnings.now in
-    let r : ReadingState = record { file = c.self.inside.file; holdings = c.self.inside.holdings.items } in
+    let r : ReadingState = seen c.self.inside in
     let before : AreReading bs r = subst (AreReading bs) (sym c.self.view_is) c.requires.reading in
     let k = c.make.ensures in
     let f = c.make.new.self in
     let read = read_in bs c.holdings.result.now c.requests.result.now f c.requests.ensures.value c.holdings.ensures k.reads in
-    let q : ReadingState = (record { file = f; holdings = c.self.inside.holdings.items }) in
+    let q : ReadingState = reading_state f c.self.inside.holdings.items in
     let first : Continues bs c.args.self.now bs q = subst (λ (x : ReadingState). Continues bs x bs q) c.self.view_is
     (made_continues bs r f before.linked k.live k.readers k.asked read k.right k.same (pieces_made c.requests.result.now.entries r.file f c.make.result before.linked.kept.right.handout k.ready k.same_handout)) in
     continues_trans bs bs c.blame.new.beginnings c.args.self.now q c.blame.new.self first c.in_ok-blame-in-Wrong.ensures.continues
@@ -88,12 +89,12 @@ returns-in_ok-blame-in-Wrong-clause-continues c =
 pub returns-in_err-blame-in-Wrong-clause-continues : goal.returns-in_err-blame-in-Wrong-clause-continues
 returns-in_err-blame-in-Wrong-clause-continues c =
     let bs = c.args.beginnings.now in
-    let r : ReadingState = record { file = c.self.inside.file; holdings = c.self.inside.holdings.items } in
+    let r : ReadingState = seen c.self.inside in
     let before : AreReading bs r = subst (AreReading bs) (sym c.self.view_is) c.requires.reading in
     let k = c.make.ensures in
     let f = c.make.new.self in
     let read = read_in bs c.holdings.result.now c.requests.result.now f c.requests.ensures.value c.holdings.ensures k.reads in
-    let q : ReadingState = (record { file = f; holdings = c.self.inside.holdings.items }) in
+    let q : ReadingState = reading_state f c.self.inside.holdings.items in
     let first : Continues bs c.args.self.now bs q = subst (λ (x : ReadingState). Continues bs x bs q) c.self.view_is
     (made_continues bs r f before.linked k.live k.readers k.asked read k.right k.same (pieces_made c.requests.result.now.entries r.file f c.make.result before.linked.kept.right.handout k.ready k.same_handout)) in
     continues_trans bs bs c.blame.new.beginnings c.args.self.now q c.blame.new.self first c.in_err-blame-in-Wrong.ensures.continues
@@ -101,11 +102,11 @@ returns-in_err-blame-in-Wrong-clause-continues c =
 pub returns-in_default : goal.returns-in_default
 returns-in_default c =
     let bs = c.args.beginnings.now in
-    let r : ReadingState = record { file = c.self.inside.file; holdings = c.self.inside.holdings.items } in
+    let r : ReadingState = seen c.self.inside in
     let before : AreReading bs r = subst (AreReading bs) (sym c.self.view_is) c.requires.reading in
     let k = c.make.ensures in
     let f = c.make.new.self in
-    let q : ReadingState = (record { file = f; holdings = c.self.inside.holdings.items }) in
+    let q : ReadingState = reading_state f c.self.inside.holdings.items in
     let read = read_in bs c.holdings.result.now c.requests.result.now f c.requests.ensures.value c.holdings.ensures k.reads in
     record {
       reading = all_made bs r f before k.live k.readers k.asked read k.right k.same;
@@ -129,11 +130,11 @@ returns-in_default c =
 pub returns-in-Ready : goal.returns-in-Ready
 returns-in-Ready c =
     let bs = c.args.beginnings.now in
-    let r : ReadingState = record { file = c.self.inside.file; holdings = c.self.inside.holdings.items } in
+    let r : ReadingState = seen c.self.inside in
     let before : AreReading bs r = subst (AreReading bs) (sym c.self.view_is) c.requires.reading in
     let k = c.make.ensures in
     let f = c.make.new.self in
-    let q : ReadingState = (record { file = f; holdings = c.self.inside.holdings.items }) in
+    let q : ReadingState = reading_state f c.self.inside.holdings.items in
     let read = read_in bs c.holdings.result.now c.requests.result.now f c.requests.ensures.value c.holdings.ensures k.reads in
     record {
       reading = all_made bs r f before k.live k.readers k.asked read k.right k.same;
@@ -191,7 +192,7 @@ pub returns-in_err-blame-in-Wrong-clause-causes : goal.returns-in_err-blame-in-W
 returns-in_err-blame-in-Wrong-clause-causes c =
     let bs = c.args.beginnings.now in
     let wrong = c.make.ensures.wrong c.in-Wrong.reader (c.in_ok-made.was ∙ ap Ok c.in-Wrong.is) in
-    made_causes bs c.blame.new.beginnings (record { file = c.self.inside.file; holdings = c.self.inside.holdings.items }) c.args.self.now c.blame.new.self c.make.new.self c.in-Wrong.reader c.self.view_is c.requires.reading
+    made_causes bs c.blame.new.beginnings (seen c.self.inside) c.args.self.now c.blame.new.self c.make.new.self c.in-Wrong.reader c.self.view_is c.requires.reading
     (subst (λ (q : RequestsState). RefutesReader q.entries c.self.inside.file c.in-Wrong.reader) (c.requests.ensures.value ∙ ap (λ (x : HoldingsState). x.requests) c.holdings.ensures) wrong)
     c.blame.ensures.requests (returns-in_err-blame-in-Wrong-clause-continues c).same c.blame.ensures.adds
 
@@ -199,7 +200,7 @@ pub returns-in_ok-blame-in-Wrong-clause-causes : goal.returns-in_ok-blame-in-Wro
 returns-in_ok-blame-in-Wrong-clause-causes c =
     let bs = c.args.beginnings.now in
     let wrong = c.make.ensures.wrong c.in-Wrong.reader (c.in_ok-made.was ∙ ap Ok c.in-Wrong.is) in
-    made_causes bs c.blame.new.beginnings (record { file = c.self.inside.file; holdings = c.self.inside.holdings.items }) c.args.self.now c.blame.new.self c.make.new.self c.in-Wrong.reader c.self.view_is c.requires.reading
+    made_causes bs c.blame.new.beginnings (seen c.self.inside) c.args.self.now c.blame.new.self c.make.new.self c.in-Wrong.reader c.self.view_is c.requires.reading
     (subst (λ (q : RequestsState). RefutesReader q.entries c.self.inside.file c.in-Wrong.reader) (c.requests.ensures.value ∙ ap (λ (x : HoldingsState). x.requests) c.holdings.ensures) wrong)
     c.blame.ensures.requests (returns-in_ok-blame-in-Wrong-clause-continues c).same c.blame.ensures.adds
 

@@ -16,12 +16,13 @@ use Rattle.download_file.specs.Answers.{AnswersFirst}
 use Rattle.download_file.specs.Changes.{IsSameFile}
 use Rattle.download_file.specs.State.{FileState, IsLive, first_waiting}
 use Rattle.download_core.specs.Reading.{AreReadingBut}
-use Rattle.download_core.specs.ReadingState.{ReadingState}
+use Rattle.download_core.specs.ReadingState.{ReadingState, reading_state}
 use Rattle.download_core.specs.ReadingSteps.{Continues}
 use Rattle.download_core.proofs.Awaited.{awaits_last, taken_awaits, unanswered}
 use Rattle.download_core.proofs.Busy.{busy_file}
 use Rattle.download_core.proofs.Ended.{asks_none, continues_none}
 use Rattle.download_core.proofs.Fallen.{file_goes}
+use Rattle.download_core.proofs.Fields.{seen}
 use Rattle.download_core.proofs.file_reading.FileReading.take_one.Goals as goal
 
 answered_by : (bs : BeginningsState) (hs : HoldingsState) (rs : RequestsState) (place : ℕ) (bytes : List ℕ) → hs ≡ bs.holdings → rs ≡ hs.requests → IsAnsweredBy rs.entries place bytes → IsAnsweredBy bs.holdings.requests.entries place bytes
@@ -53,8 +54,8 @@ returns-in_default-clause-last c e =
 pub returns-in-Ok-clause-next : goal.returns-in-Ok-clause-next
 returns-in-Ok-clause-next c e =
     let bs = c.args.beginnings.now in
-    let r : ReadingState = record { file = c.self.inside.file; holdings = c.self.inside.holdings.items } in
-    let q : ReadingState = record { file = c.take.new.self; holdings = c.self.inside.holdings.items } in
+    let r : ReadingState = seen c.self.inside in
+    let q : ReadingState = reading_state c.take.new.self c.self.inside.holdings.items in
     let before : AreReadingBut (Some c.args.reader) bs r = subst (AreReadingBut (Some c.args.reader) bs) (sym c.self.view_is) c.requires.reading in
     let waits : first_waiting r.file c.args.reader ≡ Some c.args.place = subst (λ (x : ReadingState). first_waiting x.file c.args.reader ≡ Some c.args.place) (sym c.self.view_is) c.requires.waits in
     let live : IsLive r.file c.args.reader = subst (λ (x : ReadingState). IsLive x.file c.args.reader) (sym c.self.view_is) c.requires.live in
@@ -70,11 +71,11 @@ returns-in-Ok-clause-next c e =
 pub returns-in-Ok-clause-continues : goal.returns-in-Ok-clause-continues
 returns-in-Ok-clause-continues c =
     let bs = c.args.beginnings.now in
-    let r : ReadingState = record { file = c.self.inside.file; holdings = c.self.inside.holdings.items } in
+    let r : ReadingState = seen c.self.inside in
     let waits : first_waiting r.file c.args.reader ≡ Some c.args.place = subst (λ (x : ReadingState). first_waiting x.file c.args.reader ≡ Some c.args.place) (sym c.self.view_is) c.requires.waits in
     let before : AreReadingBut (Some c.args.reader) bs r = subst (AreReadingBut (Some c.args.reader) bs) (sym c.self.view_is) c.requires.reading in
     let live : IsLive r.file c.args.reader = subst (λ (x : ReadingState). IsLive x.file c.args.reader) (sym c.self.view_is) c.requires.live in
-    subst (λ (x : ReadingState). Continues bs x bs (record { file = c.take.new.self; holdings = c.self.inside.holdings.items })) c.self.view_is
+    subst (λ (x : ReadingState). Continues bs x bs (reading_state c.take.new.self c.self.inside.holdings.items)) c.self.view_is
     (record {
       goes = goes_none bs bs refl refl;
       same = c.in-Ok.ensures.same;
@@ -87,9 +88,9 @@ returns-in-Ok-clause-continues c =
 pub returns-in-Err-OutOfMemory-clause-continues : goal.returns-in-Err-OutOfMemory-clause-continues
 returns-in-Err-OutOfMemory-clause-continues c =
     let bs = c.args.beginnings.now in
-    let q : ReadingState = record { file = c.take.new.self; holdings = c.self.inside.holdings.items } in
+    let q : ReadingState = reading_state c.take.new.self c.self.inside.holdings.items in
     subst (λ (x : ReadingState). Continues bs x bs q) c.self.view_is
-    (subst (λ (f : FileState). Continues bs (record { file = f; holdings = c.self.inside.holdings.items }) bs q) c.in-Err-OutOfMemory.ensures.unchanged (continues_none bs q))
+    (subst (λ (f : FileState). Continues bs (reading_state f c.self.inside.holdings.items) bs q) c.in-Err-OutOfMemory.ensures.unchanged (continues_none bs q))
 
 pub returns-in_default-clause-causes : goal.returns-in_default-clause-causes
 returns-in_default-clause-causes c =
@@ -110,10 +111,10 @@ pub returns-in_err-blame-in-Err-Check-clause-causes : goal.returns-in_err-blame-
 returns-in_err-blame-in-Err-Check-clause-causes c =
     let bs = c.args.beginnings.now in
     let r = c.args.self.now in
-    let same : record { file = c.take.new.self; holdings = c.self.inside.holdings.items } ≡ r = ap (λ (f : FileState). record { file = f; holdings = c.self.inside.holdings.items }) c.in-Err-Check.ensures.unchanged ∙ c.self.view_is in
+    let same : reading_state c.take.new.self c.self.inside.holdings.items ≡ r = ap (λ (f : FileState). reading_state f c.self.inside.holdings.items) c.in-Err-Check.ensures.unchanged ∙ c.self.view_is in
     let refused = subst (λ (x : ReadingState). IsRefused x.file c.args.reader c.in-Some.bytes.now c.in-Err-Check.check) c.self.view_is (c.in-Err-Check.ensures.refused c.in-Err-Check.check (ap Err c.in-Err-Check.field-0-is)) in
     let a = answered_by bs c.holdings.result.now c.requests.result.now c.args.place c.in-Some.bytes.now c.holdings.ensures c.requests.ensures.value c.in-Some.ensures.some in
-    adds_as (IsBlameOf bs (record { file = c.take.new.self; holdings = c.self.inside.holdings.items }) c.args.reader c.in-Err-Check.check) (IsPartFault bs.holdings.requests.entries c.blame.new.self.file) bs.holdings.blamed c.blame.new.beginnings.holdings.blamed
+    adds_as (IsBlameOf bs (reading_state c.take.new.self c.self.inside.holdings.items) c.args.reader c.in-Err-Check.check) (IsPartFault bs.holdings.requests.entries c.blame.new.self.file) bs.holdings.blamed c.blame.new.beginnings.holdings.blamed
     (λ b k. part_moved bs.holdings.requests.entries bs.holdings.requests.entries r.file c.blame.new.self.file b (λ i x e quiet. e) (subst (λ (x : ReadingState). IsSameFile x.file c.blame.new.self.file) same c.blame.ensures.continues.same)
     (part_fault (Some c.args.reader) bs r c.args.reader c.args.place c.in-Err-Check.check c.in-Some.bytes.now b c.requires.reading c.requires.live c.requires.waits a refused
     (subst (λ (x : ReadingState). IsBlameOf bs x c.args.reader c.in-Err-Check.check b) same k)))
@@ -123,10 +124,10 @@ pub returns-in_ok-blame-in-Err-Check-clause-causes : goal.returns-in_ok-blame-in
 returns-in_ok-blame-in-Err-Check-clause-causes c =
     let bs = c.args.beginnings.now in
     let r = c.args.self.now in
-    let same : record { file = c.take.new.self; holdings = c.self.inside.holdings.items } ≡ r = ap (λ (f : FileState). record { file = f; holdings = c.self.inside.holdings.items }) c.in-Err-Check.ensures.unchanged ∙ c.self.view_is in
+    let same : reading_state c.take.new.self c.self.inside.holdings.items ≡ r = ap (λ (f : FileState). reading_state f c.self.inside.holdings.items) c.in-Err-Check.ensures.unchanged ∙ c.self.view_is in
     let refused = subst (λ (x : ReadingState). IsRefused x.file c.args.reader c.in-Some.bytes.now c.in-Err-Check.check) c.self.view_is (c.in-Err-Check.ensures.refused c.in-Err-Check.check (ap Err c.in-Err-Check.field-0-is)) in
     let a = answered_by bs c.holdings.result.now c.requests.result.now c.args.place c.in-Some.bytes.now c.holdings.ensures c.requests.ensures.value c.in-Some.ensures.some in
-    adds_as (IsBlameOf bs (record { file = c.take.new.self; holdings = c.self.inside.holdings.items }) c.args.reader c.in-Err-Check.check) (IsPartFault bs.holdings.requests.entries c.blame.new.self.file) bs.holdings.blamed c.blame.new.beginnings.holdings.blamed
+    adds_as (IsBlameOf bs (reading_state c.take.new.self c.self.inside.holdings.items) c.args.reader c.in-Err-Check.check) (IsPartFault bs.holdings.requests.entries c.blame.new.self.file) bs.holdings.blamed c.blame.new.beginnings.holdings.blamed
     (λ b k. part_moved bs.holdings.requests.entries bs.holdings.requests.entries r.file c.blame.new.self.file b (λ i x e quiet. e) (subst (λ (x : ReadingState). IsSameFile x.file c.blame.new.self.file) same c.blame.ensures.continues.same)
     (part_fault (Some c.args.reader) bs r c.args.reader c.args.place c.in-Err-Check.check c.in-Some.bytes.now b c.requires.reading c.requires.live c.requires.waits a refused
     (subst (λ (x : ReadingState). IsBlameOf bs x c.args.reader c.in-Err-Check.check b) same k)))

@@ -5,34 +5,19 @@ use Rattle.share_layout.specs.Geometry.{Geometry}
 use Rattle.download_file.specs.Asked.{AsksNoMore}
 use Rattle.download_file.specs.Changes.{IsSameFile, StaysAskedUp, StaysRead}
 use Rattle.download_file.specs.Right.{IsFile}
-use Rattle.download_file.specs.State.{FileState, IsLive, IsReader, ReaderState, waiting_at}
+use Rattle.download_file.specs.State.{FileState, IsLive, IsReader, ReaderState, waiting_at, file_state}
 use Rattle.download_file.specs.Steps.{IsBegun}
 use Rattle.download_file.proofs.BeginLemmas.{HasBegun, has_begun}
 use Rattle.download_file.proofs.GrowLemmas.{same_itself}
+use Rattle.download_file.proofs.Fields.{seen}
 use Rattle.download_file.proofs.file.File.begin.Goals as goal
 
 abbrev then : goal.After-push_reserved → FileState
-then c = record {
-  handout = c.self.inside.handout;
-  first = c.self.inside.plan.first;
-  end = c.self.inside.plan.end;
-  taken = c.self.inside.taken;
-  readers = c.push_reserved.new.self.items;
-  live = c.push.new.self.items;
-  groups = c.self.inside.groups.items;
-}
+then c = file_state c.self.inside.handout c.self.inside.plan.first c.self.inside.plan.end c.self.inside.taken c.push_reserved.new.self.items c.push.new.self.items c.self.inside.groups.items
 
 begun : (c : goal.After-push_reserved) → HasBegun c.args.self.now c.args.server c.args.share (then c)
 begun c =
-    let f : FileState = record {
-      handout = c.self.inside.handout;
-      first = c.self.inside.plan.first;
-      end = c.self.inside.plan.end;
-      taken = c.self.inside.taken;
-      readers = c.self.inside.readers.items;
-      live = c.self.inside.live.items;
-      groups = c.self.inside.groups.items;
-    } in
+    let f : FileState = seen c.self.inside in
     let x : ReaderState = c.begin_reader-begun.result in
     let k : IsBegun f.handout.geometry f.first c.in-Some.next f.end c.args.server c.args.share c.is_empty-gives.result f.taken x =
     subst (λ (g : Geometry). IsBegun g f.first c.in-Some.next f.end c.args.server c.args.share c.is_empty-gives.result f.taken x) c.self.invariant.1 c.begin_reader-begun.ensures in
@@ -77,27 +62,11 @@ on_err (Ok n) P is = tt
 on_err (Err e) P is = is
 
 abbrev unreserved_state : goal.After-drop-begun-inside-in_err-reserve-2 → FileState
-unreserved_state c = record {
-  handout = c.self.inside.handout;
-  first = c.self.inside.plan.first;
-  end = c.self.inside.plan.end;
-  taken = c.self.inside.taken;
-  readers = c.reserve.new.self.items;
-  live = c.self.inside.live.items;
-  groups = c.self.inside.groups.items;
-}
+unreserved_state c = file_state c.self.inside.handout c.self.inside.plan.first c.self.inside.plan.end c.self.inside.taken c.reserve.new.self.items c.self.inside.live.items c.self.inside.groups.items
 
 unreserved : (c : goal.After-drop-begun-inside-in_err-reserve-2) → unreserved_state c ≡ c.args.self.now
 unreserved c =
-    let f : FileState = record {
-      handout = c.self.inside.handout;
-      first = c.self.inside.plan.first;
-      end = c.self.inside.plan.end;
-      taken = c.self.inside.taken;
-      readers = c.self.inside.readers.items;
-      live = c.self.inside.live.items;
-      groups = c.self.inside.groups.items;
-    } in
+    let f : FileState = seen c.self.inside in
     ap (λ (l : List ReaderState). record f { readers = l }) c.in_err-reserve.ensures.items ∙ c.self.view_is
 
 pub invariant_of-self : goal.invariant_of-self
@@ -129,27 +98,11 @@ pub returns-in_err-reserve-clause-right : goal.returns-in_err-reserve-clause-rig
 returns-in_err-reserve-clause-right c = subst IsFile (sym (unreserved c)) (subst IsFile c.self.view_is c.self.invariant.0)
 
 abbrev unpushed_state : goal.After-drop-begun-inside-in_err-push-3 → FileState
-unpushed_state c = record {
-  handout = c.self.inside.handout;
-  first = c.self.inside.plan.first;
-  end = c.self.inside.plan.end;
-  taken = c.self.inside.taken;
-  readers = c.reserve.new.self.items;
-  live = c.push.new.self.items;
-  groups = c.self.inside.groups.items;
-}
+unpushed_state c = file_state c.self.inside.handout c.self.inside.plan.first c.self.inside.plan.end c.self.inside.taken c.reserve.new.self.items c.push.new.self.items c.self.inside.groups.items
 
 unpushed : (c : goal.After-drop-begun-inside-in_err-push-3) → unpushed_state c ≡ c.args.self.now
 unpushed c =
-    let f : FileState = record {
-      handout = c.self.inside.handout;
-      first = c.self.inside.plan.first;
-      end = c.self.inside.plan.end;
-      taken = c.self.inside.taken;
-      readers = c.self.inside.readers.items;
-      live = c.self.inside.live.items;
-      groups = c.self.inside.groups.items;
-    } in
+    let f : FileState = seen c.self.inside in
     (λ i. record f { readers = c.in_ok-reserve.ensures.items i; live = c.in_err-push.ensures.items i }) ∙ c.self.view_is
 
 pub invariant_of-self-in_err-push : goal.invariant_of-self-in_err-push

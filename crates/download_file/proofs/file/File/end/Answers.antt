@@ -1,44 +1,21 @@
 use Rattle.std.proofs.Common.{ℕ, List, subst, sym}
-use Rattle.download_file.specs.State.{FileState, IsLive, ReaderState}
+use Rattle.download_file.specs.State.{FileState, IsLive, ReaderState, file_state}
 use Rattle.download_file.proofs.EndFileLemmas.{HasEnded, can_give, ended_itself}
 use Rattle.download_file.proofs.StateLemmas.{asks_itself}
+use Rattle.download_file.proofs.Fields.{seen}
 use Rattle.download_file.proofs.file.File.end.Goals as goal
 
 pub end_reader-requires-clause-gives : goal.end_reader-requires-clause-gives
 end_reader-requires-clause-gives c =
-    let f : FileState = record {
-      handout = c.self.inside.handout;
-      first = c.self.inside.plan.first;
-      end = c.self.inside.plan.end;
-      taken = c.self.inside.taken;
-      readers = c.self.inside.readers.items;
-      live = c.self.inside.live.items;
-      groups = c.self.inside.groups.items;
-    } in
+    let f : FileState = seen c.self.inside in
     can_give f c.args.reader c.self.invariant.0 (subst (λ (s : FileState). IsLive s c.args.reader) (sym c.self.view_is) c.requires.live)
 
 abbrev then : goal.After-end_reader → FileState
-then c = record {
-  handout = c.self.inside.handout;
-  first = c.self.inside.plan.first;
-  end = c.self.inside.plan.end;
-  taken = c.self.inside.taken;
-  readers = c.end_reader.new.readers.items;
-  live = c.end_reader.new.live.items;
-  groups = c.self.inside.groups.items;
-}
+then c = file_state c.self.inside.handout c.self.inside.plan.first c.self.inside.plan.end c.self.inside.taken c.end_reader.new.readers.items c.end_reader.new.live.items c.self.inside.groups.items
 
 ended : (c : goal.After-end_reader) → (r : ReaderState) × HasEnded c.args.self.now c.args.reader r.source r.source (then c)
 ended c =
-    let f : FileState = record {
-      handout = c.self.inside.handout;
-      first = c.self.inside.plan.first;
-      end = c.self.inside.plan.end;
-      taken = c.self.inside.taken;
-      readers = c.self.inside.readers.items;
-      live = c.self.inside.live.items;
-      groups = c.self.inside.groups.items;
-    } in
+    let f : FileState = seen c.self.inside in
     let k = ended_itself f c.args.reader c.end_reader.new.readers.items c.self.invariant.0
     (subst (λ (s : FileState). IsLive s c.args.reader) (sym c.self.view_is) c.requires.live) c.end_reader.ensures.ends in (
       k.0,

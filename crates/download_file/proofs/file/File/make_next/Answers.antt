@@ -12,7 +12,7 @@ use Rattle.download_segments.specs.State.{HandoutState}
 use Rattle.download_segments.proofs.HandoutLemmas.{next_within}
 use Rattle.download_segments.specs.GroupMaking.{RefutesBlocks}
 use Rattle.download_segments.specs.GroupState.{GroupState}
-use Rattle.download_file.specs.State.{FileState, IsComplete, ReaderState, numbers_of}
+use Rattle.download_file.specs.State.{FileState, IsComplete, ReaderState, numbers_of, file_state}
 use Rattle.download_file.specs.Answers.{IsRead, blocks_of}
 use Rattle.download_file.specs.Asked.{AsksNoMore}
 use Rattle.download_file.specs.Changes.{IsSameFile, StaysAskedUp}
@@ -23,20 +23,13 @@ use Rattle.download_file.proofs.GrowLemmas.{same_itself}
 use Rattle.download_file.proofs.WaitLemmas.{cannot, complete, lacks_next}
 use Rattle.download_file.proofs.MakeLemmas.{all_long, inconsistent_with, is_no_code_word, live_blocks, live_numbers, refutes_reader, right_blocks}
 use Rattle.download_file.proofs.SegmentLemmas.{HasGroups, HasLast, HasMade, has_groups, has_last, has_made}
+use Rattle.download_file.proofs.Fields.{seen}
 use Rattle.download_file.proofs.file.File.make_next.Goals as goal
 
 pub returns-then-not-has_all-clause-waits : goal.returns-then-not-has_all-clause-waits
 returns-then-not-has_all-clause-waits c = λ _.
     let entries = c.args.requests.now.entries in
-    let f : FileState = record {
-      handout = c.self.inside.handout;
-      first = c.self.inside.plan.first;
-      end = c.self.inside.plan.end;
-      taken = c.self.inside.taken;
-      readers = c.self.inside.readers.items;
-      live = c.self.inside.live.items;
-      groups = c.self.inside.groups.items;
-    } in
+    let f : FileState = seen c.self.inside in
     let is : IsFile f = c.self.invariant.0 in
     let number : ℕ = c.in-Some.number in
     let next : next_segment f.handout ≡ Some number = sym c.in-Some.ensures.value in
@@ -48,15 +41,7 @@ returns-then-not-has_all-clause-waits c = λ _.
 pub returns-then-not-has_all-clause-prompt : goal.returns-then-not-has_all-clause-prompt
 returns-then-not-has_all-clause-prompt c = λ _.
     let entries = c.args.requests.now.entries in
-    let f : FileState = record {
-      handout = c.self.inside.handout;
-      first = c.self.inside.plan.first;
-      end = c.self.inside.plan.end;
-      taken = c.self.inside.taken;
-      readers = c.self.inside.readers.items;
-      live = c.self.inside.live.items;
-      groups = c.self.inside.groups.items;
-    } in
+    let f : FileState = seen c.self.inside in
     let is : IsFile f = c.self.invariant.0 in
     let number : ℕ = c.in-Some.number in
     let next : next_segment f.handout ≡ Some number = sym c.in-Some.ensures.value in
@@ -68,15 +53,7 @@ returns-then-not-has_all-clause-prompt c = λ _.
 pub join_blocks-requires : goal.join_blocks-requires
 join_blocks-requires c =
     let entries = c.args.requests.now.entries in
-    let f : FileState = record {
-      handout = c.self.inside.handout;
-      first = c.self.inside.plan.first;
-      end = c.self.inside.plan.end;
-      taken = c.self.inside.taken;
-      readers = c.self.inside.readers.items;
-      live = c.self.inside.live.items;
-      groups = c.self.inside.groups.items;
-    } in
+    let f : FileState = seen c.self.inside in
     let is : IsFile f = c.self.invariant.0 in
     let number : ℕ = c.in-Some.number in
     let next : next_segment f.handout ≡ Some number = sym c.in-Some.ensures.value in
@@ -92,15 +69,7 @@ join_blocks-requires c =
 pub find_wrong-requires-clause-there : goal.find_wrong-requires-clause-there
 find_wrong-requires-clause-there c =
     let entries = c.args.requests.now.entries in
-    let f : FileState = record {
-      handout = c.self.inside.handout;
-      first = c.self.inside.plan.first;
-      end = c.self.inside.plan.end;
-      taken = c.self.inside.taken;
-      readers = c.self.inside.readers.items;
-      live = c.self.inside.live.items;
-      groups = c.self.inside.groups.items;
-    } in
+    let f : FileState = seen c.self.inside in
     let is : IsFile f = c.self.invariant.0 in
     let number : ℕ = c.in-Some.number in
     let next : next_segment f.handout ≡ Some number = sym c.in-Some.ensures.value in
@@ -110,15 +79,7 @@ find_wrong-requires-clause-there c =
 pub find_wrong-requires-clause-ready : goal.find_wrong-requires-clause-ready
 find_wrong-requires-clause-ready c =
     let entries = c.args.requests.now.entries in
-    let f : FileState = record {
-      handout = c.self.inside.handout;
-      first = c.self.inside.plan.first;
-      end = c.self.inside.plan.end;
-      taken = c.self.inside.taken;
-      readers = c.self.inside.readers.items;
-      live = c.self.inside.live.items;
-      groups = c.self.inside.groups.items;
-    } in
+    let f : FileState = seen c.self.inside in
     let is : IsFile f = c.self.invariant.0 in
     let number : ℕ = c.in-Some.number in
     let next : next_segment f.handout ≡ Some number = sym c.in-Some.ensures.value in
@@ -134,15 +95,7 @@ find_wrong-requires-clause-ready c =
 pub find_wrong-requires-clause-long : goal.find_wrong-requires-clause-long
 find_wrong-requires-clause-long c =
     let entries = c.args.requests.now.entries in
-    let f : FileState = record {
-      handout = c.self.inside.handout;
-      first = c.self.inside.plan.first;
-      end = c.self.inside.plan.end;
-      taken = c.self.inside.taken;
-      readers = c.self.inside.readers.items;
-      live = c.self.inside.live.items;
-      groups = c.self.inside.groups.items;
-    } in
+    let f : FileState = seen c.self.inside in
     let is : IsFile f = c.self.invariant.0 in
     let number : ℕ = c.in-Some.number in
     let next : next_segment f.handout ≡ Some number = sym c.in-Some.ensures.value in
@@ -160,15 +113,7 @@ find_wrong-requires-clause-long c =
 pub returns-in-Some-find_wrong-clause-wrong : goal.returns-in-Some-find_wrong-clause-wrong
 returns-in-Some-find_wrong-clause-wrong c = λ reader is_wrong.
     let entries = c.args.requests.now.entries in
-    let f : FileState = record {
-      handout = c.self.inside.handout;
-      first = c.self.inside.plan.first;
-      end = c.self.inside.plan.end;
-      taken = c.self.inside.taken;
-      readers = c.self.inside.readers.items;
-      live = c.self.inside.live.items;
-      groups = c.self.inside.groups.items;
-    } in
+    let f : FileState = seen c.self.inside in
     let is : IsFile f = c.self.invariant.0 in
     let number : ℕ = c.in-Some.number in
     let next : next_segment f.handout ≡ Some number = sym c.in-Some.ensures.value in
@@ -191,15 +136,7 @@ returns-in-Some-find_wrong-clause-wrong c = λ reader is_wrong.
 pub begin_group-requires-clause-there : goal.begin_group-requires-clause-there
 begin_group-requires-clause-there c =
     let entries = c.args.requests.now.entries in
-    let f : FileState = record {
-      handout = c.self.inside.handout;
-      first = c.self.inside.plan.first;
-      end = c.self.inside.plan.end;
-      taken = c.self.inside.taken;
-      readers = c.self.inside.readers.items;
-      live = c.self.inside.live.items;
-      groups = c.self.inside.groups.items;
-    } in
+    let f : FileState = seen c.self.inside in
     let is : IsFile f = c.self.invariant.0 in
     let number : ℕ = c.in-Some.number in
     let next : next_segment f.handout ≡ Some number = sym c.in-Some.ensures.value in
@@ -209,15 +146,7 @@ begin_group-requires-clause-there c =
 pub begin_group-requires-clause-shares : goal.begin_group-requires-clause-shares
 begin_group-requires-clause-shares c =
     let entries = c.args.requests.now.entries in
-    let f : FileState = record {
-      handout = c.self.inside.handout;
-      first = c.self.inside.plan.first;
-      end = c.self.inside.plan.end;
-      taken = c.self.inside.taken;
-      readers = c.self.inside.readers.items;
-      live = c.self.inside.live.items;
-      groups = c.self.inside.groups.items;
-    } in
+    let f : FileState = seen c.self.inside in
     let is : IsFile f = c.self.invariant.0 in
     let number : ℕ = c.in-Some.number in
     let next : next_segment f.handout ≡ Some number = sym c.in-Some.ensures.value in
@@ -234,15 +163,7 @@ begin_group-requires-clause-shares c =
 pub make_segment-requires-clause-some : goal.make_segment-requires-clause-some
 make_segment-requires-clause-some c =
     let entries = c.args.requests.now.entries in
-    let f : FileState = record {
-      handout = c.self.inside.handout;
-      first = c.self.inside.plan.first;
-      end = c.self.inside.plan.end;
-      taken = c.self.inside.taken;
-      readers = c.self.inside.readers.items;
-      live = c.self.inside.live.items;
-      groups = c.self.inside.groups.items;
-    } in
+    let f : FileState = seen c.self.inside in
     let is : IsFile f = c.self.invariant.0 in
     let number : ℕ = c.in-Some.number in
     let next : next_segment f.handout ≡ Some number = sym c.in-Some.ensures.value in
@@ -265,15 +186,7 @@ make_segment-requires-clause-some c =
 pub make_segment-requires-clause-geometry : goal.make_segment-requires-clause-geometry
 make_segment-requires-clause-geometry c = λ group at.
     let entries = c.args.requests.now.entries in
-    let f : FileState = record {
-      handout = c.self.inside.handout;
-      first = c.self.inside.plan.first;
-      end = c.self.inside.plan.end;
-      taken = c.self.inside.taken;
-      readers = c.self.inside.readers.items;
-      live = c.self.inside.live.items;
-      groups = c.self.inside.groups.items;
-    } in
+    let f : FileState = seen c.self.inside in
     let is : IsFile f = c.self.invariant.0 in
     let number : ℕ = c.in-Some.number in
     let next : next_segment f.handout ≡ Some number = sym c.in-Some.ensures.value in
@@ -296,15 +209,7 @@ make_segment-requires-clause-geometry c = λ group at.
 pub make_segment-requires-clause-long : goal.make_segment-requires-clause-long
 make_segment-requires-clause-long c =
     let entries = c.args.requests.now.entries in
-    let f : FileState = record {
-      handout = c.self.inside.handout;
-      first = c.self.inside.plan.first;
-      end = c.self.inside.plan.end;
-      taken = c.self.inside.taken;
-      readers = c.self.inside.readers.items;
-      live = c.self.inside.live.items;
-      groups = c.self.inside.groups.items;
-    } in
+    let f : FileState = seen c.self.inside in
     let is : IsFile f = c.self.invariant.0 in
     let number : ℕ = c.in-Some.number in
     let next : next_segment f.handout ≡ Some number = sym c.in-Some.ensures.value in
@@ -322,28 +227,12 @@ make_segment-requires-clause-long c =
 -- ---- memory was refused
 
 abbrev refused : goal.After-drop-joined-in_err-make_segment → FileState
-refused c = record {
-  handout = c.make_segment.new.handout;
-  first = c.self.inside.plan.first;
-  end = c.self.inside.plan.end;
-  taken = c.self.inside.taken;
-  readers = c.self.inside.readers.items;
-  live = c.self.inside.live.items;
-  groups = c.make_segment.new.groups.items;
-}
+refused c = file_state c.make_segment.new.handout c.self.inside.plan.first c.self.inside.plan.end c.self.inside.taken c.self.inside.readers.items c.self.inside.live.items c.make_segment.new.groups.items
 
 at_refusal : (c : goal.After-drop-joined-in_err-make_segment) → HasGroups c.args.requests.now.entries c.args.self.now (refused c)
 at_refusal c =
     let entries = c.args.requests.now.entries in
-    let f : FileState = record {
-      handout = c.self.inside.handout;
-      first = c.self.inside.plan.first;
-      end = c.self.inside.plan.end;
-      taken = c.self.inside.taken;
-      readers = c.self.inside.readers.items;
-      live = c.self.inside.live.items;
-      groups = c.self.inside.groups.items;
-    } in
+    let f : FileState = seen c.self.inside in
     let is : IsFile f = c.self.invariant.0 in
     let number : ℕ = c.in-Some.number in
     let next : next_segment f.handout ≡ Some number = sym c.in-Some.ensures.value in
@@ -386,28 +275,12 @@ returns-in_err-make_segment-clause-right c = (at_refusal c).right
 -- ---- the segment is refuted
 
 abbrev refuted : goal.After-drop-joined-then-not-branch → FileState
-refuted c = record {
-  handout = c.make_segment.new.handout;
-  first = c.self.inside.plan.first;
-  end = c.self.inside.plan.end;
-  taken = c.self.inside.taken;
-  readers = c.self.inside.readers.items;
-  live = c.self.inside.live.items;
-  groups = c.make_segment.new.groups.items;
-}
+refuted c = file_state c.make_segment.new.handout c.self.inside.plan.first c.self.inside.plan.end c.self.inside.taken c.self.inside.readers.items c.self.inside.live.items c.make_segment.new.groups.items
 
 at_refuted : (c : goal.After-drop-joined-then-not-branch) → HasGroups c.args.requests.now.entries c.args.self.now (refuted c)
 at_refuted c =
     let entries = c.args.requests.now.entries in
-    let f : FileState = record {
-      handout = c.self.inside.handout;
-      first = c.self.inside.plan.first;
-      end = c.self.inside.plan.end;
-      taken = c.self.inside.taken;
-      readers = c.self.inside.readers.items;
-      live = c.self.inside.live.items;
-      groups = c.self.inside.groups.items;
-    } in
+    let f : FileState = seen c.self.inside in
     let is : IsFile f = c.self.invariant.0 in
     let number : ℕ = c.in-Some.number in
     let next : next_segment f.handout ≡ Some number = sym c.in-Some.ensures.value in
@@ -444,15 +317,7 @@ returns-then-not-branch-clause-right c = (at_refuted c).right
 pub returns-then-not-branch-clause-inconsistent : goal.returns-then-not-branch-clause-inconsistent
 returns-then-not-branch-clause-inconsistent c = λ _.
     let entries = c.args.requests.now.entries in
-    let f : FileState = record {
-      handout = c.self.inside.handout;
-      first = c.self.inside.plan.first;
-      end = c.self.inside.plan.end;
-      taken = c.self.inside.taken;
-      readers = c.self.inside.readers.items;
-      live = c.self.inside.live.items;
-      groups = c.self.inside.groups.items;
-    } in
+    let f : FileState = seen c.self.inside in
     let is : IsFile f = c.self.invariant.0 in
     let number : ℕ = c.in-Some.number in
     let next : next_segment f.handout ≡ Some number = sym c.in-Some.ensures.value in
@@ -487,15 +352,7 @@ returns-then-not-branch-clause-inconsistent c = λ _.
 pub returns-then-not-branch-clause-no_code_word : goal.returns-then-not-branch-clause-no_code_word
 returns-then-not-branch-clause-no_code_word c = λ _.
     let entries = c.args.requests.now.entries in
-    let f : FileState = record {
-      handout = c.self.inside.handout;
-      first = c.self.inside.plan.first;
-      end = c.self.inside.plan.end;
-      taken = c.self.inside.taken;
-      readers = c.self.inside.readers.items;
-      live = c.self.inside.live.items;
-      groups = c.self.inside.groups.items;
-    } in
+    let f : FileState = seen c.self.inside in
     let is : IsFile f = c.self.invariant.0 in
     let number : ℕ = c.in-Some.number in
     let next : next_segment f.handout ≡ Some number = sym c.in-Some.ensures.value in
@@ -530,28 +387,12 @@ returns-then-not-branch-clause-no_code_word c = λ _.
 -- ---- a piece is made
 
 abbrev made : goal.After-drop-joined-2 → FileState
-made c = record {
-  handout = c.make_segment.new.handout;
-  first = c.self.inside.plan.first;
-  end = c.self.inside.plan.end;
-  taken = c.self.inside.taken;
-  readers = c.self.inside.readers.items;
-  live = c.self.inside.live.items;
-  groups = c.make_segment.new.groups.items;
-}
+made c = file_state c.make_segment.new.handout c.self.inside.plan.first c.self.inside.plan.end c.self.inside.taken c.self.inside.readers.items c.self.inside.live.items c.make_segment.new.groups.items
 
 at_made : (c : goal.After-drop-joined-2) → HasMade c.args.requests.now.entries c.args.self.now (made c)
 at_made c =
     let entries = c.args.requests.now.entries in
-    let f : FileState = record {
-      handout = c.self.inside.handout;
-      first = c.self.inside.plan.first;
-      end = c.self.inside.plan.end;
-      taken = c.self.inside.taken;
-      readers = c.self.inside.readers.items;
-      live = c.self.inside.live.items;
-      groups = c.self.inside.groups.items;
-    } in
+    let f : FileState = seen c.self.inside in
     let is : IsFile f = c.self.invariant.0 in
     let number : ℕ = c.in-Some.number in
     let next : next_segment f.handout ≡ Some number = sym c.in-Some.ensures.value in
@@ -601,43 +442,19 @@ returns-then-not-branch-clause-same c = (at_refuted c).same
 
 pub returns-in_default-clause-waits : goal.returns-in_default-clause-waits
 returns-in_default-clause-waits c = λ _.
-    let f : FileState = record {
-      handout = c.self.inside.handout;
-      first = c.self.inside.plan.first;
-      end = c.self.inside.plan.end;
-      taken = c.self.inside.taken;
-      readers = c.self.inside.readers.items;
-      live = c.self.inside.live.items;
-      groups = c.self.inside.groups.items;
-    } in
+    let f : FileState = seen c.self.inside in
     subst CanNotGoOn c.self.view_is (inl (complete f c.next.ensures.right (sym c.next.ensures.value ∙ c.in_default.is)))
 
 pub returns-in_default-clause-prompt : goal.returns-in_default-clause-prompt
 returns-in_default-clause-prompt c = λ _.
-    let f : FileState = record {
-      handout = c.self.inside.handout;
-      first = c.self.inside.plan.first;
-      end = c.self.inside.plan.end;
-      taken = c.self.inside.taken;
-      readers = c.self.inside.readers.items;
-      live = c.self.inside.live.items;
-      groups = c.self.inside.groups.items;
-    } in
+    let f : FileState = seen c.self.inside in
     subst (λ (s : FileState). IsComplete s ⊎ LacksNext s) c.self.view_is (inl (complete f c.next.ensures.right (sym c.next.ensures.value ∙ c.in_default.is)))
 
 -- ---- no group is begun
 
 pub returns-in_err-begin_group-clause-same : goal.returns-in_err-begin_group-clause-same
 returns-in_err-begin_group-clause-same c =
-    let f : FileState = record {
-      handout = c.self.inside.handout;
-      first = c.self.inside.plan.first;
-      end = c.self.inside.plan.end;
-      taken = c.self.inside.taken;
-      readers = c.self.inside.readers.items;
-      live = c.self.inside.live.items;
-      groups = c.self.inside.groups.items;
-    } in
+    let f : FileState = seen c.self.inside in
     let unchanged : c.begin_group.new.groups.items ≡ f.groups = c.in_err-begin_group.ensures.unchanged in
     subst (λ (s : FileState). IsSameFile s (record f { groups = c.begin_group.new.groups.items })) c.self.view_is
     (subst (λ (gs : List GroupState). IsSameFile f (record f { groups = gs })) (sym unchanged) (same_itself f))
@@ -747,29 +564,13 @@ returns-in_err-begin_group-clause-same_handout c = λ _. ap (λ (s : FileState).
 
 pub returns-in_err-begin_group-clause-asked_up : goal.returns-in_err-begin_group-clause-asked_up
 returns-in_err-begin_group-clause-asked_up c = λ _ reader.
-    let f : FileState = record {
-      handout = c.self.inside.handout;
-      first = c.self.inside.plan.first;
-      end = c.self.inside.plan.end;
-      taken = c.self.inside.taken;
-      readers = c.self.inside.readers.items;
-      live = c.self.inside.live.items;
-      groups = c.self.inside.groups.items;
-    } in
+    let f : FileState = seen c.self.inside in
     let kept : record f { groups = c.begin_group.new.groups.items } ≡ c.args.self.now = ap (λ (gs : List GroupState). record f { groups = gs }) c.in_err-begin_group.ensures.unchanged ∙ c.self.view_is in
     subst (λ (s : FileState). StaysAskedUp c.args.self.now s reader) (sym kept) (λ h. h)
 
 pub returns-in_err-begin_group-clause-reads : goal.returns-in_err-begin_group-clause-reads
 returns-in_err-begin_group-clause-reads c =
-    let f : FileState = record {
-      handout = c.self.inside.handout;
-      first = c.self.inside.plan.first;
-      end = c.self.inside.plan.end;
-      taken = c.self.inside.taken;
-      readers = c.self.inside.readers.items;
-      live = c.self.inside.live.items;
-      groups = c.self.inside.groups.items;
-    } in
+    let f : FileState = seen c.self.inside in
     let kept : record f { groups = c.begin_group.new.groups.items } ≡ c.args.self.now = ap (λ (gs : List GroupState). record f { groups = gs }) c.in_err-begin_group.ensures.unchanged ∙ c.self.view_is in
     subst (IsRead c.args.requests.now.entries) (sym kept) c.requires.reads
 
@@ -781,29 +582,13 @@ returns-in_err-begin_group-clause-readers c = ap (λ (s : FileState). s.readers)
 
 pub returns-in_err-begin_group-clause-asked : goal.returns-in_err-begin_group-clause-asked
 returns-in_err-begin_group-clause-asked c =
-    let f : FileState = record {
-      handout = c.self.inside.handout;
-      first = c.self.inside.plan.first;
-      end = c.self.inside.plan.end;
-      taken = c.self.inside.taken;
-      readers = c.self.inside.readers.items;
-      live = c.self.inside.live.items;
-      groups = c.self.inside.groups.items;
-    } in
+    let f : FileState = seen c.self.inside in
     let kept : record f { groups = c.begin_group.new.groups.items } ≡ c.args.self.now = ap (λ (gs : List GroupState). record f { groups = gs }) c.in_err-begin_group.ensures.unchanged ∙ c.self.view_is in
     subst (AsksNoMore c.args.self.now) (sym kept) (λ reader offset len. ((λ h. h), (λ h. h)))
 
 pub returns-in_err-begin_group-clause-right : goal.returns-in_err-begin_group-clause-right
 returns-in_err-begin_group-clause-right c =
-    let f : FileState = record {
-      handout = c.self.inside.handout;
-      first = c.self.inside.plan.first;
-      end = c.self.inside.plan.end;
-      taken = c.self.inside.taken;
-      readers = c.self.inside.readers.items;
-      live = c.self.inside.live.items;
-      groups = c.self.inside.groups.items;
-    } in
+    let f : FileState = seen c.self.inside in
     let kept : record f { groups = c.begin_group.new.groups.items } ≡ c.args.self.now = ap (λ (gs : List GroupState). record f { groups = gs }) c.in_err-begin_group.ensures.unchanged ∙ c.self.view_is in
     subst IsFile (sym kept) (subst IsFile c.self.view_is c.self.invariant.0)
 

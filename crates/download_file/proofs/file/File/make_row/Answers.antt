@@ -20,6 +20,7 @@ use Rattle.download_file.specs.Making.{CanMakeRow}
 use Rattle.download_file.specs.Right.{IsFile, IsGroup}
 use Rattle.download_file.specs.Rows.{AreRowsProved, HasRow, HaveRow, IsRow}
 use Rattle.download_file.specs.Steps.{AreReady, BeginsGroup}
+use Rattle.download_file.proofs.Fields.{seen}
 use Rattle.download_file.proofs.GrowLemmas.{same_itself}
 use Rattle.download_file.proofs.MakeLemmas.{live_numbers}
 use Rattle.download_file.proofs.RowFileLemmas.{HasEndedRow, HasRowBlocks, has_ended_row, row_blocks, row_enough, row_long, row_needed, row_ready}
@@ -27,22 +28,10 @@ use Rattle.download_file.proofs.SegmentLemmas.{HasLast, has_last}
 use Rattle.download_file.proofs.WholeRowLemmas.{exact_row, has_it, to_proved, whole_row}
 use Rattle.download_file.proofs.file.File.make_row.Goals as goal
 
--- what a contract sees of the fields
-abbrev view : Inside → FileState
-view x = record {
-  handout = x.handout;
-  first = x.plan.first;
-  end = x.plan.end;
-  taken = x.taken;
-  readers = x.readers.items;
-  live = x.live.items;
-  groups = x.groups.items;
-}
-
-facts : (x : Inside) (entries : List Request) (now : FileState) (number size : ℕ) (readers : List ReaderState) (live : List ℕ) → view x ≡ now
-    → IsFile (view x) × (x.plan.geometry ≡ x.handout.geometry) → IsRead entries now → Some number ≡ next_segment x.handout
+facts : (x : Inside) (entries : List Request) (now : FileState) (number size : ℕ) (readers : List ReaderState) (live : List ℕ) → seen x ≡ now
+    → IsFile (seen x) × (x.plan.geometry ≡ x.handout.geometry) → IsRead entries now → Some number ≡ next_segment x.handout
     → readers ≡ x.readers.items → live ≡ x.live.items → HasRow x.handout readers live number → size ≡ block_length x.plan.geometry number
-    → HasRowBlocks entries (view x) number size
+    → HasRowBlocks entries (seen x) number size
 facts x entries now number size readers live view_is is reads next readers_are live_are row long = record {
   is = is.0;
   read = subst (IsRead entries) (sym view_is) reads;
@@ -54,7 +43,7 @@ facts x entries now number size readers live view_is is reads next readers_are l
 pub join_row-requires-clause-held : goal.join_row-requires-clause-held
 join_row-requires-clause-held c =
     let entries = c.args.requests.now.entries in
-    let f : FileState = view c.self.inside in
+    let f : FileState = seen c.self.inside in
     let number : ℕ = c.in-Some.number in
     let size : ℕ = c.block_length-size.result in
     let k : HasRowBlocks entries f number size = facts c.self.inside c.args.requests.now.entries c.args.self.now c.in-Some.number c.block_length-size.result c.deref.result.now c.deref-2.result.now
@@ -65,14 +54,14 @@ join_row-requires-clause-held c =
 
 pub are_right-requires-clause-there : goal.are_right-requires-clause-there
 are_right-requires-clause-there c =
-    let f : FileState = view c.self.inside in
+    let f : FileState = seen c.self.inside in
     subst (λ (rs : List ReaderState). All (λ place. place < length rs) c.deref-6.result.now) (sym c.deref-5.ensures.value)
     (subst (λ (l : List ℕ). All (λ place. place < length f.readers) l) (sym c.deref-6.ensures.value) c.self.invariant.0.live.there)
 
 pub are_right-requires-clause-ready : goal.are_right-requires-clause-ready
 are_right-requires-clause-ready c = λ i low.
     let entries = c.args.requests.now.entries in
-    let f : FileState = view c.self.inside in
+    let f : FileState = seen c.self.inside in
     let number : ℕ = c.in-Some.number in
     let size : ℕ = c.block_length-size.result in
     let k : HasRowBlocks entries f number size = facts c.self.inside c.args.requests.now.entries c.args.self.now c.in-Some.number c.block_length-size.result c.deref.result.now c.deref-2.result.now
@@ -84,7 +73,7 @@ are_right-requires-clause-ready c = λ i low.
 pub are_right-requires-clause-long : goal.are_right-requires-clause-long
 are_right-requires-clause-long c =
     let entries = c.args.requests.now.entries in
-    let f : FileState = view c.self.inside in
+    let f : FileState = seen c.self.inside in
     let number : ℕ = c.in-Some.number in
     let size : ℕ = c.block_length-size.result in
     let k : HasRowBlocks entries f number size = facts c.self.inside c.args.requests.now.entries c.args.self.now c.in-Some.number c.block_length-size.result c.deref.result.now c.deref-2.result.now
@@ -100,14 +89,14 @@ are_right-requires-clause-long c =
 
 pub begin_group-requires-clause-there : goal.begin_group-requires-clause-there
 begin_group-requires-clause-there c =
-    let f : FileState = view c.self.inside in
+    let f : FileState = seen c.self.inside in
     subst (λ (rs : List ReaderState). All (λ place. place < length rs) c.deref-9.result.now) (sym c.deref-8.ensures.value)
     (subst (λ (l : List ℕ). All (λ place. place < length f.readers) l) (sym c.deref-9.ensures.value) c.self.invariant.0.live.there)
 
 pub begin_group-requires-clause-shares : goal.begin_group-requires-clause-shares
 begin_group-requires-clause-shares c =
     let entries = c.args.requests.now.entries in
-    let f : FileState = view c.self.inside in
+    let f : FileState = seen c.self.inside in
     let number : ℕ = c.in-Some.number in
     let size : ℕ = c.block_length-size.result in
     let k : HasRowBlocks entries f number size = facts c.self.inside c.args.requests.now.entries c.args.self.now c.in-Some.number c.block_length-size.result c.deref.result.now c.deref-2.result.now
@@ -119,7 +108,7 @@ begin_group-requires-clause-shares c =
 
 pub returns-in_err-begin_group-clause-same : goal.returns-in_err-begin_group-clause-same
 returns-in_err-begin_group-clause-same c =
-    let f : FileState = view c.self.inside in
+    let f : FileState = seen c.self.inside in
     let unchanged : c.begin_group.new.groups.items ≡ f.groups = c.in_err-begin_group.ensures.unchanged in
     subst (λ (s : FileState). IsSameFile s (record f { groups = c.begin_group.new.groups.items })) c.self.view_is
     (subst (λ (gs : List GroupState). IsSameFile f (record f { groups = gs })) (sym unchanged) (same_itself f))
@@ -127,7 +116,7 @@ returns-in_err-begin_group-clause-same c =
 pub make_segments-requires-clause-some : goal.make_segments-requires-clause-some
 make_segments-requires-clause-some c =
     let entries = c.args.requests.now.entries in
-    let f : FileState = view c.self.inside in
+    let f : FileState = seen c.self.inside in
     let number : ℕ = c.in-Some.number in
     let size : ℕ = c.block_length-size.result in
     let k : HasRowBlocks entries f number size = facts c.self.inside c.args.requests.now.entries c.args.self.now c.in-Some.number c.block_length-size.result c.deref.result.now c.deref-2.result.now
@@ -144,7 +133,7 @@ make_segments-requires-clause-some c =
 pub make_segments-requires-clause-geometry : goal.make_segments-requires-clause-geometry
 make_segments-requires-clause-geometry c = λ group at.
     let entries = c.args.requests.now.entries in
-    let f : FileState = view c.self.inside in
+    let f : FileState = seen c.self.inside in
     let number : ℕ = c.in-Some.number in
     let size : ℕ = c.block_length-size.result in
     let k : HasRowBlocks entries f number size = facts c.self.inside c.args.requests.now.entries c.args.self.now c.in-Some.number c.block_length-size.result c.deref.result.now c.deref-2.result.now
@@ -161,7 +150,7 @@ make_segments-requires-clause-geometry c = λ group at.
 pub make_segments-requires-clause-long : goal.make_segments-requires-clause-long
 make_segments-requires-clause-long c = λ i low.
     let entries = c.args.requests.now.entries in
-    let f : FileState = view c.self.inside in
+    let f : FileState = seen c.self.inside in
     let number : ℕ = c.in-Some.number in
     let size : ℕ = c.block_length-size.result in
     let k : HasRowBlocks entries f number size = facts c.self.inside c.args.requests.now.entries c.args.self.now c.in-Some.number c.block_length-size.result c.deref.result.now c.deref-2.result.now
@@ -175,12 +164,12 @@ make_segments-requires-clause-long c = λ i low.
 -- ---- the file in the end
 
 abbrev ended : goal.After-drop-rows-2 → FileState
-ended c = record (view c.self.inside) { handout = c.make_segments.new.handout; groups = c.make_segments.new.groups.items }
+ended c = record (seen c.self.inside) { handout = c.make_segments.new.handout; groups = c.make_segments.new.groups.items }
 
 at_end : (c : goal.After-drop-rows-2) → HasEndedRow c.args.requests.now.entries c.make_segments.result c.args.self.now (ended c)
 at_end c =
     let entries = c.args.requests.now.entries in
-    let f : FileState = view c.self.inside in
+    let f : FileState = seen c.self.inside in
     let number : ℕ = c.in-Some.number in
     let size : ℕ = c.block_length-size.result in
     let k : HasRowBlocks entries f number size = facts c.self.inside c.args.requests.now.entries c.args.self.now c.in-Some.number c.block_length-size.result c.deref.result.now c.deref-2.result.now
@@ -233,7 +222,7 @@ returns-clause-right c = (at_end c).right
 
 pub returns-in_default-clause-exact : goal.returns-in_default-clause-exact
 returns-in_default-clause-exact c =
-    let f : FileState = view c.self.inside in
+    let f : FileState = seen c.self.inside in
     let none : next_segment f.handout ≡ None = sym c.next.ensures.value ∙ c.in_default.is in
     subst (λ (s : FileState). IsTrue false ↔ CanMakeRow c.args.requests.now.entries s) c.self.view_is
     (λ e. absurd (true≢false (sym e)), λ can. absurd (let e : Some can.0 ≡ None = sym can.1 ∙ none in cc))
@@ -241,7 +230,7 @@ returns-in_default-clause-exact c =
 pub returns-then-not-has_row-clause-exact : goal.returns-then-not-has_row-clause-exact
 returns-then-not-has_row-clause-exact c =
     let entries = c.args.requests.now.entries in
-    let f : FileState = view c.self.inside in
+    let f : FileState = seen c.self.inside in
     let number : ℕ = c.in-Some.number in
     let next : next_segment f.handout ≡ Some number = sym c.in-Some.ensures.value in
     let no : ¬ HasRow f.handout f.readers f.live number =
@@ -253,7 +242,7 @@ returns-then-not-has_row-clause-exact c =
 pub returns-then-not-are_right-clause-exact : goal.returns-then-not-are_right-clause-exact
 returns-then-not-are_right-clause-exact c =
     let entries = c.args.requests.now.entries in
-    let f : FileState = view c.self.inside in
+    let f : FileState = seen c.self.inside in
     let number : ℕ = c.in-Some.number in
     let size : ℕ = c.block_length-size.result in
     let k : HasRowBlocks entries f number size = facts c.self.inside c.args.requests.now.entries c.args.self.now c.in-Some.number c.block_length-size.result c.deref.result.now c.deref-2.result.now
@@ -275,7 +264,7 @@ returns-then-not-are_right-clause-exact c =
 pub returns-clause-exact : goal.returns-clause-exact
 returns-clause-exact c =
     let entries = c.args.requests.now.entries in
-    let f : FileState = view c.self.inside in
+    let f : FileState = seen c.self.inside in
     let number : ℕ = c.in-Some.number in
     let size : ℕ = c.block_length-size.result in
     let k : HasRowBlocks entries f number size = facts c.self.inside c.args.requests.now.entries c.args.self.now c.in-Some.number c.block_length-size.result c.deref.result.now c.deref-2.result.now
@@ -406,29 +395,13 @@ returns-in_err-begin_group-clause-same_handout c = λ _. ap (λ (s : FileState).
 
 pub returns-in_err-begin_group-clause-asked_up : goal.returns-in_err-begin_group-clause-asked_up
 returns-in_err-begin_group-clause-asked_up c = λ _ reader.
-    let f : FileState = record {
-      handout = c.self.inside.handout;
-      first = c.self.inside.plan.first;
-      end = c.self.inside.plan.end;
-      taken = c.self.inside.taken;
-      readers = c.self.inside.readers.items;
-      live = c.self.inside.live.items;
-      groups = c.self.inside.groups.items;
-    } in
+    let f : FileState = seen c.self.inside in
     let kept : record f { groups = c.begin_group.new.groups.items } ≡ c.args.self.now = ap (λ (gs : List GroupState). record f { groups = gs }) c.in_err-begin_group.ensures.unchanged ∙ c.self.view_is in
     subst (λ (s : FileState). StaysAskedUp c.args.self.now s reader) (sym kept) (λ h. h)
 
 pub returns-in_err-begin_group-clause-reads : goal.returns-in_err-begin_group-clause-reads
 returns-in_err-begin_group-clause-reads c =
-    let f : FileState = record {
-      handout = c.self.inside.handout;
-      first = c.self.inside.plan.first;
-      end = c.self.inside.plan.end;
-      taken = c.self.inside.taken;
-      readers = c.self.inside.readers.items;
-      live = c.self.inside.live.items;
-      groups = c.self.inside.groups.items;
-    } in
+    let f : FileState = seen c.self.inside in
     let kept : record f { groups = c.begin_group.new.groups.items } ≡ c.args.self.now = ap (λ (gs : List GroupState). record f { groups = gs }) c.in_err-begin_group.ensures.unchanged ∙ c.self.view_is in
     subst (IsRead c.args.requests.now.entries) (sym kept) c.requires.reads
 
@@ -440,29 +413,13 @@ returns-in_err-begin_group-clause-readers c = ap (λ (s : FileState). s.readers)
 
 pub returns-in_err-begin_group-clause-asked : goal.returns-in_err-begin_group-clause-asked
 returns-in_err-begin_group-clause-asked c =
-    let f : FileState = record {
-      handout = c.self.inside.handout;
-      first = c.self.inside.plan.first;
-      end = c.self.inside.plan.end;
-      taken = c.self.inside.taken;
-      readers = c.self.inside.readers.items;
-      live = c.self.inside.live.items;
-      groups = c.self.inside.groups.items;
-    } in
+    let f : FileState = seen c.self.inside in
     let kept : record f { groups = c.begin_group.new.groups.items } ≡ c.args.self.now = ap (λ (gs : List GroupState). record f { groups = gs }) c.in_err-begin_group.ensures.unchanged ∙ c.self.view_is in
     subst (AsksNoMore c.args.self.now) (sym kept) (λ reader offset len. ((λ h. h), (λ h. h)))
 
 pub returns-in_err-begin_group-clause-right : goal.returns-in_err-begin_group-clause-right
 returns-in_err-begin_group-clause-right c =
-    let f : FileState = record {
-      handout = c.self.inside.handout;
-      first = c.self.inside.plan.first;
-      end = c.self.inside.plan.end;
-      taken = c.self.inside.taken;
-      readers = c.self.inside.readers.items;
-      live = c.self.inside.live.items;
-      groups = c.self.inside.groups.items;
-    } in
+    let f : FileState = seen c.self.inside in
     let kept : record f { groups = c.begin_group.new.groups.items } ≡ c.args.self.now = ap (λ (gs : List GroupState). record f { groups = gs }) c.in_err-begin_group.ensures.unchanged ∙ c.self.view_is in
     subst IsFile (sym kept) (subst IsFile c.self.view_is c.self.invariant.0)
 

@@ -1,33 +1,17 @@
 use Rattle.std.proofs.Common.{◌≡◌, ◌∙◌, List, [], ◌∷◌, ap, subst, sym}
 use Rattle.request_record.specs.declared.requests.Request.{Request}
 use Rattle.download_segments.specs.State.{HandoutState, IsHandout}
-use Rattle.download_file.specs.State.{FileState, new_file}
+use Rattle.download_file.specs.State.{FileState, new_file, file_state}
 use Rattle.download_file.specs.Answers.{IsRead}
 use Rattle.download_file.specs.Right.{IsFile}
 use Rattle.download_file.proofs.NewLemmas.{file_new, read_new}
 use Rattle.download_file.proofs.file.File.new.Goals as goal
 
 abbrev made : goal.After-new-4 → FileState
-made c = record {
-  handout = c.in_ok-new.field-0;
-  first = c.plan_of.result.first;
-  end = c.plan_of.result.end;
-  taken = 0 ∷ 0 ∷ 0 ∷ [];
-  readers = c.new-2.result.items;
-  live = c.new-3.result.items;
-  groups = c.new-4.result.items;
-}
+made c = file_state c.in_ok-new.field-0 c.plan_of.result.first c.plan_of.result.end (0 ∷ 0 ∷ 0 ∷ []) c.new-2.result.items c.new-3.result.items c.new-4.result.items
 
 is_new : (c : goal.After-new-4) → made c ≡ new_file c.args.key.now c.args.ueb.now c.args.geometry.now c.args.from c.args.to
-is_new c = λ i. record {
-  handout = c.in_ok-new.ensures.handout i;
-  first = c.plan_of.ensures.first i;
-  end = c.plan_of.ensures.end i;
-  taken = 0 ∷ 0 ∷ 0 ∷ [];
-  readers = c.new-2.ensures.items i;
-  live = c.new-3.ensures.items i;
-  groups = c.new-4.ensures.items i;
-}
+is_new c = λ i. file_state (c.in_ok-new.ensures.handout i) (c.plan_of.ensures.first i) (c.plan_of.ensures.end i) (0 ∷ 0 ∷ 0 ∷ []) (c.new-2.ensures.items i) (c.new-3.ensures.items i) (c.new-4.ensures.items i)
 
 right : (c : goal.After-new-4) → IsFile (made c)
 right c = subst IsFile (sym (is_new c))

@@ -5,7 +5,7 @@ use Rattle.lemmas.proofs.Places.{got}
 use Rattle.request_record.specs.declared.requests.Request.{Request}
 use Rattle.download_parts.specs.declared.error.TreeFault.TheVariants as faults
 use Rattle.download_segments.specs.State.{HandoutState}
-use Rattle.download_file.specs.State.{FileState, IsLive, ReaderState, copies, waiting_at}
+use Rattle.download_file.specs.State.{FileState, IsLive, ReaderState, copies, waiting_at, file_state}
 use Rattle.download_file.specs.Answers.{AnswersFirst, IsRead}
 use Rattle.download_file.specs.Asked.{AsksNoMore}
 use Rattle.download_file.specs.Changes.{HandsNothing, IsSameFile, StaysAskedUp}
@@ -13,19 +13,12 @@ use Rattle.download_file.specs.Right.{IsFile}
 use Rattle.download_file.specs.Taking.{IsRefused}
 use Rattle.download_file.proofs.GrowLemmas.{same_itself}
 use Rattle.download_file.proofs.TakeLemmas.{HasTaken, front_is, has_taken, is_taker, same_still}
+use Rattle.download_file.proofs.Fields.{seen}
 use Rattle.download_file.proofs.file.File.take.Goals as goal
 
 pub take_part-requires-clause-taker : goal.take_part-requires-clause-taker
 take_part-requires-clause-taker c =
-    let f : FileState = record {
-      handout = c.self.inside.handout;
-      first = c.self.inside.plan.first;
-      end = c.self.inside.plan.end;
-      taken = c.self.inside.taken;
-      readers = c.self.inside.readers.items;
-      live = c.self.inside.live.items;
-      groups = c.self.inside.groups.items;
-    } in
+    let f : FileState = seen c.self.inside in
     let live : IsLive f c.args.reader = subst (λ (s : FileState). IsLive s c.args.reader) (sym c.self.view_is) c.requires.live in
     let low : c.args.reader < length f.readers = All-contains (λ place. place < length f.readers) f.live c.args.reader c.self.invariant.0.live.there live in
     let r : ReaderState = c.index_mut.result.now in
@@ -37,27 +30,11 @@ take_part-requires-clause-taker c =
 -- ---- it is taken
 
 abbrev then : goal.In_ok-take_part → FileState
-then c = record {
-  handout = c.take_part.new.handout;
-  first = c.self.inside.plan.first;
-  end = c.self.inside.plan.end;
-  taken = c.take_part.new.taken;
-  readers = slice_set c.self.inside.readers.items c.args.reader c.take_part.new.reader;
-  live = c.self.inside.live.items;
-  groups = c.self.inside.groups.items;
-}
+then c = file_state c.take_part.new.handout c.self.inside.plan.first c.self.inside.plan.end c.take_part.new.taken (slice_set c.self.inside.readers.items c.args.reader c.take_part.new.reader) c.self.inside.live.items c.self.inside.groups.items
 
 taken : (c : goal.In_ok-take_part) → HasTaken c.args.self.now c.args.reader c.args.bytes.now (then c)
 taken c =
-    let f : FileState = record {
-      handout = c.self.inside.handout;
-      first = c.self.inside.plan.first;
-      end = c.self.inside.plan.end;
-      taken = c.self.inside.taken;
-      readers = c.self.inside.readers.items;
-      live = c.self.inside.live.items;
-      groups = c.self.inside.groups.items;
-    } in
+    let f : FileState = seen c.self.inside in
     let live : IsLive f c.args.reader = subst (λ (s : FileState). IsLive s c.args.reader) (sym c.self.view_is) c.requires.live in
     let low : c.args.reader < length f.readers = All-contains (λ place. place < length f.readers) f.live c.args.reader c.self.invariant.0.live.there live in
     let r : ReaderState = c.index_mut.result.now in
@@ -95,27 +72,11 @@ returns-clause-reads c = (taken c).reads
 -- ---- it is refused
 
 abbrev still : goal.After-from_residual → FileState
-still c = record {
-  handout = c.take_part.new.handout;
-  first = c.self.inside.plan.first;
-  end = c.self.inside.plan.end;
-  taken = c.take_part.new.taken;
-  readers = slice_set c.self.inside.readers.items c.args.reader c.take_part.new.reader;
-  live = c.self.inside.live.items;
-  groups = c.self.inside.groups.items;
-}
+still c = file_state c.take_part.new.handout c.self.inside.plan.first c.self.inside.plan.end c.take_part.new.taken (slice_set c.self.inside.readers.items c.args.reader c.take_part.new.reader) c.self.inside.live.items c.self.inside.groups.items
 
 same : (c : goal.After-from_residual) → still c ≡ c.args.self.now
 same c =
-    let f : FileState = record {
-      handout = c.self.inside.handout;
-      first = c.self.inside.plan.first;
-      end = c.self.inside.plan.end;
-      taken = c.self.inside.taken;
-      readers = c.self.inside.readers.items;
-      live = c.self.inside.live.items;
-      groups = c.self.inside.groups.items;
-    } in
+    let f : FileState = seen c.self.inside in
     let live : IsLive f c.args.reader = subst (λ (s : FileState). IsLive s c.args.reader) (sym c.self.view_is) c.requires.live in
     let low : c.args.reader < length f.readers = All-contains (λ place. place < length f.readers) f.live c.args.reader c.self.invariant.0.live.there live in
     let r : ReaderState = c.index_mut.result.now in
@@ -147,15 +108,7 @@ returns-in_err-take_part-clause-reads c =
 
 pub returns-in_err-take_part-clause-refused : goal.returns-in_err-take_part-clause-refused
 returns-in_err-take_part-clause-refused c = λ check is.
-    let f : FileState = record {
-      handout = c.self.inside.handout;
-      first = c.self.inside.plan.first;
-      end = c.self.inside.plan.end;
-      taken = c.self.inside.taken;
-      readers = c.self.inside.readers.items;
-      live = c.self.inside.live.items;
-      groups = c.self.inside.groups.items;
-    } in
+    let f : FileState = seen c.self.inside in
     let live : IsLive f c.args.reader = subst (λ (s : FileState). IsLive s c.args.reader) (sym c.self.view_is) c.requires.live in
     let low : c.args.reader < length f.readers = All-contains (λ place. place < length f.readers) f.live c.args.reader c.self.invariant.0.live.there live in
     let r : ReaderState = c.index_mut.result.now in

@@ -1,31 +1,16 @@
 use Rattle.std.proofs.Common.{◌∙◌, subst, sym}
 use Rattle.download_segments.specs.Handout.{TakesPiece}
-use Rattle.download_file.specs.State.{FileState}
+use Rattle.download_file.specs.State.{FileState, file_state}
 use Rattle.download_file.proofs.NewLemmas.{HasPieces, has_geometry, has_pieces}
+use Rattle.download_file.proofs.Fields.{seen}
 use Rattle.download_file.proofs.file.File.take_piece.Goals as goal
 
 abbrev then : goal.After-take → FileState
-then c = record {
-  handout = c.take.new.self;
-  first = c.self.inside.plan.first;
-  end = c.self.inside.plan.end;
-  taken = c.self.inside.taken;
-  readers = c.self.inside.readers.items;
-  live = c.self.inside.live.items;
-  groups = c.self.inside.groups.items;
-}
+then c = file_state c.take.new.self c.self.inside.plan.first c.self.inside.plan.end c.self.inside.taken c.self.inside.readers.items c.self.inside.live.items c.self.inside.groups.items
 
 taken : (c : goal.After-take) → HasPieces c.args.self.now (then c)
 taken c =
-    let f : FileState = record {
-      handout = c.self.inside.handout;
-      first = c.self.inside.plan.first;
-      end = c.self.inside.plan.end;
-      taken = c.self.inside.taken;
-      readers = c.self.inside.readers.items;
-      live = c.self.inside.live.items;
-      groups = c.self.inside.groups.items;
-    } in
+    let f : FileState = seen c.self.inside in
     subst (λ (s : FileState). HasPieces s (then c)) c.self.view_is
     (has_pieces f c.take.new.self c.take.result c.self.invariant.0 c.take.ensures.right c.take.ensures.taken)
 

@@ -3,34 +3,19 @@ use Rattle.std.proofs.lemmas.List.{length-set}
 use Rattle.std.proofs.lemmas.List.Elements.{All-contains, All-weaker}
 use Rattle.lemmas.proofs.Places.{get_other, got}
 use Rattle.download_segments.specs.Handout.{next_segment}
-use Rattle.download_file.specs.State.{FileState, IsLive, ReaderState, giver}
+use Rattle.download_file.specs.State.{FileState, IsLive, ReaderState, giver, file_state}
 use Rattle.download_file.proofs.EndLemmas.{next_left, option_is_false, option_is_true}
 use Rattle.download_file.proofs.EndFileLemmas.{HasEnded, can_give, has_ended}
 use Rattle.download_file.proofs.WantedLemmas.{HasWanted, has_wanted}
+use Rattle.download_file.proofs.Fields.{seen}
 use Rattle.download_file.proofs.file.File.wanted.Goals as goal
 
 abbrev asked : goal.In-Ok → FileState
-asked c = record {
-  handout = c.self.inside.handout;
-  first = c.self.inside.plan.first;
-  end = c.self.inside.plan.end;
-  taken = c.self.inside.taken;
-  readers = slice_set c.self.inside.readers.items c.args.reader c.ask.new.self;
-  live = c.self.inside.live.items;
-  groups = c.self.inside.groups.items;
-}
+asked c = file_state c.self.inside.handout c.self.inside.plan.first c.self.inside.plan.end c.self.inside.taken (slice_set c.self.inside.readers.items c.args.reader c.ask.new.self) c.self.inside.live.items c.self.inside.groups.items
 
 wanted : (c : goal.In-Ok) → HasWanted c.args.self.now c.args.reader c.args.place c.last_asked-last.result c.in-Ok.wanted.items (asked c)
 wanted c =
-    let f : FileState = record {
-      handout = c.self.inside.handout;
-      first = c.self.inside.plan.first;
-      end = c.self.inside.plan.end;
-      taken = c.self.inside.taken;
-      readers = c.self.inside.readers.items;
-      live = c.self.inside.live.items;
-      groups = c.self.inside.groups.items;
-    } in
+    let f : FileState = seen c.self.inside in
     let live : IsLive f c.args.reader = subst (λ (s : FileState). IsLive s c.args.reader) (sym c.self.view_is) c.requires.live in
     let low : c.args.reader < length f.readers = All-contains (λ place. place < length f.readers) f.live c.args.reader c.self.invariant.0.live.there live in
     let r : ReaderState = c.index_mut.result.now in
@@ -81,41 +66,17 @@ end_reader-requires-clause-there c =
 
 pub end_reader-requires-clause-gives : goal.end_reader-requires-clause-gives
 end_reader-requires-clause-gives c = λ gave next s first at.
-    let f : FileState = record {
-      handout = c.self.inside.handout;
-      first = c.self.inside.plan.first;
-      end = c.self.inside.plan.end;
-      taken = c.self.inside.taken;
-      readers = c.self.inside.readers.items;
-      live = c.self.inside.live.items;
-      groups = c.self.inside.groups.items;
-    } in
+    let f : FileState = seen c.self.inside in
     let left = next_left f.live c.args.reader next first in
     can_give f c.args.reader c.self.invariant.0 (subst (λ (s : FileState). IsLive s c.args.reader) (sym c.self.view_is) c.requires.live) gave next s first
     (sym (get_other f.readers c.args.reader next c.ask.new.self left.1) ∙ at)
 
 abbrev then : goal.After-end_reader → FileState
-then c = record {
-  handout = c.self.inside.handout;
-  first = c.self.inside.plan.first;
-  end = c.self.inside.plan.end;
-  taken = c.self.inside.taken;
-  readers = c.end_reader.new.readers.items;
-  live = c.end_reader.new.live.items;
-  groups = c.self.inside.groups.items;
-}
+then c = file_state c.self.inside.handout c.self.inside.plan.first c.self.inside.plan.end c.self.inside.taken c.end_reader.new.readers.items c.end_reader.new.live.items c.self.inside.groups.items
 
 ended : (c : goal.After-end_reader) → HasEnded c.args.self.now c.args.reader c.index_mut.result.now.source c.ask.new.self.source (then c)
 ended c =
-    let f : FileState = record {
-      handout = c.self.inside.handout;
-      first = c.self.inside.plan.first;
-      end = c.self.inside.plan.end;
-      taken = c.self.inside.taken;
-      readers = c.self.inside.readers.items;
-      live = c.self.inside.live.items;
-      groups = c.self.inside.groups.items;
-    } in
+    let f : FileState = seen c.self.inside in
     let live : IsLive f c.args.reader = subst (λ (s : FileState). IsLive s c.args.reader) (sym c.self.view_is) c.requires.live in
     let low : c.args.reader < length f.readers = All-contains (λ place. place < length f.readers) f.live c.args.reader c.self.invariant.0.live.there live in
     let r : ReaderState = c.index_mut.result.now in

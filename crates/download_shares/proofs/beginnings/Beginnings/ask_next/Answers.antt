@@ -4,18 +4,19 @@ use Rattle.lemmas.proofs.Places.{got}
 use Rattle.share_reading.specs.Opening.{next_place}
 use Rattle.download_shares.specs.HoldingMoves.{Asks}
 use Rattle.download_shares.specs.BeginningMoves.{AsksNext}
-use Rattle.download_shares.specs.BeginningState.{BeginningsState}
+use Rattle.download_shares.specs.BeginningState.{BeginningsState, beginnings_state}
 use Rattle.download_shares.specs.declared.begun.Begun.{Begun}
+use Rattle.download_shares.proofs.Fields.{seen_beginnings}
 use Rattle.download_shares.proofs.beginnings.Beginnings.ask_next.Goals as goal
 
 pub returns-clause-asks : goal.returns-clause-asks
 returns-clause-asks c =
-    let s : BeginningsState = record { holdings = c.self.inside.holdings; begun = c.self.inside.begun.items } in
+    let s : BeginningsState = seen_beginnings c.self.inside in
     let lt : c.args.holding < length s.begun = search rules in
     let old = c.index_mut-begun.result.now in
     let at = got s.begun c.args.holding old lt c.index_mut-begun.ensures.value in
     let b : Begun = record { opening = Some c.args.opening.now; waiting = Some c.in_ok-place.place; reader = old.reader } in
-    let u : BeginningsState = record { holdings = c.ask.new.self; begun = slice_set c.self.inside.begun.items c.args.holding b } in
+    let u : BeginningsState = beginnings_state c.ask.new.self (slice_set c.self.inside.begun.items c.args.holding b) in
     subst (λ (x : BeginningsState). AsksNext c.args.holding c.args.opening.now x u) c.self.view_is
     (record {
       begun = old;

@@ -13,11 +13,12 @@ use Rattle.download_shares.specs.Reads.{IsAnsweredBy}
 use Rattle.download_shares.proofs.Caused.{adds_none, adds_one, blamed_low, fault_of}
 use Rattle.download_shares.specs.Known.{AreBegun}
 use Rattle.download_shares.specs.BeginningMoves.{GoesOn}
-use Rattle.download_shares.specs.BeginningState.{BeginningsState}
+use Rattle.download_shares.specs.BeginningState.{BeginningsState, beginnings_state}
 use Rattle.download_shares.proofs.Falling.{falls_one, retired_gone}
 use Rattle.download_shares.proofs.Going.{goes_on_from, rested_goes, rested_known}
 use Rattle.download_shares.proofs.Knowing.{keeps_same, known_blamed, known_same, shares_suspended}
 use Rattle.download_shares.proofs.Opened.{goes_blamed, goes_none}
+use Rattle.download_shares.proofs.Fields.{seen_beginnings}
 use Rattle.download_shares.proofs.beginnings.Beginnings.compare.Goals as goal
 
 pub returns-then-not-holdings-holding-clause-known : goal.returns-then-not-holdings-holding-clause-known
@@ -45,10 +46,10 @@ returns-then-not-holdings-holding-clause-compares c =
 
 module _ (c : goal.After-blame) where
   abbrev pub w0 : BeginningsState
-  w0 = record { holdings = c.self.inside.holdings; begun = c.self.inside.begun.items }
+  w0 = seen_beginnings c.self.inside
 
   abbrev pub u0 : BeginningsState
-  u0 = record { holdings = c.blame.new.self; begun = c.self.inside.begun.items }
+  u0 = beginnings_state c.blame.new.self c.self.inside.begun.items
 
 pub returns-in-Some-compared-clause-known : goal.returns-in-Some-compared-clause-known
 returns-in-Some-compared-clause-known c =
@@ -74,8 +75,8 @@ returns-in-Some-compared-clause-goes c =
 
 pub returns-in-None-clause-known : goal.returns-in-None-clause-known
 returns-in-None-clause-known c =
-    let w : BeginningsState = record { holdings = c.self.inside.holdings; begun = c.self.inside.begun.items } in
-    let u : BeginningsState = record { holdings = c.suspend.new.self; begun = c.self.inside.begun.items } in
+    let w : BeginningsState = seen_beginnings c.self.inside in
+    let u : BeginningsState = beginnings_state c.suspend.new.self c.self.inside.begun.items in
     known_same w u (subst AreBegun (sym c.self.view_is) (rested_known c.args.self.now c.take_waiting.new.self c.args.holding c.requires.known c.take_waiting.ensures.rests)) (ap (λ (x : HoldingsState). x.requests) c.suspend.ensures.others)
     (shares_suspended false c.args.holding w.holdings.table u.holdings.table c.suspend.ensures.suspends) c.suspend.ensures.right refl (keeps_same w.begun u.begun refl)
 
@@ -88,8 +89,8 @@ returns-in-None-clause-compares c = record {
 
 pub returns-in-None-clause-goes : goal.returns-in-None-clause-goes
 returns-in-None-clause-goes c =
-    let w : BeginningsState = record { holdings = c.self.inside.holdings; begun = c.self.inside.begun.items } in
-    let u : BeginningsState = record { holdings = c.suspend.new.self; begun = c.self.inside.begun.items } in
+    let w : BeginningsState = seen_beginnings c.self.inside in
+    let u : BeginningsState = beginnings_state c.suspend.new.self c.self.inside.begun.items in
     goes_on_from c.args.self.now c.take_waiting.new.self c.args.holding c.requires.known c.take_waiting.ensures.rests u
     (subst (λ (x : BeginningsState). GoesOn x u) c.self.view_is (goes_none w u (ap (λ (x : HoldingsState). x.requests) c.suspend.ensures.others) (ap (λ (x : HoldingsState). x.blamed) c.suspend.ensures.others)))
 

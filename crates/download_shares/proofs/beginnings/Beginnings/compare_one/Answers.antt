@@ -11,7 +11,7 @@ use Rattle.download_shares.proofs.Caused.{adds_none, blamed_low}
 use Rattle.download_shares.specs.Known.{AreBegun}
 use Rattle.download_shares.specs.BeginningMoves.{GoesOn}
 use Rattle.download_shares.specs.Opening.{AreComparedUpTo}
-use Rattle.download_shares.specs.BeginningState.{BeginningsState, IsBegun}
+use Rattle.download_shares.specs.BeginningState.{BeginningsState, IsBegun, beginnings_state}
 use Rattle.download_shares.proofs.Accepting.{refused_causes, refused_compared, refused_goes, refused_known, released_goes, released_count, released_known, released_requests, released_blamed, suspended_compared, suspended_goes, suspended_known, unopened_compared}
 use Rattle.download_shares.proofs.Opened.{goes_from, goes_none}
 use Rattle.download_shares.proofs.beginnings.Beginnings.compare_one.Goals.{else-left-via-then-left+else-differs, else-left-via-else-left}
@@ -19,10 +19,11 @@ use Rattle.download_shares.proofs.beginnings.Beginnings.compare_one.Goals as goa
 use Rattle.std.proofs.lemmas.Option.{get_or_from_slice_get}
 use Rattle.lemmas.proofs.Places.{got}
 use Rattle.lemmas.proofs.Results.{on_ok_then, by_result}
+use Rattle.download_shares.proofs.Fields.{seen_beginnings}
 
 pub returns-in_default-clause-compared : goal.returns-in_default-clause-compared
 returns-in_default-clause-compared c found before =
-    let s : BeginningsState = record { holdings = c.self.inside.holdings; begun = c.self.inside.begun.items } in
+    let s : BeginningsState = seen_beginnings c.self.inside in
     let known : AreBegun s = subst AreBegun (sym c.self.view_is) c.requires.known in
     let b = c.index.result.now in
     let at : IsBegun s c.args.holding b = got s.begun c.args.holding b (subst (λ (x : BeginningsState). c.args.holding < length x.begun) (sym c.self.view_is) c.requires.there) c.index.ensures in
@@ -30,7 +31,7 @@ returns-in_default-clause-compared c found before =
 
 pub returns-in_default-clause-known : goal.returns-in_default-clause-known
 returns-in_default-clause-known c =
-    let s : BeginningsState = record { holdings = c.self.inside.holdings; begun = c.self.inside.begun.items } in
+    let s : BeginningsState = seen_beginnings c.self.inside in
     let known : AreBegun s = subst AreBegun (sym c.self.view_is) c.requires.known in
     let b = c.index.result.now in
     let at : IsBegun s c.args.holding b = got s.begun c.args.holding b (subst (λ (x : BeginningsState). c.args.holding < length x.begun) (sym c.self.view_is) c.requires.there) c.index.ensures in
@@ -38,15 +39,15 @@ returns-in_default-clause-known c =
 
 pub returns-in_default-clause-goes : goal.returns-in_default-clause-goes
 returns-in_default-clause-goes c =
-    let s : BeginningsState = record { holdings = c.self.inside.holdings; begun = c.self.inside.begun.items } in
+    let s : BeginningsState = seen_beginnings c.self.inside in
     let known : AreBegun s = subst AreBegun (sym c.self.view_is) c.requires.known in
     let b = c.index.result.now in
     let at : IsBegun s c.args.holding b = got s.begun c.args.holding b (subst (λ (x : BeginningsState). c.args.holding < length x.begun) (sym c.self.view_is) c.requires.there) c.index.ensures in
-    subst (λ (x : BeginningsState). GoesOn x (record { holdings = c.release.new.self; begun = s.begun })) c.self.view_is (released_goes c.args.geometry.now c.args.holding c.requires.valid s known b at c.release.new.self c.release.ensures.releases c.release.ensures.others c.release.ensures.right c.holdings.ensures.table)
+    subst (λ (x : BeginningsState). GoesOn x (beginnings_state c.release.new.self s.begun)) c.self.view_is (released_goes c.args.geometry.now c.args.holding c.requires.valid s known b at c.release.new.self c.release.ensures.releases c.release.ensures.others c.release.ensures.right c.holdings.ensures.table)
 
 pub returns-then-differs-clause-compared : goal.returns-then-differs-clause-compared
 returns-then-differs-clause-compared c found before =
-    let s : BeginningsState = record { holdings = c.self.inside.holdings; begun = c.self.inside.begun.items } in
+    let s : BeginningsState = seen_beginnings c.self.inside in
     let known : AreBegun s = subst AreBegun (sym c.self.view_is) c.requires.known in
     let b = c.index.result.now in
     let at : IsBegun s c.args.holding b = got s.begun c.args.holding b (subst (λ (x : BeginningsState). c.args.holding < length x.begun) (sym c.self.view_is) c.requires.there) c.index.ensures in
@@ -54,7 +55,7 @@ returns-then-differs-clause-compared c found before =
 
 pub returns-then-differs-clause-known : goal.returns-then-differs-clause-known
 returns-then-differs-clause-known c =
-    let s : BeginningsState = record { holdings = c.self.inside.holdings; begun = c.self.inside.begun.items } in
+    let s : BeginningsState = seen_beginnings c.self.inside in
     let known : AreBegun s = subst AreBegun (sym c.self.view_is) c.requires.known in
     let b = c.index.result.now in
     let at : IsBegun s c.args.holding b = got s.begun c.args.holding b (subst (λ (x : BeginningsState). c.args.holding < length x.begun) (sym c.self.view_is) c.requires.there) c.index.ensures in
@@ -62,12 +63,12 @@ returns-then-differs-clause-known c =
 
 pub returns-then-differs-clause-goes : goal.returns-then-differs-clause-goes
 returns-then-differs-clause-goes c =
-    let s : BeginningsState = record { holdings = c.self.inside.holdings; begun = c.self.inside.begun.items } in
+    let s : BeginningsState = seen_beginnings c.self.inside in
     let known : AreBegun s = subst AreBegun (sym c.self.view_is) c.requires.known in
     let b = c.index.result.now in
     let at : IsBegun s c.args.holding b = got s.begun c.args.holding b (subst (λ (x : BeginningsState). c.args.holding < length x.begun) (sym c.self.view_is) c.requires.there) c.index.ensures in
-    let u : BeginningsState = record { holdings = c.blame.new.self; begun = s.begun } in
-    let t : BeginningsState = record { holdings = c.release.new.self; begun = s.begun } in
+    let u : BeginningsState = beginnings_state c.blame.new.self s.begun in
+    let t : BeginningsState = beginnings_state c.release.new.self s.begun in
     subst (λ (x : BeginningsState). GoesOn x u) c.self.view_is
     (by_result c.blame.result _ _ (GoesOn s u) c.blame.ensures.ok c.blame.ensures.err
     (λ k. refused_goes c.args.geometry.now c.args.holding c.requires.valid s known b at c.release.new.self c.release.ensures.releases c.release.ensures.others c.release.ensures.right c.holdings.ensures.table checks.Layout c.blame.new.self k c.blame.ensures.right)
@@ -88,7 +89,7 @@ agrees c h is left o e = elim c.else-left.branch [
 
 pub returns-clause-compared : goal.returns-clause-compared
 returns-clause-compared c found before =
-    let s : BeginningsState = record { holdings = c.self.inside.holdings; begun = c.self.inside.begun.items } in
+    let s : BeginningsState = seen_beginnings c.self.inside in
     let known : AreBegun s = subst AreBegun (sym c.self.view_is) c.requires.known in
     let b = c.index.result.now in
     let at : IsBegun s c.args.holding b = got s.begun c.args.holding b (subst (λ (x : BeginningsState). c.args.holding < length x.begun) (sym c.self.view_is) c.requires.there) c.index.ensures in
@@ -98,7 +99,7 @@ returns-clause-compared c found before =
 
 pub returns-clause-known : goal.returns-clause-known
 returns-clause-known c =
-    let s : BeginningsState = record { holdings = c.self.inside.holdings; begun = c.self.inside.begun.items } in
+    let s : BeginningsState = seen_beginnings c.self.inside in
     let known : AreBegun s = subst AreBegun (sym c.self.view_is) c.requires.known in
     let b = c.index.result.now in
     let at : IsBegun s c.args.holding b = got s.begun c.args.holding b (subst (λ (x : BeginningsState). c.args.holding < length x.begun) (sym c.self.view_is) c.requires.there) c.index.ensures in
@@ -106,11 +107,11 @@ returns-clause-known c =
 
 pub returns-clause-goes : goal.returns-clause-goes
 returns-clause-goes c =
-    let s : BeginningsState = record { holdings = c.self.inside.holdings; begun = c.self.inside.begun.items } in
+    let s : BeginningsState = seen_beginnings c.self.inside in
     let known : AreBegun s = subst AreBegun (sym c.self.view_is) c.requires.known in
     let b = c.index.result.now in
     let at : IsBegun s c.args.holding b = got s.begun c.args.holding b (subst (λ (x : BeginningsState). c.args.holding < length x.begun) (sym c.self.view_is) c.requires.there) c.index.ensures in
-    subst (λ (x : BeginningsState). GoesOn x (record { holdings = c.suspend.new.self; begun = s.begun })) c.self.view_is (suspended_goes c.args.geometry.now c.args.holding c.requires.valid s known b at c.release.new.self c.release.ensures.releases c.release.ensures.others c.release.ensures.right c.holdings.ensures.table c.is_header_out.result c.suspend.new.self c.suspend.ensures.suspends c.suspend.ensures.others c.suspend.ensures.right)
+    subst (λ (x : BeginningsState). GoesOn x (beginnings_state c.suspend.new.self s.begun)) c.self.view_is (suspended_goes c.args.geometry.now c.args.holding c.requires.valid s known b at c.release.new.self c.release.ensures.releases c.release.ensures.others c.release.ensures.right c.holdings.ensures.table c.is_header_out.result c.suspend.new.self c.suspend.ensures.suspends c.suspend.ensures.others c.suspend.ensures.right)
 
 pub returns-in_default-clause-causes : goal.returns-in_default-clause-causes
 returns-in_default-clause-causes c =
@@ -119,7 +120,7 @@ returns-in_default-clause-causes c =
 
 pub returns-then-differs-clause-causes : goal.returns-then-differs-clause-causes
 returns-then-differs-clause-causes c =
-    let s : BeginningsState = record { holdings = c.self.inside.holdings; begun = c.self.inside.begun.items } in
+    let s : BeginningsState = seen_beginnings c.self.inside in
     let known : AreBegun s = subst AreBegun (sym c.self.view_is) c.requires.known in
     let b = c.index.result.now in
     let at : IsBegun s c.args.holding b = got s.begun c.args.holding b (subst (λ (x : BeginningsState). c.args.holding < length x.begun) (sym c.self.view_is) c.requires.there) c.index.ensures in

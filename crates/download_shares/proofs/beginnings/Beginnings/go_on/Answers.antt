@@ -15,11 +15,12 @@ use Rattle.download_shares.specs.Causes.{AddsBlames, IsNumbered, IsOpeningFault}
 use Rattle.download_shares.specs.declared.holding.Blame.{Blame}
 use Rattle.request_record.specs.declared.requests.Request.{Request}
 use Rattle.cap_text.specs.Cap.{VerifyCapValue}
-use Rattle.download_shares.specs.BeginningState.{BeginningsState, IsBegun}
+use Rattle.download_shares.specs.BeginningState.{BeginningsState, IsBegun, beginnings_state}
 use Rattle.download_shares.specs.declared.begun.Begun.{Begun}
 use Rattle.download_shares.proofs.Going.{block_at, blamed_known, blamed_opening, found, gone_opening, goes_on_from, led_now, next_unasked, nexts_known, nexts_opening, rested_goes, rested_known, rested_requests}
 use Rattle.download_shares.proofs.Caused.{adds_none, adds_one, blamed_low, opening_fault, reads_next, reads_none}
 use Rattle.download_shares.proofs.Opened.{goes_blamed, goes_next, goes_none}
+use Rattle.download_shares.proofs.Fields.{seen_beginnings}
 use Rattle.download_shares.proofs.beginnings.Beginnings.go_on.Goals as goal
 
 -- the opening that is awaited is the one that is taken
@@ -56,8 +57,8 @@ returns-then-not-holdings-holding-clause-goes c = rested_goes c.args.self.now c.
 
 pub returns-in_err-blame-in-Err-clause-goes : goal.returns-in_err-blame-in-Err-clause-goes
 returns-in_err-blame-in-Err-clause-goes c =
-    let w : BeginningsState = record { holdings = c.self.inside.holdings; begun = c.self.inside.begun.items } in
-    let u : BeginningsState = record { holdings = c.blame.new.self; begun = c.self.inside.begun.items } in
+    let w : BeginningsState = seen_beginnings c.self.inside in
+    let u : BeginningsState = beginnings_state c.blame.new.self c.self.inside.begun.items in
     goes_on_from c.args.self.now c.take_waiting.new.self c.args.holding c.requires.known c.take_waiting.ensures.rests u
     (subst (λ (x : BeginningsState). GoesOn x u) c.self.view_is
     (goes_none w u (ap (λ (x : HoldingsState). x.requests) c.in_err-blame-in-Err.ensures.err) (ap (λ (x : HoldingsState). x.blamed) c.in_err-blame-in-Err.ensures.err)))
@@ -76,21 +77,21 @@ returns-in_err-ask_next-in-Ok-Next-clause-goes c =
 
 pub returns-in_ok-blame-in-Err-clause-known : goal.returns-in_ok-blame-in-Err-clause-known
 returns-in_ok-blame-in-Err-clause-known c =
-    let u : BeginningsState = record { holdings = c.blame.new.self; begun = c.self.inside.begun.items } in
+    let u : BeginningsState = beginnings_state c.blame.new.self c.self.inside.begun.items in
     blamed_known c.args.self.now c.take_waiting.new.self c.args.holding c.requires.known c.take_waiting.ensures.rests c.requires.opening u c.check.result
     (subst (λ (x : BeginningsState). Blames c.args.holding c.check.result x.holdings u.holdings) c.self.view_is c.in_ok-blame-in-Err.ensures.ok) c.in_ok-blame-in-Err.ensures.right (ap (λ (x : BeginningsState). x.begun) c.self.view_is)
 
 pub returns-in_ok-blame-in-Err-clause-opening : goal.returns-in_ok-blame-in-Err-clause-opening
 returns-in_ok-blame-in-Err-clause-opening c =
-    let u : BeginningsState = record { holdings = c.blame.new.self; begun = c.self.inside.begun.items } in
+    let u : BeginningsState = beginnings_state c.blame.new.self c.self.inside.begun.items in
     blamed_opening c.args.self.now c.take_waiting.new.self c.args.holding c.requires.known c.take_waiting.ensures.rests c.requires.opening u c.check.result
     (subst (λ (x : BeginningsState). IsTable x.holdings.table) c.self.view_is c.holdings.ensures.table)
     (subst (λ (x : BeginningsState). Blames c.args.holding c.check.result x.holdings u.holdings) c.self.view_is c.in_ok-blame-in-Err.ensures.ok) (ap (λ (x : BeginningsState). x.begun) c.self.view_is)
 
 pub returns-in_ok-blame-in-Err-clause-goes : goal.returns-in_ok-blame-in-Err-clause-goes
 returns-in_ok-blame-in-Err-clause-goes c =
-    let w : BeginningsState = record { holdings = c.self.inside.holdings; begun = c.self.inside.begun.items } in
-    let u : BeginningsState = record { holdings = c.blame.new.self; begun = c.self.inside.begun.items } in
+    let w : BeginningsState = seen_beginnings c.self.inside in
+    let u : BeginningsState = beginnings_state c.blame.new.self c.self.inside.begun.items in
     goes_on_from c.args.self.now c.take_waiting.new.self c.args.holding c.requires.known c.take_waiting.ensures.rests u
     (subst (λ (x : BeginningsState). GoesOn x u) c.self.view_is (goes_blamed w u c.args.holding c.check.result c.in_ok-blame-in-Err.ensures.ok))
 

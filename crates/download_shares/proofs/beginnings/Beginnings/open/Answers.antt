@@ -11,19 +11,20 @@ use Rattle.download_shares.specs.declared.holding.Holding.{Holding}
 use Rattle.download_shares.specs.Known.{AreBegun}
 use Rattle.download_shares.specs.BeginningMoves.{AsksNext, GoesOn}
 use Rattle.download_shares.specs.Opening.{AreOpening, nobody}
-use Rattle.download_shares.specs.BeginningState.{BeginningsState}
+use Rattle.download_shares.specs.BeginningState.{BeginningsState, beginnings_state}
 use Rattle.request_record.specs.declared.requests.Request.{Request}
 use Rattle.download_shares.specs.Reads.{AddsReads, IsInBeginning}
 use Rattle.download_shares.proofs.Caused.{reads_next, reads_none}
 use Rattle.download_shares.proofs.Opened.{goes_from, goes_next, goes_none, opened_count, opened_known, opened_opening, taken_unasked}
+use Rattle.download_shares.proofs.Fields.{seen_beginnings}
 use Rattle.download_shares.proofs.beginnings.Beginnings.open.Goals as goal
 
 module _ (c : goal.After-ask_next-arg-2-1) where
   abbrev pub s0 : BeginningsState
-  s0 = record { holdings = c.self.inside.holdings; begun = c.self.inside.begun.items }
+  s0 = seen_beginnings c.self.inside
 
   abbrev pub t0 : BeginningsState
-  t0 = record { holdings = c.take_up.new.self; begun = c.self.inside.begun.items }
+  t0 = beginnings_state c.take_up.new.self c.self.inside.begun.items
 
   abbrev pub h0 : Holding
   h0 = c.requires.free.0
@@ -47,10 +48,10 @@ ask_next-requires-clause-unasked c =
 
 module _ (c : goal.After-ask_next) where
   abbrev pub s : BeginningsState
-  s = record { holdings = c.self.inside.holdings; begun = c.self.inside.begun.items }
+  s = seen_beginnings c.self.inside
 
   abbrev pub t : BeginningsState
-  t = record { holdings = c.take_up.new.self; begun = c.self.inside.begun.items }
+  t = beginnings_state c.take_up.new.self c.self.inside.begun.items
 
   abbrev pub h : Holding
   h = c.requires.free.0

@@ -1,22 +1,23 @@
 use Rattle.std.proofs.Common.{◌≡◌, ◌∙◌, length, sym, subst, ap, arith}
 use Rattle.download_shares.specs.Known.{AreBegun}
 use Rattle.download_shares.specs.Opening.{AreOpening, nobody}
-use Rattle.download_shares.specs.BeginningState.{BeginningsState}
+use Rattle.download_shares.specs.BeginningState.{BeginningsState, beginnings_state}
 use Rattle.download_shares.proofs.Bringing.{brings_bytes}
 use Rattle.download_shares.proofs.Hearing.{becomes, known_heard, opening_heard}
+use Rattle.download_shares.proofs.Fields.{seen_beginnings}
 use Rattle.download_shares.proofs.beginnings.Beginnings.take_answer.Goals as goal
 
 pub returns-clause-bytes : goal.returns-clause-bytes
 returns-clause-bytes c known =
-    let s : BeginningsState = record { holdings = c.self.inside.holdings; begun = c.self.inside.begun.items } in
-    let u : BeginningsState = record { holdings = c.take_answer.new.self; begun = c.begin_more.new.begun.items } in
+    let s : BeginningsState = seen_beginnings c.self.inside in
+    let u : BeginningsState = beginnings_state c.take_answer.new.self c.begin_more.new.begun.items in
     let k : AreBegun s = subst AreBegun (sym c.self.view_is) known in
     brings_bytes s u c.args.from c.args.message c.args.now c.in_ok-heard.heard k.right c.in_ok-heard.ensures.hears c.news_of.result (c.news_of.ensures u (sym c.deref.ensures.value))
 
 pub returns-clause-known : goal.returns-clause-known
 returns-clause-known c known =
-    let s : BeginningsState = record { holdings = c.self.inside.holdings; begun = c.self.inside.begun.items } in
-    let u : BeginningsState = record { holdings = c.take_answer.new.self; begun = c.begin_more.new.begun.items } in
+    let s : BeginningsState = seen_beginnings c.self.inside in
+    let u : BeginningsState = beginnings_state c.take_answer.new.self c.begin_more.new.begun.items in
     let k : AreBegun s = subst AreBegun (sym c.self.view_is) known in
     let f = c.in_ok-begin_more.ensures in
     let b = becomes s u c.args.from c.args.message c.args.now c.in_ok-heard.heard k c.in_ok-heard.ensures.hears c.in_ok-heard.ensures.right in
@@ -26,8 +27,8 @@ returns-clause-known c known =
 
 pub returns-clause-opening : goal.returns-clause-opening
 returns-clause-opening c known opening =
-    let s : BeginningsState = record { holdings = c.self.inside.holdings; begun = c.self.inside.begun.items } in
-    let u : BeginningsState = record { holdings = c.take_answer.new.self; begun = c.begin_more.new.begun.items } in
+    let s : BeginningsState = seen_beginnings c.self.inside in
+    let u : BeginningsState = beginnings_state c.take_answer.new.self c.begin_more.new.begun.items in
     let k : AreBegun s = subst AreBegun (sym c.self.view_is) known in
     let f = c.in_ok-begin_more.ensures in
     let b = becomes s u c.args.from c.args.message c.args.now c.in_ok-heard.heard k c.in_ok-heard.ensures.hears c.in_ok-heard.ensures.right in

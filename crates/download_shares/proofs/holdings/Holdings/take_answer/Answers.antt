@@ -8,17 +8,18 @@ use Rattle.request_record.specs.declared.requests.Outcome.TheVariants.{Answered}
 use Rattle.request_record.specs.Record.{RequestsState}
 use Rattle.download_shares.specs.HoldingMoves.{Hears, HearsAt, TellsHeld, held_by}
 use Rattle.download_shares.specs.Right.{IsRight}
-use Rattle.download_shares.specs.HoldingState.{HoldingsState}
+use Rattle.download_shares.specs.HoldingState.{HoldingsState, holdings_state}
 use Rattle.download_shares.specs.declared.holdings.Heard.TheVariants as heard
 use Rattle.download_shares.proofs.Goes.{right_gone, right_message}
 use Rattle.download_shares.proofs.Telling.{ToldNow, told_by, told_kept}
+use Rattle.download_shares.proofs.Fields.{seen_holdings}
 use Rattle.download_shares.proofs.holdings.Holdings.take_answer.Goals as goal
 
 -- ---- it counts for nothing
 
 pub invariant_of-self : goal.invariant_of-self
-invariant_of-self c = subst (λ (r : RequestsState). IsRight (record { requests = r; servers = c.self.inside.servers; table = c.self.inside.table; owners = c.self.inside.owners.items; blamed = c.self.inside.blamed.items })) (sym c.take_answer.ensures.«record»)
-    (right_message (record { requests = c.self.inside.requests; servers = c.self.inside.servers; table = c.self.inside.table; owners = c.self.inside.owners.items; blamed = c.self.inside.blamed.items }) c.self.invariant c.args.from c.args.message c.args.now (λ place e none. let two : None ≡ Some place = c.in_default.ensures.value ∙ e in absurd cc))
+invariant_of-self c = subst (λ (r : RequestsState). IsRight (holdings_state r c.self.inside.servers c.self.inside.table c.self.inside.owners.items c.self.inside.blamed.items)) (sym c.take_answer.ensures.«record»)
+    (right_message (seen_holdings c.self.inside) c.self.invariant c.args.from c.args.message c.args.now (λ place e none. let two : None ≡ Some place = c.in_default.ensures.value ∙ e in absurd cc))
 
 pub returns-in_default-clause-right : goal.returns-in_default-clause-right
 returns-in_default-clause-right c = invariant_of-self c
@@ -26,10 +27,10 @@ returns-in_default-clause-right c = invariant_of-self c
 -- ---- a server tells
 
 pub request-request-requires : goal.request-request-requires
-request-request-requires c = told_kept (record { requests = c.self.inside.requests; servers = c.self.inside.servers; table = c.self.inside.table; owners = c.self.inside.owners.items; blamed = c.self.inside.blamed.items }) c.self.invariant c.args.from c.args.message c.args.now c.in-Some.place (sym c.in-Some.ensures.value) c.if-place-self.true c.in-Some.ensures.there c.take_answer.new.self c.take_answer.ensures.«record»
+request-request-requires c = told_kept (seen_holdings c.self.inside) c.self.invariant c.args.from c.args.message c.args.now c.in-Some.place (sym c.in-Some.ensures.value) c.if-place-self.true c.in-Some.ensures.there c.take_answer.new.self c.take_answer.ensures.«record»
 
-told_some : (c : goal.After-from_residual) → IsRight (record { requests = c.take_answer.new.self; servers = c.self.inside.servers; table = c.tell_all.new.table; owners = c.self.inside.owners.items; blamed = c.self.inside.blamed.items })
-told_some c = (told_by (record { requests = c.self.inside.requests; servers = c.self.inside.servers; table = c.self.inside.table; owners = c.self.inside.owners.items; blamed = c.self.inside.blamed.items }) c.self.invariant c.args.from c.args.message c.args.now c.in-Some.place (sym c.in-Some.ensures.value) c.if-place-self.true c.in-Some.ensures.there c.take_answer.new.self c.take_answer.ensures.«record» c.request-request.result.now c.request-request.ensures c.held_by.result.now c.held_by.ensures.value c.held_by.ensures.rising c.in_err-tell_all.ensures.some.0 c.tell_all.new.table c.in_err-tell_all.ensures.some.1).right
+told_some : (c : goal.After-from_residual) → IsRight (holdings_state c.take_answer.new.self c.self.inside.servers c.tell_all.new.table c.self.inside.owners.items c.self.inside.blamed.items)
+told_some c = (told_by (seen_holdings c.self.inside) c.self.invariant c.args.from c.args.message c.args.now c.in-Some.place (sym c.in-Some.ensures.value) c.if-place-self.true c.in-Some.ensures.there c.take_answer.new.self c.take_answer.ensures.«record» c.request-request.result.now c.request-request.ensures c.held_by.result.now c.held_by.ensures.value c.held_by.ensures.rising c.in_err-tell_all.ensures.some.0 c.tell_all.new.table c.in_err-tell_all.ensures.some.1).right
 
 pub invariant_of-self-in_err-tell_all : goal.invariant_of-self-in_err-tell_all
 invariant_of-self-in_err-tell_all c = told_some c
@@ -37,8 +38,8 @@ invariant_of-self-in_err-tell_all c = told_some c
 pub returns-in_err-tell_all-clause-right : goal.returns-in_err-tell_all-clause-right
 returns-in_err-tell_all-clause-right c = told_some c
 
-told_all : (c : goal.In_ok-tell_all) → ToldNow (record { requests = c.self.inside.requests; servers = c.self.inside.servers; table = c.self.inside.table; owners = c.self.inside.owners.items; blamed = c.self.inside.blamed.items }) c.args.from c.args.message c.args.now c.in-Some.place (length c.held_by.result.now) c.held_by.result.now c.take_answer.new.self c.tell_all.new.table
-told_all c = told_by (record { requests = c.self.inside.requests; servers = c.self.inside.servers; table = c.self.inside.table; owners = c.self.inside.owners.items; blamed = c.self.inside.blamed.items }) c.self.invariant c.args.from c.args.message c.args.now c.in-Some.place (sym c.in-Some.ensures.value) c.if-place-self.true c.in-Some.ensures.there c.take_answer.new.self c.take_answer.ensures.«record» c.request-request.result.now c.request-request.ensures c.held_by.result.now c.held_by.ensures.value c.held_by.ensures.rising (length c.held_by.result.now) c.tell_all.new.table c.in_ok-tell_all.ensures.ok
+told_all : (c : goal.In_ok-tell_all) → ToldNow (seen_holdings c.self.inside) c.args.from c.args.message c.args.now c.in-Some.place (length c.held_by.result.now) c.held_by.result.now c.take_answer.new.self c.tell_all.new.table
+told_all c = told_by (seen_holdings c.self.inside) c.self.invariant c.args.from c.args.message c.args.now c.in-Some.place (sym c.in-Some.ensures.value) c.if-place-self.true c.in-Some.ensures.there c.take_answer.new.self c.take_answer.ensures.«record» c.request-request.result.now c.request-request.ensures c.held_by.result.now c.held_by.ensures.value c.held_by.ensures.rising (length c.held_by.result.now) c.tell_all.new.table c.in_ok-tell_all.ensures.ok
 
 pub invariant_of-self-then-place-self : goal.invariant_of-self-then-place-self
 invariant_of-self-then-place-self c = (told_all c).right
@@ -46,12 +47,12 @@ invariant_of-self-then-place-self c = (told_all c).right
 pub returns-then-place-self-clause-hears : goal.returns-then-place-self-clause-hears
 returns-then-place-self-clause-hears c =
     let k = told_all c in
-    let tells : TellsHeld c.in-Some.place c.args.message (record { requests = c.self.inside.requests; servers = c.self.inside.servers; table = c.self.inside.table; owners = c.self.inside.owners.items; blamed = c.self.inside.blamed.items }) (record { requests = c.take_answer.new.self; servers = c.self.inside.servers; table = c.tell_all.new.table; owners = c.self.inside.owners.items; blamed = c.self.inside.blamed.items }) (length (held_by (Answered c.args.message.body))) = subst (λ (l : List HeldShare). TellsHeld c.in-Some.place c.args.message (record { requests = c.self.inside.requests; servers = c.self.inside.servers; table = c.self.inside.table; owners = c.self.inside.owners.items; blamed = c.self.inside.blamed.items }) (record { requests = c.take_answer.new.self; servers = c.self.inside.servers; table = c.tell_all.new.table; owners = c.self.inside.owners.items; blamed = c.self.inside.blamed.items }) (length l)) k.same-held k.tells in
-    subst (λ (s : HoldingsState). Hears c.args.from c.args.message c.args.now s (record { requests = c.take_answer.new.self; servers = c.self.inside.servers; table = c.tell_all.new.table; owners = c.self.inside.owners.items; blamed = c.self.inside.blamed.items }) heard.Held) c.self.view_is
+    let tells : TellsHeld c.in-Some.place c.args.message (seen_holdings c.self.inside) (holdings_state c.take_answer.new.self c.self.inside.servers c.tell_all.new.table c.self.inside.owners.items c.self.inside.blamed.items) (length (held_by (Answered c.args.message.body))) = subst (λ (l : List HeldShare). TellsHeld c.in-Some.place c.args.message (seen_holdings c.self.inside) (holdings_state c.take_answer.new.self c.self.inside.servers c.tell_all.new.table c.self.inside.owners.items c.self.inside.blamed.items) (length l)) k.same-held k.tells in
+    subst (λ (s : HoldingsState). Hears c.args.from c.args.message c.args.now s (holdings_state c.take_answer.new.self c.self.inside.servers c.tell_all.new.table c.self.inside.owners.items c.self.inside.blamed.items) heard.Held) c.self.view_is
     (record {
       same = record { servers = refl; owners = refl; blamed = refl };
       requests = c.take_answer.ensures.«record»;
-      heard = subst (λ (o : Option ℕ). HearsAt o c.args.message (record { requests = c.self.inside.requests; servers = c.self.inside.servers; table = c.self.inside.table; owners = c.self.inside.owners.items; blamed = c.self.inside.blamed.items }) (record { requests = c.take_answer.new.self; servers = c.self.inside.servers; table = c.tell_all.new.table; owners = c.self.inside.owners.items; blamed = c.self.inside.blamed.items }) heard.Held) c.in-Some.ensures.value (c.if-place-self.true, tells);
+      heard = subst (λ (o : Option ℕ). HearsAt o c.args.message (seen_holdings c.self.inside) (holdings_state c.take_answer.new.self c.self.inside.servers c.tell_all.new.table c.self.inside.owners.items c.self.inside.blamed.items) heard.Held) c.in-Some.ensures.value (c.if-place-self.true, tells);
     })
 
 pub returns-then-place-self-clause-right : goal.returns-then-place-self-clause-right
@@ -69,7 +70,7 @@ owner_of s right place holding le inside e =
 pub retire-requires : goal.retire-requires
 retire-requires c =
     let le : c.self.inside.servers ≤ c.in-Some.place = search rules in
-    let own = owner_of (record { requests = c.self.inside.requests; servers = c.self.inside.servers; table = c.self.inside.table; owners = c.self.inside.owners.items; blamed = c.self.inside.blamed.items }) c.self.invariant c.in-Some.place c.index-holding.result.now le c.in-Some.ensures.there c.index-holding.ensures in
+    let own = owner_of (seen_holdings c.self.inside) c.self.invariant c.in-Some.place c.index-holding.result.now le c.in-Some.ensures.there c.index-holding.ensures in
     let o = c.self.invariant.owned (c.in-Some.place - c.self.inside.servers) c.index-holding.result.now own in
     slice_get_within c.self.inside.table.holdings c.index-holding.result.now o.held o.is
 
@@ -77,20 +78,20 @@ pub invariant_of-self-then-gone : goal.invariant_of-self-then-gone
 invariant_of-self-then-gone c =
     let le : c.self.inside.servers ≤ c.in-Some.place = search rules in
     let none : c.args.message.body ≡ NoShare = search rules in
-    let own = owner_of (record { requests = c.self.inside.requests; servers = c.self.inside.servers; table = c.self.inside.table; owners = c.self.inside.owners.items; blamed = c.self.inside.blamed.items }) c.self.invariant c.in-Some.place c.index-holding.result.now le c.in-Some.ensures.there c.index-holding.ensures in
-    subst (λ (r : RequestsState). IsRight (record { requests = r; servers = c.self.inside.servers; table = c.retire.new.self; owners = c.self.inside.owners.items; blamed = c.self.inside.blamed.items })) (sym c.take_answer.ensures.«record»)
-    (right_gone (record { requests = c.self.inside.requests; servers = c.self.inside.servers; table = c.self.inside.table; owners = c.self.inside.owners.items; blamed = c.self.inside.blamed.items }) c.self.invariant c.args.from c.args.message c.args.now c.in-Some.place c.index-holding.result.now c.retire.new.self (sym c.in-Some.ensures.value) none le own c.retire.ensures.retires)
+    let own = owner_of (seen_holdings c.self.inside) c.self.invariant c.in-Some.place c.index-holding.result.now le c.in-Some.ensures.there c.index-holding.ensures in
+    subst (λ (r : RequestsState). IsRight (holdings_state r c.self.inside.servers c.retire.new.self c.self.inside.owners.items c.self.inside.blamed.items)) (sym c.take_answer.ensures.«record»)
+    (right_gone (seen_holdings c.self.inside) c.self.invariant c.args.from c.args.message c.args.now c.in-Some.place c.index-holding.result.now c.retire.new.self (sym c.in-Some.ensures.value) none le own c.retire.ensures.retires)
 
 pub returns-then-gone-clause-hears : goal.returns-then-gone-clause-hears
 returns-then-gone-clause-hears c =
     let le : c.self.inside.servers ≤ c.in-Some.place = search rules in
     let none : c.args.message.body ≡ NoShare = search rules in
-    let own = owner_of (record { requests = c.self.inside.requests; servers = c.self.inside.servers; table = c.self.inside.table; owners = c.self.inside.owners.items; blamed = c.self.inside.blamed.items }) c.self.invariant c.in-Some.place c.index-holding.result.now le c.in-Some.ensures.there c.index-holding.ensures in
-    subst (λ (s : HoldingsState). Hears c.args.from c.args.message c.args.now s (record { requests = c.take_answer.new.self; servers = c.self.inside.servers; table = c.retire.new.self; owners = c.self.inside.owners.items; blamed = c.self.inside.blamed.items }) (heard.Gone c.index-holding.result.now)) c.self.view_is
+    let own = owner_of (seen_holdings c.self.inside) c.self.invariant c.in-Some.place c.index-holding.result.now le c.in-Some.ensures.there c.index-holding.ensures in
+    subst (λ (s : HoldingsState). Hears c.args.from c.args.message c.args.now s (holdings_state c.take_answer.new.self c.self.inside.servers c.retire.new.self c.self.inside.owners.items c.self.inside.blamed.items) (heard.Gone c.index-holding.result.now)) c.self.view_is
     (record {
       same = record { servers = refl; owners = refl; blamed = refl };
       requests = c.take_answer.ensures.«record»;
-      heard = subst (λ (o : Option ℕ). HearsAt o c.args.message (record { requests = c.self.inside.requests; servers = c.self.inside.servers; table = c.self.inside.table; owners = c.self.inside.owners.items; blamed = c.self.inside.blamed.items }) (record { requests = c.take_answer.new.self; servers = c.self.inside.servers; table = c.retire.new.self; owners = c.self.inside.owners.items; blamed = c.self.inside.blamed.items }) (heard.Gone c.index-holding.result.now)) c.in-Some.ensures.value (le, own, none, c.retire.ensures.retires);
+      heard = subst (λ (o : Option ℕ). HearsAt o c.args.message (seen_holdings c.self.inside) (holdings_state c.take_answer.new.self c.self.inside.servers c.retire.new.self c.self.inside.owners.items c.self.inside.blamed.items) (heard.Gone c.index-holding.result.now)) c.in-Some.ensures.value (le, own, none, c.retire.ensures.retires);
     })
 
 pub returns-then-gone-clause-right : goal.returns-then-gone-clause-right
@@ -99,19 +100,19 @@ returns-then-gone-clause-right c = invariant_of-self-then-gone c
 pub invariant_of-self-else-gone : goal.invariant_of-self-else-gone
 invariant_of-self-else-gone c =
     let some : c.args.message.body ≡ NoShare → ⊥ = search rules in
-    subst (λ (r : RequestsState). IsRight (record { requests = r; servers = c.self.inside.servers; table = c.self.inside.table; owners = c.self.inside.owners.items; blamed = c.self.inside.blamed.items })) (sym c.take_answer.ensures.«record»)
-    (right_message (record { requests = c.self.inside.requests; servers = c.self.inside.servers; table = c.self.inside.table; owners = c.self.inside.owners.items; blamed = c.self.inside.blamed.items }) c.self.invariant c.args.from c.args.message c.args.now (λ place e none. some none))
+    subst (λ (r : RequestsState). IsRight (holdings_state r c.self.inside.servers c.self.inside.table c.self.inside.owners.items c.self.inside.blamed.items)) (sym c.take_answer.ensures.«record»)
+    (right_message (seen_holdings c.self.inside) c.self.invariant c.args.from c.args.message c.args.now (λ place e none. some none))
 
 pub returns-clause-hears : goal.returns-clause-hears
 returns-clause-hears c =
     let le : c.self.inside.servers ≤ c.in-Some.place = search rules in
     let some : c.args.message.body ≡ NoShare → ⊥ = search rules in
-    let own = owner_of (record { requests = c.self.inside.requests; servers = c.self.inside.servers; table = c.self.inside.table; owners = c.self.inside.owners.items; blamed = c.self.inside.blamed.items }) c.self.invariant c.in-Some.place c.index-holding.result.now le c.in-Some.ensures.there c.index-holding.ensures in
-    subst (λ (s : HoldingsState). Hears c.args.from c.args.message c.args.now s (record { requests = c.take_answer.new.self; servers = c.self.inside.servers; table = c.self.inside.table; owners = c.self.inside.owners.items; blamed = c.self.inside.blamed.items }) (heard.Bytes c.index-holding.result.now c.in-Some.place)) c.self.view_is
+    let own = owner_of (seen_holdings c.self.inside) c.self.invariant c.in-Some.place c.index-holding.result.now le c.in-Some.ensures.there c.index-holding.ensures in
+    subst (λ (s : HoldingsState). Hears c.args.from c.args.message c.args.now s (holdings_state c.take_answer.new.self c.self.inside.servers c.self.inside.table c.self.inside.owners.items c.self.inside.blamed.items) (heard.Bytes c.index-holding.result.now c.in-Some.place)) c.self.view_is
     (record {
       same = record { servers = refl; owners = refl; blamed = refl };
       requests = c.take_answer.ensures.«record»;
-      heard = subst (λ (o : Option ℕ). HearsAt o c.args.message (record { requests = c.self.inside.requests; servers = c.self.inside.servers; table = c.self.inside.table; owners = c.self.inside.owners.items; blamed = c.self.inside.blamed.items }) (record { requests = c.take_answer.new.self; servers = c.self.inside.servers; table = c.self.inside.table; owners = c.self.inside.owners.items; blamed = c.self.inside.blamed.items }) (heard.Bytes c.index-holding.result.now c.in-Some.place)) c.in-Some.ensures.value (le, refl, own, some, refl);
+      heard = subst (λ (o : Option ℕ). HearsAt o c.args.message (seen_holdings c.self.inside) (holdings_state c.take_answer.new.self c.self.inside.servers c.self.inside.table c.self.inside.owners.items c.self.inside.blamed.items) (heard.Bytes c.index-holding.result.now c.in-Some.place)) c.in-Some.ensures.value (le, refl, own, some, refl);
     })
 
 pub returns-clause-right : goal.returns-clause-right

@@ -4,6 +4,7 @@ use Rattle.std.proofs.lemmas.List.{take_all}
 use Rattle.download_shares.specs.Choice.{Chooses}
 use Rattle.download_shares.specs.HoldingState.{TableState}
 use Rattle.download_shares.proofs.Tables.{chooses_on, chooses_this}
+use Rattle.download_shares.proofs.Fields.{seen_table}
 use Rattle.download_shares.proofs.table.Table.choose_among.Goals.{then-not-holding+then-is_none, then-not-holding+else-is_none+else-load-least, else-not-holding}
 use Rattle.download_shares.proofs.table.Table.choose_among.Goals as goal
 
@@ -12,7 +13,7 @@ module _ (c : goal.Joined-not-holding) where
   at = slice_index_or c.args.places.now c.loop-place.place-index 0
 
   abbrev t : TableState
-  t = record { holdings = c.self.inside.holdings.items; numbers = c.self.inside.numbers.items }
+  t = seen_table c.self.inside
 
   same : at ≡ slice_index_or c.args.places.now c.loop-place.place-index at
   same = search rules

@@ -1,30 +1,31 @@
 use mir.Val.{bool_byte}
 use Rattle.std.proofs.Common.{◌<◌, length, refl, sym, subst, ap, ◌∙◌, arith}
 use Rattle.std.specs.Prelude.{slice_set}
-use Rattle.download_shares.specs.HoldingState.{TableState}
+use Rattle.download_shares.specs.HoldingState.{TableState, table_state}
 use Rattle.download_shares.specs.Table.{Releases}
 use Rattle.download_shares.proofs.Tables.{count_bound, count_by_index, released_by, releases_by}
+use Rattle.download_shares.proofs.Fields.{seen_table}
 use Rattle.download_shares.proofs.table.Table.release.Goals as goal
 
 pub overflow_sub-self : goal.overflow_sub-self
 overflow_sub-self c =
     let lt : c.args.place < length c.self.inside.holdings.items = subst (λ (t : TableState). c.args.place < length t.holdings) (sym c.self.view_is) c.requires in
-    let k = count_bound (record { holdings = c.self.inside.holdings.items; numbers = c.self.inside.numbers.items }) c.args.place c.from.result _ _ c.self.invariant.0 lt c.index-holding.ensures c.from.ensures c.index_mut-number.ensures.value in
+    let k = count_bound (seen_table c.self.inside) c.args.place c.from.result _ _ c.self.invariant.0 lt c.index-holding.ensures c.from.ensures c.index_mut-number.ensures.value in
     rw (c.from-ended.ensures, c.reads.ensures, c.self.invariant.1) k
 
 pub invariant_of-self : goal.invariant_of-self
 invariant_of-self c =
     let lt : c.args.place < length c.self.inside.holdings.items = subst (λ (t : TableState). c.args.place < length t.holdings) (sym c.self.view_is) c.requires in
-    let k = count_by_index (record { holdings = c.self.inside.holdings.items; numbers = c.self.inside.numbers.items }) c.args.place c.from.result _ _ c.release.new.self c.self.invariant.0 lt c.index-holding.ensures c.from.ensures c.index_mut-number.ensures.value (rw c.release.ensures refl) in
+    let k = count_by_index (seen_table c.self.inside) c.args.place c.from.result _ _ c.release.new.self c.self.invariant.0 lt c.index-holding.ensures c.from.ensures c.index_mut-number.ensures.value (rw c.release.ensures refl) in
     let b = c.from-ended.ensures ∙ ap bool_byte c.reads.ensures in
     let v = c.self.invariant.1 in
-    (released_by (record { holdings = c.self.inside.holdings.items; numbers = c.self.inside.numbers.items }) c.args.place c.from.result _ _ c.release.new.self c.self.invariant.0 lt c.index-holding.ensures c.from.ensures c.index_mut-number.ensures.value c.release.ensures, omega (arith, k, b, v))
+    (released_by (seen_table c.self.inside) c.args.place c.from.result _ _ c.release.new.self c.self.invariant.0 lt c.index-holding.ensures c.from.ensures c.index_mut-number.ensures.value c.release.ensures, omega (arith, k, b, v))
 
 pub returns-clause-releases : goal.returns-clause-releases
 returns-clause-releases c =
     let lt : c.args.place < length c.self.inside.holdings.items = subst (λ (t : TableState). c.args.place < length t.holdings) (sym c.self.view_is) c.requires in
-    subst (λ (t : TableState). Releases c.args.place t (record { holdings = c.self.inside.holdings.items; numbers = slice_set c.self.inside.numbers.items c.from.result c.release.new.self })) c.self.view_is
-    (releases_by (record { holdings = c.self.inside.holdings.items; numbers = c.self.inside.numbers.items }) c.args.place c.from.result _ _ c.release.new.self c.self.invariant.0 lt c.index-holding.ensures c.from.ensures c.index_mut-number.ensures.value c.release.ensures)
+    subst (λ (t : TableState). Releases c.args.place t (table_state c.self.inside.holdings.items (slice_set c.self.inside.numbers.items c.from.result c.release.new.self))) c.self.view_is
+    (releases_by (seen_table c.self.inside) c.args.place c.from.result _ _ c.release.new.self c.self.invariant.0 lt c.index-holding.ensures c.from.ensures c.index_mut-number.ensures.value c.release.ensures)
 
 pub returns-clause-right : goal.returns-clause-right
 returns-clause-right c = (invariant_of-self c).0

@@ -4,11 +4,11 @@ use Rattle.std.proofs.lemmas.List.{length-replicate}
 use Rattle.share_layout.specs.Geometry.{block_size, share_data_size, tree_size}
 use Rattle.share_layout.specs.Layout.{header_size, layout_of}
 use Rattle.share_verify.specs.Pieces.{joined}
-use Rattle.block_making.specs.Making.{ArePut, AreSlots, HaveBlocks, IsMaking, IsPieceOf, Making}
+use Rattle.block_making.specs.Making.{ArePut, AreSlots, HaveBlocks, IsMaking, IsPieceOf, Making, making_with}
 use Rattle.file_streaming.specs.Gathering.{at_once}
 use Rattle.file_streaming.specs.Kept.{IsKept}
 use Rattle.file_streaming.specs.Piece.{GivesPiece}
-use Rattle.file_streaming.specs.Prepared.{PreparedFile, share_length}
+use Rattle.file_streaming.specs.Prepared.{PreparedFile, prepared_with, share_length}
 use Rattle.file_streaming.specs.declared.prepared.Prepared.TheInside.{Inside}
 use Rattle.block_making.proofs.MadeBlocks.{same_error}
 use Rattle.block_making.proofs.PieceTexts.{piece-zeros, zeros}
@@ -18,18 +18,11 @@ use Rattle.file_streaming.proofs.prepared.Prepared.piece.Goals as goal
 
 -- what contracts see of the fields
 abbrev seen : Inside → PreparedFile
-seen i = record {
-  geometry = i.geometry;
-  cap = i.cap;
-  extension_block = i.extension_block.items;
-  leaves = i.ciphertext_tree;
-  block_leaves = i.block_trees.items;
-  digests = i.digests.items;
-}
+seen i = prepared_with i.geometry i.cap i.extension_block.items i.ciphertext_tree i.block_trees.items i.digests.items
 
 -- what makes the blocks of a share
 abbrev making : Inside → ℕ → List (List (List ℕ)) → Making
-making i share leaves = record { geometry = i.geometry; key = i.encoder.cipher; leaves = leaves; share = share }
+making i share leaves = making_with i.geometry i.encoder.cipher leaves share
 
 pub new-maker-requires : goal.new-maker-requires
 new-maker-requires g c =

@@ -6,11 +6,12 @@ use Rattle.request_record.specs.Record.{RequestsState, asked_more}
 use Rattle.upload_core.specs.State.{UploadState, with_record}
 use Rattle.upload_core.specs.Course.{IsCourse}
 use Rattle.upload_core.proofs.Records.{on_err}
+use Rattle.upload_core.proofs.Fields.{seen}
 use Rattle.upload_core.proofs.state.Course.ask_next.Goals as goal
 
 pub invariant_of-self : goal.invariant_of-self
 invariant_of-self c =
-    let u : UploadState = record { goal = c.self.inside.goal; happy = c.self.inside.happy; servers = c.self.inside.servers.items; requests = c.self.inside.requests; round = c.self.inside.round; status = c.self.inside.status } in
+    let u : UploadState = seen c.self.inside in
     let right : IsCourse (with_record u (asked_more c.args.server c.in-Some.asked u.requests)) =
     subst (λ (s : UploadState). IsCourse (with_record s (asked_more c.args.server c.in-Some.asked s.requests))) (sym c.self.view_is)
     (subst (λ (o : Option Asked). IfSome o (λ asked. IsCourse (with_record c.args.self.now (asked_more c.args.server asked c.args.self.now.requests)))) c.in-Some.is c.requires.right) in
@@ -21,11 +22,11 @@ invariant_of-self c =
 
 pub returns-in-Some-clause-ok : goal.returns-in-Some-clause-ok
 returns-in-Some-clause-ok c =
-    let u : UploadState = record { goal = c.self.inside.goal; happy = c.self.inside.happy; servers = c.self.inside.servers.items; requests = c.self.inside.requests; round = c.self.inside.round; status = c.self.inside.status } in
+    let u : UploadState = seen c.self.inside in
     on_ok c.ask.result _ _ (λ n. subst (λ (o : Option Asked). MatchOption o (with_record u c.ask.new.self ≡ c.args.self.now) (λ asked. with_record u c.ask.new.self ≡ with_record c.args.self.now (asked_more c.args.server asked c.args.self.now.requests))) (sym c.in-Some.is)
     (ap (with_record u) n ∙ ap (λ (s : UploadState). with_record s (asked_more c.args.server c.in-Some.asked s.requests)) c.self.view_is)) c.ask.ensures.ok
 
 pub returns-in-Some-clause-err : goal.returns-in-Some-clause-err
 returns-in-Some-clause-err c =
-    let u : UploadState = record { goal = c.self.inside.goal; happy = c.self.inside.happy; servers = c.self.inside.servers.items; requests = c.self.inside.requests; round = c.self.inside.round; status = c.self.inside.status } in
+    let u : UploadState = seen c.self.inside in
     on_err c.ask.result _ _ (λ n. ap (with_record u) n ∙ c.self.view_is) c.ask.ensures.err

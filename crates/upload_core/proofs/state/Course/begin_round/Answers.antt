@@ -5,11 +5,12 @@ use Rattle.upload_core.specs.Course.{MayPlace, allocations}
 use Rattle.upload_core.specs.Moves.{Stops}
 use Rattle.upload_core.proofs.Records.{on_err_all}
 use Rattle.upload_core.proofs.Goes.{round_course}
+use Rattle.upload_core.proofs.Fields.{seen}
 use Rattle.upload_core.proofs.state.Course.begin_round.Goals as goal
 
 pub invariant_of-self : goal.invariant_of-self
 invariant_of-self c =
-    let u : UploadState = record { goal = c.self.inside.goal; happy = c.self.inside.happy; servers = c.self.inside.servers.items; requests = c.self.inside.requests; round = c.self.inside.round; status = c.self.inside.status } in
+    let u : UploadState = seen c.self.inside in
     let may : All (MayPlace u) c.args.pairs.now = subst (λ (s : UploadState). All (MayPlace s) c.args.pairs.now) (sym c.self.view_is) c.requires.may in
     let k : ℕ = c.allocate.ensures.some.0 in
     let new : c.allocate.new.requests ≡ asked_all (allocations u.goal.share_length (take k c.args.pairs.now)) u.requests = c.allocate.ensures.some.1 ∙ ap (λ (len : ℕ). asked_all (allocations len (take k c.args.pairs.now)) u.requests) c.share_length.ensures in
@@ -18,7 +19,7 @@ invariant_of-self c =
 
 pub returns-clause-err : goal.returns-clause-err
 returns-clause-err c =
-    let u : UploadState = record { goal = c.self.inside.goal; happy = c.self.inside.happy; servers = c.self.inside.servers.items; requests = c.self.inside.requests; round = c.self.inside.round; status = c.self.inside.status } in
+    let u : UploadState = seen c.self.inside in
     let k : ℕ = c.allocate.ensures.some.0 in
     let new : UploadState = record u { requests = c.allocate.new.requests; round = c.len-self-inside.result } in
     on_err_all c.allocate.result _ (subst (λ (s : UploadState). Stops s.requests s new) c.self.view_is

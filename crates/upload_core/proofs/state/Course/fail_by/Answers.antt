@@ -2,15 +2,11 @@ use Rattle.std.proofs.Common.{sym, subst}
 use Rattle.upload_core.specs.declared.state.Course.TheInside.{Inside}
 use Rattle.upload_core.specs.declared.pieces.PieceFault.TheVariants.{OutOfMemory}
 use Rattle.upload_core.specs.declared.status.UploadStatus.TheVariants.{Failed}
-use Rattle.upload_core.specs.State.{UploadState}
 use Rattle.upload_core.specs.Course.{IsCourse}
+use Rattle.upload_core.proofs.Fields.{seen}
 use Rattle.upload_core.proofs.Right.{course_status}
 use Rattle.upload_core.proofs.state.Course.fail_by.Goals as goal
 use Rattle.upload_core.proofs.state.Course.fail_by.Goals.{then-is_err+in-Happy-1, then-is_err+in-Unhappy-1, then-is_err+in-Running-1, else-is_err}
-
--- the fields as an upload
-abbrev seen : Inside → UploadState
-seen s = record { goal = s.goal; happy = s.happy; servers = s.servers.items; requests = s.requests; round = s.round; status = s.status }
 
 pub invariant_of-self : goal.invariant_of-self
 invariant_of-self c =

@@ -12,6 +12,7 @@ use Rattle.upload_core.specs.Trails.{IsAtEnd, IsLostAt}
 use Rattle.upload_core.proofs.Follow.{lost_follow}
 use Rattle.upload_core.proofs.Goes.{next_follows, next_may}
 use Rattle.upload_core.proofs.Written.{lost_kept}
+use Rattle.upload_core.proofs.Fields.{seen}
 use Rattle.upload_core.proofs.state.Course.follow.Goals as goal
 
 pub request-request-requires : goal.request-request-requires
@@ -27,7 +28,7 @@ follows_loss u place r next there lost given =
 
 pub ask_next-requires : goal.ask_next-requires
 ask_next-requires c =
-    let u : UploadState = record { goal = c.self.inside.goal; happy = c.self.inside.happy; servers = c.self.inside.servers.items; requests = c.self.inside.requests; round = c.self.inside.round; status = c.self.inside.status } in
+    let u : UploadState = seen c.self.inside in
     let v : UploadState = c.args.self.now in
     let r : Request = c.request-request.result.now in
     let there : slice_get u.requests.entries c.args.place ≡ Some r = c.request-request.ensures in

@@ -13,23 +13,24 @@ use Rattle.upload_core.proofs.Answering.{advances_none, counted_kept, next_asked
 use Rattle.upload_core.proofs.Followed.{followed_message}
 use Rattle.upload_core.proofs.Goes.{goes_on_from, message_course, stops_none, stops_then}
 use Rattle.upload_core.proofs.Records.{on_err, on_err_all}
+use Rattle.upload_core.proofs.Fields.{seen}
 use Rattle.upload_core.proofs.state.Course.hear.Goals as goal
 
 pub request-requires : goal.request-requires
 request-requires c =
-    let u : UploadState = record { goal = c.self.inside.goal; happy = c.self.inside.happy; servers = c.self.inside.servers.items; requests = c.self.inside.requests; round = c.self.inside.round; status = c.self.inside.status } in
+    let u : UploadState = seen c.self.inside in
     let counts : counts_at c.args.from c.args.message u.requests ≡ Some c.in-Some.place = sym c.counts_at.ensures.value ∙ c.in-Some.is in
     counted_kept u c.args.from c.args.message c.args.now c.in-Some.place counts
 
 pub ask_next-requires : goal.ask_next-requires
 ask_next-requires c =
-    let u : UploadState = record { goal = c.self.inside.goal; happy = c.self.inside.happy; servers = c.self.inside.servers.items; requests = c.self.inside.requests; round = c.self.inside.round; status = c.self.inside.status } in
+    let u : UploadState = seen c.self.inside in
     let counts : counts_at c.args.from c.args.message u.requests ≡ Some c.in-Some.place = sym c.counts_at.ensures.value ∙ c.in-Some.is in
     record { right = next_right u c.args.from c.args.message c.args.now c.in-Some.place counts c.request.result.now c.follow_up-next.result c.request.ensures c.follow_up-next.ensures c.take_answer.new.self c.take_answer.ensures.«record» c.self.invariant }
 
 pub go_on-requires : goal.go_on-requires
 go_on-requires c =
-    let u : UploadState = record { goal = c.self.inside.goal; happy = c.self.inside.happy; servers = c.self.inside.servers.items; requests = c.self.inside.requests; round = c.self.inside.round; status = c.self.inside.status } in
+    let u : UploadState = seen c.self.inside in
     let counts : counts_at c.args.from c.args.message u.requests ≡ Some c.in-Some.place = sym c.counts_at.ensures.value ∙ c.in-Some.is in
     let R : RequestsState = after_message c.args.from c.args.message c.args.now u.requests in
     let asks : List (ℕ × Asked) = follow_ups_at u.goal (slice_get R.entries c.in-Some.place) in
@@ -40,18 +41,18 @@ go_on-requires c =
 
 pub invariant_of-self : goal.invariant_of-self
 invariant_of-self c =
-    let u : UploadState = record { goal = c.self.inside.goal; happy = c.self.inside.happy; servers = c.self.inside.servers.items; requests = c.self.inside.requests; round = c.self.inside.round; status = c.self.inside.status } in
+    let u : UploadState = seen c.self.inside in
     let none : counts_at c.args.from c.args.message u.requests ≡ None = sym c.counts_at.ensures.value ∙ c.in_default.is in
     message_course u c.args.from c.args.message c.args.now c.pass.new.self (uncounted u c.args.from c.args.message c.args.now c.pass.new.self none c.pass.ensures) c.self.invariant
 
 pub invariant_of-self-2 : goal.invariant_of-self-2
 invariant_of-self-2 c =
-    let u : UploadState = record { goal = c.self.inside.goal; happy = c.self.inside.happy; servers = c.self.inside.servers.items; requests = c.self.inside.requests; round = c.self.inside.round; status = c.self.inside.status } in
+    let u : UploadState = seen c.self.inside in
     message_course u c.args.from c.args.message c.args.now c.take_answer.new.self c.take_answer.ensures.«record» c.self.invariant
 
 pub returns-in_err-ask_next-clause-err : goal.returns-in_err-ask_next-clause-err
 returns-in_err-ask_next-clause-err c =
-    let u : UploadState = record { goal = c.self.inside.goal; happy = c.self.inside.happy; servers = c.self.inside.servers.items; requests = c.self.inside.requests; round = c.self.inside.round; status = c.self.inside.status } in
+    let u : UploadState = seen c.self.inside in
     let R : RequestsState = after_message c.args.from c.args.message c.args.now u.requests in
     let mid : UploadState = with_record u c.take_answer.new.self in
     on_err_all c.from_residual.result _ (subst (λ (s : UploadState). Stops (after_message c.args.from c.args.message c.args.now s.requests) s c.ask_next.new.self) c.self.view_is
@@ -59,13 +60,13 @@ returns-in_err-ask_next-clause-err c =
 
 pub returns-in_default-clause-ok : goal.returns-in_default-clause-ok
 returns-in_default-clause-ok c =
-    let u : UploadState = record { goal = c.self.inside.goal; happy = c.self.inside.happy; servers = c.self.inside.servers.items; requests = c.self.inside.requests; round = c.self.inside.round; status = c.self.inside.status } in
+    let u : UploadState = seen c.self.inside in
     let none : counts_at c.args.from c.args.message u.requests ≡ None = sym c.counts_at.ensures.value ∙ c.in_default.is in
     subst (λ (s : UploadState). Advances c.args.from c.args.message c.args.now s (with_record u c.pass.new.self)) c.self.view_is (advances_none u c.args.from c.args.message c.args.now c.pass.new.self none c.pass.ensures)
 
 pub returns-clause-ok : goal.returns-clause-ok
 returns-clause-ok c =
-    let u : UploadState = record { goal = c.self.inside.goal; happy = c.self.inside.happy; servers = c.self.inside.servers.items; requests = c.self.inside.requests; round = c.self.inside.round; status = c.self.inside.status } in
+    let u : UploadState = seen c.self.inside in
     let counts : counts_at c.args.from c.args.message u.requests ≡ Some c.in-Some.place = sym c.counts_at.ensures.value ∙ c.in-Some.is in
     let R : RequestsState = after_message c.args.from c.args.message c.args.now u.requests in
     let asks : List (ℕ × Asked) = follow_ups_at u.goal (slice_get R.entries c.in-Some.place) in
@@ -78,7 +79,7 @@ returns-clause-ok c =
 
 pub returns-clause-err : goal.returns-clause-err
 returns-clause-err c =
-    let u : UploadState = record { goal = c.self.inside.goal; happy = c.self.inside.happy; servers = c.self.inside.servers.items; requests = c.self.inside.requests; round = c.self.inside.round; status = c.self.inside.status } in
+    let u : UploadState = seen c.self.inside in
     let counts : counts_at c.args.from c.args.message u.requests ≡ Some c.in-Some.place = sym c.counts_at.ensures.value ∙ c.in-Some.is in
     let R : RequestsState = after_message c.args.from c.args.message c.args.now u.requests in
     let asks : List (ℕ × Asked) = follow_ups_at u.goal (slice_get R.entries c.in-Some.place) in

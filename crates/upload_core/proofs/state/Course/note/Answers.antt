@@ -1,10 +1,11 @@
 use Rattle.upload_core.specs.State.{UploadState}
 use Rattle.upload_core.proofs.Goes.{tick_course}
+use Rattle.upload_core.proofs.Fields.{seen}
 use Rattle.upload_core.proofs.state.Course.note.Goals as goal
 
 pub invariant_of-self-2 : goal.invariant_of-self-2
 invariant_of-self-2 c =
-    let u : UploadState = record { goal = c.self.inside.goal; happy = c.self.inside.happy; servers = c.self.inside.servers.items; requests = c.self.inside.requests; round = c.self.inside.round; status = c.self.inside.status } in
+    let u : UploadState = seen c.self.inside in
     tick_course u c.args.now c.tick.new.self c.in_ok-tick.ensures.ok c.self.invariant
 
 pub returns-clause-right : goal.returns-clause-right

@@ -13,21 +13,22 @@ use Rattle.upload_core.specs.Trails.{AreFollowed, IsAtEnd, IsLostAt}
 use Rattle.upload_core.proofs.Ends.{lost_are, lost_ends, lost_once}
 use Rattle.upload_core.proofs.Followed.{followed_tick}
 use Rattle.upload_core.proofs.Goes.{goes_on_from, stops_then, tick_course, ticks_with}
+use Rattle.upload_core.proofs.Fields.{seen}
 use Rattle.upload_core.proofs.state.Course.pass.Goals as goal
 
 pub invariant_of-self-then-is_empty : goal.invariant_of-self-then-is_empty
 invariant_of-self-then-is_empty c =
-    let u : UploadState = record { goal = c.self.inside.goal; happy = c.self.inside.happy; servers = c.self.inside.servers.items; requests = c.self.inside.requests; round = c.self.inside.round; status = c.self.inside.status } in
+    let u : UploadState = seen c.self.inside in
     tick_course u c.args.now c.tick.new.self c.in_ok-lost.ensures.ok c.self.invariant
 
 pub invariant_of-self-2 : goal.invariant_of-self-2
 invariant_of-self-2 c =
-    let u : UploadState = record { goal = c.self.inside.goal; happy = c.self.inside.happy; servers = c.self.inside.servers.items; requests = c.self.inside.requests; round = c.self.inside.round; status = c.self.inside.status } in
+    let u : UploadState = seen c.self.inside in
     tick_course u c.args.now c.tick.new.self c.in_ok-lost.ensures.ok c.self.invariant
 
 pub returns-clause-ok : goal.returns-clause-ok
 returns-clause-ok c =
-    let u : UploadState = record { goal = c.self.inside.goal; happy = c.self.inside.happy; servers = c.self.inside.servers.items; requests = c.self.inside.requests; round = c.self.inside.round; status = c.self.inside.status } in
+    let u : UploadState = seen c.self.inside in
     let v : UploadState = c.args.self.now in
     let R : RequestsState = after_tick c.args.now v.requests in
     let new : c.tick.new.self ≡ R = c.in_ok-lost.ensures.ok ∙ ap (λ (s : UploadState). after_tick c.args.now s.requests) c.self.view_is in
@@ -49,24 +50,24 @@ returns-clause-ok c =
 
 pub follow_all-requires-clause-at_end : goal.follow_all-requires-clause-at_end
 follow_all-requires-clause-at_end c =
-    let u : UploadState = record { goal = c.self.inside.goal; happy = c.self.inside.happy; servers = c.self.inside.servers.items; requests = c.self.inside.requests; round = c.self.inside.round; status = c.self.inside.status } in
+    let u : UploadState = seen c.self.inside in
     subst (λ (xs : List ℕ). All (IsAtEnd c.tick.new.self.entries) xs) (sym (c.deref.ensures.value ∙ c.in_ok-lost.ensures.lost))
     (subst (λ (r : RequestsState). All (IsAtEnd r.entries) (lost_by_tick c.args.now u.requests)) (sym c.in_ok-lost.ensures.ok) (lost_ends u.goal c.args.now u.requests c.self.invariant.trails))
 
 pub follow_all-requires-clause-lost : goal.follow_all-requires-clause-lost
 follow_all-requires-clause-lost c =
-    let u : UploadState = record { goal = c.self.inside.goal; happy = c.self.inside.happy; servers = c.self.inside.servers.items; requests = c.self.inside.requests; round = c.self.inside.round; status = c.self.inside.status } in
+    let u : UploadState = seen c.self.inside in
     subst (λ (xs : List ℕ). All (IsLostAt c.tick.new.self.entries) xs) (sym (c.deref.ensures.value ∙ c.in_ok-lost.ensures.lost))
     (subst (λ (r : RequestsState). All (IsLostAt r.entries) (lost_by_tick c.args.now u.requests)) (sym c.in_ok-lost.ensures.ok) (lost_are c.args.now u.requests))
 
 pub follow_all-requires-clause-once : goal.follow_all-requires-clause-once
 follow_all-requires-clause-once c =
-    let u : UploadState = record { goal = c.self.inside.goal; happy = c.self.inside.happy; servers = c.self.inside.servers.items; requests = c.self.inside.requests; round = c.self.inside.round; status = c.self.inside.status } in
+    let u : UploadState = seen c.self.inside in
     subst (IsDistinct eqb) (sym (c.deref.ensures.value ∙ c.in_ok-lost.ensures.lost)) (lost_once c.args.now u.requests)
 
 pub go_on-requires : goal.go_on-requires
 go_on-requires c =
-    let u : UploadState = record { goal = c.self.inside.goal; happy = c.self.inside.happy; servers = c.self.inside.servers.items; requests = c.self.inside.requests; round = c.self.inside.round; status = c.self.inside.status } in
+    let u : UploadState = seen c.self.inside in
     let R : RequestsState = after_tick c.args.now u.requests in
     let going : CanGoOn u = subst CanGoOn (sym c.self.view_is) c.requires.can in
     let w : with_record u c.tick.new.self ≡ with_record u R = ap (with_record u) c.in_ok-lost.ensures.ok in
@@ -76,17 +77,17 @@ go_on-requires c =
 
 pub follow_all-requires-clause-right : goal.follow_all-requires-clause-right
 follow_all-requires-clause-right c =
-    let u : UploadState = record { goal = c.self.inside.goal; happy = c.self.inside.happy; servers = c.self.inside.servers.items; requests = c.self.inside.requests; round = c.self.inside.round; status = c.self.inside.status } in
+    let u : UploadState = seen c.self.inside in
     tick_course u c.args.now c.tick.new.self c.in_ok-lost.ensures.ok c.self.invariant
 
 pub returns-in_err-lost-clause-err : goal.returns-in_err-lost-clause-err
 returns-in_err-lost-clause-err c =
-    let u : UploadState = record { goal = c.self.inside.goal; happy = c.self.inside.happy; servers = c.self.inside.servers.items; requests = c.self.inside.requests; round = c.self.inside.round; status = c.self.inside.status } in
+    let u : UploadState = seen c.self.inside in
     on_err_all c.from_residual.result _ (inl (ap (with_record u) c.in_err-lost.ensures.err ∙ c.self.view_is))
 
 pub returns-in_err-follow_all-clause-err : goal.returns-in_err-follow_all-clause-err
 returns-in_err-follow_all-clause-err c =
-    let u : UploadState = record { goal = c.self.inside.goal; happy = c.self.inside.happy; servers = c.self.inside.servers.items; requests = c.self.inside.requests; round = c.self.inside.round; status = c.self.inside.status } in
+    let u : UploadState = seen c.self.inside in
     let v : UploadState = c.args.self.now in
     let R : RequestsState = after_tick c.args.now v.requests in
     let new : c.tick.new.self ≡ R = c.in_ok-lost.ensures.ok ∙ ap (λ (s : UploadState). after_tick c.args.now s.requests) c.self.view_is in
@@ -95,7 +96,7 @@ returns-in_err-follow_all-clause-err c =
 
 pub returns-clause-err : goal.returns-clause-err
 returns-clause-err c =
-    let u : UploadState = record { goal = c.self.inside.goal; happy = c.self.inside.happy; servers = c.self.inside.servers.items; requests = c.self.inside.requests; round = c.self.inside.round; status = c.self.inside.status } in
+    let u : UploadState = seen c.self.inside in
     let v : UploadState = c.args.self.now in
     let R : RequestsState = after_tick c.args.now v.requests in
     let new : c.tick.new.self ≡ R = c.in_ok-lost.ensures.ok ∙ ap (λ (s : UploadState). after_tick c.args.now s.requests) c.self.view_is in

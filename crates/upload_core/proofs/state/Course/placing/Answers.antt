@@ -12,11 +12,12 @@ use Rattle.upload_core.proofs.Placed.{placed_once, plan_may}
 use Rattle.upload_core.proofs.Servers.{servers_distinct}
 use Rattle.upload_core.proofs.Goes.{plan_at}
 use Rattle.upload_core.proofs.Written.{readonly_kept, writable_kept}
+use Rattle.upload_core.proofs.Fields.{seen}
 use Rattle.upload_core.proofs.state.Course.placing.Goals as goal
 
 pub place-requires-clause-distinct : goal.place-requires-clause-distinct
 place-requires-clause-distinct c =
-    let u : UploadState = record { goal = c.self.inside.goal; happy = c.self.inside.happy; servers = c.self.inside.servers.items; requests = c.self.inside.requests; round = c.self.inside.round; status = c.self.inside.status } in
+    let u : UploadState = seen c.self.inside in
     let es : List Request = u.requests.entries in
     let ro : c.deref.result.now ≡ readonly_servers u.goal es = c.deref.ensures.value ∙ c.in_ok-servers.ensures.readonly ∙ ap (readonly_servers u.goal) c.kept_since.ensures ∙ readonly_kept u.goal u.requests.entries in
     let w : c.deref-2.result.now ≡ writable_servers u.goal es = c.deref-2.ensures.value ∙ c.in_ok-servers.ensures.writable ∙ ap (writable_servers u.goal) c.kept_since.ensures ∙ writable_kept u.goal u.requests.entries in
@@ -24,7 +25,7 @@ place-requires-clause-distinct c =
 
 pub place-requires-clause-known : goal.place-requires-clause-known
 place-requires-clause-known c =
-    let u : UploadState = record { goal = c.self.inside.goal; happy = c.self.inside.happy; servers = c.self.inside.servers.items; requests = c.self.inside.requests; round = c.self.inside.round; status = c.self.inside.status } in
+    let u : UploadState = seen c.self.inside in
     let es : List Request = u.requests.entries in
     let ro : c.deref.result.now ≡ readonly_servers u.goal es = c.deref.ensures.value ∙ c.in_ok-servers.ensures.readonly ∙ ap (readonly_servers u.goal) c.kept_since.ensures ∙ readonly_kept u.goal u.requests.entries in
     let w : c.deref-2.result.now ≡ writable_servers u.goal es = c.deref-2.ensures.value ∙ c.in_ok-servers.ensures.writable ∙ ap (writable_servers u.goal) c.kept_since.ensures ∙ writable_kept u.goal u.requests.entries in
@@ -41,7 +42,7 @@ the_plan c = record { m3 = c.in_ok-plan.plan.m3.items; leftovers = c.in_ok-plan.
 
 is_plan : (c : goal.After-drop-servers-3) → IsPlan (readonly_servers c.args.self.now.goal c.args.self.now.requests.entries) (writable_servers c.args.self.now.goal c.args.self.now.requests.entries) (acked_pairs c.args.self.now.goal c.args.self.now.requests.entries) (length c.args.self.now.goal.digests) c.in_ok-plan.plan.m1.items c.in_ok-plan.plan.m2.items c.in_ok-plan.plan.m3.items c.in_ok-plan.plan.leftovers.items c.in_ok-plan.plan.unplaced.items
 is_plan c =
-    let u : UploadState = record { goal = c.self.inside.goal; happy = c.self.inside.happy; servers = c.self.inside.servers.items; requests = c.self.inside.requests; round = c.self.inside.round; status = c.self.inside.status } in
+    let u : UploadState = seen c.self.inside in
     let v : UploadState = c.args.self.now in
     let ro : c.deref.result.now ≡ readonly_servers v.goal v.requests.entries = c.deref.ensures.value ∙ c.in_ok-servers.ensures.readonly ∙ ap (readonly_servers u.goal) c.kept_since.ensures ∙ readonly_kept u.goal u.requests.entries ∙ ap (λ (s : UploadState). readonly_servers s.goal s.requests.entries) c.self.view_is in
     let w : c.deref-2.result.now ≡ writable_servers v.goal v.requests.entries = c.deref-2.ensures.value ∙ c.in_ok-servers.ensures.writable ∙ ap (writable_servers u.goal) c.kept_since.ensures ∙ writable_kept u.goal u.requests.entries ∙ ap (λ (s : UploadState). writable_servers s.goal s.requests.entries) c.self.view_is in

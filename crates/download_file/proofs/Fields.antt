@@ -1,0 +1,8 @@
+-- The fields of a file, as contracts see them.
+use Rattle.download_file.specs.State.{FileState, file_state}
+use Rattle.download_file.specs.declared.file.File.TheInside.{Inside}
+
+abbrev pub seen : Inside → FileState
+seen f =
+    file_state f.handout f.plan.first f.plan.end f.taken f.readers.items f.live.items
+    f.groups.items
