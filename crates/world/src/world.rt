@@ -130,7 +130,7 @@ impl World {
         ensures repairs { AreTrustedRepairs self.new.state }
         ensures bound { IsBound self.new.state }
     {
-        self.is_trusted();
+        self.know_trusted();
         for taken in 0..events.len() {
             match self.step(&events[taken]) {
                 Ok(()) => {}
@@ -141,8 +141,8 @@ impl World {
     }
 
     /// A law: the headline holds of every world, and so does what is said of repairs and of what
-    /// binds downloads.
-    pub fn is_trusted(&self)
+    /// binds downloads. The call does nothing.
+    pub fn know_trusted(&self)
         ensures trusted { IsTrusted self.now.state }
         ensures repairs { AreTrustedRepairs self.now.state }
         ensures bound { IsBound self.now.state }

@@ -52,6 +52,6 @@ fn play(alloc: Global, mut world: World, script: &Script) -> Result<Ending, Worl
             events += 1;
         }
     }
-    world.is_trusted();
+    world.know_trusted();
     Ok(ending_of(alloc, world.operations(), events)?)
 }

@@ -60,7 +60,7 @@ impl Decoder {
         if k == 0 {
             return;
         }
-        are_bytes(shares);
+        know_bytes(shares);
         let size = out.len() / k;
         for primary in 0..k {
             self.decode_block(
@@ -93,18 +93,18 @@ impl Decoder {
     }
 }
 
-/// That each byte of the shares is one, which nothing else tells. It does nothing.
-fn are_bytes(shares: &[(u16, &[u8])])
+// A law: each byte of the shares is one. The call does nothing.
+fn know_bytes(shares: &[(u16, &[u8])])
     ensures { (m : ℕ) → m < length shares.now → (t : ℕ)
         → slice_index (slice_index_or (map (λ s. s.1.now) shares.now) m []) t < 256 }
 {
     for (_, bytes) in shares {
-        is_byte_text(bytes);
+        know_byte_text(bytes);
     }
 }
 
-/// The same of one share.
-fn is_byte_text(bytes: &[u8])
+// A law: each byte of a share is one. The call does nothing.
+fn know_byte_text(bytes: &[u8])
     ensures { (t : ℕ) → slice_index bytes.now t < 256 }
 {}
 

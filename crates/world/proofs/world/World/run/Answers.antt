@@ -18,4 +18,4 @@ returns-in-Err-clause-later g c =
     later_still c.args.self.now.state c.loop-taken.self.state c.step.new.self.state c.loop-taken.invariant.later c.in-Err.ensures.later
 
 pub loop-taken-init : goal.loop-taken-init
-loop-taken-init g c = running_begins c.args.self.now c.args.events.now c.is_trusted.ensures.trusted c.is_trusted.ensures.repairs c.is_trusted.ensures.bound
+loop-taken-init g c = running_begins c.args.self.now c.args.events.now c.know_trusted.ensures.trusted c.know_trusted.ensures.repairs c.know_trusted.ensures.bound

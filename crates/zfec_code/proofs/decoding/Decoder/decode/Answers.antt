@@ -54,7 +54,7 @@ returns-clause-shares_of c =
     (ap length c.requires.numbers ∙ sym count) (subst (λ ns. All (λ i. i < 256) ns) same table.small) (subst AreDistinct same table.distinct)
     (c.loop-primary.auto.out ∙ whole ∙ ap (λ n. k * n) (sym size))
     (λ m h. have.1.alike m [] (omega (arith, have.1.count, count)) ∙ sym size)
-    (λ m h. c.are_bytes.ensures m (omega (arith, have.1.count, count, length-blocks xs))) written)
+    (λ m h. c.know_bytes.ensures m (omega (arith, have.1.count, count, length-blocks xs))) written)
 
 pub returns-clause-decoded : goal.returns-clause-decoded
 returns-clause-decoded c primaries long theirs =
