@@ -10,5 +10,5 @@ abbrev pub most_marks : ℕ
 most_marks = 3
 
 -- the age in seconds at which an unanswered request is lost
-abbrev pub patience : ℕ
-patience = 20
+abbrev pub lost_age : ℕ
+lost_age = 20

@@ -16,7 +16,7 @@ use Rattle.request_record.specs.declared.requests.Outcome.{Outcome}
 use Rattle.request_record.specs.declared.requests.Outcome.TheVariants.{Unawaited, Outstanding}
 use Rattle.request_record.specs.declared.requests.Outcome.TheVariants.{Answered, Lost}
 use Rattle.request_record.specs.declared.requests.Request.{Request}
-use Rattle.request_record.specs.Limits.{mark_seconds, most_marks, patience}
+use Rattle.request_record.specs.Limits.{lost_age, mark_seconds, most_marks}
 
 -- the requests in order; request n is at place n - 1; the places still to send, in order; the
 -- latest time
@@ -182,12 +182,12 @@ abbrev pub age_of : ℕ → Request → ℕ
 age_of now r = now - r.first_sent
 
 abbrev pub is_lost_at : ℕ → Request → Bool
-is_lost_at now r = is_outstanding r.outcome && nat_le patience (age_of now r)
+is_lost_at now r = is_outstanding r.outcome && nat_le lost_age (age_of now r)
 
 -- is it sent again at a tick?
 abbrev pub is_resent_at : ℕ → Request → Bool
 is_resent_at now r =
-    is_outstanding r.outcome && nat_lt (age_of now r) patience
+    is_outstanding r.outcome && nat_lt (age_of now r) lost_age
     && nat_lt r.marks (passed (age_of now r))
 
 abbrev pub resent_one : ℕ → Request → Request

@@ -6,5 +6,5 @@ abbrev pub most_buckets : ℕ
 most_buckets = 1024
 
 -- the seconds after which an untouched bucket is dropped
-abbrev pub patience : ℕ
-patience = 600
+abbrev pub idle_limit : ℕ
+idle_limit = 600

@@ -17,7 +17,7 @@ use Rattle.server_core.specs.declared.bucket.Gathered.{Gathered}
 use Rattle.server_core.specs.declared.bucket.Gathered.TheVariants.{Part, Whole}
 use Rattle.server_core.specs.declared.bucket.Bucket.{Bucket}
 use Rattle.share_store.specs.Calls.{Calls}
-use Rattle.server_core.specs.Limits.{most_buckets, patience}
+use Rattle.server_core.specs.Limits.{idle_limit, most_buckets}
 use Rattle.server_core.specs.Buckets.{GoesOn, IsFresh, is_owned, touched, with_bytes, bytes_so_far}
 use Rattle.server_core.specs.Buckets.{bucket_at, changed, ended, promised}
 
@@ -251,7 +251,7 @@ pub record Serves {S : Type 0} (calls : Calls S) (old : Machine S) (from : ℕ) 
 -- ---- ticks and restarts
 
 abbrev pub is_fresh_at : ℕ → Bucket → Bool
-is_fresh_at now b = nat_lt (now - b.touched) patience
+is_fresh_at now b = nat_lt (now - b.touched) idle_limit
 
 pub record Ticks {S : Type 0} (old : Machine S) (now : ℕ) (new : Machine S) : Type 0 where
   pub after : HasBuckets old (filter (is_fresh_at (max old.clock now)) old.buckets) new
