@@ -27,8 +27,8 @@ use Rattle.share_reading.specs.Reading.{Advances, IsStop, next_length, next_plac
 use Rattle.share_reading.specs.Reads.{IsReadBy, IsRestBy}
 use Rattle.share_reading.specs.Verdict.{FailsFirst, IsLost, IsStopped, IsVerdict, Settled, brought_of}
 use Rattle.share_reading.specs.Whole.{AreConsecutive, IsWhole}
-use Rattle.share_reading.specs.declared.reading.Reading.{Reading}
-use Rattle.share_reading.specs.declared.reading.Reading.TheVariants.{Beginning, Remaining}
+use Rattle.share_reading.specs.declared.reading.ShareReading.{ShareReading}
+use Rattle.share_reading.specs.declared.reading.ShareReading.TheVariants.{Beginning, Remaining}
 use Rattle.share_reading.specs.declared.reading.Progress.TheVariants.{Whole}
 use Rattle.share_reading.specs.declared.rest.Rest.{Rest}
 use Rattle.share_reading.specs.declared.verdict.Verdict.{Verdict}
@@ -94,13 +94,13 @@ module _ (cap : VerifyCapValue) (num : ℕ) (share : List ℕ) (u : Contents) (s
     has_some : (some : List Brought) → ((b : Brought) → Contains some b → Contains (brought_of reads) b) → HasReads some share
     has_some some among b c = has_all b (among b c)
 
-    last_own : (reading : Reading) (bytes : List ℕ) → Contains reads (record { place = next_place reading; len = next_length reading; answer = Some bytes })
+    last_own : (reading : ShareReading) (bytes : List ℕ) → Contains reads (record { place = next_place reading; len = next_length reading; answer = Some bytes })
         → bytes ≡ take (next_length reading) (drop (next_place reading) share)
     last_own reading bytes c = own (record { place = next_place reading; len = next_length reading; answer = Some bytes }) bytes c refl
 
     -- ---- reading does not stop
 
-    stops_not : (reading : Reading) (front back : List Brought) (bytes : List ℕ) (check : Check) → IsReadBy cap front back reading → HasReads (front ++ back) share
+    stops_not : (reading : ShareReading) (front back : List Brought) (bytes : List ℕ) (check : Check) → IsReadBy cap front back reading → HasReads (front ++ back) share
         → bytes ≡ take (next_length reading) (drop (next_place reading) share) → IsStop cap reading bytes check → ⊥
     stops_not (Beginning o) front back bytes check by has is why =
         own_not_refused cap num share (u, s, sound) (front ++ back) o (led_by cap front back o by) has bytes why.0 is why.1
@@ -112,7 +112,7 @@ module _ (cap : VerifyCapValue) (num : ℕ) (share : List ℕ) (u : Contents) (s
 
     -- ---- at the end the share was read
 
-    covers_all : (reading : Reading) (front back : List Brought) (bytes : List ℕ) → IsReadBy cap front back reading → ((b : Brought) → Contains (front ++ back) b → Contains (brought_of reads) b)
+    covers_all : (reading : ShareReading) (front back : List Brought) (bytes : List ℕ) → IsReadBy cap front back reading → ((b : Brought) → Contains (front ++ back) b → Contains (brought_of reads) b)
         → Contains (brought_of reads) (next_place reading, bytes) → Advances cap reading bytes Whole → (place : ℕ) → place < length share
         → (read : Brought) × Contains (brought_of reads) read × (read.0 ≤ place) × (place < read.0 + length read.1)
     covers_all (Beginning Start) front back bytes by among last a place low = absurd a.1

@@ -1,4 +1,5 @@
-//! What binds checks to the shares that servers tell: a share that a server tells as it is, is good.
+//! What binds checks to the shares that servers tell: a share that a server tells as it is, is
+//! good.
 #![tactic(auto)]
 
 mod laws;

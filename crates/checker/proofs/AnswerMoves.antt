@@ -25,8 +25,8 @@ use Rattle.share_reading.specs.Verdict.{AreAnswered, AreFull, HasLed, IsJudged, 
 use Rattle.share_reading.specs.Whole.{IsWhole, joined}
 use Rattle.share_reading.specs.declared.reading.Progress.{Progress}
 use Rattle.share_reading.specs.declared.reading.Progress.TheVariants.{Next, Whole}
-use Rattle.share_reading.specs.declared.reading.Reading as readings
-use Rattle.share_reading.specs.declared.reading.Reading.TheVariants.{Beginning, Remaining}
+use Rattle.share_reading.specs.declared.reading.ShareReading as readings
+use Rattle.share_reading.specs.declared.reading.ShareReading.TheVariants.{Beginning, Remaining}
 use Rattle.share_reading.specs.declared.verdict.Verdict.{Verdict}
 use Rattle.share_reading.specs.declared.verdict.Verdict.TheVariants as verdicts
 use Rattle.share_reading.specs.Judged.{IsJudgedBy}
@@ -100,7 +100,7 @@ reads_snoc es key [] (c ∷ cs) p b are is = absurd are
 reads_snoc es key (q ∷ qs) [] p b are is = absurd are
 reads_snoc es key (q ∷ qs) (c ∷ cs) p b are is = (are.0, reads_snoc es key qs cs p b are.1 is)
 
-pub advances_long : (cap : VerifyCapValue) (r : readings.Reading) (bytes : List ℕ) (p : Progress) → reading.Advances cap r bytes p → length bytes ≡ reading.next_length r
+pub advances_long : (cap : VerifyCapValue) (r : readings.ShareReading) (bytes : List ℕ) (p : Progress) → reading.Advances cap r bytes p → length bytes ≡ reading.next_length r
 advances_long cap (Beginning o) bytes (Next (Beginning n)) a = a.0
 advances_long cap (Beginning Start) bytes (Next (Remaining n)) a = absurd a.1
 advances_long cap (Beginning (Second s)) bytes (Next (Remaining n)) a = absurd a.1
@@ -181,7 +181,7 @@ count_in (Reading n offset count) = count
 count_in a = 0
 
 -- what is safe to ask of a share
-pub record IsSafeToAsk (cap : VerifyCapValue) (es : List Request) (key : Pair) (r : readings.Reading) : Type 0 where
+pub record IsSafeToAsk (cap : VerifyCapValue) (es : List Request) (key : Pair) (r : readings.ShareReading) : Type 0 where
   pub apart : (i : ℕ) (x : Request) (offset count : ℕ) → slice_get es i ≡ Some x → IsAbout key x → x.asked ≡ Reading key.1 offset count
       → (offset + count ≤ reading.next_place r) ⊎ (reading.next_place r + reading.next_length r ≤ offset)
   pub asked : IsAsked cap (brought_of (settled_of es key.0 key.1)) (reading.next_place r) (reading.next_length r)
@@ -195,11 +195,11 @@ safe_first cap es o is listed = record {
   listed = listed;
 }
 
-abbrev pub next_request : ℕ → ℕ → readings.Reading → ℕ → Request
+abbrev pub next_request : ℕ → ℕ → readings.ShareReading → ℕ → Request
 next_request server share r now = first_request server (Reading share (reading.next_place r) (reading.next_length r)) now
 
 -- a share that is read so far, of which the next bytes are asked for now
-pub reads_on : (cap : VerifyCapValue) (es : List Request) (todo : List ℕ) (o : Offer) (r : readings.Reading) (now : ℕ) (key : Pair) → key_of o ≡ key
+pub reads_on : (cap : VerifyCapValue) (es : List Request) (todo : List ℕ) (o : Offer) (r : readings.ShareReading) (now : ℕ) (key : Pair) → key_of o ≡ key
     → (front back : List Brought) → IsReadBy cap front back r → AreReadAt es key o.front.items front → AreReadAt es key o.back.items back
     → IsJudgedBy cap front back r o.judged → HasPieces front back o.pieces
     → IsReadOnlyAt es key (o.front.items ++ o.back.items)
@@ -244,7 +244,7 @@ reads_first cap es todo o m now is server share front back judged pieces =
 
 -- ---- the answer
 
-module _ (cap : VerifyCapValue) (es : List Request) (todo : List ℕ) (o : Offer) (r : readings.Reading) (place : ℕ) (is : IsReading cap es todo o r place)
+module _ (cap : VerifyCapValue) (es : List Request) (todo : List ℕ) (o : Offer) (r : readings.ShareReading) (place : ℕ) (is : IsReading cap es todo o r place)
     (q : Request) (there : slice_get es place ≡ Some q) (settled : is_outstanding q.outcome ≡ false) where
   abbrev pub reads : List Settled
   reads = settled_of es o.server o.share
@@ -454,7 +454,7 @@ module _ (cap : VerifyCapValue) (es : List Request) (todo : List ℕ) (o : Offer
             more = cond (reading.is_behind r) o.front.items (o.front.items ++ place ∷ [])
 
         -- it goes on, by what is asked of it now
-        pub goes_on : (rest : List ℕ) (next : readings.Reading) (now : ℕ) → reading.Advances cap r bytes (Next next) → (m : Offer) → m.server ≡ o.server → m.share ≡ o.share
+        pub goes_on : (rest : List ℕ) (next : readings.ShareReading) (now : ℕ) → reading.Advances cap r bytes (Next next) → (m : Offer) → m.server ≡ o.server → m.share ≡ o.share
             → m.front.items ≡ n.front.items → m.back.items ≡ n.back.items → m.judged ≡ n.judged → m.pieces ≡ n.pieces
             → IsJudgedBy cap (more_front r bytes is.front) (more_back r bytes is.back) next n.judged
             → IsReading cap (es ++ next_request o.server o.share next now ∷ []) rest m next (length es)
@@ -468,7 +468,7 @@ module _ (cap : VerifyCapValue) (es : List Request) (todo : List ℕ) (o : Offer
             (subst (λ (l : List ℕ). IsReadOnlyAt es (key_of o) l) (ap (λ (l : List ℕ). l ++ n.back.items) (sym front) ∙ ap (λ (l : List ℕ). m.front.items ++ l) (sym back)) only_kept)
 
         -- and it is safe to ask it
-        pub safe_next : (next : readings.Reading) → reading.Advances cap r bytes (Next next) → Contains (offered_pairs cap.total es) (key_of o) → IsSafeToAsk cap es (key_of o) next
+        pub safe_next : (next : readings.ShareReading) → reading.Advances cap r bytes (Next next) → Contains (offered_pairs cap.total es) (key_of o) → IsSafeToAsk cap es (key_of o) next
         safe_next next a listed = record { apart = apart_from; asked = more_asked cap more_reads (brought_of reads) (reading.next_place next) (reading.next_length next) more_brought law.0; listed = listed }
           where
             law : IsAsked cap more_reads (reading.next_place next) (reading.next_length next)

@@ -13,7 +13,7 @@ use Rattle.request_record.specs.declared.requests.Outcome.TheVariants.{Unawaited
 use Rattle.request_record.specs.declared.requests.Request.{Request}
 use Rattle.request_record.specs.Record.{is_outstanding}
 use Rattle.share_reading.specs.Reading as reading
-use Rattle.share_reading.specs.declared.reading.Reading as readings
+use Rattle.share_reading.specs.declared.reading.ShareReading as readings
 use Rattle.checker.specs.Offers.{key_of}
 use Rattle.checker.specs.Shares.{offered_in}
 use Rattle.checker.specs.Book.{AreKeys, HasTold, IsAbout, IsAt, IsBook, IsOffer, IsOwner, IsStarted, IsTold}
@@ -156,7 +156,7 @@ module _ (cap : VerifyCapValue) (keeps : Bool) (entries : List Request) (told : 
 
   -- nothing comes of it
   pub book_done : (k : ℕ) (o : Offer) (q : Request) → slice_get offers k ≡ Some o → slice_get entries place ≡ Some q → IsAbout (key_of o) q
-      → ((r : readings.Reading) → o.stage ≡ Read r place → ⊥) → IsBook cap keeps entries told owners offers begun todo
+      → ((r : readings.ShareReading) → o.stage ≡ Read r place → ⊥) → IsBook cap keeps entries told owners offers begun todo
   book_done k o q at there about other = record {
     asks = b.asks;
     long = b.long;
@@ -176,7 +176,7 @@ module _ (cap : VerifyCapValue) (keeps : Bool) (entries : List Request) (told : 
       less : (l : ℕ) (x : Offer) → slice_get offers l ≡ Some x → IsOffer cap entries todo x
       less l x e = offer_done cap entries todo place x (λ r at_place. not_this r at_place) (b.reading l x e)
         where
-          not_this : (r : readings.Reading) → x.stage ≡ Read r place → ⊥
+          not_this : (r : readings.ShareReading) → x.stage ≡ Read r place → ⊥
           not_this r at_place =
               let mine = waits_about cap entries (place ∷ todo) x r place q (subst (IsAt cap entries (place ∷ todo) x) at_place (b.reading l x e)) there in
               let same : l ≡ k = b.apart l k x o e at (about_one (key_of x) (key_of o) q mine about) in
@@ -239,7 +239,7 @@ pub record BeginsTo (begun k more : ℕ) (len : ℕ) : Type 0 where
   pub few : more ≤ len
 
 module _ (cap : VerifyCapValue) (keeps : Bool) (entries : List Request) (told : List Told) (owners : List ℕ) (offers : List Offer) (begun more : ℕ) (todo : List ℕ)
-    (k : ℕ) (o n : Offer) (r : readings.Reading) (now : ℕ) (at : slice_get offers k ≡ Some o) (key : key_of n ≡ key_of o) (same_keeps : n.pieces.keeps ≡ o.pieces.keeps) where
+    (k : ℕ) (o n : Offer) (r : readings.ShareReading) (now : ℕ) (at : slice_get offers k ≡ Some o) (key : key_of n ≡ key_of o) (same_keeps : n.pieces.keeps ≡ o.pieces.keeps) where
   abbrev new : Request
   new = next_request o.server o.share r now
 

@@ -22,8 +22,8 @@ use Rattle.share_reading.specs.Reads.{more_back, more_front}
 use Rattle.share_reading.specs.Verdict.{IsJudged, IsVerdict, brought_of}
 use Rattle.share_reading.specs.Whole.{IsWhole, joined}
 use Rattle.share_reading.specs.declared.reading.Progress.TheVariants.{Next, Whole}
-use Rattle.share_reading.specs.declared.reading.Reading as readings
-use Rattle.share_reading.specs.declared.reading.Reading.TheVariants.{Beginning}
+use Rattle.share_reading.specs.declared.reading.ShareReading as readings
+use Rattle.share_reading.specs.declared.reading.ShareReading.TheVariants.{Beginning}
 use Rattle.share_reading.specs.declared.verdict.Verdict.{Verdict}
 use Rattle.share_reading.specs.declared.verdict.Verdict.TheVariants as verdicts
 use Rattle.checker.specs.Shares.{offered_in, offered_pairs, offered_to, settled_of}
@@ -63,14 +63,14 @@ set_set (x ∷ xs) (suc k) a b = ap (λ l. x ∷ l) (set_set xs k a b)
 
 -- ---- the first bytes of a share are asked for
 
-entries_asked : (m new : Machine) (k : ℕ) (r : readings.Reading) (o : Offer) → HasAsked m k r o new → new.requests.entries ≡ m.requests.entries ++ next_request o.server o.share r m.requests.clock ∷ []
+entries_asked : (m new : Machine) (k : ℕ) (r : readings.ShareReading) (o : Offer) → HasAsked m k r o new → new.requests.entries ≡ m.requests.entries ++ next_request o.server o.share r m.requests.clock ∷ []
 entries_asked m new k r o a = ap (λ (x : RequestsState). x.entries) a.requests
 
 -- the one request
-abbrev pub one_ask : Offer → readings.Reading → List (ℕ × Asked)
+abbrev pub one_ask : Offer → readings.ShareReading → List (ℕ × Asked)
 one_ask o r = (o.server, Reading o.share (reading.next_place r) (reading.next_length r)) ∷ []
 
-pub asks_asked : (m new : Machine) (k : ℕ) (r : readings.Reading) (o : Offer) → HasAsked m k r o new → AsksMore m new
+pub asks_asked : (m new : Machine) (k : ℕ) (r : readings.ShareReading) (o : Offer) → HasAsked m k r o new → AsksMore m new
 asks_asked m new k r o a = record {
   cap = a.cap;
   keeps = a.keeps;
@@ -82,16 +82,16 @@ asks_asked m new k r o a = record {
 pub asks_nothing : (m new : Machine) → AsksNothing m new → AsksMore m new
 asks_nothing m new a = record { cap = a.cap; keeps = a.keeps; asks = []; reads = All-nil (λ (ask : ℕ × Asked). is_read ask.1 ≡ true); requests = a.requests }
 
-pub once_asked_now : (m new : Machine) (k : ℕ) (r : readings.Reading) (o : Offer) → IsSafe m → IsSafeToAsk m.cap m.requests.entries (key_of o) r → HasAsked m k r o new → AsksOnce new.requests.entries
+pub once_asked_now : (m new : Machine) (k : ℕ) (r : readings.ShareReading) (o : Offer) → IsSafe m → IsSafeToAsk m.cap m.requests.entries (key_of o) r → HasAsked m k r o new → AsksOnce new.requests.entries
 once_asked_now m new k r o safe may a =
     subst AsksOnce (sym (entries_asked m new k r o a)) (once_next m.cap m.requests.entries (key_of o) r m.requests.clock may safe.once)
 
-pub shares_asked_now : (m new : Machine) (k : ℕ) (r : readings.Reading) (o : Offer) → IsSafe m → IsSafeToAsk m.cap m.requests.entries (key_of o) r → HasAsked m k r o new → AreOfShares new.cap new.requests.entries
+pub shares_asked_now : (m new : Machine) (k : ℕ) (r : readings.ShareReading) (o : Offer) → IsSafe m → IsSafeToAsk m.cap m.requests.entries (key_of o) r → HasAsked m k r o new → AreOfShares new.cap new.requests.entries
 shares_asked_now m new k r o safe may a =
     subst (λ (c : VerifyCapValue). AreOfShares c new.requests.entries) (sym a.cap)
     (subst (AreOfShares m.cap) (sym (entries_asked m new k r o a)) (shares_next m.cap m.requests.entries (key_of o) r m.requests.clock may safe.reads))
 
-pub kinds_asked_now : (m new : Machine) (k : ℕ) (r : readings.Reading) (o : Offer) → IsSafe m → IsSafeToAsk m.cap m.requests.entries (key_of o) r → HasAsked m k r o new → AllAskOrRead new.cap new.requests.entries
+pub kinds_asked_now : (m new : Machine) (k : ℕ) (r : readings.ShareReading) (o : Offer) → IsSafe m → IsSafeToAsk m.cap m.requests.entries (key_of o) r → HasAsked m k r o new → AllAskOrRead new.cap new.requests.entries
 kinds_asked_now m new k r o safe may a =
     subst (λ (c : VerifyCapValue). AllAskOrRead c new.requests.entries) (sym a.cap) (subst (AllAskOrRead m.cap) (sym (entries_asked m new k r o a)) kinds)
   where
@@ -163,7 +163,7 @@ ended_as {cap} {entries} o n v by is = record {
       whole = subst (λ (k : Pair). IsWhole (brought_of (settled_of entries k.0 k.1)) (joined h.front ++ joined h.back)) (sym key) h.whole;
     }
 
-module _ (m : Machine) (place : ℕ) (todo : List ℕ) (k : ℕ) (o : Offer) (r : readings.Reading) (b : HasBook m (place ∷ todo)) (after : length m.told.items ≤ place)
+module _ (m : Machine) (place : ℕ) (todo : List ℕ) (k : ℕ) (o : Offer) (r : readings.ShareReading) (b : HasBook m (place ∷ todo)) (after : length m.told.items ≤ place)
     (settled : IsSettledAt m.requests.entries place) (at : slice_get m.offers.items k ≡ Some o) (stage : o.stage ≡ Read r place) where
   abbrev pub es : List Request
   es = m.requests.entries
@@ -248,7 +248,7 @@ module _ (m : Machine) (place : ℕ) (todo : List ℕ) (k : ℕ) (o : Offer) (r 
           (is_judged m.cap es (place ∷ todo) o r place is_reading asked is_reading.next.there is_settled bytes has long n kept (joined front ++ joined back) v a (sym (joined_both front back)) judged))
 
       -- the next bytes are asked for
-      pub may_ask : (next : readings.Reading) → reading.Advances m.cap r bytes (Next next) → IsSafeToAsk m.cap es (key_of n) next
+      pub may_ask : (next : readings.ShareReading) → reading.Advances m.cap r bytes (Next next) → IsSafeToAsk m.cap es (key_of n) next
       may_ask next a =
           subst (λ (key : Pair). IsSafeToAsk m.cap es key next) (sym kept_key)
           (safe_next m.cap es (place ∷ todo) o r place is_reading asked is_reading.next.there is_settled bytes has long n kept next a (listed_at m (place ∷ todo) b k o at))
@@ -259,7 +259,7 @@ module _ (m : Machine) (place : ℕ) (todo : List ℕ) (k : ℕ) (o : Offer) (r 
         | inr le ↦ absurd (is_started (b.unread k o at le))
       ]
 
-      pub book_next : (next : readings.Reading) (now : ℕ) → reading.Advances m.cap r bytes (Next next)
+      pub book_next : (next : readings.ShareReading) (now : ℕ) → reading.Advances m.cap r bytes (Next next)
           → IsJudgedBy m.cap (more_front r bytes is_reading.front) (more_back r bytes is_reading.back) next n.judged
           → IsBook m.cap m.keeps (es ++ next_request n.server n.share next now ∷ []) m.told.items (m.owners.items ++ k ∷ []) (set m.offers.items k (with_stage (Read next (length es)) n)) m.begun todo
       book_next next now a judged =
@@ -276,7 +276,7 @@ module _ (m : Machine) (place : ℕ) (todo : List ℕ) (k : ℕ) (o : Offer) (r 
           (goes_on m.cap es (place ∷ todo) o r place is_reading asked is_reading.next.there is_settled bytes has long n kept todo next now a x kept.server kept.share refl refl refl refl judged))
 
       -- what was asked, beside the record and what is kept
-      module _ (new : Machine) (v : Vec Offer Global) (next : readings.Reading) (is : v.items ≡ set m.offers.items k n) (a : reading.Advances m.cap r bytes (Next next))
+      module _ (new : Machine) (v : Vec Offer Global) (next : readings.ShareReading) (is : v.items ≡ set m.offers.items k n) (a : reading.Advances m.cap r bytes (Next next))
           (judged : IsJudgedBy m.cap (more_front r bytes is_reading.front) (more_back r bytes is_reading.back) next n.judged)
           (room : ℕ) (asked_now : HasAsked (record m { offers = v; room = room }) k next n new) where
         pub taken_book : HasBook new todo
@@ -336,6 +336,6 @@ owned_at m todo place p k b low is e =
     (owner.offer, record { there = owner.there; request = owner.request; asks = ap (slice_get m.requests.entries) (sym here) ∙ owner.asks; about = owner.about })
 
 pub book_passed : (m : Machine) (place : ℕ) (todo : List ℕ) (k : ℕ) (o : Offer) → HasBook m (place ∷ todo) → length m.told.items ≤ place → IsOwned m place k o
-    → ((r : readings.Reading) → o.stage ≡ Read r place → ⊥) → HasBook m todo
+    → ((r : readings.ShareReading) → o.stage ≡ Read r place → ⊥) → HasBook m todo
 book_passed m place todo k o b low is other =
     book_done m.cap m.keeps m.requests.entries m.told.items m.owners.items m.offers.items m.begun place todo b low k o is.request is.there is.asks is.about other

@@ -17,7 +17,7 @@ use Rattle.share_reading.specs.OpeningReads.{Brought}
 use Rattle.share_reading.specs.Reading as reading
 use Rattle.share_reading.specs.Verdict.{IsVerdict, Settled, brought_of}
 use Rattle.share_reading.specs.Whole.{IsWhole, joined}
-use Rattle.share_reading.specs.declared.reading.Reading as readings
+use Rattle.share_reading.specs.declared.reading.ShareReading as readings
 use Rattle.checker.specs.Offers.{key_of}
 use Rattle.checker.specs.Shares.{settled_of}
 use Rattle.checker.specs.Book.{AreReadAt, IsAbout, IsAt, IsHeld, IsNext, IsOffer, IsReadAt, IsReadOnlyAt, IsReading}
@@ -59,7 +59,7 @@ only_goes es ns todo key places goes only i n there about =
     let was = was_at es ns todo goes i n there in
     only i was.request was.there (about_same key was.request n was.server was.asked about)
 
-next_goes : (es ns : List Request) (todo : List ℕ) (key : Pair) (place : ℕ) (r : readings.Reading) → GoesTo es ns todo → IsNext es [] key place r → IsNext ns todo key place r
+next_goes : (es ns : List Request) (todo : List ℕ) (key : Pair) (place : ℕ) (r : readings.ShareReading) → GoesTo es ns todo → IsNext es [] key place r → IsNext ns todo key place r
 next_goes es ns todo key place r goes is =
     let becomes = goes.each place is.request is.there in
     record {
@@ -179,7 +179,7 @@ offer_push cap es new todo o waits other is = at_push cap es new todo o o.stage 
 
 -- ---- what is taken in of another share
 
-at_done : (cap : VerifyCapValue) (es : List Request) (todo : List ℕ) (done : ℕ) (o : Offer) (s : Stage) → ((r : readings.Reading) → s ≡ Read r done → ⊥)
+at_done : (cap : VerifyCapValue) (es : List Request) (todo : List ℕ) (done : ℕ) (o : Offer) (s : Stage) → ((r : readings.ShareReading) → s ≡ Read r done → ⊥)
     → IsAt cap es (done ∷ todo) o s → IsAt cap es todo o s
 at_done cap es todo done o Waiting other is = is
 at_done cap es todo done o (Read r place) other is = record {
@@ -207,12 +207,12 @@ at_done cap es todo done o (Read r place) other is = record {
 }
 at_done cap es todo done o (Ended v) other is = is
 
-pub offer_done : (cap : VerifyCapValue) (es : List Request) (todo : List ℕ) (done : ℕ) (o : Offer) → ((r : readings.Reading) → o.stage ≡ Read r done → ⊥)
+pub offer_done : (cap : VerifyCapValue) (es : List Request) (todo : List ℕ) (done : ℕ) (o : Offer) → ((r : readings.ShareReading) → o.stage ≡ Read r done → ⊥)
     → IsOffer cap es (done ∷ todo) o → IsOffer cap es todo o
 offer_done cap es todo done o other is = at_done cap es todo done o o.stage other is
 
 -- a share that waits for the answer to a request is what that is about
-pub waits_about : (cap : VerifyCapValue) (es : List Request) (todo : List ℕ) (o : Offer) (r : readings.Reading) (place : ℕ) (q : Request) → IsReading cap es todo o r place
+pub waits_about : (cap : VerifyCapValue) (es : List Request) (todo : List ℕ) (o : Offer) (r : readings.ShareReading) (place : ℕ) (q : Request) → IsReading cap es todo o r place
     → slice_get es place ≡ Some q → IsAbout (key_of o) q
 waits_about cap es todo o r place q is there =
     let same : is.next.request ≡ q = same_Some is.next.request q (sym is.next.there ∙ there) in
@@ -228,7 +228,7 @@ offer_other cap es todo done o q there other is =
 -- ---- its request is answered
 
 -- the request of the next bytes waits no more, and is the only one of it that brought no bytes so far
-module _ (cap : VerifyCapValue) (es : List Request) (todo : List ℕ) (o : Offer) (r : readings.Reading) (place : ℕ) (is : IsReading cap es todo o r place)
+module _ (cap : VerifyCapValue) (es : List Request) (todo : List ℕ) (o : Offer) (r : readings.ShareReading) (place : ℕ) (is : IsReading cap es todo o r place)
     (q : Request) (there : slice_get es place ≡ Some q) (settled : is_outstanding q.outcome ≡ false) where
   pub same_next : is.next.request ≡ q
   same_next = same_Some is.next.request q (sym is.next.there ∙ there)

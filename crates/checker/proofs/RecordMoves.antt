@@ -29,7 +29,7 @@ use Rattle.share_reading.specs.OpeningReads.{Brought}
 use Rattle.share_reading.specs.Reading as reading
 use Rattle.share_reading.specs.Reads.{IsAsked}
 use Rattle.share_reading.specs.Verdict.{Settled, brought_of}
-use Rattle.share_reading.specs.declared.reading.Reading as readings
+use Rattle.share_reading.specs.declared.reading.ShareReading as readings
 use Rattle.share_reading.proofs.VerdictLemmas.{brought_from, brought_has}
 use Rattle.checker.specs.Book.{AsksOrReads, IsBrought}
 use Rattle.checker.specs.Right.{AreOfShares}
@@ -319,7 +319,7 @@ may_more cap es ns more server (Closing n) may = absurd may
 may_more cap es ns more server (Reading n offset len) may = more (server, n) may
 may_more cap es ns more server (Aborting n) may = absurd may
 
-pub once_next : (cap : VerifyCapValue) (es : List Request) (key : Pair) (r : readings.Reading) (now : ℕ) → IsSafeToAsk cap es key r → AsksOnce es → AsksOnce (es ++ next_request key.0 key.1 r now ∷ [])
+pub once_next : (cap : VerifyCapValue) (es : List Request) (key : Pair) (r : readings.ShareReading) (now : ℕ) → IsSafeToAsk cap es key r → AsksOnce es → AsksOnce (es ++ next_request key.0 key.1 r now ∷ [])
 once_next cap es key r now safe once =
     once_asked key.0 now (Reading key.1 (reading.next_place r) (reading.next_length r)) es
     (λ i x there server. apart_none x.asked key.1 (reading.next_place r) (reading.next_length r)
@@ -330,7 +330,7 @@ abbrev IsAskedAs : VerifyCapValue → List Request → ℕ → Asked → Type 0
 IsAskedAs cap es server (Reading n place count) = IsAsked cap (brought_of (settled_of es server n)) place count
 IsAskedAs cap es server a = ⊥
 
-pub shares_next : (cap : VerifyCapValue) (es : List Request) (key : Pair) (r : readings.Reading) (now : ℕ) → IsSafeToAsk cap es key r → AreOfShares cap es → AreOfShares cap (es ++ next_request key.0 key.1 r now ∷ [])
+pub shares_next : (cap : VerifyCapValue) (es : List Request) (key : Pair) (r : readings.ShareReading) (now : ℕ) → IsSafeToAsk cap es key r → AreOfShares cap es → AreOfShares cap (es ++ next_request key.0 key.1 r now ∷ [])
 shares_next cap es key r now safe are i x share offset len there asked =
     let new = next_request key.0 key.1 r now in
     subst (λ (l : List Settled). IsAsked cap (brought_of l) offset len) (sym (settled_push es (x.server, share) new refl))

@@ -16,7 +16,7 @@ use Rattle.request_record.specs.declared.requests.Outcome.TheVariants.{Answered,
 use Rattle.request_record.specs.declared.requests.Request.{Request}
 use Rattle.share_reading.specs.OpeningReads.{Brought}
 use Rattle.share_reading.specs.Reading as reading
-use Rattle.share_reading.specs.declared.reading.Reading as readings
+use Rattle.share_reading.specs.declared.reading.ShareReading as readings
 use Rattle.share_reading.specs.Judged.{IsJudgedBy}
 use Rattle.share_reading.specs.Reads.{IsReadBy}
 use Rattle.share_reading.specs.Verdict.{IsVerdict, brought_of}
@@ -67,7 +67,7 @@ IsReadOnlyAt entries key places =
 
 -- the request at a place asks for the next bytes, and waits, or is to be taken in
 pub record IsNext (entries : List Request) (todo : List ℕ) (key : Pair) (place : ℕ)
-    (r : readings.Reading) : Type 0 where
+    (r : readings.ShareReading) : Type 0 where
   pub request : Request
   pub there : slice_get entries place ≡ Some request
   pub server : request.server ≡ key.0
@@ -77,7 +77,7 @@ pub record IsNext (entries : List Request) (todo : List ℕ) (key : Pair) (place
 -- it is read so far, by requests that brought these bytes, which are judged, and kept where bytes
 -- are kept
 pub record IsReading (cap : VerifyCapValue) (entries : List Request) (todo : List ℕ) (o : Offer)
-    (r : readings.Reading) (place : ℕ) : Type 0 where
+    (r : readings.ShareReading) (place : ℕ) : Type 0 where
   pub front : List Brought
   pub back : List Brought
   pub led : IsReadBy cap front back r
@@ -261,7 +261,7 @@ pub record HasEnded (old : Machine) (k : ℕ) (v : Verdict) (o : Offer) (new : M
   pub ended : IsEndedBy v o offer
 
 -- the next bytes of a share are asked for
-pub record HasAsked (old : Machine) (k : ℕ) (r : readings.Reading) (o : Offer) (new : Machine)
+pub record HasAsked (old : Machine) (k : ℕ) (r : readings.ShareReading) (o : Offer) (new : Machine)
     : Type 0 where
   pub cap : new.cap ≡ old.cap
   pub keeps : new.keeps ≡ old.keeps
@@ -281,7 +281,7 @@ pub record AsksNothing (old new : Machine) : Type 0 where
   pub requests : new.requests ≡ old.requests
 
 -- the share waits for the answer to the request at a place
-pub record AwaitsAt (m : Machine) (k place : ℕ) (r : readings.Reading) : Type 0 where
+pub record AwaitsAt (m : Machine) (k place : ℕ) (r : readings.ShareReading) : Type 0 where
   pub offer : Offer
   pub there : slice_get m.offers.items k ≡ Some offer
   pub stage : offer.stage ≡ Read r place

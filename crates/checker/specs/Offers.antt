@@ -9,8 +9,8 @@ use Rattle.share_reading.specs.Reading.{is_behind}
 use Rattle.share_reading.specs.Reads.{IsReadBy}
 use Rattle.share_reading.specs.declared.judged.Found.{Found}
 use Rattle.share_reading.specs.declared.judged.Judged.{Judged}
-use Rattle.share_reading.specs.declared.reading.Reading.{Reading}
-use Rattle.share_reading.specs.declared.reading.Reading.TheVariants.{Beginning}
+use Rattle.share_reading.specs.declared.reading.ShareReading.{ShareReading}
+use Rattle.share_reading.specs.declared.reading.ShareReading.TheVariants.{Beginning}
 use Rattle.share_reading.specs.declared.verdict.Verdict.{Verdict}
 use Rattle.share_reading.specs.declared.verdict.Verdict.TheVariants as verdicts
 use Rattle.checker.specs.Pieces.{HasAdded, IsEmpty}
@@ -37,7 +37,7 @@ pub record IsNew (keeps : Bool) (o : Offer) : Type 0 where
   pub stage : o.stage ≡ Waiting
 
 -- the same offer, with one more request that brought its bytes
-pub record IsKeptBy (reading : Reading) (place : ℕ) (bytes : List ℕ) (old new : Offer)
+pub record IsKeptBy (reading : ShareReading) (place : ℕ) (bytes : List ℕ) (old new : Offer)
     : Type 0 where
   pub server : new.server ≡ old.server
   pub share : new.share ≡ old.share
@@ -48,7 +48,7 @@ pub record IsKeptBy (reading : Reading) (place : ℕ) (bytes : List ℕ) (old ne
   pub pieces : HasAdded (is_behind reading) bytes old.pieces new.pieces
 
 -- what comes of the bytes that the request at a place brought, which the reading asked for next
-pub record IsTaken (cap : VerifyCapValue) (reading : Reading) (place : ℕ) (bytes : List ℕ)
+pub record IsTaken (cap : VerifyCapValue) (reading : ShareReading) (place : ℕ) (bytes : List ℕ)
     (found : Found) (old new : Offer) : Type 0 where
   pub kept : IsKeptBy reading place bytes old new
   pub comes : Comes cap reading bytes found

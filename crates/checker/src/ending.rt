@@ -10,7 +10,7 @@ ghost use Rattle.checker.specs.declared.status.CheckStatus.TheVariants.{Failed};
 use crate::offers::end;
 use crate::state::Machine;
 use crate::status::CheckStatus;
-use share_reading::{Reading, Verdict};
+use share_reading::{ShareReading, Verdict};
 use std::alloc::AllocError;
 
 /// How many requests may wait at once beside one for each server.
@@ -66,7 +66,7 @@ impl Machine {
         ensures less { OnOk result ((self.new.begun ≡ self.old.begun + 1)
             × (length self.new.offers.items ≡ length self.old.offers.items)) }
     {
-        self.ask(self.begun, &Reading::start())?;
+        self.ask(self.begun, &ShareReading::start())?;
         self.begun += 1;
         self.reading = self.reading.saturating_add(1);
         Ok(())

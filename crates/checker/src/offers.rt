@@ -4,13 +4,13 @@ ghost use Rattle.std.specs.Prelude.{◌≡◌, ◌<◌, ◌∷◌, ◌++◌, [],
 ghost use Rattle.std.specs.Prelude.{IfNone, IfOk, IfSome, OnOk, if◌then◌else◌};
 ghost use Rattle.share_reading.specs.Judged.{IsUnderway};
 ghost use Rattle.share_reading.specs.Reading.{is_behind};
-ghost use Rattle.share_reading.specs.declared.reading.Reading.{Reading};
+ghost use Rattle.share_reading.specs.declared.reading.ShareReading.{ShareReading};
 ghost use Rattle.checker.specs.Offers.{IsEndedBy, IsNew, IsTaken, with_stage};
 ghost use Rattle.checker.specs.declared.offers.Offer.{Offer};
 
 use crate::pieces::Pieces;
 use cap_text::VerifyCap;
-use share_reading::{Found, Judged, Reading, Verdict};
+use share_reading::{Found, Judged, ShareReading, Verdict};
 use std::alloc::{AllocError, Global};
 use wire::message::NodeId;
 
@@ -20,7 +20,7 @@ pub(crate) enum Stage {
     /// It is not begun.
     Waiting,
     /// It is read so far, and the request at this place asks for its next bytes.
-    Read(Reading, usize),
+    Read(ShareReading, usize),
     /// Its verdict is found.
     Ended(Verdict),
 }
@@ -67,7 +67,7 @@ impl Offer {
     pub(crate) fn take(
         &mut self,
         cap: &VerifyCap,
-        reading: &Reading,
+        reading: &ShareReading,
         place: usize,
         bytes: &[u8],
     ) -> Result<Found, AllocError>
@@ -84,7 +84,7 @@ impl Offer {
     }
 
     // Takes note of the request that brought the bytes that the reading asked for.
-    fn note(&mut self, reading: &Reading, place: usize) -> Result<(), AllocError>
+    fn note(&mut self, reading: &ShareReading, place: usize) -> Result<(), AllocError>
         ensures front { OnOk result (self.new.front.items ≡ (if is_behind reading.now
             then self.old.front.items else self.old.front.items ++ place ∷ [])) }
         ensures back { OnOk result (self.new.back.items ≡ (if is_behind reading.now
@@ -114,9 +114,9 @@ impl Offer {
 }
 
 /// How far a share is read whose next bytes the request at this place asks for.
-pub(crate) fn reading_at(stage: &Stage, place: usize) -> Option<Reading>
+pub(crate) fn reading_at(stage: &Stage, place: usize) -> Option<ShareReading>
     ensures some { IfSome result (λ reading. stage.now ≡ Stage.Read reading place) }
-    ensures none { IfNone result ((reading : Reading) → stage.now ≡ Stage.Read reading place
+    ensures none { IfNone result ((reading : ShareReading) → stage.now ≡ Stage.Read reading place
         → ⊥) }
 {
     match stage {
@@ -132,7 +132,7 @@ pub(crate) fn reading_at(stage: &Stage, place: usize) -> Option<Reading>
 }
 
 /// The request at this place asks for the next bytes of a share.
-pub(crate) fn wait(offers: &mut Vec<Offer>, offer: usize, reading: &Reading, place: usize)
+pub(crate) fn wait(offers: &mut Vec<Offer>, offer: usize, reading: &ShareReading, place: usize)
     requires { offer < vec_len offers.old }
     ensures { (o : Offer) → slice_get offers.old.items offer ≡ Some o → offers.new.items
         ≡ slice_set offers.old.items offer (with_stage (Stage.Read reading.now place) o) }

@@ -20,7 +20,7 @@ use crate::offers::{Offer, reading_at, wait};
 use crate::state::{Machine, Told, is_running};
 use crate::status::CheckStatus;
 use request_record::requests::{Asked, Outcome};
-use share_reading::{Found, Reading, Verdict};
+use share_reading::{Found, ShareReading, Verdict};
 use std::alloc::{AllocError, Global};
 use wire::message::{Body, HeldShare, Message, NodeId, ReadLength};
 
@@ -166,7 +166,7 @@ impl Machine {
     fn take_answer(
         &mut self,
         offer: usize,
-        reading: &Reading,
+        reading: &ShareReading,
         place: usize,
         bytes: Option<Vec<u8>>,
     ) -> Result<(), AllocError>
@@ -203,7 +203,7 @@ impl Machine {
     }
 
     /// Asks for the next bytes of a share.
-    pub(crate) fn ask(&mut self, offer: usize, reading: &Reading) -> Result<(), AllocError>
+    pub(crate) fn ask(&mut self, offer: usize, reading: &ShareReading) -> Result<(), AllocError>
         requires { offer < length self.old.offers.items }
         ensures ok { OnOk result ((o : Offer) → slice_get self.old.offers.items offer ≡ Some o
             → HasAsked self.old offer reading.now o self.new) }
@@ -222,10 +222,12 @@ impl Machine {
 
 // How many shares may be read at once, where the reading of one goes on so: one at least, and as
 // many as can be judged at once, once an extension block was read, which is that of each.
-fn room_after(room: usize, next: &Reading) -> usize {
+fn room_after(room: usize, next: &ShareReading) -> usize {
     match next {
-        Reading::Beginning(_) => room,
-        Reading::Remaining(rest) => (JUDGED_AT_ONCE / rest.judging_size().max(1)).max(1) as usize,
+        ShareReading::Beginning(_) => room,
+        ShareReading::Remaining(rest) => (JUDGED_AT_ONCE / rest.judging_size().max(1)).max(
+            1,
+        ) as usize,
     }
 }
 

@@ -73,9 +73,9 @@ module _ (IsOne : List ℕ → Type 0) (no_clash : HasNoClashIn IsOne) (entries 
     mine : IsReaderOf old r
     mine = right.readers reader r there
 
-    block_tree_own : (t : PartialState) → r.source.tree ≡ Some t → KnowsTree t (own_leaves g s)
+    block_tree_own : (t : PartialState) → r.supply.tree ≡ Some t → KnowsTree t (own_leaves g s)
     block_tree_own t is =
-        let tree = subst (λ (o : Option PartialState). IfSome o (λ p. IsBlockTree p (segment_count r.source.geometry))) is mine.source.leads in
+        let tree = subst (λ (o : Option PartialState). IfSome o (λ p. IsBlockTree p (segment_count r.supply.geometry))) is mine.supply.leads in
         let told : known_leaf old.handout.trees.shares r.share ≡ Some t.root = subst (λ (o : Option PartialState). IfSome o (λ p. known_leaf old.handout.trees.shares r.share ≡ Some p.root)) is mine.root in
         let count : old.handout.trees.shares.leaf_count ≡ length shares = right.handout.trees.shares.leaves ∙ ap (λ (k : Geometry). share_places k.total) geometry_is ∙ sym own_then.count in
         let room = height_room g.total in
@@ -83,7 +83,7 @@ module _ (IsOne : List ℕ → Type 0) (no_clash : HasNoClashIn IsOne) (entries 
         let own_count = own_then.count in
         let root : t.root ≡ get_or shares r.share [] = known_leaf_is old.handout.trees.shares shares r.share t.root count share_tree_own (omega (arith, room, low, own_count)) told in
         let now = same.readers reader r there in
-        let stays = now.source.tree t is in
+        let stays = now.supply.tree t is in
         known_is_own IsOne no_clash t (own_leaves g s) tree.leads.sound tree.hashes
         (tree.leads.leaves ∙ ap segment_count mine.geometry ∙ sym (length-block_hashes (segment_count g) (block_size g) s.blocks))
         own_then.block_tree.hashes

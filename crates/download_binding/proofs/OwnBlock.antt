@@ -12,7 +12,7 @@ use Rattle.share_layout.specs.Share.{Sections}
 use Rattle.share_layout.proofs.ShareLemmas.{parts_of}
 use Rattle.download_parts.specs.Plan.{block_place, data_end, data_place}
 use Rattle.download_parts.proofs.PartLemmas.{data_before, data_begins, data_more, data_rest, data_rise, data_rises}
-use Rattle.download_source.specs.Blocks.{block_end, block_first, block_offset}
+use Rattle.download_supply.specs.Blocks.{block_end, block_first, block_offset}
 use Rattle.download_binding.specs.OwnParts.{OwnPiecesJoin}
 use Rattle.download_binding.proofs.OwnPieces.{slice_part}
 

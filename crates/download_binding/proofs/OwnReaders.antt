@@ -29,10 +29,10 @@ use Rattle.download_parts.specs.declared.part.Part.TheVariants.{ShareHashes, Blo
 use Rattle.download_parts.specs.Offers.{nodes_offered, share_hashes_offered}
 use Rattle.download_parts.specs.Refusal.{IsHashesRefusal}
 use Rattle.download_parts.specs.Trees.{FileTreesState, IsBlockTree, known_leaf, share_places}
-use Rattle.download_source.specs.Asking.{IsReadOf}
-use Rattle.download_source.specs.Blocks.{block_end, block_first}
-use Rattle.download_source.specs.Source.{IsSource, SourceState, first_of}
-use Rattle.download_source.proofs.PlanLemmas.{block_order}
+use Rattle.download_supply.specs.Asking.{IsReadOf}
+use Rattle.download_supply.specs.Blocks.{block_end, block_first}
+use Rattle.download_supply.specs.Supply.{IsSupply, SupplyState, first_of}
+use Rattle.download_supply.proofs.PlanLemmas.{block_order}
 use Rattle.download_file.specs.Answers.{HoldsFor, answer_at, block_of}
 use Rattle.download_file.specs.Right.{IsFile}
 use Rattle.download_file.specs.State.{FileState, ReaderState}
@@ -61,7 +61,7 @@ known_leaf_is t leaves leaf hash count knows inside is =
     ∙ node-leaf m (padded leaves) leaf
     ∙ padded_to-leaf (2 ^ m) leaves leaf inside
 
-module _ (entries : List Request) (server num : ℕ) (s : SourceState) (share : List ℕ) (sections : Sections) (source : IsSource s) (holds : HoldsFor entries server num s)
+module _ (entries : List Request) (server num : ℕ) (s : SupplyState) (share : List ℕ) (sections : Sections) (supply : IsSupply s) (holds : HoldsFor entries server num s)
     (own : AnswersOwn entries server num share) (of : IsShare s.geometry num share sections) where
   own_piece : (k : ℕ) → k < length s.held → answer_at entries (get_or s.held k 0) ≡ own_part s.geometry s.first s.end share (Data k)
   own_piece k low =
@@ -79,7 +79,7 @@ module _ (entries : List Request) (server num : ℕ) (s : SourceState) (share : 
       let f : ℕ → List ℕ = answer_at entries in
       let long : length places ≡ b - a = length-take-le (b - a) (drop a s.held) (omega (arith, length-drop a s.held, within)) in
       let count : length (map f places) ≡ b - a = length-map places f ∙ long in
-      own_pieces_join s.geometry s.first s.end number num share sections (map f places) source.range from before of count
+      own_pieces_join s.geometry s.first s.end number num share sections (map f places) supply.range from before of count
       (λ k low.
       let few : k < b - a = omega (arith, low, count) in
       get_or-map f places k 0 [] (omega (arith, few, long))
@@ -91,17 +91,17 @@ own_blocks_are_right entries f reader share s is reads wrong own of knows =
     let r = wrong.r in
     let mine = is.readers reader r wrong.there in
     let g : Geometry = f.handout.geometry in
-    let same : r.source.geometry ≡ g = mine.geometry in
-    let here : IsShare r.source.geometry r.share share s = subst (λ (h : Geometry). IsShare h r.share share s) (sym same) of in
+    let same : r.supply.geometry ≡ g = mine.geometry in
+    let here : IsShare r.supply.geometry r.share share s = subst (λ (h : Geometry). IsShare h r.share share s) (sym same) of in
     let held = wrong.held in
     let number : ℕ = wrong.number in
-    let block = own_block entries r.server r.share r.source share s mine.source (reads.held reader r wrong.there) own here number held.within.from held.within.before held.pieces in
-    let leads = (subst (λ (o : Option PartialState). IfSome o (λ t. IsBlockTree t (segment_count r.source.geometry))) wrong.is mine.source.leads).leads in
+    let block = own_block entries r.server r.share r.supply share s mine.supply (reads.held reader r wrong.there) own here number held.within.from held.within.before held.pieces in
+    let leads = (subst (λ (o : Option PartialState). IfSome o (λ t. IsBlockTree t (segment_count r.supply.geometry))) wrong.is mine.supply.leads).leads in
     let n : ℕ = segment_count g in
     let leaves : List (List ℕ) = own_leaves g s in
     let count : length leaves ≡ n = length-block_hashes n (block_size g) s.blocks in
     let before = held.within.before in
-    let within = mine.source.range.within in
+    let within = mine.supply.range.within in
     let inside : number < n = subst (λ (h : Geometry). number < segment_count h) same (omega (arith, before, within)) in
     let leaf = known_leaf_is wrong.tree leaves number wrong.refuted.leaf (leads.leaves ∙ ap segment_count same ∙ sym count) knows (omega (arith, inside, count)) wrong.refuted.known in
     wrong.refuted.differs (leaf ∙ get_or-block_hashes n (block_size g) s.blocks number inside ∙ ap (λ (h : Geometry). tagged_hash Block (block_at h number s.blocks)) (sym same) ∙ ap (tagged_hash Block) (sym block))
@@ -112,12 +112,12 @@ abbrev IsNotConsistentFor : PartialState → Nodes → List ℕ → Type 0
 IsNotConsistentFor t n bytes = IsNotConsistent t (nodes_offered n bytes)
 
 -- the part is the first that waits
-first_read : (r : ReaderState) (first : Waiting) (others : List Waiting) → r.waiting ≡ first ∷ others → All (λ w. IsReadOf r.source w.wanted) r.waiting → IsReadOf r.source first.wanted
+first_read : (r : ReaderState) (first : Waiting) (others : List Waiting) → r.waiting ≡ first ∷ others → All (λ w. IsReadOf r.supply w.wanted) r.waiting → IsReadOf r.supply first.wanted
 first_read r first others waits all =
-    All-contains (λ w. IsReadOf r.source w.wanted) (first ∷ others) first (subst (λ (ws : List Waiting). All (λ w. IsReadOf r.source w.wanted) ws) waits all) (contains_head first others)
+    All-contains (λ w. IsReadOf r.supply w.wanted) (first ∷ others) first (subst (λ (ws : List Waiting). All (λ w. IsReadOf r.supply w.wanted) ws) waits all) (contains_head first others)
 
-module _ (f : FileState) (r : ReaderState) (share : List ℕ) (s : Sections) (segments shares : List (List ℕ)) (is : IsFile f) (source : IsSource r.source)
-    (same : r.source.geometry ≡ f.handout.geometry) (start : r.source.start ≡ f.first) (end : r.source.end ≡ f.end) (number : r.share < f.handout.geometry.total)
+module _ (f : FileState) (r : ReaderState) (share : List ℕ) (s : Sections) (segments shares : List (List ℕ)) (is : IsFile f) (supply : IsSupply r.supply)
+    (same : r.supply.geometry ≡ f.handout.geometry) (start : r.supply.start ≡ f.first) (end : r.supply.end ≡ f.end) (number : r.share < f.handout.geometry.total)
     (own : IsOwnShare f.handout.geometry r.share share s segments shares) (knows : KnowsOwn f.handout r s segments shares) where
   abbrev g : Geometry
   g = f.handout.geometry
@@ -154,49 +154,49 @@ module _ (f : FileState) (r : ReaderState) (share : List ℕ) (s : Sections) (se
   no_hashes_refusal checks.BlockTree refused = refused
   no_hashes_refusal checks.Data refused = refused
 
-  no_refusal : (part : Part) (bytes : List ℕ) (check : Check) → IsPart r.source.geometry (first_of r.source part) r.source.end part
-      → bytes ≡ own_part r.source.geometry (first_of r.source part) r.source.end share part → KnowsProof f.handout f.first f.end r part
+  no_refusal : (part : Part) (bytes : List ℕ) (check : Check) → IsPart r.supply.geometry (first_of r.supply part) r.supply.end part
+      → bytes ≡ own_part r.supply.geometry (first_of r.supply part) r.supply.end share part → KnowsProof f.handout f.first f.end r part
       → RefutesPart f.handout f.first f.end r part bytes check → ⊥
   no_refusal ShareHashes bytes check there mine proof refused =
       let here : bytes ≡ s.share_hashes = mine ∙ ap (λ (h : Geometry). own_part h f.first f.end share ShareHashes) same ∙ own_hashes in
       no_hashes_refusal check (subst (λ (l : List ℕ). IsHashesRefusal trees r.share l check) here refused)
   no_refusal (BlockTree p) bytes check there mine proof refused =
       let piece = refused.1 in
-      let leads = (subst (λ (o : Option PartialState). IfSome o (λ t. IsBlockTree t (segment_count r.source.geometry))) piece.is source.leads).leads in
-      let h : Geometry = r.source.geometry in
+      let leads = (subst (λ (o : Option PartialState). IfSome o (λ t. IsBlockTree t (segment_count r.supply.geometry))) piece.is supply.leads).leads in
+      let h : Geometry = r.supply.geometry in
       let of : IsShare h r.share share s = subst (λ (k : Geometry). IsShare k r.share share s) (sym same) own.is in
       let leaves : List (List ℕ) = own_leaves g s in
       let holds : HoldsLeaves h s.block_tree leaves = record {
         count = length-block_hashes (segment_count g) (block_size g) s.blocks ∙ ap segment_count (sym same);
         holds = own.block_tree;
       } in
-      let goes = (own_pieces_go_on h r.source.first r.source.end r.share share s p leaves source.range there of).0 holds in
+      let goes = (own_pieces_go_on h r.supply.first r.supply.end r.share share s p leaves supply.range there of).0 holds in
       goes.go_on piece.tree leads.sound leads.leaves (knows.block_tree piece.tree piece.is) (proof piece.tree piece.is)
-      (subst (λ (l : List ℕ). IsNotConsistentFor piece.tree (nodes_of h r.source.first r.source.end p) l) mine piece.refuted)
+      (subst (λ (l : List ℕ). IsNotConsistentFor piece.tree (nodes_of h r.supply.first r.supply.end p) l) mine piece.refuted)
   no_refusal (CiphertextTree p) bytes check there mine proof refused =
-      let moved : own_part r.source.geometry r.source.start r.source.end share (CiphertextTree p) ≡ own_part g f.first f.end share (CiphertextTree p) =
+      let moved : own_part r.supply.geometry r.supply.start r.supply.end share (CiphertextTree p) ≡ own_part g f.first f.end share (CiphertextTree p) =
       λ i. own_part (same i) (start i) (end i) share (CiphertextTree p) in
       let piece : IsNodePiece g f.first f.end p =
       subst (λ (k : Geometry). IsNodePiece k f.first f.end p) same
-      (subst (λ (n : ℕ). IsNodePiece r.source.geometry n f.end p) start (subst (λ (n : ℕ). IsNodePiece r.source.geometry r.source.start n p) end there)) in
+      (subst (λ (n : ℕ). IsNodePiece r.supply.geometry n f.end p) start (subst (λ (n : ℕ). IsNodePiece r.supply.geometry r.supply.start n p) end there)) in
       let goes = (own_pieces_go_on g f.first f.end r.share share s p segments is.range piece own.is).1 own.ciphertext in
       let count : trees.ciphertext.leaf_count ≡ segment_count g = is.handout.trees.ciphertext.leaves ∙ ap segment_count is.handout.roots.geometry in
       goes.go_on trees.ciphertext is.handout.trees.ciphertext.sound count knows.ciphertext proof
       (subst (λ (l : List ℕ). IsNotConsistentFor trees.ciphertext (nodes_of g f.first f.end p) l) (mine ∙ moved) refused.1)
   no_refusal (Data i) bytes check there mine proof refused = refused
 
-whole_range : (s : SourceState) → IsSource s → IsRange s.geometry s.start s.end
+whole_range : (s : SupplyState) → IsSupply s → IsRange s.geometry s.start s.end
 whole_range s is =
     let begins = is.begins in
     let some = is.range.some in
     record { valid = is.range.valid; some = omega (arith, begins, some); within = is.range.within }
 
-long : (r : ReaderState) (part : Part) (share : List ℕ) (s : Sections) → IsSource r.source → IsPart r.source.geometry (first_of r.source part) r.source.end part → IsShare r.source.geometry r.share share s
-    → length (own_part r.source.geometry (first_of r.source part) r.source.end share part) ≡ length_of r.source.geometry (first_of r.source part) r.source.end part
-long r ShareHashes share s is there of = own_parts_have_lengths r.source.geometry r.source.first r.source.end r.share share s ShareHashes is.range there of
-long r (BlockTree p) share s is there of = own_parts_have_lengths r.source.geometry r.source.first r.source.end r.share share s (BlockTree p) is.range there of
-long r (CiphertextTree p) share s is there of = own_parts_have_lengths r.source.geometry r.source.start r.source.end r.share share s (CiphertextTree p) (whole_range r.source is) there of
-long r (Data i) share s is there of = own_parts_have_lengths r.source.geometry r.source.first r.source.end r.share share s (Data i) is.range there of
+long : (r : ReaderState) (part : Part) (share : List ℕ) (s : Sections) → IsSupply r.supply → IsPart r.supply.geometry (first_of r.supply part) r.supply.end part → IsShare r.supply.geometry r.share share s
+    → length (own_part r.supply.geometry (first_of r.supply part) r.supply.end share part) ≡ length_of r.supply.geometry (first_of r.supply part) r.supply.end part
+long r ShareHashes share s is there of = own_parts_have_lengths r.supply.geometry r.supply.first r.supply.end r.share share s ShareHashes is.range there of
+long r (BlockTree p) share s is there of = own_parts_have_lengths r.supply.geometry r.supply.first r.supply.end r.share share s (BlockTree p) is.range there of
+long r (CiphertextTree p) share s is there of = own_parts_have_lengths r.supply.geometry r.supply.start r.supply.end r.share share s (CiphertextTree p) (whole_range r.supply is) there of
+long r (Data i) share s is there of = own_parts_have_lengths r.supply.geometry r.supply.first r.supply.end r.share share s (Data i) is.range there of
 
 pub own_bytes_are_taken : OwnBytesAreTaken
 own_bytes_are_taken f reader bytes check share s segments shares is live refused own knows mine =
@@ -206,10 +206,10 @@ own_bytes_are_taken f reader bytes check share s segments shares is live refused
     let read = first_read r w refused.others refused.waits (is.live.reads reader r live refused.there) in
     let part : Part = w.wanted.part in
     let proof = first_parts_are_proved f reader r w refused.others is live refused.there refused.waits in
-    let here : bytes ≡ own_part r.source.geometry (first_of r.source part) r.source.end share part = mine ∙ (λ i. take (read.length i) (drop (read.place i) share)) in
+    let here : bytes ≡ own_part r.supply.geometry (first_of r.supply part) r.supply.end share part = mine ∙ (λ i. take (read.length i) (drop (read.place i) share)) in
     elim refused.why [
       | inl other ↦
-          let moved : IsShare r.source.geometry r.share share s = subst (λ (h : Geometry). IsShare h r.share share s) (sym reads.geometry) own.is in
-          other.1 (ap length here ∙ long r part share s reads.source read.part moved ∙ sym read.length)
-      | inr part_of ↦ no_refusal f r share s segments shares is reads.source reads.geometry reads.start reads.end reads.share own knows part bytes check read.part here proof part_of.1
+          let moved : IsShare r.supply.geometry r.share share s = subst (λ (h : Geometry). IsShare h r.share share s) (sym reads.geometry) own.is in
+          other.1 (ap length here ∙ long r part share s reads.supply read.part moved ∙ sym read.length)
+      | inr part_of ↦ no_refusal f r share s segments shares is reads.supply reads.geometry reads.start reads.end reads.share own knows part bytes check read.part here proof part_of.1
     ]

@@ -13,8 +13,8 @@ use Rattle.download_parts.specs.Range.{IsRange}
 use Rattle.download_parts.specs.declared.part.NodePiece.{NodePiece}
 use Rattle.download_parts.specs.declared.part.Part.{Part}
 use Rattle.download_parts.specs.declared.part.Part.TheVariants.{BlockTree, CiphertextTree, Data}
-use Rattle.download_source.specs.Blocks.{block_end, block_first, joined_block}
-use Rattle.download_source.specs.Upper.{KnowsTops}
+use Rattle.download_supply.specs.Blocks.{block_end, block_first, joined_block}
+use Rattle.download_supply.specs.Upper.{KnowsTops}
 use Rattle.download_parts.specs.Offers.{nodes_offered}
 
 -- the share's own bytes of a part of the plan for the segments `a` to before `b`

@@ -39,7 +39,7 @@ pub record IsOwnShare (g : Geometry) (num : ℕ) (share : List ℕ) (s : Section
 -- all that is known of the three trees are nodes of the share's
 pub record KnowsOwn (h : HandoutState) (r : ReaderState) (s : Sections)
     (segments shares : List (List ℕ)) : Type 0 where
-  pub block_tree : (t : PartialState) → r.source.tree ≡ Some t
+  pub block_tree : (t : PartialState) → r.supply.tree ≡ Some t
       → KnowsTree t (own_leaves h.geometry s)
   pub ciphertext : KnowsTree h.trees.ciphertext segments
   pub share_tree : KnowsTree h.trees.shares shares

@@ -8,7 +8,7 @@ use Rattle.download_parts.specs.Plan.{IsNodePiece, nodes_of}
 use Rattle.download_parts.specs.Range.{IsRange}
 use Rattle.download_parts.specs.declared.part.NodePiece.{NodePiece}
 use Rattle.download_parts.specs.Offers.{nodes_offered, share_hashes_offered}
-use Rattle.download_source.specs.Upper.{KnowsTops}
+use Rattle.download_supply.specs.Upper.{KnowsTops}
 
 -- a law: what the bytes of a piece of a tree offer comes with its siblings, where what proves the
 -- piece is known

@@ -21,7 +21,7 @@ use Rattle.download_parts.specs.Range.{IsRange}
 use Rattle.download_parts.specs.declared.part.Part.{Part}
 use Rattle.download_parts.specs.declared.part.Part.TheVariants.{ShareHashes, BlockTree, CiphertextTree, Data}
 use Rattle.download_parts.proofs.PartLemmas.{lie_inside}
-use Rattle.download_source.specs.declared.wanted.Wanted.{Wanted}
+use Rattle.download_supply.specs.declared.wanted.Wanted.{Wanted}
 use Rattle.download_file.specs.Asked.{AsksParts, HasAsked, IsOneOf, IsPlannedRead}
 use Rattle.download_file.specs.Changes.{StaysRead}
 use Rattle.download_file.specs.Laws.{ReadsStay}

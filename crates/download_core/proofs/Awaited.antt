@@ -19,7 +19,7 @@ use Rattle.download_shares.proofs.Lists.{from_without}
 use Rattle.download_shares.specs.BeginningMoves.{GoesOn}
 use Rattle.download_shares.specs.Reads.{IsAnsweredBy, IsOutAt, IsReadAt}
 use Rattle.download_shares.specs.BeginningState.{BeginningsState}
-use Rattle.download_source.specs.declared.wanted.Wanted.{Wanted}
+use Rattle.download_supply.specs.declared.wanted.Wanted.{Wanted}
 use Rattle.download_file.specs.Changes.{OthersWait}
 use Rattle.download_file.specs.State.{FileState, IsLive, ReaderState, first_place, first_waiting, placed, waiting_at, waiting_in, without}
 use Rattle.download_file.specs.declared.reader.Waiting.{Waiting}

@@ -180,7 +180,7 @@ block_fault but s r reader b reading refuted blame =
 -- what is held of it was answered by the blamed server
 pub block_answered : BlocksAreAnswered
 block_answered entries f b k i low =
-    let s = k.refuted.r.source in
+    let s = k.refuted.r.supply in
     let a = k.read.held k.reader k.refuted.r k.refuted.there i low in
     record {
       request = a.request;

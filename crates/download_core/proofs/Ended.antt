@@ -23,7 +23,7 @@ use Rattle.download_shares.proofs.Opened.{goes_none, goes_trans}
 use Rattle.download_parts.specs.Plan.{IsPlanned}
 use Rattle.download_file.specs.Asked.{AsksNoMore, IsOneOf, IsPlannedRead}
 use Rattle.download_file.specs.Changes.{IsSameFile, StaysRead}
-use Rattle.download_source.specs.declared.wanted.Wanted.{Wanted}
+use Rattle.download_supply.specs.declared.wanted.Wanted.{Wanted}
 use Rattle.download_file.specs.Right.{IsFile}
 use Rattle.download_file.specs.State.{CopyState, FileState, IsLive, ReaderState, copies, copy_of, without}
 use Rattle.download_file.proofs.GrowLemmas.{same_itself}

@@ -22,7 +22,7 @@ use Rattle.download_shares.specs.BeginningState.{BeginningsState}
 use Rattle.download_shares.proofs.Asking.{unasked_by}
 use Rattle.download_shares.proofs.Entries.{read_pushed}
 use Rattle.download_parts.specs.PlanLaws.{AreApart}
-use Rattle.download_source.specs.declared.wanted.Wanted.{Wanted}
+use Rattle.download_supply.specs.declared.wanted.Wanted.{Wanted}
 use Rattle.download_file.specs.Asked.{IsOneOf}
 use Rattle.download_file.specs.State.{placed}
 use Rattle.download_file.specs.declared.reader.Waiting.{Waiting}

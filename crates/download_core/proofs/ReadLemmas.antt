@@ -8,7 +8,7 @@ use Rattle.share_layout.specs.Geometry.{Geometry}
 use Rattle.download_parts.specs.Plan.{IsPlanned}
 use Rattle.download_parts.specs.declared.part.Part.{Part}
 use Rattle.download_parts.specs.declared.part.Part.TheVariants.{ShareHashes, BlockTree, CiphertextTree, Data}
-use Rattle.download_source.specs.Source.{IsSource, SourceState, first_of}
+use Rattle.download_supply.specs.Supply.{IsSupply, SupplyState, first_of}
 use Rattle.request_record.specs.declared.requests.Asked.TheVariants.{Holdings, Reading}
 use Rattle.request_record.specs.declared.requests.Request.{Request}
 use Rattle.download_shares.specs.Left.{IsBlamed, IsGone, IsLeft, IsOffered}
@@ -123,7 +123,7 @@ opened_reads total s k place r share offset len there asked =
 
 -- ---- and then
 
-first_within : (s : SourceState) (part : Part) → IsSource s → (s.start ≤ first_of s part) × (first_of s part < s.end)
+first_within : (s : SupplyState) (part : Part) → IsSupply s → (s.start ≤ first_of s part) × (first_of s part < s.end)
 first_within s ShareHashes is = (is.begins, is.range.some)
 first_within s (BlockTree p) is = (is.begins, is.range.some)
 first_within s (CiphertextTree p) is = (let b = is.begins in let r = is.range.some in (omega arith, omega (arith, b, r)))
@@ -133,18 +133,18 @@ first_within s (Data i) is = (is.begins, is.range.some)
 planned : (f : FileState) (reader offset len : ℕ) → IsFile f → HasAsked f reader offset len → IsPlannedRead f offset len
 planned f reader offset len right has =
     let own = right.readers reader has.r has.there in
-    let part = own.source.parts has.part (asked_passed has.r.source has.part has.asked) in
-    let within = first_within has.r.source has.part own.source in
+    let part = own.supply.parts has.part (asked_passed has.r.supply has.part has.asked) in
+    let within = first_within has.r.supply has.part own.supply in
     let from = within.0 in
     let before = within.1 in
     let start = own.start in
     let end = own.end in
     record {
-      from = first_of has.r.source has.part;
+      from = first_of has.r.supply has.part;
       begins = omega (arith, from, start);
       before = omega (arith, before, end);
-      planned = subst (λ (g : Geometry). IsPlanned g (first_of has.r.source has.part) f.end offset len) own.geometry
-          (subst (λ (n : ℕ). IsPlanned has.r.source.geometry (first_of has.r.source has.part) n offset len) own.end
+      planned = subst (λ (g : Geometry). IsPlanned g (first_of has.r.supply has.part) f.end offset len) own.geometry
+          (subst (λ (n : ℕ). IsPlanned has.r.supply.geometry (first_of has.r.supply has.part) n offset len) own.end
           (record { part = has.part; is = part; place_is = has.place; len_is = has.long }));
     }
 

@@ -27,14 +27,14 @@ tree_of (Some tree) number hash e = (tree, refl, e)
 
 module _ (IsOne : List ℕ → Type 0) (entries : List Request) (f : FileState) (weaker : (input : List ℕ) → file.IsTested entries f input → IsOne input) where
   block_leads : IsFile f → IsRead entries f → (place number : ℕ) (r : ReaderState) → IsReader f place r → HasRightBlock entries r number
-      → IsBlockIn IsOne f.handout.ueb r.share number (block_of entries r.source number)
+      → IsBlockIn IsOne f.handout.ueb r.share number (block_of entries r.supply number)
   block_leads is read place number r at own_block =
       let own = is.readers place r at in
       let u = f.handout.ueb in
       let h = is.handout in
       let by_u : f.handout.geometry ≡ geometry_by u = h.geometry in
-      let block : List ℕ = block_of entries r.source number in
-      let tree = tree_of r.source.tree number (tagged_hash Block block) own_block.proved in
+      let block : List ℕ = block_of entries r.supply number in
+      let tree = tree_of r.supply.tree number (tagged_hash Block block) own_block.proved in
       let held = own_block.ready.held in
       let below : number < f.end = omega (arith, held.within.before, own.end) in
       let there : number < segment_count f.handout.geometry = omega (arith, below, is.range.within) in
@@ -46,9 +46,9 @@ module _ (IsOne : List ℕ → Type 0) (entries : List Request) (f : FileState) 
       let known : known_leaf f.handout.trees.shares r.share ≡ Some tree.0.root = subst (TellsRoot f.handout.trees.shares r.share) tree.1 own.root in
       let leads : IsBlockTree tree.0 (segment_count (geometry_by u)) =
       subst (λ (g : Geometry). IsBlockTree tree.0 (segment_count g)) (own.geometry ∙ by_u)
-      (subst (λ (o : Option PartialState). IfSome o (λ t. IsBlockTree t (segment_count r.source.geometry))) tree.1 own.source.leads) in
+      (subst (λ (o : Option PartialState). IfSome o (λ t. IsBlockTree t (segment_count r.supply.geometry))) tree.1 own.supply.leads) in
       let size : length block ≡ block_length (geometry_by u) number =
-      block_long entries r.source number own.source held (has_answers entries r (read.held place r at))
+      block_long entries r.supply number own.supply held (has_answers entries r (read.held place r at))
       ∙ ap (λ (g : Geometry). block_length g number) (own.geometry ∙ by_u) in
       let total = ap (λ (g : Geometry). g.total) by_u in
       let low = own.share in

@@ -29,4 +29,4 @@ SendingStays = (s : BeginningsState) (outgoing : List ℕ) → AreBegun s
 abbrev pub BlocksAreAnswered : Type 0
 BlocksAreAnswered = (entries : List Request) (f : FileState) (b : Blame)
     → (fault : IsBlockFault entries f b)
-    → HoldsFor entries b.server b.share fault.refuted.r.source
+    → HoldsFor entries b.server b.share fault.refuted.r.supply

@@ -9,7 +9,7 @@ use Rattle.download_shares.specs.Left.{FewAreLeft}
 use Rattle.download_shares.specs.HoldingMoves.{Ticks}
 use Rattle.download_shares.specs.Table.{IsHolding, NoneIsFree}
 use Rattle.download_shares.specs.declared.holding.Holding.{Holding}
-use Rattle.download_source.specs.declared.wanted.Wanted.{Wanted}
+use Rattle.download_supply.specs.declared.wanted.Wanted.{Wanted}
 use Rattle.download_file.specs.Asked.{IsOneOf, IsPlannedRead}
 use Rattle.download_shares.specs.Known.{AreBegun}
 use Rattle.download_shares.specs.Reads.{AddsReads, IsAnsweredBy, IsOutAt, IsReadAt}

@@ -40,4 +40,4 @@ RightBlocksLead = (d : DownloadState) (f : Found) (place number : ℕ) (r : Read
     → IsRight d → d.found ≡ Some f → IsReader f.file place r
     → HasRightBlock d.requests.entries r number
     → IsBlockIn (IsTested d) f.file.handout.ueb r.share number
-    (block_of d.requests.entries r.source number)
+    (block_of d.requests.entries r.supply number)

@@ -11,7 +11,7 @@ ghost use Rattle.download_file.specs.Asked.{IsOneOf};
 ghost use Rattle.download_core.specs.ReadingSteps.{AsksParts, Grows};
 
 use download_shares::Beginnings;
-use download_source::Wanted;
+use download_supply::Wanted;
 use std::alloc::AllocError;
 use wire::message::ReadLength;
 

@@ -27,7 +27,7 @@ ghost use Rattle.download_core.specs.ReadingSteps.{IsStill, IsStuck, work};
 use crate::asking::ask_parts;
 use crate::ending::why_not;
 use cap_text::VerifyCap;
-use download_file::{File, Made};
+use download_file::{Made, PartialFile};
 use download_segments::Piece;
 use download_shares::{Beginnings, News};
 use share_layout::Geometry;
@@ -52,7 +52,7 @@ pub enum Settled {
 /// A file whose extension block is accepted, and the shares at servers that are read of it.
 #[derive(Drop)]
 pub struct FileReading {
-    pub(crate) file: File,
+    pub(crate) file: PartialFile,
     // The holding that each reader of the file reads.
     pub(crate) holdings: Vec<usize>,
     // Whether each reader that is read was asked for all that is wanted for the next segment.
@@ -90,14 +90,14 @@ impl FileReading {
             → length s.holdings.table.numbers ≡ geometry.now.total → AreReading s r) }
     {
         Ok(FileReading {
-            file: File::new(alloc, key, ueb, geometry, from, to)?,
+            file: PartialFile::new(alloc, key, ueb, geometry, from, to)?,
             holdings: Vec::new(alloc),
             asked_up: false,
         })
     }
 
     /// The file.
-    pub fn file(&self) -> &File
+    pub fn file(&self) -> &PartialFile
         ensures { result.now ≡ self.now.file }
     {
         &self.file

@@ -5,14 +5,14 @@ use Rattle.std.proofs.lemmas.List.{append_assoc, map-append, take_more, length-t
 use Rattle.std.proofs.lemmas.List.Elements.{All-append, All-weaker, Contains-append_cases, Contains-append_left, Contains-append_right}
 use Rattle.download_parts.specs.declared.part.Part.{Part}
 use Rattle.download_parts.specs.declared.part.Part.TheVariants.{CiphertextTree}
-use Rattle.download_source.specs.Asking.{AsksNow, IsAsked, IsReadOf, IsWanted, IsWantedCiphertext, OnlyAsks, parts_of}
-use Rattle.download_source.specs.Cursors.{LeadOn}
-use Rattle.download_source.specs.Source.{SourceState, first_of}
-use Rattle.download_source.specs.Upper.{UpperComeFirst}
-use Rattle.download_source.specs.declared.wanted.Wanted.{Wanted}
-use Rattle.download_source.proofs.CursorLemmas.{lead_different}
-use Rattle.download_source.proofs.LawLemmas.{lead_append}
-use Rattle.download_source.proofs.UpperLemmas.{upper_append}
+use Rattle.download_supply.specs.Asking.{AsksNow, IsAsked, IsReadOf, IsWanted, IsWantedCiphertext, OnlyAsks, parts_of}
+use Rattle.download_supply.specs.Cursors.{LeadOn}
+use Rattle.download_supply.specs.Supply.{SupplyState, first_of}
+use Rattle.download_supply.specs.Upper.{UpperComeFirst}
+use Rattle.download_supply.specs.declared.wanted.Wanted.{Wanted}
+use Rattle.download_supply.proofs.CursorLemmas.{lead_different}
+use Rattle.download_supply.proofs.LawLemmas.{lead_append}
+use Rattle.download_supply.proofs.UpperLemmas.{upper_append}
 use Rattle.download_file.specs.State.{placed}
 use Rattle.download_file.specs.Steps.{Asks, AsksNoTree}
 use Rattle.download_file.specs.declared.reader.Waiting.{Waiting}
@@ -39,23 +39,23 @@ waits_more place wanted i d old between new at low before there pushed =
 
 -- ---- parts that are asked
 
-pub only_none : (s t : SourceState) → t ≡ s → OnlyAsks s t
-only_none s t same = subst (λ (q : SourceState). OnlyAsks s q) (sym same) refl
+pub only_none : (s t : SupplyState) → t ≡ s → OnlyAsks s t
+only_none s t same = subst (λ (q : SupplyState). OnlyAsks s q) (sym same) refl
 
-pub only_two : (s m t : SourceState) → OnlyAsks s m → OnlyAsks m t → OnlyAsks s t
-only_two s m t one two = two ∙ ap (λ (q : SourceState). record q { asked = t.asked }) one
+pub only_two : (s m t : SupplyState) → OnlyAsks s m → OnlyAsks m t → OnlyAsks s t
+only_two s m t one two = two ∙ ap (λ (q : SupplyState). record q { asked = t.asked }) one
 
 -- what is asked first, and then more
-pub asks_both : (s m t : SourceState) (v w : List Wanted) → OnlyAsks s m → AsksNow s m v → AsksNow m t w → AsksNow s t (v ++ w)
+pub asks_both : (s m t : SupplyState) (v w : List Wanted) → OnlyAsks s m → AsksNow s m v → AsksNow m t w → AsksNow s t (v ++ w)
 asks_both s m t v w only one two =
     let parts : parts_of (v ++ w) ≡ parts_of v ++ parts_of w = map-append (λ (x : Wanted). x.part) v w in
     let leads : LeadOn s.asked (parts_of (v ++ w)) t.asked =
     subst (λ (l : List Part). LeadOn s.asked l t.asked) (sym parts) (lead_append s.asked m.asked t.asked (parts_of v) (parts_of w) one.in_order two.in_order) in
     let upper : UpperComeFirst s.geometry (first_of s) m.asked (parts_of w) =
-    subst (λ (q : SourceState). UpperComeFirst q.geometry (first_of q) m.asked (parts_of w)) only two.upper in
+    subst (λ (q : SupplyState). UpperComeFirst q.geometry (first_of q) m.asked (parts_of w)) only two.upper in
     record {
       reads = All-append (IsReadOf s) v w one.reads
-          (All-weaker (IsReadOf m) (IsReadOf s) (λ x read. subst (λ (q : SourceState). IsReadOf q x) only read) w two.reads);
+          (All-weaker (IsReadOf m) (IsReadOf s) (λ x read. subst (λ (q : SupplyState). IsReadOf q x) only read) w two.reads);
       in_order = leads;
       upper = subst (λ (l : List Part). UpperComeFirst s.geometry (first_of s) s.asked l) (sym parts)
           (upper_append s.geometry (first_of s) s.asked m.asked (parts_of v) (parts_of w) one.in_order one.upper upper);
@@ -83,7 +83,7 @@ asks_both s m t v w only one two =
     }
 
 -- Whether a part of the plan for own parts is a piece of the ciphertext tree: it is none.
-pub asks_other : (s t : SourceState) (last : ℕ) (wanted : List Wanted) → AsksNow s t wanted
+pub asks_other : (s t : SupplyState) (last : ℕ) (wanted : List Wanted) → AsksNow s t wanted
     → ((part : Part) → IsAsked t part ↔ (IsAsked s part ⊎ IsWanted s last part)) → Asks s false last wanted t
 asks_other s t last wanted now exact = record {
   now = now;
@@ -91,25 +91,25 @@ asks_other s t last wanted now exact = record {
   ciphertext = λ no part is. absurd cc;
 }
 
-pub no_tree : (s t : SourceState) (last : ℕ) → ((part : Part) → IsAsked t part ↔ (IsAsked s part ⊎ IsWanted s last part)) → AsksNoTree s t
+pub no_tree : (s t : SupplyState) (last : ℕ) → ((part : Part) → IsAsked t part ↔ (IsAsked s part ⊎ IsWanted s last part)) → AsksNoTree s t
 no_tree s t last exact p asked = elim ((exact (CiphertextTree p)).0 asked) [
   | inl old ↦ old
   | inr wanted ↦ absurd wanted
 ]
 
-pub asks_giver : (s m t : SourceState) (last : ℕ) (v w : List Wanted) → OnlyAsks s m → AsksNow s m v → AsksNow m t w
+pub asks_giver : (s m t : SupplyState) (last : ℕ) (v w : List Wanted) → OnlyAsks s m → AsksNow s m v → AsksNow m t w
     → ((part : Part) → IsAsked m part ↔ (IsAsked s part ⊎ IsWanted s last part))
     → ((part : Part) → IsAsked t part ↔ (IsAsked m part ⊎ IsWantedCiphertext m last part)) → Asks s true last (v ++ w) t
 asks_giver s m t last v w only one two own tree = record {
   now = asks_both s m t v w only one two;
   own = λ part is. (tree part).1 (inl ((own part).1 (inr is)));
-  ciphertext = λ yes part is. (tree part).1 (inr (subst (λ (q : SourceState). IsWantedCiphertext q last part) (sym only) is));
+  ciphertext = λ yes part is. (tree part).1 (inr (subst (λ (q : SupplyState). IsWantedCiphertext q last part) (sym only) is));
 }
 
-pub no_tree_by : {X E : Type 0} (r : Result X E) (s t : SourceState) (last : ℕ) → OnOk r ((part : Part) → IsAsked t part ↔ (IsAsked s part ⊎ IsWanted s last part))
+pub no_tree_by : {X E : Type 0} (r : Result X E) (s t : SupplyState) (last : ℕ) → OnOk r ((part : Part) → IsAsked t part ↔ (IsAsked s part ⊎ IsWanted s last part))
     → OnErr r (t ≡ s) → AsksNoTree s t
 no_tree_by (Ok x) s t last exact same = no_tree s t last exact
-no_tree_by (Err e) s t last exact same = λ p asked. subst (λ (q : SourceState). IsAsked q (CiphertextTree p)) same asked
+no_tree_by (Err e) s t last exact same = λ p asked. subst (λ (q : SupplyState). IsAsked q (CiphertextTree p)) same asked
 
 pub by_iff : (o : Option ℕ) (P : Type 0) (v x : ℕ) → SomeIff o P v → o ≡ Some x → x ≡ v
 by_iff None P v x iff is = absurd cc

@@ -10,10 +10,10 @@ use Rattle.lemmas.proofs.Places.{get_pushed}
 use Rattle.share_layout.specs.Geometry.{Geometry}
 use Rattle.download_parts.specs.declared.part.Part.{Part}
 use Rattle.download_parts.specs.declared.part.Part.TheVariants.{CiphertextTree}
-use Rattle.download_source.specs.Asking.{IsAsked, IsReadOf}
-use Rattle.download_source.specs.Cursors.{LeadOn}
-use Rattle.download_source.specs.Source.{IsSource, SourceState, first_of, gives_from, new_source}
-use Rattle.download_source.specs.Upper.{UpperComeFirst}
+use Rattle.download_supply.specs.Asking.{IsAsked, IsReadOf}
+use Rattle.download_supply.specs.Cursors.{LeadOn}
+use Rattle.download_supply.specs.Supply.{IsSupply, SupplyState, first_of, gives_from, new_supply}
+use Rattle.download_supply.specs.Upper.{UpperComeFirst}
 use Rattle.download_segments.specs.Handout.{next_segment}
 use Rattle.download_segments.proofs.TreeLemmas.{grow_none}
 use Rattle.download_parts.proofs.TreeLemmas.{knows_itself}
@@ -32,42 +32,42 @@ use Rattle.download_file.proofs.StateLemmas.{Follows, KeepsAsks, asked_up_stays,
 -- ---- the reader
 
 pub begun_new : (g : Geometry) (start first end server share : ℕ) (gives : Bool) (taken : List ℕ) (r : ReaderState) → gives ≡ false → r.server ≡ server → r.share ≡ share
-    → r.source ≡ new_source g start first end → r.waiting ≡ [] → IsSource r.source → IsBegun g start first end server share gives taken r
-begun_new g start first end server share gives taken r not server_is share_is source waiting right = record {
+    → r.supply ≡ new_supply g start first end → r.waiting ≡ [] → IsSupply r.supply → IsBegun g start first end server share gives taken r
+begun_new g start first end server share gives taken r not server_is share_is supply waiting right = record {
   server_is = server_is;
   share_is = share_is;
   waiting = waiting;
   right = right;
-  geometry = ap (λ (s : SourceState). s.geometry) source;
-  start_is = ap (λ (s : SourceState). s.start) source;
-  first_is = ap (λ (s : SourceState). s.first) source;
-  end_is = ap (λ (s : SourceState). s.end) source;
-  asked = subst (λ (s : SourceState). s.taken ≡ s.asked) (sym source) refl;
-  tree = ap (λ (s : SourceState). s.tree) source;
-  held = ap (λ (s : SourceState). s.held) source;
+  geometry = ap (λ (s : SupplyState). s.geometry) supply;
+  start_is = ap (λ (s : SupplyState). s.start) supply;
+  first_is = ap (λ (s : SupplyState). s.first) supply;
+  end_is = ap (λ (s : SupplyState). s.end) supply;
+  asked = subst (λ (s : SupplyState). s.taken ≡ s.asked) (sym supply) refl;
+  tree = ap (λ (s : SupplyState). s.tree) supply;
+  held = ap (λ (s : SupplyState). s.held) supply;
   from = λ yes. absurd (true≢false (sym yes ∙ not));
-  none = λ part. subst (λ (s : SourceState). ¬ IsAsked s part) (sym source) (new_asks_none g start first end part);
+  none = λ part. subst (λ (s : SupplyState). ¬ IsAsked s part) (sym supply) (new_asks_none g start first end part);
 }
 
 pub begun_gives : (g : Geometry) (start first end server share : ℕ) (gives : Bool) (taken : List ℕ) (old r : ReaderState) → old.server ≡ server → old.share ≡ share
-    → old.source ≡ new_source g start first end → old.waiting ≡ [] → r ≡ record old { source = gives_from old.source taken }
-    → ((part : Part) → IsAsked r.source part ↔ IsAsked old.source part) → IsSource r.source → IsBegun g start first end server share gives taken r
-begun_gives g start first end server share gives taken old r server_is share_is source waiting is asked right =
-    let now : r.source ≡ gives_from (new_source g start first end) taken = ap (λ (q : ReaderState). q.source) is ∙ ap (λ (s : SourceState). gives_from s taken) source in
+    → old.supply ≡ new_supply g start first end → old.waiting ≡ [] → r ≡ record old { supply = gives_from old.supply taken }
+    → ((part : Part) → IsAsked r.supply part ↔ IsAsked old.supply part) → IsSupply r.supply → IsBegun g start first end server share gives taken r
+begun_gives g start first end server share gives taken old r server_is share_is supply waiting is asked right =
+    let now : r.supply ≡ gives_from (new_supply g start first end) taken = ap (λ (q : ReaderState). q.supply) is ∙ ap (λ (s : SupplyState). gives_from s taken) supply in
     record {
       server_is = ap (λ (q : ReaderState). q.server) is ∙ server_is;
       share_is = ap (λ (q : ReaderState). q.share) is ∙ share_is;
       waiting = ap (λ (q : ReaderState). q.waiting) is ∙ waiting;
       right = right;
-      geometry = ap (λ (s : SourceState). s.geometry) now;
-      start_is = ap (λ (s : SourceState). s.start) now;
-      first_is = ap (λ (s : SourceState). s.first) now;
-      end_is = ap (λ (s : SourceState). s.end) now;
-      asked = subst (λ (s : SourceState). s.taken ≡ s.asked) (sym now) refl;
-      tree = ap (λ (s : SourceState). s.tree) now;
-      held = ap (λ (s : SourceState). s.held) now;
-      from = λ yes. ap (λ (s : SourceState). s.taken.ciphertext_tree) now;
-      none = λ part is_asked. subst (λ (s : SourceState). ¬ IsAsked s part) (sym source) (new_asks_none g start first end part) ((asked part).0 is_asked);
+      geometry = ap (λ (s : SupplyState). s.geometry) now;
+      start_is = ap (λ (s : SupplyState). s.start) now;
+      first_is = ap (λ (s : SupplyState). s.first) now;
+      end_is = ap (λ (s : SupplyState). s.end) now;
+      asked = subst (λ (s : SupplyState). s.taken ≡ s.asked) (sym now) refl;
+      tree = ap (λ (s : SupplyState). s.tree) now;
+      held = ap (λ (s : SupplyState). s.held) now;
+      from = λ yes. ap (λ (s : SupplyState). s.taken.ciphertext_tree) now;
+      none = λ part is_asked. subst (λ (s : SupplyState). ¬ IsAsked s part) (sym supply) (new_asks_none g start first end part) ((asked part).0 is_asked);
     }
 
 -- ---- lists
@@ -105,7 +105,7 @@ module _ (f : FileState) (server share next : ℕ) (x : ReaderState) (gives : Bo
 
   is_begun : IsReaderOf begun_file x
   is_begun = record {
-    source = begun.right;
+    supply = begun.right;
     geometry = begun.geometry;
     start = begun.start_is;
     end = begun.end_is;
@@ -118,7 +118,7 @@ module _ (f : FileState) (server share next : ℕ) (x : ReaderState) (gives : Bo
   }
 
   grow : ReadersGoOn f.readers (f.readers ++ x ∷ [])
-  grow place r at = record { now = r; there = get_first f.readers (x ∷ []) r place at; server = refl; share = refl; source = goes_same r.source }
+  grow place r at = record { now = r; there = get_first f.readers (x ∷ []) r place at; server = refl; share = refl; supply = goes_same r.supply }
 
   below : (place : ℕ) → IsLive f place → place < length f.readers
   below place among = All-contains (λ p. p < length f.readers) f.live place is.live.there among
@@ -168,8 +168,8 @@ module _ (f : FileState) (server share next : ℕ) (x : ReaderState) (gives : Bo
             | inl was ↦ is.live.waits place r was old
             | inr last ↦ absurd (let low = old_there place r old in omega (arith, last, low))
           ]
-          | inr new ↦ subst (λ (q : ReaderState). LeadOn q.source.taken (waiting_parts q.waiting) q.source.asked) new.1
-              (subst (λ (l : List Waiting). LeadOn x.source.taken (waiting_parts l) x.source.asked) (sym begun.waiting) begun.asked)
+          | inr new ↦ subst (λ (q : ReaderState). LeadOn q.supply.taken (waiting_parts q.waiting) q.supply.asked) new.1
+              (subst (λ (l : List Waiting). LeadOn x.supply.taken (waiting_parts l) x.supply.asked) (sym begun.waiting) begun.asked)
         ];
         upper = λ place r among at. elim (which place r at) [
           | inl old ↦ elim (which_live place among) [
@@ -177,15 +177,15 @@ module _ (f : FileState) (server share next : ℕ) (x : ReaderState) (gives : Bo
             | inr last ↦ absurd (let low = old_there place r old in omega (arith, last, low))
           ]
           | inr new ↦ subst WaitsByLevels new.1
-              (subst (λ (l : List Waiting). UpperComeFirst x.source.geometry (first_of x.source) x.source.taken (waiting_parts l)) (sym begun.waiting) tt)
+              (subst (λ (l : List Waiting). UpperComeFirst x.supply.geometry (first_of x.supply) x.supply.taken (waiting_parts l)) (sym begun.waiting) tt)
         ];
         reads = λ place r among at. elim (which place r at) [
           | inl old ↦ elim (which_live place among) [
             | inl was ↦ is.live.reads place r was old
             | inr last ↦ absurd (let low = old_there place r old in omega (arith, last, low))
           ]
-          | inr new ↦ subst (λ (q : ReaderState). All (λ v. IsReadOf q.source v.wanted) q.waiting) new.1
-              (subst (λ (l : List Waiting). All (λ v. IsReadOf x.source v.wanted) l) (sym begun.waiting) (All-nil (λ v. IsReadOf x.source v.wanted)))
+          | inr new ↦ subst (λ (q : ReaderState). All (λ v. IsReadOf q.supply v.wanted) q.waiting) new.1
+              (subst (λ (l : List Waiting). All (λ v. IsReadOf x.supply v.wanted) l) (sym begun.waiting) (All-nil (λ v. IsReadOf x.supply v.wanted)))
         ];
       }
 
@@ -201,11 +201,11 @@ module _ (f : FileState) (server share next : ℕ) (x : ReaderState) (gives : Bo
       ]
       | inr alone ↦ elim (which place r at) [
         | inl old ↦ absurd (let low = old_there place r old in let last = alone.1 in omega (arith, low, last))
-        | inr new ↦ subst (λ (q : ReaderState). q.source.taken.ciphertext_tree ≡ f.taken) new.1 (begun.from (given alone.0))
+        | inr new ↦ subst (λ (q : ReaderState). q.supply.taken.ciphertext_tree ≡ f.taken) new.1 (begun.from (given alone.0))
       ]
     ];
     behind = λ place other r p gives_now order at asked. elim (which other r at) [
-      | inr new ↦ begun.none (CiphertextTree p) (subst (λ (q : ReaderState). IsAsked q.source (CiphertextTree p)) (sym new.1) asked)
+      | inr new ↦ begun.none (CiphertextTree p) (subst (λ (q : ReaderState). IsAsked q.supply (CiphertextTree p)) (sym new.1) asked)
       | inl old ↦ elim (first_push f.live (length f.readers) place gives_now) [
         | inl was ↦ is.ciphertext.behind place other r p was order old asked
         | inr alone ↦ let low = old_there other r old in let last = alone.1 in omega (arith, low, last, order)
@@ -231,12 +231,12 @@ module _ (f : FileState) (server share next : ℕ) (x : ReaderState) (gives : Bo
   }
 
   pub asks_begun : AsksNoMore f begun_file
-  asks_begun = asks_no_more f begun_file keeps (λ place r at. (r, get_first f.readers (x ∷ []) r place at, asks_itself r.source))
+  asks_begun = asks_no_more f begun_file keeps (λ place r at. (r, get_first f.readers (x ∷ []) r place at, asks_itself r.supply))
     where
       keeps : KeepsAsks f.readers (f.readers ++ x ∷ [])
       keeps place r at = elim (which place r at) [
-        | inl old ↦ inl (r, old, asks_itself r.source)
-        | inr new ↦ inr (λ part asked. begun.none part (subst (λ (q : ReaderState). IsAsked q.source part) (sym new.1) asked))
+        | inl old ↦ inl (r, old, asks_itself r.supply)
+        | inr new ↦ inr (λ part asked. begun.none part (subst (λ (q : ReaderState). IsAsked q.supply part) (sym new.1) asked))
       ]
 
   pub asked_up_begun : (reader : ℕ) → IsLive f reader → StaysAskedUp f begun_file reader
@@ -246,7 +246,7 @@ module _ (f : FileState) (server share next : ℕ) (x : ReaderState) (gives : Bo
         | inr alone ↦ absurd (let low = below reader live in let last = alone.1 in omega (arith, low, last))
       ])
       (λ r at. elim (which reader r at) [
-        | inl old ↦ (r, old, grows_itself r.source)
+        | inl old ↦ (r, old, grows_itself r.supply)
         | inr new ↦ absurd (let low = below reader live in let is_new = new.0 in omega (arith, low, is_new))
       ])
 

@@ -9,7 +9,7 @@ use Rattle.std.proofs.lemmas.List.Concat.{flat_map-append}
 use Rattle.std.proofs.lemmas.List.Elements.{Contains-push_cases}
 use Rattle.lemmas.proofs.Options.{one_there}
 use Rattle.request_record.specs.declared.requests.Request.{Request}
-use Rattle.download_source.specs.Blocks.{IsReady}
+use Rattle.download_supply.specs.Blocks.{IsReady}
 use Rattle.download_file.specs.State.{ReaderState, numbers_of, share_in}
 use Rattle.download_file.specs.Answers.{answer_at, block_in, block_of, blocks_of}
 use Rattle.download_file.specs.Steps.{AreReady}
@@ -18,11 +18,11 @@ pub ready_none : (readers : List ReaderState) (places : List ℕ) (number : ℕ)
 ready_none readers places number place r among there = absurd (let k = among.1 in omega (arith, k))
 
 pub ready_more : (readers : List ReaderState) (places : List ℕ) (number i place : ℕ) (r : ReaderState) → i < length places → place ≡ get_or places i 0
-    → slice_get readers place ≡ Some r → IsReady r.source number → AreReady readers (take i places) number → AreReady readers (take (i + 1) places) number
+    → slice_get readers place ≡ Some r → IsReady r.supply number → AreReady readers (take i places) number → AreReady readers (take (i + 1) places) number
 ready_more readers places number i place r low is there ready before q s among at =
     elim (Contains-push_cases (take i places) (get_or places i 0) q (subst (λ (l : List ℕ). Contains l q) (take_more places i 0 low) among)) [
       | inl k ↦ before q s k at
-      | inr e ↦ subst (λ (t : ReaderState). IsReady t.source number) (one_there (slice_get readers place) r s there (ap (slice_get readers) (is ∙ e) ∙ at)) ready
+      | inr e ↦ subst (λ (t : ReaderState). IsReady t.supply number) (one_there (slice_get readers place) r s there (ap (slice_get readers) (is ∙ e) ∙ at)) ready
     ]
 
 -- ---- blocks that are joined
@@ -30,7 +30,7 @@ ready_more readers places number i place r low is there ready before q s among a
 -- one block more
 pub blocks_more : (entries : List Request) (readers : List ReaderState) (number : ℕ) (places : List ℕ) (i : ℕ) (r : ReaderState) → i < length places
     → slice_get readers (get_or places i 0) ≡ Some r
-    → blocks_of entries readers number (take (i + 1) places) ≡ blocks_of entries readers number (take i places) ++ block_of entries r.source number
+    → blocks_of entries readers number (take (i + 1) places) ≡ blocks_of entries readers number (take i places) ++ block_of entries r.supply number
 blocks_more entries readers number places i r low at =
     let f : ℕ → List ℕ = λ place. block_in entries number (slice_get readers place) in
     let p = get_or places i 0 in

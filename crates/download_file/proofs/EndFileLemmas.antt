@@ -13,13 +13,13 @@ use Rattle.download_parts.specs.Range.{IsRange}
 use Rattle.download_parts.specs.declared.part.NodePiece.{NodePiece}
 use Rattle.download_parts.specs.declared.part.Part.{Part}
 use Rattle.download_parts.specs.declared.part.Part.TheVariants.{ShareHashes, BlockTree, CiphertextTree, Data}
-use Rattle.download_source.specs.Asking.{IsAsked, IsReadOf, OnlyAsks}
-use Rattle.download_source.specs.Cursors.{LeadOn, cursor_at}
-use Rattle.download_source.specs.Laws.{KnowsPiece}
-use Rattle.download_source.specs.Source.{IsSource, SourceState, gives_from}
-use Rattle.download_source.proofs.LawLemmas.{lead_giving}
-use Rattle.download_source.proofs.UpperLemmas.{upper_giving}
-use Rattle.download_source.proofs.SourceLemmas.{gives_source}
+use Rattle.download_supply.specs.Asking.{IsAsked, IsReadOf, OnlyAsks}
+use Rattle.download_supply.specs.Cursors.{LeadOn, cursor_at}
+use Rattle.download_supply.specs.Laws.{KnowsPiece}
+use Rattle.download_supply.specs.Supply.{IsSupply, SupplyState, gives_from}
+use Rattle.download_supply.proofs.LawLemmas.{lead_giving}
+use Rattle.download_supply.proofs.UpperLemmas.{upper_giving}
+use Rattle.download_supply.proofs.SupplyLemmas.{gives_supply}
 use Rattle.download_segments.specs.Handout.{next_segment}
 use Rattle.download_segments.specs.State.{IsHandout}
 use Rattle.download_segments.proofs.TreeLemmas.{grow_none}
@@ -36,8 +36,8 @@ use Rattle.download_file.proofs.LiveLemmas.{first_least, first_live, first_stays
 use Rattle.download_file.proofs.StateLemmas.{Follows, SameAsks, asked_up_stays, asks_itself, asks_no_more, grows_itself, reader_stays, same_reader}
 use Rattle.download_file.proofs.EndLemmas.{next_left}
 
--- the same was asked of a source that gives the ciphertext tree, of which none of it was asked
-pub giving_asks : (s : SourceState) (levels : List ℕ) → ((p : NodePiece) → ¬ IsAsked s (CiphertextTree p)) → (part : Part) → IsAsked (gives_from s levels) part ↔ IsAsked s part
+-- the same was asked of a supply that gives the ciphertext tree, of which none of it was asked
+pub giving_asks : (s : SupplyState) (levels : List ℕ) → ((p : NodePiece) → ¬ IsAsked s (CiphertextTree p)) → (part : Part) → IsAsked (gives_from s levels) part ↔ IsAsked s part
 giving_asks s levels none ShareHashes = ((λ h. h), (λ h. h))
 giving_asks s levels none (BlockTree p) = ((λ h. h), (λ h. h))
 giving_asks s levels none (CiphertextTree p) = ((λ h. let low = h.1 in let high = h.0 in absurd (omega (arith, low, high))), (λ h. absurd (none p h)))
@@ -56,12 +56,12 @@ pub record Nearly (f : FileState) : Type 0 where
   pub pieces : (p : NodePiece) → p.index < cursor_at f.taken p.level → IsNodePiece f.handout.geometry f.first f.end p
   pub known : (p : NodePiece) → p.index < cursor_at f.taken p.level → KnowsPiece f.handout.geometry f.first f.end f.handout.trees.ciphertext p
   pub behind : (place behind : ℕ) (r : ReaderState) (p : NodePiece) → giver f ≡ Some place
-      → place < behind → IsReader f behind r → ¬ IsAsked r.source (CiphertextTree p)
+      → place < behind → IsReader f behind r → ¬ IsAsked r.supply (CiphertextTree p)
   pub groups : All (IsGroup f.handout f.readers) f.groups
   pub in_order : AreConsecutive f.first f.groups (made_end f)
 
 abbrev pub AtGiver : FileState → Type 0
-AtGiver f = (place : ℕ) (r : ReaderState) → giver f ≡ Some place → IsReader f place r → r.source.taken.ciphertext_tree ≡ f.taken
+AtGiver f = (place : ℕ) (r : ReaderState) → giver f ≡ Some place → IsReader f place r → r.supply.taken.ciphertext_tree ≡ f.taken
 
 pub whole : (f : FileState) → Nearly f → AtGiver f → IsFile f
 whole f k gives = record {
@@ -79,30 +79,30 @@ whole f k gives = record {
 -- ---- the reader at a place ends, perhaps after more was asked of it in vain
 
 module _ (f : FileState) (reader : ℕ) (r r1 : ReaderState) (is : IsFile f) (live : IsLive f reader) (at : slice_get f.readers reader ≡ Some r)
-    (server : r1.server ≡ r.server) (share : r1.share ≡ r.share) (only : OnlyAsks r.source r1.source) (right : IsSource r1.source) (tree : giver f ≢ Some reader → AsksNoTree r.source r1.source) where
+    (server : r1.server ≡ r.server) (share : r1.share ≡ r.share) (only : OnlyAsks r.supply r1.supply) (right : IsSupply r1.supply) (tree : giver f ≢ Some reader → AsksNoTree r.supply r1.supply) where
   abbrev pub stopped_file : FileState
   stopped_file = record f { readers = slice_set f.readers reader (stopped r1); live = without reader f.live }
 
   follows : Follows f stopped_file
   follows = record { geometry = refl; ueb = refl; first = refl; end = refl; shares = knows_itself f.handout.trees.shares; later = λ number next. (number, next, omega arith) }
 
-  geometry : r1.source.geometry ≡ r.source.geometry
-  geometry = ap (λ (s : SourceState). s.geometry) only
+  geometry : r1.supply.geometry ≡ r.supply.geometry
+  geometry = ap (λ (s : SupplyState). s.geometry) only
 
-  goes : GoesOn r.source r1.source
+  goes : GoesOn r.supply r1.supply
   goes = record {
     geometry = geometry;
-    start = ap (λ (s : SourceState). s.start) only;
-    first = ap (λ (s : SourceState). s.first) only;
-    end = ap (λ (s : SourceState). s.end) only;
-    tree = tree_same r.source.tree r1.source.tree (ap (λ (s : SourceState). s.tree) only);
+    start = ap (λ (s : SupplyState). s.start) only;
+    first = ap (λ (s : SupplyState). s.first) only;
+    end = ap (λ (s : SupplyState). s.end) only;
+    tree = tree_same r.supply.tree r1.supply.tree (ap (λ (s : SupplyState). s.tree) only);
     more = [];
-    held = ap (λ (s : SourceState). s.held) only ∙ sym (append-nil r.source.held);
+    held = ap (λ (s : SupplyState). s.held) only ∙ sym (append-nil r.supply.held);
   }
 
   is_stopped : IsReaderOf stopped_file (stopped r1)
   is_stopped = reader_stays f stopped_file r (stopped r1) follows (is.readers reader r at) share right goes.geometry goes.start goes.first goes.end
-      (subst (λ (s : SourceState). TellsRoot f.handout.trees.shares r.share s.tree) (sym only) (is.readers reader r at).root)
+      (subst (λ (s : SupplyState). TellsRoot f.handout.trees.shares r.share s.tree) (sym only) (is.readers reader r at).root)
 
   pub grow_stopped : ReadersGoOn f.readers (slice_set f.readers reader (stopped r1))
   grow_stopped place q there = elim (get_cases f.readers reader place (stopped r1) r q at there) [
@@ -111,9 +111,9 @@ module _ (f : FileState) (reader : ℕ) (r r1 : ReaderState) (is : IsFile f) (li
       there = k.2;
       server = server ∙ ap (λ (x : ReaderState). x.server) k.1;
       share = share ∙ ap (λ (x : ReaderState). x.share) k.1;
-      source = subst (λ (x : ReaderState). GoesOn x.source r1.source) k.1 goes;
+      supply = subst (λ (x : ReaderState). GoesOn x.supply r1.supply) k.1 goes;
     }
-    | inr k ↦ record { now = q; there = k.1; server = refl; share = refl; source = goes_same q.source }
+    | inr k ↦ record { now = q; there = k.1; server = refl; share = refl; supply = goes_same q.supply }
   ]
 
   -- the readers that are left are as they were
@@ -177,7 +177,7 @@ module _ (f : FileState) (reader : ℕ) (r r1 : ReaderState) (is : IsFile f) (li
               let e : was.0 ≡ reader = one_there (giver f) was.0 reader was.1 first in
               omega (arith, later, order, same, e) in
               is.ciphertext.behind was.0 other r p was.1 (omega (arith, later, order)) (ap (slice_get f.readers) same ∙ at)
-              (tree not p (subst (λ (x : ReaderState). IsAsked x.source (CiphertextTree p)) (sym k.1) asked))
+              (tree not p (subst (λ (x : ReaderState). IsAsked x.supply (CiphertextTree p)) (sym k.1) asked))
         ];
     groups = All-weaker (IsGroup f.handout f.readers) (IsGroup f.handout (slice_set f.readers reader (stopped r1)))
         (λ group own. group_stays f.handout f.handout f.readers (slice_set f.readers reader (stopped r1)) group refl grow_stopped own) f.groups is.groups;
@@ -192,7 +192,7 @@ module _ (f : FileState) (reader : ℕ) (r r1 : ReaderState) (is : IsFile f) (li
   pub read_stopped : StaysRead f stopped_file
   read_stopped entries read = read_stays entries f stopped_file refl refl refl (grow_none f.handout.trees) grow_stopped is.groups refl (λ p among. among)
       (λ place q there. elim (set_cases f.readers reader place (stopped r1) q there) [
-        | inl k ↦ subst (λ (x : ReaderState). HoldsAnswers entries x) k.1 (subst (HoldsFor entries r1.server r1.share) (sym only) (holds_as entries r.server r.share r1.server r1.share r.source server share (read.held reader r at)))
+        | inl k ↦ subst (λ (x : ReaderState). HoldsAnswers entries x) k.1 (subst (HoldsFor entries r1.server r1.share) (sym only) (holds_as entries r.server r.share r1.server r1.share r.supply server share (read.held reader r at)))
         | inr k ↦ read.held place q k.1
       ])
       read
@@ -211,24 +211,24 @@ module _ (f : FileState) (reader : ℕ) (r r1 : ReaderState) (is : IsFile f) (li
 
   pub asked_up_stopped : giver f ≢ Some reader → (other : ℕ) → other ≢ reader → StaysAskedUp f stopped_file other
   asked_up_stopped gave other not = asked_up_stays f stopped_file other refl (λ now. still_giver other gave now)
-      (λ q there. (q, sym (get_other f.readers reader other (stopped r1) not) ∙ there, grows_itself q.source))
+      (λ q there. (q, sym (get_other f.readers reader other (stopped r1) not) ∙ there, grows_itself q.supply))
 
   -- nothing was asked in vain
-  pub asks_stopped : SameAsks r.source r1.source → AsksNoMore f stopped_file
+  pub asks_stopped : SameAsks r.supply r1.supply → AsksNoMore f stopped_file
   asks_stopped same = asks_no_more f stopped_file
       (λ place q there. elim (set_cases f.readers reader place (stopped r1) q there) [
-        | inl k ↦ inl (r, ap (slice_get f.readers) k.0 ∙ at, subst (λ (x : ReaderState). SameAsks r.source x.source) k.1 same)
-        | inr k ↦ inl (q, k.1, asks_itself q.source)
+        | inl k ↦ inl (r, ap (slice_get f.readers) k.0 ∙ at, subst (λ (x : ReaderState). SameAsks r.supply x.supply) k.1 same)
+        | inr k ↦ inl (q, k.1, asks_itself q.supply)
       ])
       (λ place q there. elim (get_cases f.readers reader place (stopped r1) r q at there) [
-        | inl k ↦ (stopped r1, k.2, subst (λ (x : ReaderState). SameAsks x.source r1.source) k.1 same)
-        | inr k ↦ (q, k.1, asks_itself q.source)
+        | inl k ↦ (stopped r1, k.2, subst (λ (x : ReaderState). SameAsks x.supply r1.supply) k.1 same)
+        | inr k ↦ (q, k.1, asks_itself q.supply)
       ])
 
 -- ---- a reader gives the ciphertext tree from now on
 
 module _ (f : FileState) (next : ℕ) (s : ReaderState) (k : Nearly f) (first : giver f ≡ Some next) (at : slice_get f.readers next ≡ Some s)
-    (none : (p : NodePiece) → ¬ IsAsked s.source (CiphertextTree p)) where
+    (none : (p : NodePiece) → ¬ IsAsked s.supply (CiphertextTree p)) where
   abbrev pub giving_file : FileState
   giving_file = record f { readers = slice_set f.readers next (giving s f.taken) }
 
@@ -239,27 +239,27 @@ module _ (f : FileState) (next : ℕ) (s : ReaderState) (k : Nearly f) (first : 
   is_giving =
       let own = k.readers next s at in
       reader_stays f giving_file s (giving s f.taken) follows_giving own refl
-      (gives_source s.source f.taken own.source k.levels (λ p low. piece_of p (k.pieces p low))) refl refl refl refl own.root
+      (gives_supply s.supply f.taken own.supply k.levels (λ p low. piece_of p (k.pieces p low))) refl refl refl refl own.root
     where
-      piece_of : (p : NodePiece) → IsNodePiece f.handout.geometry f.first f.end p → IsNodePiece s.source.geometry s.source.start s.source.end p
+      piece_of : (p : NodePiece) → IsNodePiece f.handout.geometry f.first f.end p → IsNodePiece s.supply.geometry s.supply.start s.supply.end p
       piece_of p piece =
           let own = k.readers next s at in
-          subst (λ (g : Geometry). IsNodePiece g s.source.start s.source.end p) (sym own.geometry)
-          (subst (λ (n : ℕ). IsNodePiece f.handout.geometry n s.source.end p) (sym own.start) (subst (λ (n : ℕ). IsNodePiece f.handout.geometry f.first n p) (sym own.end) piece))
+          subst (λ (g : Geometry). IsNodePiece g s.supply.start s.supply.end p) (sym own.geometry)
+          (subst (λ (n : ℕ). IsNodePiece f.handout.geometry n s.supply.end p) (sym own.start) (subst (λ (n : ℕ). IsNodePiece f.handout.geometry f.first n p) (sym own.end) piece))
 
-  goes_giving : GoesOn s.source (gives_from s.source f.taken)
+  goes_giving : GoesOn s.supply (gives_from s.supply f.taken)
   goes_giving = record {
     geometry = refl;
     start = refl;
     first = refl;
     end = refl;
-    tree = tree_same s.source.tree s.source.tree refl;
+    tree = tree_same s.supply.tree s.supply.tree refl;
     more = [];
-    held = sym (append-nil s.source.held);
+    held = sym (append-nil s.supply.held);
   }
 
-  same_giving : SameAsks s.source (gives_from s.source f.taken)
-  same_giving = record { geometry = refl; start = refl; first = refl; end = refl; asked = giving_asks s.source f.taken none }
+  same_giving : SameAsks s.supply (gives_from s.supply f.taken)
+  same_giving = record { geometry = refl; start = refl; first = refl; end = refl; asked = giving_asks s.supply f.taken none }
 
   grow_giving : ReadersGoOn f.readers (slice_set f.readers next (giving s f.taken))
   grow_giving place q there = elim (get_cases f.readers next place (giving s f.taken) s q at there) [
@@ -268,9 +268,9 @@ module _ (f : FileState) (next : ℕ) (s : ReaderState) (k : Nearly f) (first : 
       there = e.2;
       server = ap (λ (x : ReaderState). x.server) e.1;
       share = ap (λ (x : ReaderState). x.share) e.1;
-      source = subst (λ (x : ReaderState). GoesOn x.source (gives_from s.source f.taken)) e.1 goes_giving;
+      supply = subst (λ (x : ReaderState). GoesOn x.supply (gives_from s.supply f.taken)) e.1 goes_giving;
     }
-    | inr e ↦ record { now = q; there = e.1; server = refl; share = refl; source = goes_same q.source }
+    | inr e ↦ record { now = q; there = e.1; server = refl; share = refl; supply = goes_same q.supply }
   ]
 
   share_was_giving : (place : ℕ) (q : ReaderState) → IsReader giving_file place q → (o : ReaderState) × (IsReader f place o) × (q.share ≡ o.share)
@@ -291,8 +291,8 @@ module _ (f : FileState) (next : ℕ) (s : ReaderState) (k : Nearly f) (first : 
             let b = share_was_giving j y at_two in
             k.live.different i j a.0 b.0 one two order a.1 b.1 (sym a.2 ∙ alike ∙ b.2);
         waits = λ place q among there. elim (set_cases f.readers next place (giving s f.taken) q there) [
-          | inl e ↦ subst (λ (x : ReaderState). LeadOn x.source.taken (waiting_parts x.waiting) x.source.asked) e.1
-              (lead_giving s.source f.taken (waiting_parts s.waiting) (k.readers next s at).source none
+          | inl e ↦ subst (λ (x : ReaderState). LeadOn x.supply.taken (waiting_parts x.waiting) x.supply.asked) e.1
+              (lead_giving s.supply f.taken (waiting_parts s.waiting) (k.readers next s at).supply none
               (k.live.waits next s (first_live f.live next first) at))
           | inr e ↦ k.live.waits place q among e.1
         ];
@@ -300,11 +300,11 @@ module _ (f : FileState) (next : ℕ) (s : ReaderState) (k : Nearly f) (first : 
           | inl e ↦
               let one = first_live f.live next first in
               subst WaitsByLevels e.1
-              (upper_giving s.source f.taken (waiting_parts s.waiting) (k.readers next s at).source none (k.live.waits next s one at) (k.live.upper next s one at))
+              (upper_giving s.supply f.taken (waiting_parts s.waiting) (k.readers next s at).supply none (k.live.waits next s one at) (k.live.upper next s one at))
           | inr e ↦ k.live.upper place q among e.1
         ];
         reads = λ place q among there. elim (set_cases f.readers next place (giving s f.taken) q there) [
-          | inl e ↦ subst (λ (x : ReaderState). All (λ v. IsReadOf x.source v.wanted) x.waiting) e.1 (k.live.reads next s (first_live f.live next first) at)
+          | inl e ↦ subst (λ (x : ReaderState). All (λ v. IsReadOf x.supply v.wanted) x.waiting) e.1 (k.live.reads next s (first_live f.live next first) at)
           | inr e ↦ k.live.reads place q among e.1
         ];
       }
@@ -337,7 +337,7 @@ module _ (f : FileState) (next : ℕ) (s : ReaderState) (k : Nearly f) (first : 
       let one : place ≡ next = one_there (giver f) place next now first in
       let is_q : giving s f.taken ≡ q = one_there (slice_get (slice_set f.readers next (giving s f.taken)) next) (giving s f.taken) q
       (get_set f.readers next (giving s f.taken) s at) (ap (slice_get (slice_set f.readers next (giving s f.taken))) (sym one) ∙ there) in
-      subst (λ (x : ReaderState). x.source.taken.ciphertext_tree ≡ f.taken) is_q refl)
+      subst (λ (x : ReaderState). x.supply.taken.ciphertext_tree ≡ f.taken) is_q refl)
 
   pub read_giving : StaysRead f giving_file
   read_giving entries read = read_stays entries f giving_file refl refl refl (grow_none f.handout.trees) grow_giving k.groups refl (λ p among. among)
@@ -359,18 +359,18 @@ module _ (f : FileState) (next : ℕ) (s : ReaderState) (k : Nearly f) (first : 
   pub asks_giving : AsksNoMore f giving_file
   asks_giving = asks_no_more f giving_file
       (λ place q there. elim (set_cases f.readers next place (giving s f.taken) q there) [
-        | inl e ↦ inl (s, ap (slice_get f.readers) e.0 ∙ at, subst (λ (x : ReaderState). SameAsks s.source x.source) e.1 same_giving)
-        | inr e ↦ inl (q, e.1, asks_itself q.source)
+        | inl e ↦ inl (s, ap (slice_get f.readers) e.0 ∙ at, subst (λ (x : ReaderState). SameAsks s.supply x.supply) e.1 same_giving)
+        | inr e ↦ inl (q, e.1, asks_itself q.supply)
       ])
       (λ place q there. elim (get_cases f.readers next place (giving s f.taken) s q at there) [
-        | inl e ↦ (giving s f.taken, e.2, subst (λ (x : ReaderState). SameAsks x.source (gives_from s.source f.taken)) e.1 same_giving)
-        | inr e ↦ (q, e.1, asks_itself q.source)
+        | inl e ↦ (giving s f.taken, e.2, subst (λ (x : ReaderState). SameAsks x.supply (gives_from s.supply f.taken)) e.1 same_giving)
+        | inr e ↦ (q, e.1, asks_itself q.supply)
       ])
 
 -- ---- both
 
 -- what holds of a file after a reader ended
-pub record HasEnded (f : FileState) (reader : ℕ) (s t : SourceState) (g : FileState) : Type 0 where
+pub record HasEnded (f : FileState) (reader : ℕ) (s t : SupplyState) (g : FileState) : Type 0 where
   pub right : IsFile g
   pub same_copies : copies g ≡ copies f
   pub none : waiting_at g reader ≡ []
@@ -381,7 +381,7 @@ pub record HasEnded (f : FileState) (reader : ℕ) (s t : SourceState) (g : File
   pub same : IsSameFile f g
 
 module _ (f : FileState) (reader : ℕ) (r r1 : ReaderState) (rs : List ReaderState) (is : IsFile f) (live : IsLive f reader) (at : slice_get f.readers reader ≡ Some r)
-    (server : r1.server ≡ r.server) (share : r1.share ≡ r.share) (only : OnlyAsks r.source r1.source) (right : IsSource r1.source) (tree : giver f ≢ Some reader → AsksNoTree r.source r1.source) where
+    (server : r1.server ≡ r.server) (share : r1.share ≡ r.share) (only : OnlyAsks r.supply r1.supply) (right : IsSupply r1.supply) (tree : giver f ≢ Some reader → AsksNoTree r.supply r1.supply) where
   abbrev pub ended_file : FileState
   ended_file = record f { readers = rs; live = without reader f.live }
 
@@ -389,8 +389,8 @@ module _ (f : FileState) (reader : ℕ) (r r1 : ReaderState) (rs : List ReaderSt
   plain = stopped_file f reader r r1 is live at server share only right tree
 
   -- where no other gives the ciphertext tree now
-  pub ended_plain : rs ≡ slice_set f.readers reader (stopped r1) → (giver f ≢ Some reader) ⊎ (giver plain ≡ None) → HasEnded f reader r.source r1.source ended_file
-  ended_plain list why = subst (λ (l : List ReaderState). HasEnded f reader r.source r1.source (record f { readers = l; live = without reader f.live })) (sym list) (record {
+  pub ended_plain : rs ≡ slice_set f.readers reader (stopped r1) → (giver f ≢ Some reader) ⊎ (giver plain ≡ None) → HasEnded f reader r.supply r1.supply ended_file
+  ended_plain list why = subst (λ (l : List ReaderState). HasEnded f reader r.supply r1.supply (record f { readers = l; live = without reader f.live })) (sym list) (record {
     right = whole plain (nearly f reader r r1 is live at server share only right tree) (gives why);
     same_copies = copies_stopped f reader r r1 is live at server share only right tree;
     none = none_waits f reader r r1 is live at server share only right tree;
@@ -406,14 +406,14 @@ module _ (f : FileState) (reader : ℕ) (r r1 : ReaderState) (rs : List ReaderSt
 
   -- where another does
   pub ended_gives : (next : ℕ) (s : ReaderState) → giver f ≡ Some reader → giver plain ≡ Some next → slice_get f.readers next ≡ Some s
-      → rs ≡ slice_set (slice_set f.readers reader (stopped r1)) next (giving s f.taken) → HasEnded f reader r.source r1.source ended_file
+      → rs ≡ slice_set (slice_set f.readers reader (stopped r1)) next (giving s f.taken) → HasEnded f reader r.supply r1.supply ended_file
   ended_gives next s gave first at_next list =
       let k = nearly f reader r r1 is live at server share only right tree in
       let left = next_left f.live reader next first in
       let there : slice_get plain.readers next ≡ Some s = get_other f.readers reader next (stopped r1) left.1 ∙ at_next in
       let later : reader ≤ next = first_least 0 f.live reader next is.live.rise gave left.0 in
-      let none : (p : NodePiece) → ¬ IsAsked s.source (CiphertextTree p) = λ p. is.ciphertext.behind reader next s p gave (strictly reader next later left.1) at_next in
-      subst (λ (l : List ReaderState). HasEnded f reader r.source r1.source (record f { readers = l; live = without reader f.live })) (sym list) (record {
+      let none : (p : NodePiece) → ¬ IsAsked s.supply (CiphertextTree p) = λ p. is.ciphertext.behind reader next s p gave (strictly reader next later left.1) at_next in
+      subst (λ (l : List ReaderState). HasEnded f reader r.supply r1.supply (record f { readers = l; live = without reader f.live })) (sym list) (record {
         right = file_giving plain next s k first there none;
         same_copies = copies_giving plain next s k first there none ∙ copies_stopped f reader r r1 is live at server share only right tree;
         none = waiting_giving plain next s k first there none reader ∙ none_waits f reader r r1 is live at server share only right tree;
@@ -431,7 +431,7 @@ module _ (f : FileState) (reader : ℕ) (r r1 : ReaderState) (rs : List ReaderSt
         | inr high ↦ absurd (other (omega (arith, order, high)))
       ]
 
-  pub has_ended : EndsReader (slice_set f.readers reader r1) f.live f.taken reader rs → HasEnded f reader r.source r1.source ended_file
+  pub has_ended : EndsReader (slice_set f.readers reader r1) f.live f.taken reader rs → HasEnded f reader r.supply r1.supply ended_file
   has_ended ends =
       let one : ends.r ≡ r1 = one_there (slice_get (slice_set f.readers reader r1) reader) ends.r r1 ends.there (get_set f.readers reader r1 r at) in
       let list : slice_set (slice_set f.readers reader r1) reader (stopped ends.r) ≡ slice_set f.readers reader (stopped r1) =
@@ -456,17 +456,17 @@ can_give f reader is live gave next s first at =
     record {
       none = λ p. is.ciphertext.behind reader next s p gave order at;
       pieces = λ p low.
-          subst (λ (g : Geometry). IsNodePiece g s.source.start s.source.end p) (sym own.geometry)
-          (subst (λ (n : ℕ). IsNodePiece f.handout.geometry n s.source.end p) (sym own.start)
+          subst (λ (g : Geometry). IsNodePiece g s.supply.start s.supply.end p) (sym own.geometry)
+          (subst (λ (n : ℕ). IsNodePiece f.handout.geometry n s.supply.end p) (sym own.start)
           (subst (λ (n : ℕ). IsNodePiece f.handout.geometry f.first n p) (sym own.end) (is.ciphertext.pieces p low)));
     }
 
 pub ended_itself : (f : FileState) (reader : ℕ) (rs : List ReaderState) → IsFile f → IsLive f reader → EndsReader f.readers f.live f.taken reader rs
-    → (r : ReaderState) × HasEnded f reader r.source r.source (record f { readers = rs; live = without reader f.live })
+    → (r : ReaderState) × HasEnded f reader r.supply r.supply (record f { readers = rs; live = without reader f.live })
 ended_itself f reader rs is live ends =
     let r = reader_there f.readers reader (All-contains (λ place. place < length f.readers) f.live reader is.live.there live) in
     let same : slice_set f.readers reader r.0 ≡ f.readers = set_same f.readers reader r.0 r.1 in (
       r.0,
-      has_ended f reader r.0 r.0 rs is live r.1 refl refl refl (is.readers reader r.0 r.1).source (λ other p asked. asked)
+      has_ended f reader r.0 r.0 rs is live r.1 refl refl refl (is.readers reader r.0 r.1).supply (λ other p asked. asked)
           (subst (λ (l : List ReaderState). EndsReader l f.live f.taken reader rs) (sym same) ends),
     )

@@ -10,10 +10,10 @@ use Rattle.share_layout.specs.Geometry.{Geometry, IsGeometry}
 use Rattle.share_layout.specs.Pieces.{block_length}
 use Rattle.proved_parts.specs.Decoding.{DecodesBlocks}
 use Rattle.proved_parts.specs.declared.evidence.EvidencePart.{EvidencePart}
-use Rattle.download_source.specs.Blocks.{IsHeld, block_end, block_first}
-use Rattle.download_source.specs.Source.{IsSource, SourceState}
-use Rattle.download_source.proofs.LawLemmas.{joined_long}
-use Rattle.download_source.proofs.PlanLemmas.{block_order}
+use Rattle.download_supply.specs.Blocks.{IsHeld, block_end, block_first}
+use Rattle.download_supply.specs.Supply.{IsSupply, SupplyState}
+use Rattle.download_supply.proofs.LawLemmas.{joined_long}
+use Rattle.download_supply.proofs.PlanLemmas.{block_order}
 use Rattle.download_segments.specs.Decoding.{AreShareNumbers, blocks_in}
 use Rattle.download_segments.specs.State.{HandoutState, ProvesSegment}
 use Rattle.download_segments.proofs.DecodingLemmas.{unique}
@@ -92,7 +92,7 @@ piece_long : (entries : List Request) (xs : List ℕ) (a n k : ℕ) → k < n �
 piece_long entries xs a n k low within bytes answered =
     ap length (piece_at (answer_at entries) xs a n k low within ∙ answer_is entries (get_or xs (a + k) 0) bytes answered)
 
-pub block_long : (entries : List Request) (s : SourceState) (number : ℕ) → IsSource s → IsHeld s number → HasAnswers entries s
+pub block_long : (entries : List Request) (s : SupplyState) (number : ℕ) → IsSupply s → IsHeld s number → HasAnswers entries s
     → length (block_of entries s number) ≡ block_length s.geometry number
 block_long entries s number is held holds =
     let a = block_first s.geometry s.first number in
@@ -108,14 +108,14 @@ block_long entries s number is held holds =
     piece_long entries s.held a (b - a) k (omega (arith, low, count)) (omega (arith, within, order)) one.0 one.1 ∙ one.2)
 
 pub blocks_long : (entries : List Request) (g : Geometry) (readers : List ReaderState) (places : List ℕ) (number : ℕ) → AreOfFile entries g readers
-    → ((place : ℕ) → Contains places place → (r : ReaderState) × (slice_get readers place ≡ Some r) × IsHeld r.source number)
+    → ((place : ℕ) → Contains places place → (r : ReaderState) × (slice_get readers place ≡ Some r) × IsHeld r.supply number)
     → length (blocks_of entries readers number places) ≡ length places * block_length g number
 blocks_long entries g readers [] number file each = omega arith
 blocks_long entries g readers (p ∷ ps) number file each =
     let r = each p (contains_head p ps) in
     let one : length (block_in entries number (slice_get readers p)) ≡ block_length g number =
     ap (λ (o : Option ReaderState). length (block_in entries number o)) r.1
-    ∙ block_long entries r.0.source number (file.source p r.0 r.1) r.2 (has_answers entries r.0 (file.held p r.0 r.1))
+    ∙ block_long entries r.0.supply number (file.supply p r.0 r.1) r.2 (has_answers entries r.0 (file.held p r.0 r.1))
     ∙ ap (λ (h : Geometry). block_length h number) (file.geometry p r.0 r.1) in
     let rest = blocks_long entries g readers ps number file (λ q among. each q (contains_tail p q ps among)) in
     length-append (block_in entries number (slice_get readers p)) (blocks_of entries readers number ps)
@@ -125,7 +125,7 @@ blocks_long entries g readers (p ∷ ps) number file each =
 
 module _ (entries : List Request) (h : HandoutState) (readers : List ReaderState) (group : GroupState) (number : ℕ)
     (right : IsGroup h readers group) (made : IsMade entries h readers group number) (file : AreOfFile entries h.geometry readers) where
-  reader_of : (place : ℕ) → Contains group.readers place → (r : ReaderState) × (slice_get readers place ≡ Some r) × IsHeld r.source number
+  reader_of : (place : ℕ) → Contains group.readers place → (r : ReaderState) × (slice_get readers place ≡ Some r) × IsHeld r.supply number
   reader_of place among =
       let r = reader_there readers place (All-contains (λ p. p < length readers) group.readers place right.there among) in
       (r.0, r.1, (made.right place r.0 among r.1).ready.held)
@@ -180,7 +180,7 @@ all_made entries f is read = All-from_contains (IsMadeGroup entries f.handout f.
 
 pub readers_of : (entries : List Request) (f : FileState) → IsFile f → IsRead entries f → AreOfFile entries f.handout.geometry f.readers
 readers_of entries f is read = record {
-  source = λ place r at. (is.readers place r at).source;
+  supply = λ place r at. (is.readers place r at).supply;
   geometry = λ place r at. (is.readers place r at).geometry;
   held = read.held;
 }

@@ -1,6 +1,6 @@
 -- The fields of a file, as contracts see them.
 use Rattle.download_file.specs.State.{FileState, file_state}
-use Rattle.download_file.specs.declared.file.File.TheInside.{Inside}
+use Rattle.download_file.specs.declared.file.PartialFile.TheInside.{Inside}
 
 abbrev pub seen : Inside → FileState
 seen f =

@@ -13,10 +13,10 @@ use Rattle.merkle.specs.Partial.{PartialState}
 use Rattle.ueb.specs.Shape.{Contents}
 use Rattle.share_layout.specs.Geometry.{Geometry}
 use Rattle.proved_parts.specs.Decoding.{DecodesBlocks}
-use Rattle.download_source.specs.Blocks.{IsHeld, block_end, block_first, joined_block}
-use Rattle.download_source.proofs.PlanLemmas.{block_order}
-use Rattle.download_source.specs.Source.{SourceState}
-use Rattle.download_source.specs.Taking.{known_hash}
+use Rattle.download_supply.specs.Blocks.{IsHeld, block_end, block_first, joined_block}
+use Rattle.download_supply.proofs.PlanLemmas.{block_order}
+use Rattle.download_supply.specs.Supply.{SupplyState}
+use Rattle.download_supply.specs.Taking.{known_hash}
 use Rattle.download_parts.specs.Trees.{KnowsAllOf, known_leaf}
 use Rattle.download_parts.proofs.TreeLemmas.{knows_itself, knows_two, leaf_stays}
 use Rattle.download_segments.specs.Decoding.{blocks_in}
@@ -43,7 +43,7 @@ range_first xs ys a b order within =
     let long : length (drop a xs) ≡ length xs - a = length-drop a xs in
     ap (take (b - a)) (drop-append-le a xs ys low) ∙ take-append-le (b - a) (drop a xs) ys (omega (arith, long, within))
 
--- ---- what a source holds
+-- ---- what a supply holds
 
 pub tree_same : (o p : Option PartialState) → p ≡ o → TreeStays o p
 tree_same o p same tree is = (tree, same ∙ is, knows_itself tree)
@@ -54,10 +54,10 @@ tree_two o p q first second tree is =
     let b = second a.0 a.1 in
     (b.0, b.1, knows_two tree a.0 b.0 a.2 b.2)
 
-pub goes_same : (s : SourceState) → GoesOn s s
+pub goes_same : (s : SupplyState) → GoesOn s s
 goes_same s = record { geometry = refl; start = refl; first = refl; end = refl; tree = tree_same s.tree s.tree refl; more = []; held = sym (append-nil s.held) }
 
-pub goes_two : (s t u : SourceState) → GoesOn s t → GoesOn t u → GoesOn s u
+pub goes_two : (s t u : SupplyState) → GoesOn s t → GoesOn t u → GoesOn s u
 goes_two s t u a b = record {
   geometry = b.geometry ∙ a.geometry;
   start = b.start ∙ a.start;
@@ -69,7 +69,7 @@ goes_two s t u a b = record {
 }
 
 -- the hash that is known of a block stays known
-hash_stays : (s t : SourceState) (number : ℕ) (hash : List ℕ) → GoesOn s t → known_hash s number ≡ Some hash → known_hash t number ≡ Some hash
+hash_stays : (s t : SupplyState) (number : ℕ) (hash : List ℕ) → GoesOn s t → known_hash s number ≡ Some hash → known_hash t number ≡ Some hash
 hash_stays s t number hash goes known = by s.tree refl
   where
     by : (o : Option PartialState) → s.tree ≡ o → known_hash t number ≡ Some hash
@@ -79,7 +79,7 @@ hash_stays s t number hash goes known = by s.tree refl
         ap (option_and_then (λ tree. known_leaf tree number)) k.1
         ∙ leaf_stays tree k.0 number hash k.2 (sym (ap (option_and_then (λ tree. known_leaf tree number)) e) ∙ known)
 
-pub held_stays : (s t : SourceState) (number : ℕ) → GoesOn s t → IsHeld s number → IsHeld t number
+pub held_stays : (s t : SupplyState) (number : ℕ) → GoesOn s t → IsHeld s number → IsHeld t number
 held_stays s t number goes held =
     let from = held.within.from in
     let before = held.within.before in
@@ -93,7 +93,7 @@ held_stays s t number goes held =
       pieces = omega (arith, pieces, same, long);
     }
 
-pub block_stays : (entries : List Request) (s t : SourceState) (number : ℕ) → GoesOn s t → IsHeld s number → block_of entries t number ≡ block_of entries s number
+pub block_stays : (entries : List Request) (s t : SupplyState) (number : ℕ) → GoesOn s t → IsHeld s number → block_of entries t number ≡ block_of entries s number
 block_stays entries s t number goes held =
     (λ i. joined_block (goes.geometry i) (goes.first i) number
     (map (answer_at entries) (slice_range (goes.held i) (block_first (goes.geometry i) (goes.first i) number) (block_end (goes.geometry i) (goes.first i) number))))
@@ -102,26 +102,26 @@ block_stays entries s t number goes held =
     (block_order s.geometry s.first number) held.pieces)
 
 -- a block that is right stays so
-pub right_stays : (entries : List Request) (r q : ReaderState) (number : ℕ) → GoesOn r.source q.source → HasRightBlock entries r number → HasRightBlock entries q number
+pub right_stays : (entries : List Request) (r q : ReaderState) (number : ℕ) → GoesOn r.supply q.supply → HasRightBlock entries r number → HasRightBlock entries q number
 right_stays entries r q number goes right =
-    let same = block_stays entries r.source q.source number goes right.ready.held in
-    let known : known_hash q.source number ≡ Some (tagged_hash Block (block_of entries q.source number)) =
-    hash_stays r.source q.source number (tagged_hash Block (block_of entries q.source number)) goes (right.proved ∙ ap (λ (l : List ℕ). Some (tagged_hash Block l)) (sym same)) in
+    let same = block_stays entries r.supply q.supply number goes right.ready.held in
+    let known : known_hash q.supply number ≡ Some (tagged_hash Block (block_of entries q.supply number)) =
+    hash_stays r.supply q.supply number (tagged_hash Block (block_of entries q.supply number)) goes (right.proved ∙ ap (λ (l : List ℕ). Some (tagged_hash Block l)) (sym same)) in
     record {
-      ready = record { held = held_stays r.source q.source number goes right.ready.held; known = ap is_some known };
+      ready = record { held = held_stays r.supply q.supply number goes right.ready.held; known = ap is_some known };
       proved = known;
     }
 
 -- ---- readers
 
 pub grow_same : (rs : List ReaderState) → ReadersGoOn rs rs
-grow_same rs place r e = record { now = r; there = e; server = refl; share = refl; source = goes_same r.source }
+grow_same rs place r e = record { now = r; there = e; server = refl; share = refl; supply = goes_same r.supply }
 
 pub grow_two : (rs ss ts : List ReaderState) → ReadersGoOn rs ss → ReadersGoOn ss ts → ReadersGoOn rs ts
 grow_two rs ss ts first second place r e =
     let a = first place r e in
     let b = second place a.now a.there in
-    record { now = b.now; there = b.there; server = b.server ∙ a.server; share = b.share ∙ a.share; source = goes_two r.source a.now.source b.now.source a.source b.source }
+    record { now = b.now; there = b.there; server = b.server ∙ a.server; share = b.share ∙ a.share; supply = goes_two r.supply a.now.supply b.now.supply a.supply b.supply }
 
 pub numbers_same : (rs rs' : List ReaderState) (places : List ℕ) → ((place : ℕ) → Contains places place → share_in (slice_get rs' place) ≡ share_in (slice_get rs place))
     → numbers_of rs' places ≡ numbers_of rs places
@@ -164,13 +164,13 @@ made_stays entries h h' rs rs' group number geometry trees grow is made =
     blocks_same entries entries rs rs' number group.readers (λ place among.
     let r = reader_there rs place (All-contains (λ p. p < length rs) group.readers place is.there among) in
     let r' = grow place r.0 r.1 in
-    ap (block_in entries number) r'.there ∙ block_stays entries r.0.source r'.now.source number r'.source (made.right place r.0 among r.1).ready.held ∙ sym (ap (block_in entries number) r.1)) in
+    ap (block_in entries number) r'.there ∙ block_stays entries r.0.supply r'.now.supply number r'.supply (made.right place r.0 among r.1).ready.held ∙ sym (ap (block_in entries number) r.1)) in
     record {
       right = λ place t among at.
           let r = reader_there rs place (All-contains (λ p. p < length rs) group.readers place is.there among) in
           let r' = grow place r.0 r.1 in
           subst (λ (q : ReaderState). HasRightBlock entries q number) (one_there (slice_get rs' place) r'.now t r'.there at)
-          (right_stays entries r.0 r'.now number r'.source (made.right place r.0 among r.1));
+          (right_stays entries r.0 r'.now number r'.supply (made.right place r.0 among r.1));
       segment = made.segment;
       decodes = subst (λ (g : Geometry). DecodesBlocks g group.decoding.numbers (blocks_in g number (blocks_of entries rs' number group.readers)) number made.segment) (sym geometry)
           (subst (λ (joined : List ℕ). DecodesBlocks h.geometry group.decoding.numbers (blocks_in h.geometry number joined) number made.segment) (sym same) made.decodes);
@@ -273,17 +273,17 @@ answered_stays old new server share offset len place keeps a = record {
 }
 
 -- each piece is an answer of its length
-abbrev pub HasAnswers : List Request → SourceState → Type 0
+abbrev pub HasAnswers : List Request → SupplyState → Type 0
 HasAnswers entries s = (k : ℕ) → k < length s.held
     → (bytes : List ℕ) × AnsweredWith entries (get_or s.held k 0) bytes × (length bytes ≡ length_of s.geometry s.first s.end (Data k))
 
-pub has_answers : (entries : List Request) (r : ReaderState) → HoldsAnswers entries r → HasAnswers entries r.source
+pub has_answers : (entries : List Request) (r : ReaderState) → HoldsAnswers entries r → HasAnswers entries r.supply
 has_answers entries r holds k low = let a = holds k low in (a.bytes, record { request = a.request; there = a.there; answer = a.answer }, a.long)
 
-pub holds_as : (entries : List Request) (a b c d : ℕ) (s : SourceState) → c ≡ a → d ≡ b → HoldsFor entries a b s → HoldsFor entries c d s
+pub holds_as : (entries : List Request) (a b c d : ℕ) (s : SupplyState) → c ≡ a → d ≡ b → HoldsFor entries a b s → HoldsFor entries c d s
 holds_as entries a b c d s server share holds = subst (λ n. HoldsFor entries n d s) (sym server) (subst (λ n. HoldsFor entries a n s) (sym share) holds)
 
-pub same_block : (old new : List Request) (s : SourceState) (number : ℕ) → KeepsAnswers old new → HasAnswers old s
+pub same_block : (old new : List Request) (s : SupplyState) (number : ℕ) → KeepsAnswers old new → HasAnswers old s
     → block_of new s number ≡ block_of old s number
 same_block old new s number keeps held =
     ap (joined_block s.geometry s.first number)
@@ -302,12 +302,12 @@ same_block old new s number keeps held =
 module _ (old new : List Request) (f : FileState) (keeps : KeepsAnswers old new) (read : IsRead old f) where
   one : (number place : ℕ) (o : Option ReaderState) → slice_get f.readers place ≡ o → block_in new number o ≡ block_in old number o
   one number place None at = refl
-  one number place (Some r) at = same_block old new r.source number keeps (has_answers old r (read.held place r at))
+  one number place (Some r) at = same_block old new r.supply number keeps (has_answers old r (read.held place r at))
 
   pub right_keeps : (place : ℕ) (r : ReaderState) (number : ℕ) → slice_get f.readers place ≡ Some r → HasRightBlock old r number → HasRightBlock new r number
   right_keeps place r number at right = record {
     ready = right.ready;
-    proved = right.proved ∙ ap (λ (l : List ℕ). Some (tagged_hash Block l)) (sym (same_block old new r.source number keeps (has_answers old r (read.held place r at))));
+    proved = right.proved ∙ ap (λ (l : List ℕ). Some (tagged_hash Block l)) (sym (same_block old new r.supply number keeps (has_answers old r (read.held place r at))));
   }
 
   made_keeps : (group : GroupState) (number : ℕ) → IsMade old f.handout f.readers group number → IsMade new f.handout f.readers group number

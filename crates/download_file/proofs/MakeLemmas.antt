@@ -19,8 +19,8 @@ use Rattle.share_layout.proofs.CutLemmas as cut
 use Rattle.share_verify.specs.CapBlock.{geometry_by}
 use Rattle.proved_parts.specs.Decoding.{DecodesBlocks}
 use Rattle.download_parts.specs.Trees.{IsBlockTree, LeadTo, known_leaf, share_places}
-use Rattle.download_source.specs.Blocks.{IsHeld, IsReady}
-use Rattle.download_source.specs.Taking.{IsProved}
+use Rattle.download_supply.specs.Blocks.{IsHeld, IsReady}
+use Rattle.download_supply.specs.Taking.{IsProved}
 use Rattle.download_segments.specs.Decoding.{AreShareNumbers, blocks_in}
 use Rattle.download_segments.specs.Handout.{next_segment}
 use Rattle.download_segments.specs.NoCodeWord.{IsAnyInput, IsBlockIn, IsNoCodeWord, IsNoCodeWordIn}
@@ -66,12 +66,12 @@ module _ (entries : List Request) (f : FileState) (number size : ℕ) (is : IsFi
     (long : size ≡ block_length f.handout.geometry number) (ready : AreReady f.readers f.live number) where
   pub of_file : AreOfFile entries f.handout.geometry f.readers
   of_file = record {
-    source = λ place r at. (is.readers place r at).source;
+    supply = λ place r at. (is.readers place r at).supply;
     geometry = λ place r at. (is.readers place r at).geometry;
     held = read.held;
   }
 
-  reader_at : (place : ℕ) → IsLive f place → (r : ReaderState) × (slice_get f.readers place ≡ Some r) × IsHeld r.source number
+  reader_at : (place : ℕ) → IsLive f place → (r : ReaderState) × (slice_get f.readers place ≡ Some r) × IsHeld r.supply number
   reader_at place live =
       let r = reader_there f.readers place (All-contains (λ p. p < length f.readers) f.live place is.live.there live) in
       (r.0, r.1, (ready place r.0 live r.1).held)
@@ -85,7 +85,7 @@ module _ (entries : List Request) (f : FileState) (number size : ℕ) (is : IsFi
   its_length place live =
       let r = reader_at place live in
       ap (λ (o : Option ReaderState). length (block_in entries number o)) r.1
-      ∙ block_long entries r.0.source number (is.readers place r.0 r.1).source r.2 (has_answers entries r.0 (read.held place r.0 r.1))
+      ∙ block_long entries r.0.supply number (is.readers place r.0 r.1).supply r.2 (has_answers entries r.0 (read.held place r.0 r.1))
       ∙ ap (λ (g : Geometry). block_length g number) (is.readers place r.0 r.1).geometry ∙ sym long
 
   pub all_long : length (blocks_of entries f.readers number f.live) ≡ length f.live * size
@@ -93,18 +93,18 @@ module _ (entries : List Request) (f : FileState) (number size : ℕ) (is : IsFi
 
   -- the block of a reader among those that stand one after another
   pub nth_own : (k place : ℕ) (r : ReaderState) → slice_get f.live k ≡ Some place → slice_get f.readers place ≡ Some r
-      → nth_block (blocks_of entries f.readers number f.live) size k ≡ block_of entries r.source number
+      → nth_block (blocks_of entries f.readers number f.live) size k ≡ block_of entries r.supply number
   nth_own k place r at at_reader = nth_is entries f.readers number size f.live k place its_length at ∙ ap (block_in entries number) at_reader
 
   -- what is known of the hash of a block that is ready
-  known_tree : (r : ReaderState) → IsReady r.source number → (tree : PartialState) × (r.source.tree ≡ Some tree) × (leaf : List ℕ) × (known_leaf tree number ≡ Some leaf)
-  known_tree r own = by r.source.tree refl
+  known_tree : (r : ReaderState) → IsReady r.supply number → (tree : PartialState) × (r.supply.tree ≡ Some tree) × (leaf : List ℕ) × (known_leaf tree number ≡ Some leaf)
+  known_tree r own = by r.supply.tree refl
     where
       leaf_of : (tree : PartialState) (o : Option (List ℕ)) → known_leaf tree number ≡ o → is_some o ≡ true → (leaf : List ℕ) × (known_leaf tree number ≡ Some leaf)
       leaf_of tree (Some leaf) e known = (leaf, e)
       leaf_of tree None e known = absurd (false≢true known)
 
-      by : (o : Option PartialState) → r.source.tree ≡ o → (tree : PartialState) × (r.source.tree ≡ Some tree) × (leaf : List ℕ) × (known_leaf tree number ≡ Some leaf)
+      by : (o : Option PartialState) → r.supply.tree ≡ o → (tree : PartialState) × (r.supply.tree ≡ Some tree) × (leaf : List ℕ) × (known_leaf tree number ≡ Some leaf)
       by None e = absurd (false≢true (sym (ap (λ (o : Option PartialState). is_some (option_and_then (λ tree. known_leaf tree number) o)) e) ∙ own.known))
       by (Some tree) e =
           let k = leaf_of tree (known_leaf tree number) refl (sym (ap (λ (o : Option PartialState). is_some (option_and_then (λ t. known_leaf t number) o)) e) ∙ own.known) in
@@ -115,7 +115,7 @@ module _ (entries : List Request) (f : FileState) (number size : ℕ) (is : IsFi
       let live = contains_at f.live wrong.k place wrong.at in
       let own = ready place wrong.r live wrong.there in
       let tree = known_tree wrong.r own in
-      let block : nth_block joined size wrong.k ≡ block_of entries wrong.r.source number = ap (λ (l : List ℕ). nth_block l size wrong.k) joins ∙ nth_own wrong.k place wrong.r wrong.at wrong.there in
+      let block : nth_block joined size wrong.k ≡ block_of entries wrong.r.supply number = ap (λ (l : List ℕ). nth_block l size wrong.k) joins ∙ nth_own wrong.k place wrong.r wrong.at wrong.there in
       record {
         live = live;
         r = wrong.r;
@@ -125,12 +125,12 @@ module _ (entries : List Request) (f : FileState) (number size : ℕ) (is : IsFi
         held = own.held;
         tree = tree.0;
         is = tree.1;
-        long = block_long entries wrong.r.source number (is.readers place wrong.r wrong.there).source own.held (has_answers entries wrong.r (read.held place wrong.r wrong.there))
+        long = block_long entries wrong.r.supply number (is.readers place wrong.r wrong.there).supply own.held (has_answers entries wrong.r (read.held place wrong.r wrong.there))
             ∙ ap (λ (g : Geometry). block_length g number) (is.readers place wrong.r wrong.there).geometry;
         refuted = record {
           leaf = tree.2;
           known = tree.3;
-          differs = λ same. wrong.not (subst (IsProved wrong.r.source number) (sym block)
+          differs = λ same. wrong.not (subst (IsProved wrong.r.supply number) (sym block)
               (ap (option_and_then (λ t. known_leaf t number)) tree.1 ∙ tree.3 ∙ ap Some same));
         };
       }
@@ -142,7 +142,7 @@ module _ (entries : List Request) (f : FileState) (number size : ℕ) (is : IsFi
       let at = at_contained f.live place live in
       record {
         ready = ready place r live there;
-        proved = subst (IsProved r.source number) (ap (λ (l : List ℕ). nth_block l size at.0) joins ∙ nth_own at.0 place r at.1 there)
+        proved = subst (IsProved r.supply number) (ap (λ (l : List ℕ). nth_block l size at.0) joins ∙ nth_own at.0 place r at.1 there)
             (proved at.0 place r (slice_get_within f.live at.0 place at.1) at.1 there);
       }
 
@@ -150,8 +150,8 @@ module _ (entries : List Request) (f : FileState) (number size : ℕ) (is : IsFi
 
   module _ (joined : List ℕ) (joins : joined ≡ blocks_of entries f.readers number f.live) (proved : AreProved f.readers f.live number joined size (length f.live)) where
     module _ (IsOne : List ℕ → Type 0) (in_shares : (input : List ℕ) → IsKnownInput f.handout.trees.shares input → IsOne input)
-        (in_block_tree : (place : ℕ) (r : ReaderState) (tree : PartialState) → IsLive f place → slice_get f.readers place ≡ Some r → r.source.tree ≡ Some tree → (input : List ℕ) → IsKnownInput tree input → IsOne input)
-        (of_block : (place : ℕ) (r : ReaderState) → IsLive f place → slice_get f.readers place ≡ Some r → IsOne (tagged_input Block (block_of entries r.source number))) where
+        (in_block_tree : (place : ℕ) (r : ReaderState) (tree : PartialState) → IsLive f place → slice_get f.readers place ≡ Some r → r.supply.tree ≡ Some tree → (input : List ℕ) → IsKnownInput tree input → IsOne input)
+        (of_block : (place : ℕ) (r : ReaderState) → IsLive f place → slice_get f.readers place ≡ Some r → IsOne (tagged_input Block (block_of entries r.supply number))) where
       by_live : (i share : ℕ) (block : List ℕ) → slice_get (numbers_of f.readers f.live) i ≡ Some share → slice_get (blocks_in f.handout.geometry number joined) i ≡ Some block
           → IsBlockIn IsOne f.handout.ueb share number block
       by_live i share block at_number at_block =
@@ -164,7 +164,7 @@ module _ (entries : List Request) (f : FileState) (number size : ℕ) (is : IsFi
           let low : i < g.needed = let l = slice_get_within (blocks_in g number joined) i block at_block in let count = length-pieces g.needed (block_length g number) joined in omega (arith, l, count) in
           let block_is : nth_block joined size i ≡ block =
           ap (λ (n : ℕ). nth_block joined n i) long ∙ sym (cut.piece_at g.needed (block_length g number) i joined low) ∙ get_or_from_slice_get (blocks_in g number joined) i block [] at_block in
-          let proves : IsProved r.0.source number block = subst (IsProved r.0.source number) block_is (proved i place.0 r.0 (slice_get_within f.live i place.0 place.1) place.1 r.1) in
+          let proves : IsProved r.0.supply number block = subst (IsProved r.0.supply number) block_is (proved i place.0 r.0 (slice_get_within f.live i place.0 place.1) place.1 r.1) in
           let tree = known_tree r.0 (ready place.0 r.0 live r.1) in
           let same : share ≡ r.0.share = sym place.2 ∙ ap share_in r.1 in
           let by_u : g ≡ geometry_by u = is.handout.geometry in
@@ -180,11 +180,11 @@ module _ (entries : List Request) (f : FileState) (number size : ℕ) (is : IsFi
           subst (λ (n : ℕ). known_leaf f.handout.trees.shares n ≡ Some tree.0.root) (sym same) (subst (TellsRoot f.handout.trees.shares r.0.share) tree.1 own.root) in
           let leads : IsBlockTree tree.0 (segment_count (geometry_by u)) =
           subst (λ (h : Geometry). IsBlockTree tree.0 (segment_count h)) (own.geometry ∙ by_u)
-          (subst (λ (o : Option PartialState). IfSome o (λ t. IsBlockTree t (segment_count r.0.source.geometry))) tree.1 own.source.leads) in
+          (subst (λ (o : Option PartialState). IfSome o (λ t. IsBlockTree t (segment_count r.0.supply.geometry))) tree.1 own.supply.leads) in
           let size_is : length block ≡ block_length (geometry_by u) number =
           sym (ap length block_is) ∙ ap length (ap (λ (l : List ℕ). nth_block l size i) joins ∙ nth_own i place.0 r.0 place.1 r.1)
           ∙ sym (ap (λ (o : Option ReaderState). length (block_in entries number o)) r.1) ∙ its_length place.0 live ∙ long ∙ ap (λ (h : Geometry). block_length h number) by_u in
-          let own_block : block_of entries r.0.source number ≡ block = sym (ap (λ (l : List ℕ). nth_block l size i) joins ∙ nth_own i place.0 r.0 place.1 r.1) ∙ block_is in
+          let own_block : block_of entries r.0.supply number ≡ block = sym (ap (λ (l : List ℕ). nth_block l size i) joins ∙ nth_own i place.0 r.0 place.1 r.1) ∙ block_is in
           blocks_lead_in IsOne u f.handout.trees.shares tree.0 share number block (omega (arith, same, low_share, total)) (subst (λ (h : Geometry). number < segment_count h) by_u there) shares h.trees.share_hashes known leads
           (sym (ap (option_and_then (λ t. known_leaf t number)) tree.1) ∙ proves) size_is
           in_shares (in_block_tree place.0 r.0 tree.0 live r.1 tree.1) (subst (λ (b : List ℕ). IsOne (tagged_input Block b)) own_block (of_block place.0 r.0 live r.1))

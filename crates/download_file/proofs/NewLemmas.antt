@@ -9,7 +9,7 @@ use Rattle.ueb.specs.Shape.{Contents}
 use Rattle.share_layout.specs.Geometry.{Geometry, IsGeometry}
 use Rattle.download_parts.proofs.NumberLemmas.{div_le}
 use Rattle.download_parts.specs.declared.part.NodePiece.{NodePiece}
-use Rattle.download_source.specs.Cursors.{cursor_at}
+use Rattle.download_supply.specs.Cursors.{cursor_at}
 use Rattle.download_segments.specs.declared.piece.Piece.{Piece}
 use Rattle.download_segments.specs.Handout.{TakesPiece}
 use Rattle.download_segments.specs.State.{HandoutState, IsHandout, starting_handout}
@@ -136,10 +136,10 @@ module _ (f : FileState) (ready : List Piece) (handed : ℕ) (is : IsFile f) (ri
   same_pieces = same_file f pieces_file refl refl refl refl refl refl (grow_none f.handout.trees) (grow_same f.readers) is.groups refl
 
   pub up_pieces : (reader : ℕ) → StaysAskedUp f pieces_file reader
-  up_pieces reader = asked_up_stays f pieces_file reader refl (λ now. now) (λ r at. (r, at, grows_itself r.source))
+  up_pieces reader = asked_up_stays f pieces_file reader refl (λ now. now) (λ r at. (r, at, grows_itself r.supply))
 
   pub asks_pieces : AsksNoMore f pieces_file
-  asks_pieces = asks_no_more f pieces_file (λ place r at. inl (r, at, asks_itself r.source)) (λ place r at. (r, at, asks_itself r.source))
+  asks_pieces = asks_no_more f pieces_file (λ place r at. inl (r, at, asks_itself r.supply)) (λ place r at. (r, at, asks_itself r.supply))
 
 -- what holds of a file then
 pub record HasPieces (f g : FileState) : Type 0 where

@@ -7,11 +7,11 @@ use Rattle.download_parts.specs.Plan.{IsNodePiece}
 use Rattle.download_parts.specs.declared.part.NodePiece.{NodePiece}
 use Rattle.download_parts.specs.declared.part.Part.{Part}
 use Rattle.download_parts.specs.declared.part.Part.TheVariants.{ShareHashes, BlockTree, CiphertextTree, Data}
-use Rattle.download_source.specs.Cursors.{cursor_at}
-use Rattle.download_source.specs.Source.{first_of}
-use Rattle.download_source.specs.Taking.{IsDue}
-use Rattle.download_source.specs.Upper.{HasOverPassed, UpperComeFirst}
-use Rattle.download_source.proofs.UpperLemmas.{due_is_proved, over_proves}
+use Rattle.download_supply.specs.Cursors.{cursor_at}
+use Rattle.download_supply.specs.Supply.{first_of}
+use Rattle.download_supply.specs.Taking.{IsDue}
+use Rattle.download_supply.specs.Upper.{HasOverPassed, UpperComeFirst}
+use Rattle.download_supply.proofs.UpperLemmas.{due_is_proved, over_proves}
 use Rattle.download_file.specs.Laws.{FirstPartsAreProved}
 use Rattle.download_file.specs.Right.{IsFile}
 use Rattle.download_file.specs.State.{FileState, IsLive, ReaderState, giver, waiting_parts}
@@ -23,27 +23,27 @@ module _ (f : FileState) (reader : ℕ) (r : ReaderState) (is : IsFile f) (at : 
   abbrev g : Geometry
   g = f.handout.geometry
 
-  proved : (part : Part) → IsDue r.source part → HasOverPassed r.source.geometry (first_of r.source part) r.source.taken part
+  proved : (part : Part) → IsDue r.supply part → HasOverPassed r.supply.geometry (first_of r.supply part) r.supply.taken part
       → ((p : NodePiece) → part ≡ CiphertextTree p → giver f ≡ Some reader) → KnowsProof f.handout f.first f.end r part
   proved ShareHashes due over gives = tt
-  proved (BlockTree p) due over gives = λ t tree. due_is_proved r.source p t (is.readers reader r at).source due over tree
+  proved (BlockTree p) due over gives = λ t tree. due_is_proved r.supply p t (is.readers reader r at).supply due over tree
   proved (CiphertextTree p) due over gives =
       let own = is.readers reader r at in
       let piece : IsNodePiece g f.first f.end p =
       subst (λ (k : Geometry). IsNodePiece k f.first f.end p) own.geometry
-      (subst (λ n. IsNodePiece r.source.geometry n f.end p) own.start
-      (subst (λ n. IsNodePiece r.source.geometry r.source.start n p) own.end (own.source.parts (CiphertextTree p) due.asked))) in
+      (subst (λ n. IsNodePiece r.supply.geometry n f.end p) own.start
+      (subst (λ n. IsNodePiece r.supply.geometry r.supply.start n p) own.end (own.supply.parts (CiphertextTree p) due.asked))) in
       over_proves g f.first f.end p f.handout.trees.ciphertext is.range piece is.handout.trees.ciphertext.sound
       (λ some.
-      let taken = subst (λ (l : List ℕ). (piece_over r.source.geometry r.source.start p).index < cursor_at l (p.level - 1)) (is.ciphertext.at_giver reader r (gives p refl) at) (over some) in
+      let taken = subst (λ (l : List ℕ). (piece_over r.supply.geometry r.supply.start p).index < cursor_at l (p.level - 1)) (is.ciphertext.at_giver reader r (gives p refl) at) (over some) in
       is.ciphertext.known (piece_over g f.first p)
       (subst (λ (k : Geometry). (piece_over k f.first p).index < cursor_at f.taken (p.level - 1)) own.geometry
-      (subst (λ n. (piece_over r.source.geometry n p).index < cursor_at f.taken (p.level - 1)) own.start taken)))
+      (subst (λ n. (piece_over r.supply.geometry n p).index < cursor_at f.taken (p.level - 1)) own.start taken)))
   proved (Data i) due over gives = tt
 
 pub first_parts_are_proved : FirstPartsAreProved
 first_parts_are_proved f reader r first others is live at waits =
-    let upper = subst (λ (l : List Waiting). UpperComeFirst r.source.geometry (first_of r.source) r.source.taken (waiting_parts l)) waits (is.live.upper reader r live at) in
+    let upper = subst (λ (l : List Waiting). UpperComeFirst r.supply.geometry (first_of r.supply) r.supply.taken (waiting_parts l)) waits (is.live.upper reader r live at) in
     proved f reader r is at first.wanted.part
     (is_due f f.handout.trees reader r r first others f.taken is live at waits)
     upper.0

@@ -5,7 +5,7 @@ use Rattle.std.proofs.Math.Nat.{mul-le-mul_right}
 use Rattle.std.proofs.lemmas.Bool.{cases_lt}
 use Rattle.std.specs.Prelude.{IsSome}
 use Rattle.lemmas.proofs.Options.{one_there}
-use Rattle.download_source.specs.Taking.{IsProved}
+use Rattle.download_supply.specs.Taking.{IsProved}
 use Rattle.download_segments.specs.State.{HandoutState}
 use Rattle.download_segments.specs.GroupMaking.{nth_block}
 use Rattle.download_file.specs.State.{ReaderState}
@@ -27,7 +27,7 @@ lacks_not h readers live number (lacks_block b) all = b.not (all.ready b.place b
 
 -- one reader more has its block
 pub proved_more : (readers : List ReaderState) (places : List ℕ) (number : ℕ) (joined : List ℕ) (len k place : ℕ) (r : ReaderState) → slice_get places k ≡ Some place
-    → slice_get readers place ≡ Some r → IsProved r.source number (nth_block joined len k) → AreProved readers places number joined len k
+    → slice_get readers place ≡ Some r → IsProved r.supply number (nth_block joined len k) → AreProved readers places number joined len k
     → AreProved readers places number joined len (k + 1)
 proved_more readers places number joined len k place r at there proved all j other s low is is_there =
     elim (cases_lt j k) [
@@ -36,6 +36,6 @@ proved_more readers places number joined len k place r at there proved all j oth
           let same : j ≡ k = omega (arith, low, not) in
           let one : place ≡ other = one_there (slice_get places k) place other at (sym (ap (slice_get places) same) ∙ is) in
           let reader : r ≡ s = one_there (slice_get readers place) r s there (ap (slice_get readers) one ∙ is_there) in
-          subst (λ (t : ReaderState). IsProved t.source number (nth_block joined len j)) reader
-          (subst (λ (n : ℕ). IsProved r.source number (nth_block joined len n)) (sym same) proved)
+          subst (λ (t : ReaderState). IsProved t.supply number (nth_block joined len j)) reader
+          (subst (λ (n : ℕ). IsProved r.supply number (nth_block joined len n)) (sym same) proved)
     ]

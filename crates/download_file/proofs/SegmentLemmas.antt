@@ -411,7 +411,7 @@ has_groups entries f number groups groups' h' is read next begun same_handout sa
         made = λ group n among from before. read.made group n (begun.old group n among from before) from before;
         ready = λ p among. given_same entries p (read.ready p among);
       };
-      asked_up = λ reader. asked_up_stays f (record f { groups = groups }) reader refl (λ now. now) (λ r at. (r, at, grows_itself r.source));
+      asked_up = λ reader. asked_up_stays f (record f { groups = groups }) reader refl (λ now. now) (λ r at. (r, at, grows_itself r.supply));
       same = record {
         key = refl;
         ueb = refl;

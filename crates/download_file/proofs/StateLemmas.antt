@@ -8,10 +8,10 @@ use Rattle.download_parts.specs.declared.part.NodePiece.{NodePiece}
 use Rattle.download_parts.specs.declared.part.Part.{Part}
 use Rattle.download_parts.specs.declared.part.Part.TheVariants.{ShareHashes, BlockTree, CiphertextTree, Data}
 use Rattle.download_parts.specs.Trees.{KnowsAllOf}
-use Rattle.download_source.specs.Asking.{IsAsked, IsWanted, IsWantedCiphertext, IsWithin}
-use Rattle.download_source.specs.Cursors.{IsPassed, cursor_at}
-use Rattle.download_source.specs.Source.{IsSource, SourceState, first_of, new_source}
-use Rattle.download_source.specs.declared.cursors.Cursors.{Cursors}
+use Rattle.download_supply.specs.Asking.{IsAsked, IsWanted, IsWantedCiphertext, IsWithin}
+use Rattle.download_supply.specs.Cursors.{IsPassed, cursor_at}
+use Rattle.download_supply.specs.Supply.{IsSupply, SupplyState, first_of, new_supply}
+use Rattle.download_supply.specs.declared.cursors.Cursors.{Cursors}
 use Rattle.download_segments.specs.Handout.{next_segment}
 use Rattle.download_file.specs.State.{FileState, ReaderState, giver}
 use Rattle.download_file.specs.Asked.{AsksNoMore}
@@ -21,13 +21,13 @@ use Rattle.download_file.proofs.GrowLemmas.{tells_still}
 
 -- ---- what was asked
 
-pub first_same : (s t : SourceState) → t.start ≡ s.start → t.first ≡ s.first → (part : Part) → first_of t part ≡ first_of s part
+pub first_same : (s t : SupplyState) → t.start ≡ s.start → t.first ≡ s.first → (part : Part) → first_of t part ≡ first_of s part
 first_same s t start first ShareHashes = first
 first_same s t start first (BlockTree p) = first
 first_same s t start first (CiphertextTree p) = start
 first_same s t start first (Data i) = first
 
-pub asked_same : (s t : SourceState) → t.given ≡ s.given → t.asked ≡ s.asked → (part : Part) → IsAsked s part → IsAsked t part
+pub asked_same : (s t : SupplyState) → t.given ≡ s.given → t.asked ≡ s.asked → (part : Part) → IsAsked s part → IsAsked t part
 asked_same s t given asked ShareHashes h = subst (λ (c : Cursors). IsPassed c ShareHashes) (sym asked) h
 asked_same s t given asked (BlockTree p) h = subst (λ (c : Cursors). IsPassed c (BlockTree p)) (sym asked) h
 asked_same s t given asked (CiphertextTree p) h =
@@ -35,14 +35,14 @@ asked_same s t given asked (CiphertextTree p) h =
 asked_same s t given asked (Data i) h = subst (λ (c : Cursors). IsPassed c (Data i)) (sym asked) h
 
 -- it reads the same parts of the same share, and the same was asked of it
-pub record SameAsks (s t : SourceState) : Type 0 where
+pub record SameAsks (s t : SupplyState) : Type 0 where
   pub geometry : t.geometry ≡ s.geometry
   pub start : t.start ≡ s.start
   pub first : t.first ≡ s.first
   pub end : t.end ≡ s.end
   pub asked : (part : Part) → IsAsked t part ↔ IsAsked s part
 
-pub same_asks : (s t : SourceState) → t.geometry ≡ s.geometry → t.start ≡ s.start → t.first ≡ s.first → t.end ≡ s.end → t.given ≡ s.given → t.asked ≡ s.asked → SameAsks s t
+pub same_asks : (s t : SupplyState) → t.geometry ≡ s.geometry → t.start ≡ s.start → t.first ≡ s.first → t.end ≡ s.end → t.given ≡ s.given → t.asked ≡ s.asked → SameAsks s t
 same_asks s t geometry start first end given asked = record {
   geometry = geometry;
   start = start;
@@ -51,17 +51,17 @@ same_asks s t geometry start first end given asked = record {
   asked = λ part. (asked_same t s (sym given) (sym asked) part, asked_same s t given asked part);
 }
 
-pub asks_itself : (s : SourceState) → SameAsks s s
+pub asks_itself : (s : SupplyState) → SameAsks s s
 asks_itself s = same_asks s s refl refl refl refl refl refl
 
--- nothing is asked of a new source
+-- nothing is asked of a new supply
 pub cursor_none : (level : ℕ) → cursor_at (0 ∷ 0 ∷ 0 ∷ []) level ≡ 0
 cursor_none zero = refl
 cursor_none (suc zero) = refl
 cursor_none (suc (suc zero)) = refl
 cursor_none (suc (suc (suc level))) = refl
 
-pub new_asks_none : (g : Geometry) (start first end : ℕ) (part : Part) → ¬ IsAsked (new_source g start first end) part
+pub new_asks_none : (g : Geometry) (start first end : ℕ) (part : Part) → ¬ IsAsked (new_supply g start first end) part
 new_asks_none g start first end ShareHashes h = false≢true h
 new_asks_none g start first end (BlockTree p) h = let e = cursor_none p.level in omega (arith, h, e)
 new_asks_none g start first end (CiphertextTree p) h = let low = h.1 in let e = cursor_none p.level in omega (arith, low, e)
@@ -70,11 +70,11 @@ new_asks_none g start first end (Data i) h = omega (arith, h)
 -- each reader has been asked the same at its place, and a new one nothing
 abbrev pub KeepsAsks : List ReaderState → List ReaderState → Type 0
 KeepsAsks rs rs' = (place : ℕ) (r' : ReaderState) → slice_get rs' place ≡ Some r'
-    → ((r : ReaderState) × (slice_get rs place ≡ Some r) × SameAsks r.source r'.source) ⊎ ((part : Part) → ¬ IsAsked r'.source part)
+    → ((r : ReaderState) × (slice_get rs place ≡ Some r) × SameAsks r.supply r'.supply) ⊎ ((part : Part) → ¬ IsAsked r'.supply part)
 
 abbrev pub StillAsks : List ReaderState → List ReaderState → Type 0
 StillAsks rs rs' = (place : ℕ) (r : ReaderState) → slice_get rs place ≡ Some r
-    → (r' : ReaderState) × (slice_get rs' place ≡ Some r') × SameAsks r.source r'.source
+    → (r' : ReaderState) × (slice_get rs' place ≡ Some r') × SameAsks r.supply r'.supply
 
 pub asks_no_more : (f f' : FileState) → KeepsAsks f.readers f'.readers → StillAsks f.readers f'.readers → AsksNoMore f f'
 asks_no_more f f' keeps still reader offset len = (
@@ -84,8 +84,8 @@ asks_no_more f f' keeps still reader offset len = (
       there = k.1;
       part = has.part;
       asked = (k.2.asked has.part).0 has.asked;
-      place = has.place ∙ (λ i. place_of (k.2.geometry i) (first_same k.0.source has.r.source k.2.start k.2.first has.part i) (k.2.end i) has.part);
-      long = has.long ∙ (λ i. length_of (k.2.geometry i) (first_same k.0.source has.r.source k.2.start k.2.first has.part i) (k.2.end i) has.part);
+      place = has.place ∙ (λ i. place_of (k.2.geometry i) (first_same k.0.supply has.r.supply k.2.start k.2.first has.part i) (k.2.end i) has.part);
+      long = has.long ∙ (λ i. length_of (k.2.geometry i) (first_same k.0.supply has.r.supply k.2.start k.2.first has.part i) (k.2.end i) has.part);
     }
     | inr none ↦ absurd (none has.part has.asked)
   ]),
@@ -96,15 +96,15 @@ asks_no_more f f' keeps still reader offset len = (
         there = k.1;
         part = has.part;
         asked = (k.2.asked has.part).1 has.asked;
-        place = has.place ∙ sym (λ i. place_of (k.2.geometry i) (first_same has.r.source k.0.source k.2.start k.2.first has.part i) (k.2.end i) has.part);
-        long = has.long ∙ sym (λ i. length_of (k.2.geometry i) (first_same has.r.source k.0.source k.2.start k.2.first has.part i) (k.2.end i) has.part);
+        place = has.place ∙ sym (λ i. place_of (k.2.geometry i) (first_same has.r.supply k.0.supply k.2.start k.2.first has.part i) (k.2.end i) has.part);
+        long = has.long ∙ sym (λ i. length_of (k.2.geometry i) (first_same has.r.supply k.0.supply k.2.start k.2.first has.part i) (k.2.end i) has.part);
       }),
 )
 
 -- ---- all that is wanted is asked
 
 -- it reads the same parts of the same share, and no less was asked of it
-pub record GrowsAsks (s t : SourceState) : Type 0 where
+pub record GrowsAsks (s t : SupplyState) : Type 0 where
   pub geometry : t.geometry ≡ s.geometry
   pub start : t.start ≡ s.start
   pub first : t.first ≡ s.first
@@ -112,10 +112,10 @@ pub record GrowsAsks (s t : SourceState) : Type 0 where
   pub given : t.given ≡ s.given
   pub asked : (part : Part) → IsAsked s part → IsAsked t part
 
-pub grows_itself : (s : SourceState) → GrowsAsks s s
+pub grows_itself : (s : SupplyState) → GrowsAsks s s
 grows_itself s = record { geometry = refl; start = refl; first = refl; end = refl; given = refl; asked = λ part is. is }
 
-within_back : (s t : SourceState) (number : ℕ) → GrowsAsks s t → IsWithin t number → IsWithin s number
+within_back : (s t : SupplyState) (number : ℕ) → GrowsAsks s t → IsWithin t number → IsWithin s number
 within_back s t number k within =
     let from = within.from in
     let before = within.before in
@@ -126,14 +126,14 @@ within_back s t number k within =
 piece_back : (g h : Geometry) (a b end : ℕ) (p : NodePiece) → h ≡ g → b ≡ a → IsNodePiece h b end p → IsNodePiece g a end p
 piece_back g h a b end p geometry first piece = subst (λ (k : Geometry). IsNodePiece k a end p) geometry (subst (λ (n : ℕ). IsNodePiece h n end p) first piece)
 
-pub wanted_back : (s t : SourceState) (number : ℕ) (part : Part) → GrowsAsks s t → IsWanted t number part → IsWanted s number part
+pub wanted_back : (s t : SupplyState) (number : ℕ) (part : Part) → GrowsAsks s t → IsWanted t number part → IsWanted s number part
 wanted_back s t number ShareHashes k h = (within_back s t number k h.0, tt)
 wanted_back s t number (BlockTree p) k h = (within_back s t number k h.0, piece_back s.geometry t.geometry s.first t.first (number + 1) p k.geometry k.first h.1)
 wanted_back s t number (CiphertextTree p) k h = absurd h
 wanted_back s t number (Data i) k h =
     (within_back s t number k h.0, subst (λ (g : Geometry). i < data_pieces g s.first (number + 1)) k.geometry (subst (λ (n : ℕ). i < data_pieces t.geometry n (number + 1)) k.first h.1))
 
-pub ciphertext_back : (s t : SourceState) (number : ℕ) (part : Part) → GrowsAsks s t → IsWantedCiphertext t number part → IsWantedCiphertext s number part
+pub ciphertext_back : (s t : SupplyState) (number : ℕ) (part : Part) → GrowsAsks s t → IsWantedCiphertext t number part → IsWantedCiphertext s number part
 ciphertext_back s t number ShareHashes k h = h
 ciphertext_back s t number (BlockTree p) k h = h
 ciphertext_back s t number (CiphertextTree p) k h =
@@ -149,15 +149,15 @@ ciphertext_back s t number (CiphertextTree p) k h =
 ciphertext_back s t number (Data i) k h = h
 
 pub asked_up_stays : (f f' : FileState) (reader : ℕ) → next_segment f'.handout ≡ next_segment f.handout → (giver f' ≡ Some reader → giver f ≡ Some reader)
-    → ((r' : ReaderState) → slice_get f'.readers reader ≡ Some r' → (r : ReaderState) × (slice_get f.readers reader ≡ Some r) × GrowsAsks r.source r'.source)
+    → ((r' : ReaderState) → slice_get f'.readers reader ≡ Some r' → (r : ReaderState) × (slice_get f.readers reader ≡ Some r) × GrowsAsks r.supply r'.supply)
     → StaysAskedUp f f' reader
 asked_up_stays f f' reader next gives each up = record {
   own = λ r' number part at is wanted.
       let k = each r' at in
-      k.2.asked part (up.own k.0 number part k.1 (sym next ∙ is) (wanted_back k.0.source r'.source number part k.2 wanted));
+      k.2.asked part (up.own k.0 number part k.1 (sym next ∙ is) (wanted_back k.0.supply r'.supply number part k.2 wanted));
   ciphertext = λ r' number part first at is wanted.
       let k = each r' at in
-      k.2.asked part (up.ciphertext k.0 number part (gives first) k.1 (sym next ∙ is) (ciphertext_back k.0.source r'.source number part k.2 wanted));
+      k.2.asked part (up.ciphertext k.0 number part (gives first) k.1 (sym next ∙ is) (ciphertext_back k.0.supply r'.supply number part k.2 wanted));
 }
 
 -- ---- readers of a file
@@ -172,11 +172,11 @@ pub record Follows (f f' : FileState) : Type 0 where
   pub later : (number : ℕ) → next_segment f'.handout ≡ Some number → (before : ℕ) × (next_segment f.handout ≡ Some before) × (before ≤ number)
 
 -- a reader that reads the same parts of the same share is still one of the file
-pub reader_stays : (f f' : FileState) (r r' : ReaderState) → Follows f f' → IsReaderOf f r → r'.share ≡ r.share → IsSource r'.source
-    → r'.source.geometry ≡ r.source.geometry → r'.source.start ≡ r.source.start → r'.source.first ≡ r.source.first → r'.source.end ≡ r.source.end
-    → TellsRoot f'.handout.trees.shares r.share r'.source.tree → IsReaderOf f' r'
-reader_stays f f' r r' follows is share source geometry start first end root = record {
-  source = source;
+pub reader_stays : (f f' : FileState) (r r' : ReaderState) → Follows f f' → IsReaderOf f r → r'.share ≡ r.share → IsSupply r'.supply
+    → r'.supply.geometry ≡ r.supply.geometry → r'.supply.start ≡ r.supply.start → r'.supply.first ≡ r.supply.first → r'.supply.end ≡ r.supply.end
+    → TellsRoot f'.handout.trees.shares r.share r'.supply.tree → IsReaderOf f' r'
+reader_stays f f' r r' follows is share supply geometry start first end root = record {
+  supply = supply;
   geometry = geometry ∙ is.geometry ∙ sym follows.geometry;
   start = start ∙ is.start ∙ sym follows.first;
   end = end ∙ is.end ∙ sym follows.end;
@@ -186,9 +186,9 @@ reader_stays f f' r r' follows is share source geometry start first end root = r
       let order = k.2 in
       omega (arith, first, was, order);
   share = subst (λ (g : Geometry). r'.share < g.total) (sym follows.geometry) (let low = is.share in omega (arith, low, share));
-  root = subst (λ (n : ℕ). TellsRoot f'.handout.trees.shares n r'.source.tree) (sym share) root;
+  root = subst (λ (n : ℕ). TellsRoot f'.handout.trees.shares n r'.supply.tree) (sym share) root;
 }
 
 pub same_reader : (f f' : FileState) (r : ReaderState) → Follows f f' → IsReaderOf f r → IsReaderOf f' r
 same_reader f f' r follows is =
-    reader_stays f f' r r follows is refl is.source refl refl refl refl (tells_still f.handout.trees.shares f'.handout.trees.shares r.share r.source.tree follows.shares is.root)
+    reader_stays f f' r r follows is refl is.supply refl refl refl refl (tells_still f.handout.trees.shares f'.handout.trees.shares r.share r.supply.tree follows.shares is.root)

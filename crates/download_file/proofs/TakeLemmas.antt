@@ -13,14 +13,14 @@ use Rattle.download_parts.specs.declared.part.NodePiece.{NodePiece}
 use Rattle.download_parts.specs.declared.part.Part.{Part}
 use Rattle.download_parts.specs.declared.part.Part.TheVariants.{ShareHashes, BlockTree, CiphertextTree, Data}
 use Rattle.download_parts.specs.Trees.{FileTreesState}
-use Rattle.download_source.specs.Asking.{IsAsked, IsReadOf}
-use Rattle.download_source.specs.Cursors.{IsNextPiece, LeadOn, cursor_at, passed}
-use Rattle.download_source.specs.Source.{SourceState, first_of}
-use Rattle.download_source.specs.Taking.{IsDue}
-use Rattle.download_source.specs.Upper.{UpperComeFirst}
-use Rattle.download_source.specs.declared.cursors.Cursors.{Cursors}
-use Rattle.download_source.proofs.CursorLemmas.{piece_next}
-use Rattle.download_source.proofs.LawLemmas.{first_due}
+use Rattle.download_supply.specs.Asking.{IsAsked, IsReadOf}
+use Rattle.download_supply.specs.Cursors.{IsNextPiece, LeadOn, cursor_at, passed}
+use Rattle.download_supply.specs.Supply.{SupplyState, first_of}
+use Rattle.download_supply.specs.Taking.{IsDue}
+use Rattle.download_supply.specs.Upper.{UpperComeFirst}
+use Rattle.download_supply.specs.declared.cursors.Cursors.{Cursors}
+use Rattle.download_supply.proofs.CursorLemmas.{piece_next}
+use Rattle.download_supply.proofs.LawLemmas.{first_due}
 use Rattle.download_segments.specs.State.{HandoutState, with_trees}
 use Rattle.download_file.specs.State.{FileState, IsLive, ReaderState, copy, copy_of, giver, copies, waiting_at, waiting_in, waiting_parts}
 use Rattle.download_file.specs.Answers.{AnswersFirst, HoldsAnswers, HoldsFor, IsAnswerOf, IsAnswerTo, IsRead}
@@ -80,7 +80,7 @@ get_behind (x ∷ xs) y zero e = absurd (omega (arith, e))
 get_behind (x ∷ xs) y (suc k) e = get_behind xs y k (omega (arith, e))
 
 -- the answers that are held, with this part
-holds_with : (entries : List Request) (server share : ℕ) (s : SourceState) (part : Part) (place : ℕ) → HoldsFor entries server share s
+holds_with : (entries : List Request) (server share : ℕ) (s : SupplyState) (part : Part) (place : ℕ) → HoldsFor entries server share s
     → ((i : ℕ) → part ≡ Data i → (i ≡ length s.held) × IsAnswerOf entries server share (place_of s.geometry s.first s.end (Data i)) (length_of s.geometry s.first s.end (Data i)) place)
     → (k : ℕ) → k < length (held_with s.held part place)
     → IsAnswerOf entries server share (place_of s.geometry s.first s.end (Data k)) (length_of s.geometry s.first s.end (Data k)) (get_or (held_with s.held part place) k 0)
@@ -115,19 +115,19 @@ pub record HasTaken (f : FileState) (reader : ℕ) (bytes : List ℕ) (g : FileS
 module _ (f : FileState) (t : FileTreesState) (reader : ℕ) (r r' : ReaderState) (w : Waiting) (ws : List Waiting) (taken' : List ℕ)
     (is : IsFile f) (live : IsLive f reader) (at : slice_get f.readers reader ≡ Some r) (waits : r.waiting ≡ w ∷ ws) where
   -- it is the one that is due
-  pub is_due : IsDue r.source w.wanted.part
-  is_due = first_due r.source w.wanted.part (waiting_parts ws)
-      (subst (λ (l : List Waiting). LeadOn r.source.taken (waiting_parts l) r.source.asked) waits (is.live.waits reader r live at))
+  pub is_due : IsDue r.supply w.wanted.part
+  is_due = first_due r.supply w.wanted.part (waiting_parts ws)
+      (subst (λ (l : List Waiting). LeadOn r.supply.taken (waiting_parts l) r.supply.asked) waits (is.live.waits reader r live at))
 
-  pub is_read : IsReadOf r.source w.wanted
-  is_read = subst (λ (l : List Waiting). All (λ v. IsReadOf r.source v.wanted) l) waits (is.live.reads reader r live at) 0 w (omega arith)
+  pub is_read : IsReadOf r.supply w.wanted
+  is_read = subst (λ (l : List Waiting). All (λ v. IsReadOf r.supply v.wanted) l) waits (is.live.reads reader r live at) 0 w (omega arith)
 
   pub is_taker : IsTaker f.handout f.first f.end r w
   is_taker =
       let own = is.readers reader r at in
       record {
         right = is.handout;
-        source = own.source;
+        supply = own.supply;
         geometry = own.geometry;
         start = own.start;
         end = own.end;
@@ -142,9 +142,9 @@ module _ (f : FileState) (t : FileTreesState) (reader : ℕ) (r r' : ReaderState
   gives_if q part = elim (live_giver 0 f.live reader is.live.rise live) [
     | inl e ↦ e
     | inr before ↦
-        let due : IsDue r.source (CiphertextTree q) = subst (λ (p : Part). IsDue r.source p) part is_due in
+        let due : IsDue r.supply (CiphertextTree q) = subst (λ (p : Part). IsDue r.supply p) part is_due in
         let index = due.next.index in
-        let given = (is.readers reader r at).source.given q.level in
+        let given = (is.readers reader r at).supply.given q.level in
         absurd (is.ciphertext.behind before.0 reader r q before.1 before.2 at (omega (arith, index, given), due.asked))
   ]
 
@@ -156,32 +156,32 @@ module _ (f : FileState) (t : FileTreesState) (reader : ℕ) (r r' : ReaderState
     follows = record { geometry = refl; ueb = refl; first = refl; end = refl; shares = T.grow.shares; later = λ number next. (number, next, omega arith) }
 
     is_taken : IsReaderOf taken_file r'
-    is_taken = reader_stays f taken_file r r' follows (is.readers reader r at) T.share T.source (ap (λ (s : SourceState). s.geometry) T.source_is)
-        (ap (λ (s : SourceState). s.start) T.source_is) (ap (λ (s : SourceState). s.first) T.source_is) (ap (λ (s : SourceState). s.end) T.source_is) T.root
+    is_taken = reader_stays f taken_file r r' follows (is.readers reader r at) T.share T.supply (ap (λ (s : SupplyState). s.geometry) T.supply_is)
+        (ap (λ (s : SupplyState). s.start) T.supply_is) (ap (λ (s : SupplyState). s.first) T.supply_is) (ap (λ (s : SupplyState). s.end) T.supply_is) T.root
 
-    goes : GoesOn r.source r'.source
+    goes : GoesOn r.supply r'.supply
     goes =
-        let more = held_more r.source.held w.wanted.part w.place in
+        let more = held_more r.supply.held w.wanted.part w.place in
         record {
-          geometry = ap (λ (s : SourceState). s.geometry) T.source_is;
-          start = ap (λ (s : SourceState). s.start) T.source_is;
-          first = ap (λ (s : SourceState). s.first) T.source_is;
-          end = ap (λ (s : SourceState). s.end) T.source_is;
+          geometry = ap (λ (s : SupplyState). s.geometry) T.supply_is;
+          start = ap (λ (s : SupplyState). s.start) T.supply_is;
+          first = ap (λ (s : SupplyState). s.first) T.supply_is;
+          end = ap (λ (s : SupplyState). s.end) T.supply_is;
           tree = T.tree;
           more = more.0;
-          held = ap (λ (s : SourceState). s.held) T.source_is ∙ more.1;
+          held = ap (λ (s : SupplyState). s.held) T.supply_is ∙ more.1;
         }
 
-    asks : SameAsks r.source r'.source
-    asks = same_asks r.source r'.source goes.geometry goes.start goes.first goes.end (ap (λ (s : SourceState). s.given) T.source_is) (ap (λ (s : SourceState). s.asked) T.source_is)
+    asks : SameAsks r.supply r'.supply
+    asks = same_asks r.supply r'.supply goes.geometry goes.start goes.first goes.end (ap (λ (s : SupplyState). s.given) T.supply_is) (ap (λ (s : SupplyState). s.asked) T.supply_is)
 
-    grows : GrowsAsks r.source r'.source
+    grows : GrowsAsks r.supply r'.supply
     grows = record {
       geometry = goes.geometry;
       start = goes.start;
       first = goes.first;
       end = goes.end;
-      given = ap (λ (s : SourceState). s.given) T.source_is;
+      given = ap (λ (s : SupplyState). s.given) T.supply_is;
       asked = λ part. (asks.asked part).1;
     }
 
@@ -192,27 +192,27 @@ module _ (f : FileState) (t : FileTreesState) (reader : ℕ) (r r' : ReaderState
         there = k.2;
         server = T.server ∙ ap (λ (x : ReaderState). x.server) k.1;
         share = T.share ∙ ap (λ (x : ReaderState). x.share) k.1;
-        source = subst (λ (x : ReaderState). GoesOn x.source r'.source) k.1 goes;
+        supply = subst (λ (x : ReaderState). GoesOn x.supply r'.supply) k.1 goes;
       }
-      | inr k ↦ record { now = q; there = k.1; server = refl; share = refl; source = goes_same q.source }
+      | inr k ↦ record { now = q; there = k.1; server = refl; share = refl; supply = goes_same q.supply }
     ]
 
     pub still_taken : StillAsks f.readers (slice_set f.readers reader r')
     still_taken place q there = elim (get_cases f.readers reader place r' r q at there) [
-      | inl k ↦ (r', k.2, subst (λ (x : ReaderState). SameAsks x.source r'.source) k.1 asks)
-      | inr k ↦ (q, k.1, asks_itself q.source)
+      | inl k ↦ (r', k.2, subst (λ (x : ReaderState). SameAsks x.supply r'.supply) k.1 asks)
+      | inr k ↦ (q, k.1, asks_itself q.supply)
     ]
 
     pub keeps_taken : KeepsAsks f.readers (slice_set f.readers reader r')
     keeps_taken place q there = elim (set_cases f.readers reader place r' q there) [
-      | inl k ↦ inl (r, ap (slice_get f.readers) k.0 ∙ at, subst (λ (x : ReaderState). SameAsks r.source x.source) k.1 asks)
-      | inr k ↦ inl (q, k.1, asks_itself q.source)
+      | inl k ↦ inl (r, ap (slice_get f.readers) k.0 ∙ at, subst (λ (x : ReaderState). SameAsks r.supply x.supply) k.1 asks)
+      | inr k ↦ inl (q, k.1, asks_itself q.supply)
     ]
 
-    pub grows_taken : (place : ℕ) (q : ReaderState) → slice_get (slice_set f.readers reader r') place ≡ Some q → (o : ReaderState) × (slice_get f.readers place ≡ Some o) × GrowsAsks o.source q.source
+    pub grows_taken : (place : ℕ) (q : ReaderState) → slice_get (slice_set f.readers reader r') place ≡ Some q → (o : ReaderState) × (slice_get f.readers place ≡ Some o) × GrowsAsks o.supply q.supply
     grows_taken place q there = elim (set_cases f.readers reader place r' q there) [
-      | inl k ↦ (r, ap (slice_get f.readers) k.0 ∙ at, subst (λ (x : ReaderState). GrowsAsks r.source x.source) k.1 grows)
-      | inr k ↦ (q, k.1, grows_itself q.source)
+      | inl k ↦ (r, ap (slice_get f.readers) k.0 ∙ at, subst (λ (x : ReaderState). GrowsAsks r.supply x.supply) k.1 grows)
+      | inr k ↦ (q, k.1, grows_itself q.supply)
     ]
 
     share_was : (place : ℕ) (q : ReaderState) → slice_get (slice_set f.readers reader r') place ≡ Some q → (o : ReaderState) × (slice_get f.readers place ≡ Some o) × (q.share ≡ o.share)
@@ -221,26 +221,26 @@ module _ (f : FileState) (t : FileTreesState) (reader : ℕ) (r r' : ReaderState
       | inr k ↦ (q, k.1, refl)
     ]
 
-    leads_on : LeadOn r'.source.taken (waiting_parts r'.waiting) r'.source.asked
+    leads_on : LeadOn r'.supply.taken (waiting_parts r'.waiting) r'.supply.asked
     leads_on =
-        let was = subst (λ (l : List Waiting). LeadOn r.source.taken (waiting_parts l) r.source.asked) waits (is.live.waits reader r live at) in
+        let was = subst (λ (l : List Waiting). LeadOn r.supply.taken (waiting_parts l) r.supply.asked) waits (is.live.waits reader r live at) in
         let rest : r'.waiting ≡ ws = T.waiting ∙ ap (drop 1) waits in
-        subst (λ (l : List Waiting). LeadOn r'.source.taken (waiting_parts l) r'.source.asked) (sym rest)
-        (subst (λ (s : SourceState). LeadOn s.taken (waiting_parts ws) s.asked) (sym T.source_is) was.1)
+        subst (λ (l : List Waiting). LeadOn r'.supply.taken (waiting_parts l) r'.supply.asked) (sym rest)
+        (subst (λ (s : SupplyState). LeadOn s.taken (waiting_parts ws) s.asked) (sym T.supply_is) was.1)
 
     upper_on : WaitsByLevels r'
     upper_on =
-        let was = subst (λ (l : List Waiting). UpperComeFirst r.source.geometry (first_of r.source) r.source.taken (waiting_parts l)) waits (is.live.upper reader r live at) in
+        let was = subst (λ (l : List Waiting). UpperComeFirst r.supply.geometry (first_of r.supply) r.supply.taken (waiting_parts l)) waits (is.live.upper reader r live at) in
         let rest : r'.waiting ≡ ws = T.waiting ∙ ap (drop 1) waits in
-        subst (λ (l : List Waiting). UpperComeFirst r'.source.geometry (first_of r'.source) r'.source.taken (waiting_parts l)) (sym rest)
-        (subst (λ (s : SourceState). UpperComeFirst s.geometry (first_of s) s.taken (waiting_parts ws)) (sym T.source_is) was.1)
+        subst (λ (l : List Waiting). UpperComeFirst r'.supply.geometry (first_of r'.supply) r'.supply.taken (waiting_parts l)) (sym rest)
+        (subst (λ (s : SupplyState). UpperComeFirst s.geometry (first_of s) s.taken (waiting_parts ws)) (sym T.supply_is) was.1)
 
-    reads_on : All (λ v. IsReadOf r'.source v.wanted) r'.waiting
+    reads_on : All (λ v. IsReadOf r'.supply v.wanted) r'.waiting
     reads_on =
         let rest : r'.waiting ≡ ws = T.waiting ∙ ap (drop 1) waits in
-        let was = subst (λ (l : List Waiting). All (λ v. IsReadOf r.source v.wanted) l) waits (is.live.reads reader r live at) in
-        subst (λ (l : List Waiting). All (λ v. IsReadOf r'.source v.wanted) l) (sym rest)
-        (subst (λ (s : SourceState). All (λ v. IsReadOf s v.wanted) ws) (sym T.source_is) (All-tail (λ v. IsReadOf r.source v.wanted) w ws was))
+        let was = subst (λ (l : List Waiting). All (λ v. IsReadOf r.supply v.wanted) l) waits (is.live.reads reader r live at) in
+        subst (λ (l : List Waiting). All (λ v. IsReadOf r'.supply v.wanted) l) (sym rest)
+        (subst (λ (s : SupplyState). All (λ v. IsReadOf s v.wanted) ws) (sym T.supply_is) (All-tail (λ v. IsReadOf r.supply v.wanted) w ws was))
 
     live_taken : AreLive taken_file
     live_taken = record {
@@ -253,7 +253,7 @@ module _ (f : FileState) (t : FileTreesState) (reader : ℕ) (r r' : ReaderState
           let b = share_was j y at_two in
           is.live.different i j a.0 b.0 one two order a.1 b.1 (sym a.2 ∙ same ∙ b.2);
       waits = λ place q one there. elim (set_cases f.readers reader place r' q there) [
-        | inl k ↦ subst (λ (x : ReaderState). LeadOn x.source.taken (waiting_parts x.waiting) x.source.asked) k.1 leads_on
+        | inl k ↦ subst (λ (x : ReaderState). LeadOn x.supply.taken (waiting_parts x.waiting) x.supply.asked) k.1 leads_on
         | inr k ↦ is.live.waits place q one k.1
       ];
       upper = λ place q one there. elim (set_cases f.readers reader place r' q there) [
@@ -261,14 +261,14 @@ module _ (f : FileState) (t : FileTreesState) (reader : ℕ) (r r' : ReaderState
         | inr k ↦ is.live.upper place q one k.1
       ];
       reads = λ place q one there. elim (set_cases f.readers reader place r' q there) [
-        | inl k ↦ subst (λ (x : ReaderState). All (λ v. IsReadOf x.source v.wanted) x.waiting) k.1 reads_on
+        | inl k ↦ subst (λ (x : ReaderState). All (λ v. IsReadOf x.supply v.wanted) x.waiting) k.1 reads_on
         | inr k ↦ is.live.reads place q one k.1
       ];
     }
 
     next_in : (q : NodePiece) → w.wanted.part ≡ CiphertextTree q → IsNextPiece f.taken q
     next_in q part =
-        let due : IsDue r.source (CiphertextTree q) = subst (λ (p : Part). IsDue r.source p) part is_due in
+        let due : IsDue r.supply (CiphertextTree q) = subst (λ (p : Part). IsDue r.supply p) part is_due in
         subst (λ (l : List ℕ). IsNextPiece l q) (is.ciphertext.at_giver reader r (gives_if q part) at) due.next
 
     either : (p : NodePiece) → p.index < cursor_at taken' p.level → (p.index < cursor_at f.taken p.level) ⊎ (w.wanted.part ≡ CiphertextTree p)
@@ -276,11 +276,11 @@ module _ (f : FileState) (t : FileTreesState) (reader : ℕ) (r r' : ReaderState
 
     piece_due : (p : NodePiece) → w.wanted.part ≡ CiphertextTree p → IsNodePiece f.handout.geometry f.first f.end p
     piece_due p part =
-        let due : IsDue r.source (CiphertextTree p) = subst (λ (q : Part). IsDue r.source q) part is_due in
+        let due : IsDue r.supply (CiphertextTree p) = subst (λ (q : Part). IsDue r.supply q) part is_due in
         let own = is.readers reader r at in
-        let piece = own.source.parts (CiphertextTree p) due.asked in
+        let piece = own.supply.parts (CiphertextTree p) due.asked in
         subst (λ (g : Geometry). IsNodePiece g f.first f.end p) own.geometry
-        (subst (λ (n : ℕ). IsNodePiece r.source.geometry n f.end p) own.start (subst (λ (n : ℕ). IsNodePiece r.source.geometry r.source.start n p) own.end piece))
+        (subst (λ (n : ℕ). IsNodePiece r.supply.geometry n f.end p) own.start (subst (λ (n : ℕ). IsNodePiece r.supply.geometry r.supply.start n p) own.end piece))
 
     gives_taken : GivesTree taken_file
     gives_taken = record {
@@ -293,8 +293,8 @@ module _ (f : FileState) (t : FileTreesState) (reader : ℕ) (r r' : ReaderState
       at_giver = λ place q gives there. elim (set_cases f.readers reader place r' q there) [
         | inl k ↦
             let first : giver f ≡ Some reader = subst (λ (n : ℕ). giver f ≡ Some n) k.0 gives in
-            subst (λ (x : ReaderState). x.source.taken.ciphertext_tree ≡ taken') k.1
-            (ap (λ (s : SourceState). s.taken.ciphertext_tree) T.source_is ∙ passed_tree r.source.taken w.wanted.part
+            subst (λ (x : ReaderState). x.supply.taken.ciphertext_tree ≡ taken') k.1
+            (ap (λ (s : SupplyState). s.taken.ciphertext_tree) T.supply_is ∙ passed_tree r.supply.taken w.wanted.part
             ∙ ap (λ (l : List ℕ). taken_with l w.wanted.part) (is.ciphertext.at_giver reader r first at) ∙ sym T.taken_is)
         | inr k ↦ is.ciphertext.at_giver place q gives k.1 ∙ sym (T.taken_is ∙ elim (tree_or f.taken w.wanted.part) [
           | inl piece ↦ absurd (k.0 (one_there (giver f) place reader gives (gives_if piece.0 piece.1)))
@@ -303,7 +303,7 @@ module _ (f : FileState) (t : FileTreesState) (reader : ℕ) (r r' : ReaderState
       ];
       behind = λ place other q p gives order there asked. elim (set_cases f.readers reader other r' q there) [
         | inl k ↦ is.ciphertext.behind place reader r p gives (let same = k.0 in omega (arith, order, same)) at
-            ((asks.asked (CiphertextTree p)).0 (subst (λ (x : ReaderState). IsAsked x.source (CiphertextTree p)) (sym k.1) asked))
+            ((asks.asked (CiphertextTree p)).0 (subst (λ (x : ReaderState). IsAsked x.supply (CiphertextTree p)) (sym k.1) asked))
         | inr k ↦ is.ciphertext.behind place other q p gives order k.1 asked
       ];
     }
@@ -328,13 +328,13 @@ module _ (f : FileState) (t : FileTreesState) (reader : ℕ) (r r' : ReaderState
     holds_taken : (entries : List Request) (bytes : List ℕ) → HoldsAnswers entries r → IsAnswerTo entries r w bytes → length bytes ≡ w.wanted.read.length
         → HoldsAnswers entries r'
     holds_taken entries bytes holds a long =
-        holds_as entries r.server r.share r'.server r'.share r'.source T.server T.share
-        (subst (HoldsFor entries r.server r.share) (sym T.source_is)
-        (holds_with entries r.server r.share r.source w.wanted.part w.place holds (λ i part.
-        let due : IsDue r.source (Data i) = subst (λ (p : Part). IsDue r.source p) part is_due in
-        let place_is : w.wanted.read.place ≡ place_of r.source.geometry r.source.first r.source.end (Data i) = is_read.place ∙ (λ j. place_of r.source.geometry (first_of r.source (part j)) r.source.end (part j)) in
-        let long_is : w.wanted.read.length ≡ length_of r.source.geometry r.source.first r.source.end (Data i) = is_read.length ∙ (λ j. length_of r.source.geometry (first_of r.source (part j)) r.source.end (part j)) in (
-          due.next ∙ sym (is.readers reader r at).source.held,
+        holds_as entries r.server r.share r'.server r'.share r'.supply T.server T.share
+        (subst (HoldsFor entries r.server r.share) (sym T.supply_is)
+        (holds_with entries r.server r.share r.supply w.wanted.part w.place holds (λ i part.
+        let due : IsDue r.supply (Data i) = subst (λ (p : Part). IsDue r.supply p) part is_due in
+        let place_is : w.wanted.read.place ≡ place_of r.supply.geometry r.supply.first r.supply.end (Data i) = is_read.place ∙ (λ j. place_of r.supply.geometry (first_of r.supply (part j)) r.supply.end (part j)) in
+        let long_is : w.wanted.read.length ≡ length_of r.supply.geometry r.supply.first r.supply.end (Data i) = is_read.length ∙ (λ j. length_of r.supply.geometry (first_of r.supply (part j)) r.supply.end (part j)) in (
+          due.next ∙ sym (is.readers reader r at).supply.held,
           record {
             request = a.request;
             there = a.there;

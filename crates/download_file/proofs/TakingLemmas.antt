@@ -11,10 +11,10 @@ use Rattle.download_parts.specs.declared.part.Part.TheVariants.{ShareHashes, Blo
 use Rattle.download_parts.specs.Offers.{nodes_offered}
 use Rattle.download_parts.specs.Trees.{KnowsAllOf, known_leaf}
 use Rattle.download_parts.proofs.TreeLemmas.{knows_taken}
-use Rattle.download_source.specs.Cursors.{passed, piece_passed}
-use Rattle.download_source.specs.Source.{IsSource, SourceState, first_of}
-use Rattle.download_source.specs.Taking.{IsDue, TakesPiece, holds_more, with_taken}
-use Rattle.download_source.proofs.TakingLemmas.{kept_known, offered_known}
+use Rattle.download_supply.specs.Cursors.{passed, piece_passed}
+use Rattle.download_supply.specs.Supply.{IsSupply, SupplyState, first_of}
+use Rattle.download_supply.specs.Taking.{IsDue, TakesPiece, holds_more, with_taken}
+use Rattle.download_supply.proofs.TakingLemmas.{kept_known, offered_known}
 use Rattle.download_segments.specs.State.{HandoutState, IsHandout, TreesGrow, with_trees}
 use Rattle.download_segments.proofs.TreeLemmas.{grow_none}
 use Rattle.download_file.specs.State.{ReaderState}
@@ -34,18 +34,18 @@ module _ (h : HandoutState) (r : ReaderState) (taken : List ℕ) (a b : ℕ) (w 
       → nodes ≡ nodes_of h.geometry a b p → length bytes ≡ 32 * nodes.count
   read_long p bytes nodes part long these =
       long ∙ is.read.length
-      ∙ (λ i. length_of (is.geometry i) (first_of r.source (part i)) (is.end i) (part i))
+      ∙ (λ i. length_of (is.geometry i) (first_of r.supply (part i)) (is.end i) (part i))
       ∙ ap (λ (n : ℕ). 32 * (nodes_of h.geometry n b p).count) is.start
       ∙ ap (λ (n : Nodes). 32 * n.count) (sym these)
 
-  due_hashes : w.wanted.part ≡ ShareHashes → IsDue r.source ShareHashes
-  due_hashes part = subst (λ (p : Part). IsDue r.source p) part is.due
+  due_hashes : w.wanted.part ≡ ShareHashes → IsDue r.supply ShareHashes
+  due_hashes part = subst (λ (p : Part). IsDue r.supply p) part is.due
 
   pub took_hashes : (h' : HandoutState) (r' : ReaderState) (tree : PartialState) → w.wanted.part ≡ ShareHashes → h' ≡ with_trees h h'.trees → IsHandout h' → TreesGrow h.trees h'.trees
       → h'.trees.ciphertext ≡ h.trees.ciphertext → known_leaf h'.trees.shares r.share ≡ Some tree.root
-      → r' ≡ record r { source = record (with_taken r.source ShareHashes) { tree = Some tree }; waiting = drop 1 r.waiting } → IsSource r'.source
+      → r' ≡ record r { supply = record (with_taken r.supply ShareHashes) { tree = Some tree }; waiting = drop 1 r.waiting } → IsSupply r'.supply
       → TakesPart h r taken a b ShareHashes w.place h' r' taken
-  took_hashes h' r' tree part others right grow same root reader source = record {
+  took_hashes h' r' tree part others right grow same root reader supply = record {
     handout = others;
     right = right;
     grow = grow;
@@ -54,16 +54,16 @@ module _ (h : HandoutState) (r : ReaderState) (taken : List ℕ) (a b : ℕ) (w 
     server = ap (λ (q : ReaderState). q.server) reader;
     share = ap (λ (q : ReaderState). q.share) reader;
     waiting = ap (λ (q : ReaderState). q.waiting) reader;
-    source = source;
-    source_is = subst (λ (q : ReaderState). q.source ≡ record r.source { taken = passed r.source.taken ShareHashes; tree = q.source.tree; held = r.source.held }) (sym reader) refl;
-    tree = λ p was. absurd (false≢true (sym (due_hashes part).next ∙ sym is.source.tree ∙ ap (is_some {T = PartialState}) was));
-    root = subst (λ (q : ReaderState). TellsRoot h'.trees.shares r.share q.source.tree) (sym reader) root;
+    supply = supply;
+    supply_is = subst (λ (q : ReaderState). q.supply ≡ record r.supply { taken = passed r.supply.taken ShareHashes; tree = q.supply.tree; held = r.supply.held }) (sym reader) refl;
+    tree = λ p was. absurd (false≢true (sym (due_hashes part).next ∙ sym is.supply.tree ∙ ap (is_some {T = PartialState}) was));
+    root = subst (λ (q : ReaderState). TellsRoot h'.trees.shares r.share q.supply.tree) (sym reader) root;
     taken_is = refl;
   }
 
   pub took_nodes : (r' : ReaderState) (p : NodePiece) (bytes : List ℕ) → r'.server ≡ r.server → r'.share ≡ r.share → r'.waiting ≡ drop 1 r.waiting
-      → TakesPiece r.source p bytes r'.source → IsSource r'.source → TakesPart h r taken a b (BlockTree p) w.place h r' taken
-  took_nodes r' p bytes server share waiting takes source = record {
+      → TakesPiece r.supply p bytes r'.supply → IsSupply r'.supply → TakesPart h r taken a b (BlockTree p) w.place h r' taken
+  took_nodes r' p bytes server share waiting takes supply = record {
     handout = refl;
     right = is.right;
     grow = grow_none h.trees;
@@ -72,12 +72,12 @@ module _ (h : HandoutState) (r : ReaderState) (taken : List ℕ) (a b : ℕ) (w 
     server = server;
     share = share;
     waiting = waiting;
-    source = source;
-    source_is = subst (λ (s : SourceState). s ≡ record r.source { taken = passed r.source.taken (BlockTree p); tree = s.tree; held = r.source.held }) (sym takes.is) refl;
-    tree = subst (λ (s : SourceState). TreeStays r.source.tree s.tree) (sym takes.is) (λ q was.
-        let same : takes.before ≡ q = one_there r.source.tree takes.before q takes.was was in
+    supply = supply;
+    supply_is = subst (λ (s : SupplyState). s ≡ record r.supply { taken = passed r.supply.taken (BlockTree p); tree = s.tree; held = r.supply.held }) (sym takes.is) refl;
+    tree = subst (λ (s : SupplyState). TreeStays r.supply.tree s.tree) (sym takes.is) (λ q was.
+        let same : takes.before ≡ q = one_there r.supply.tree takes.before q takes.was was in
         (takes.after, refl, subst (λ (t : PartialState). KnowsAllOf t takes.after) same (knows_taken takes.before takes.after _ takes.takes)));
-    root = subst (λ (s : SourceState). TellsRoot h.trees.shares r.share s.tree) (sym takes.is)
+    root = subst (λ (s : SupplyState). TellsRoot h.trees.shares r.share s.tree) (sym takes.is)
         (subst (TellsRoot h.trees.shares r.share) takes.was is.root ∙ ap Some (sym takes.takes.root));
     taken_is = refl;
   }
@@ -85,9 +85,9 @@ module _ (h : HandoutState) (r : ReaderState) (taken : List ℕ) (a b : ℕ) (w 
   pub took_ciphertext : (h' : HandoutState) (r' : ReaderState) (p : NodePiece) (nodes : Nodes) (bytes : List ℕ) → h' ≡ with_trees h h'.trees → IsHandout h'
       → TreesGrow h.trees h'.trees → nodes ≡ nodes_of h.geometry a b p → length bytes ≡ 32 * nodes.count
       → Takes h.trees.ciphertext (nodes_offered nodes bytes) h'.trees.ciphertext
-      → r' ≡ record r { source = with_taken r.source (CiphertextTree p); waiting = drop 1 r.waiting } → IsSource r'.source
+      → r' ≡ record r { supply = with_taken r.supply (CiphertextTree p); waiting = drop 1 r.waiting } → IsSupply r'.supply
       → TakesPart h r taken a b (CiphertextTree p) w.place h' r' (piece_passed taken p)
-  took_ciphertext h' r' p nodes bytes others right grow these long takes reader source = record {
+  took_ciphertext h' r' p nodes bytes others right grow these long takes reader supply = record {
     handout = others;
     right = right;
     grow = grow;
@@ -97,17 +97,17 @@ module _ (h : HandoutState) (r : ReaderState) (taken : List ℕ) (a b : ℕ) (w 
     server = ap (λ (q : ReaderState). q.server) reader;
     share = ap (λ (q : ReaderState). q.share) reader;
     waiting = ap (λ (q : ReaderState). q.waiting) reader;
-    source = source;
-    source_is = subst (λ (q : ReaderState). q.source ≡ record r.source { taken = passed r.source.taken (CiphertextTree p); tree = q.source.tree; held = r.source.held }) (sym reader) refl;
-    tree = subst (λ (q : ReaderState). TreeStays r.source.tree q.source.tree) (sym reader) (tree_same r.source.tree r.source.tree refl);
-    root = subst (λ (q : ReaderState). TellsRoot h'.trees.shares r.share q.source.tree) (sym reader) (tells_still h.trees.shares h'.trees.shares r.share r.source.tree grow.shares is.root);
+    supply = supply;
+    supply_is = subst (λ (q : ReaderState). q.supply ≡ record r.supply { taken = passed r.supply.taken (CiphertextTree p); tree = q.supply.tree; held = r.supply.held }) (sym reader) refl;
+    tree = subst (λ (q : ReaderState). TreeStays r.supply.tree q.supply.tree) (sym reader) (tree_same r.supply.tree r.supply.tree refl);
+    root = subst (λ (q : ReaderState). TellsRoot h'.trees.shares r.share q.supply.tree) (sym reader) (tells_still h.trees.shares h'.trees.shares r.share r.supply.tree grow.shares is.root);
     taken_is = refl;
   }
 
-  pub took_data : (r' : ReaderState) (index : ℕ) → index ≡ r.source.taken.data_piece
-      → r' ≡ record r { source = holds_more r.source w.place; waiting = drop 1 r.waiting } → IsSource r'.source
+  pub took_data : (r' : ReaderState) (index : ℕ) → index ≡ r.supply.taken.data_piece
+      → r' ≡ record r { supply = holds_more r.supply w.place; waiting = drop 1 r.waiting } → IsSupply r'.supply
       → TakesPart h r taken a b (Data index) w.place h r' taken
-  took_data r' index next reader source = record {
+  took_data r' index next reader supply = record {
     handout = refl;
     right = is.right;
     grow = grow_none h.trees;
@@ -116,10 +116,10 @@ module _ (h : HandoutState) (r : ReaderState) (taken : List ℕ) (a b : ℕ) (w 
     server = ap (λ (q : ReaderState). q.server) reader;
     share = ap (λ (q : ReaderState). q.share) reader;
     waiting = ap (λ (q : ReaderState). q.waiting) reader;
-    source = source;
-    source_is = subst (λ (q : ReaderState). q.source ≡ record r.source { taken = passed r.source.taken (Data index); tree = q.source.tree; held = r.source.held ++ w.place ∷ [] }) (sym reader)
-        (subst (λ (n : ℕ). holds_more r.source w.place ≡ record r.source { taken = passed r.source.taken (Data n); tree = r.source.tree; held = r.source.held ++ w.place ∷ [] }) (sym next) refl);
-    tree = subst (λ (q : ReaderState). TreeStays r.source.tree q.source.tree) (sym reader) (tree_same r.source.tree r.source.tree refl);
-    root = subst (λ (q : ReaderState). TellsRoot h.trees.shares r.share q.source.tree) (sym reader) is.root;
+    supply = supply;
+    supply_is = subst (λ (q : ReaderState). q.supply ≡ record r.supply { taken = passed r.supply.taken (Data index); tree = q.supply.tree; held = r.supply.held ++ w.place ∷ [] }) (sym reader)
+        (subst (λ (n : ℕ). holds_more r.supply w.place ≡ record r.supply { taken = passed r.supply.taken (Data n); tree = r.supply.tree; held = r.supply.held ++ w.place ∷ [] }) (sym next) refl);
+    tree = subst (λ (q : ReaderState). TreeStays r.supply.tree q.supply.tree) (sym reader) (tree_same r.supply.tree r.supply.tree refl);
+    root = subst (λ (q : ReaderState). TellsRoot h.trees.shares r.share q.supply.tree) (sym reader) is.root;
     taken_is = refl;
   }

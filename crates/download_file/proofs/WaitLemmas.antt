@@ -8,11 +8,11 @@ use Rattle.download_parts.specs.Plan.{IsNodePiece}
 use Rattle.download_parts.specs.declared.part.Part.{Part}
 use Rattle.download_parts.specs.declared.part.Part.TheVariants.{CiphertextTree}
 use Rattle.download_parts.specs.Trees.{LeadTo, known_leaf}
-use Rattle.download_source.specs.Asking.{IsAsked}
-use Rattle.download_source.specs.Blocks.{IsReady}
-use Rattle.download_source.specs.Cursors.{IsPassed, LeadOn, cursor_at}
-use Rattle.download_source.specs.declared.cursors.Cursors.{Cursors}
-use Rattle.download_source.proofs.LawLemmas.{all_ready, leaf_known}
+use Rattle.download_supply.specs.Asking.{IsAsked}
+use Rattle.download_supply.specs.Blocks.{IsReady}
+use Rattle.download_supply.specs.Cursors.{IsPassed, LeadOn, cursor_at}
+use Rattle.download_supply.specs.declared.cursors.Cursors.{Cursors}
+use Rattle.download_supply.proofs.LawLemmas.{all_ready, leaf_known}
 use Rattle.download_segments.specs.Handout.{next_segment}
 use Rattle.download_segments.specs.State.{IsHandout}
 use Rattle.download_file.specs.State.{FileState, IsComplete, IsLive, IsReader, ReaderState, first_place, giver, waiting_in, waiting_parts}
@@ -38,10 +38,10 @@ complete f is none = by (nat_lt f.handout.reached f.handout.to) refl
 
 module _ (f : FileState) (number : ℕ) (is : IsFile f) (next : next_segment f.handout ≡ Some number) where
   -- where nothing waits of a reader, all that was asked of it is taken
-  all_taken : (place : ℕ) (r : ReaderState) → IsLive f place → IsReader f place r → r.waiting ≡ [] → (part : Part) → IsAsked r.source part → IsPassed r.source.taken part
+  all_taken : (place : ℕ) (r : ReaderState) → IsLive f place → IsReader f place r → r.waiting ≡ [] → (part : Part) → IsAsked r.supply part → IsPassed r.supply.taken part
   all_taken place r live at none part asked =
-      let same : r.source.taken ≡ r.source.asked = subst (λ (l : List Waiting). LeadOn r.source.taken (waiting_parts l) r.source.asked) none (is.live.waits place r live at) in
-      subst (λ (c : Cursors). IsPassed c part) (sym same) (asked_passed r.source part asked)
+      let same : r.supply.taken ≡ r.supply.asked = subst (λ (l : List Waiting). LeadOn r.supply.taken (waiting_parts l) r.supply.asked) none (is.live.waits place r live at) in
+      subst (λ (c : Cursors). IsPassed c part) (sym same) (asked_passed r.supply part asked)
 
   -- the first that waits of a reader, where something does
   some_waits : (place : ℕ) (r : ReaderState) → IsLive f place → IsReader f place r → (r.waiting ≡ [] → ⊥) → SomeWaits f
@@ -57,13 +57,13 @@ module _ (f : FileState) (number : ℕ) (is : IsFile f) (next : next_segment f.h
       }
 
   -- a reader of which nothing waits has its block, and knows its hash
-  ready_then : (place : ℕ) (r : ReaderState) → IsLive f place → IsReader f place r → IsAskedUp f place → r.waiting ≡ [] → IsReady r.source number
+  ready_then : (place : ℕ) (r : ReaderState) → IsLive f place → IsReader f place r → IsAskedUp f place → r.waiting ≡ [] → IsReady r.supply number
   ready_then place r live at up none =
       let own = is.readers place r at in
       let from = own.begun number next in
       let before = (is.next number next).1 in
       let end = own.end in
-      all_ready r.source number own.source (record { from = from; before = omega (arith, before, end) })
+      all_ready r.supply number own.supply (record { from = from; before = omega (arith, before, end) })
       (λ part wanted. all_taken place r live at none part (up.own r number part at next wanted))
 
   leads : LeadTo f.handout.trees.ciphertext f.handout.trees.ciphertext.root (segment_count f.handout.geometry)
@@ -79,14 +79,14 @@ module _ (f : FileState) (number : ℕ) (is : IsFile f) (next : next_segment f.h
       elim (cases_lt p.index (cursor_at f.taken p.level)) [
         | inl low ↦ is.ciphertext.known p low
         | inr high ↦
-            let same : cursor_at r.source.taken.ciphertext_tree p.level ≡ cursor_at f.taken p.level = ap (λ (l : List ℕ). cursor_at l p.level) (is.ciphertext.at_giver place r first at) in
-            let given = own.source.given p.level in
+            let same : cursor_at r.supply.taken.ciphertext_tree p.level ≡ cursor_at f.taken p.level = ap (λ (l : List ℕ). cursor_at l p.level) (is.ciphertext.at_giver place r first at) in
+            let given = own.supply.given p.level in
             let start = own.start in
             let end = own.end in
             let from = within.0 in
             let before = within.1 in
-            let its : IsNodePiece r.source.geometry r.source.start (number + 1) p =
-            subst (λ (g : Geometry). IsNodePiece g r.source.start (number + 1) p) (sym own.geometry) (subst (λ (n : ℕ). IsNodePiece f.handout.geometry n (number + 1) p) (sym own.start) piece) in
+            let its : IsNodePiece r.supply.geometry r.supply.start (number + 1) p =
+            subst (λ (g : Geometry). IsNodePiece g r.supply.start (number + 1) p) (sym own.geometry) (subst (λ (n : ℕ). IsNodePiece f.handout.geometry n (number + 1) p) (sym own.start) piece) in
             let passes = all_taken place r (first_live f.live place first) at none (CiphertextTree p)
             (up.ciphertext r number (CiphertextTree p) first at next (omega (arith, start, from), omega (arith, end, before), omega (arith, given, same, high), its)) in
             absurd (omega (arith, passes, same, high))

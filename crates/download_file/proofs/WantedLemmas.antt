@@ -12,14 +12,14 @@ use Rattle.download_parts.specs.PlanLaws.{AreApart}
 use Rattle.download_parts.specs.Plan.{IsPlanned, length_of, max_read, place_of}
 use Rattle.download_parts.specs.declared.part.Part.{Part}
 use Rattle.download_parts.specs.declared.part.Part.TheVariants.{ShareHashes, BlockTree, CiphertextTree, Data}
-use Rattle.download_source.specs.Asking.{IsAsked, IsReadOf, IsWanted, IsWantedCiphertext, OnlyAsks, parts_of}
-use Rattle.download_source.specs.Cursors.{IsPassed, LeadOn}
-use Rattle.download_source.specs.Source.{IsPartOf, IsSource, SourceState, first_of}
-use Rattle.download_source.specs.Upper.{UpperComeFirst}
-use Rattle.download_source.specs.declared.cursors.Cursors.{Cursors}
-use Rattle.download_source.specs.declared.wanted.Wanted.{Wanted}
-use Rattle.download_source.proofs.LawLemmas.{lead_append, parts_apart, plans_grow}
-use Rattle.download_source.proofs.UpperLemmas.{upper_append}
+use Rattle.download_supply.specs.Asking.{IsAsked, IsReadOf, IsWanted, IsWantedCiphertext, OnlyAsks, parts_of}
+use Rattle.download_supply.specs.Cursors.{IsPassed, LeadOn}
+use Rattle.download_supply.specs.Supply.{IsPartOf, IsSupply, SupplyState, first_of}
+use Rattle.download_supply.specs.Upper.{UpperComeFirst}
+use Rattle.download_supply.specs.declared.cursors.Cursors.{Cursors}
+use Rattle.download_supply.specs.declared.wanted.Wanted.{Wanted}
+use Rattle.download_supply.proofs.LawLemmas.{lead_append, parts_apart, plans_grow}
+use Rattle.download_supply.proofs.UpperLemmas.{upper_append}
 use Rattle.download_segments.specs.Handout.{next_segment}
 use Rattle.download_segments.proofs.TreeLemmas.{grow_none}
 use Rattle.download_parts.proofs.TreeLemmas.{knows_itself}
@@ -36,14 +36,14 @@ use Rattle.download_file.proofs.StateLemmas.{Follows, GrowsAsks, asked_up_stays,
 
 -- ---- parts
 
-pub asked_passed : (s : SourceState) (part : Part) → IsAsked s part → IsPassed s.asked part
+pub asked_passed : (s : SupplyState) (part : Part) → IsAsked s part → IsPassed s.asked part
 asked_passed s ShareHashes h = h
 asked_passed s (BlockTree p) h = h
 asked_passed s (CiphertextTree p) h = h.1
 asked_passed s (Data i) h = h
 
 -- what is wanted for a segment is wanted for those up to a later one
-wanted_more : (s : SourceState) (number last : ℕ) (part : Part) → number ≤ last → last < s.end → IsWanted s number part → IsWanted s last part
+wanted_more : (s : SupplyState) (number last : ℕ) (part : Part) → number ≤ last → last < s.end → IsWanted s number part → IsWanted s last part
 wanted_more s number last ShareHashes order before h = (let from = h.0.from in record { from = omega (arith, from, order); before = before }, tt)
 wanted_more s number last (BlockTree p) order before h =
     (let from = h.0.from in record { from = omega (arith, from, order); before = before }, (plans_grow s.geometry s.first (number + 1) (last + 1) (BlockTree p) (omega (arith, order)) h.1).0)
@@ -51,7 +51,7 @@ wanted_more s number last (CiphertextTree p) order before h = absurd h
 wanted_more s number last (Data i) order before h =
     (let from = h.0.from in record { from = omega (arith, from, order); before = before }, (plans_grow s.geometry s.first (number + 1) (last + 1) (Data i) (omega (arith, order)) h.1).0)
 
-ciphertext_more : (s : SourceState) (number last : ℕ) (part : Part) → number ≤ last → last < s.end → IsWantedCiphertext s number part → IsWantedCiphertext s last part
+ciphertext_more : (s : SupplyState) (number last : ℕ) (part : Part) → number ≤ last → last < s.end → IsWantedCiphertext s number part → IsWantedCiphertext s last part
 ciphertext_more s number last ShareHashes order before h = h
 ciphertext_more s number last (BlockTree p) order before h = h
 ciphertext_more s number last (CiphertextTree p) order before h =
@@ -59,7 +59,7 @@ ciphertext_more s number last (CiphertextTree p) order before h =
 ciphertext_more s number last (Data i) order before h = h
 
 -- the first segment of the plan that a part is of is one of those that are wanted
-first_within : (s : SourceState) (part : Part) → IsSource s → (s.start ≤ first_of s part) × (first_of s part < s.end)
+first_within : (s : SupplyState) (part : Part) → IsSupply s → (s.start ≤ first_of s part) × (first_of s part < s.end)
 first_within s ShareHashes is = (is.begins, is.range.some)
 first_within s (BlockTree p) is = (is.begins, is.range.some)
 first_within s (CiphertextTree p) is = (omega arith, (let begins = is.begins in let some = is.range.some in omega (arith, begins, some)))
@@ -92,8 +92,8 @@ pub record HasWanted (f : FileState) (reader place last : ℕ) (wanted : List Wa
   pub same : IsSameFile f g
 
 module _ (f : FileState) (reader : ℕ) (r r' : ReaderState) (gives : Bool) (last place : ℕ) (wanted : List Wanted) (is : IsFile f) (live : IsLive f reader)
-    (at : slice_get f.readers reader ≡ Some r) (server : r'.server ≡ r.server) (share : r'.share ≡ r.share) (only : OnlyAsks r.source r'.source) (right : IsSource r'.source)
-    (asks : Asks r.source gives last wanted r'.source) (tree : gives ≡ false → AsksNoTree r.source r'.source)
+    (at : slice_get f.readers reader ≡ Some r) (server : r'.server ≡ r.server) (share : r'.share ≡ r.share) (only : OnlyAsks r.supply r'.supply) (right : IsSupply r'.supply)
+    (asks : Asks r.supply gives last wanted r'.supply) (tree : gives ≡ false → AsksNoTree r.supply r'.supply)
     (giver_is : (giver f ≡ Some reader → gives ≡ true) × (giver f ≢ Some reader → gives ≡ false))
     (waits : r'.waiting ≡ r.waiting ++ placed place wanted) where
   abbrev pub asked_file : FileState
@@ -102,30 +102,30 @@ module _ (f : FileState) (reader : ℕ) (r r' : ReaderState) (gives : Bool) (las
   follows : Follows f asked_file
   follows = record { geometry = refl; ueb = refl; first = refl; end = refl; shares = knows_itself f.handout.trees.shares; later = λ number next. (number, next, omega arith) }
 
-  goes : GoesOn r.source r'.source
+  goes : GoesOn r.supply r'.supply
   goes = record {
-    geometry = ap (λ (s : SourceState). s.geometry) only;
-    start = ap (λ (s : SourceState). s.start) only;
-    first = ap (λ (s : SourceState). s.first) only;
-    end = ap (λ (s : SourceState). s.end) only;
-    tree = tree_same r.source.tree r'.source.tree (ap (λ (s : SourceState). s.tree) only);
+    geometry = ap (λ (s : SupplyState). s.geometry) only;
+    start = ap (λ (s : SupplyState). s.start) only;
+    first = ap (λ (s : SupplyState). s.first) only;
+    end = ap (λ (s : SupplyState). s.end) only;
+    tree = tree_same r.supply.tree r'.supply.tree (ap (λ (s : SupplyState). s.tree) only);
     more = [];
-    held = ap (λ (s : SourceState). s.held) only ∙ sym (append-nil r.source.held);
+    held = ap (λ (s : SupplyState). s.held) only ∙ sym (append-nil r.supply.held);
   }
 
-  grows : GrowsAsks r.source r'.source
+  grows : GrowsAsks r.supply r'.supply
   grows = record {
     geometry = goes.geometry;
     start = goes.start;
     first = goes.first;
     end = goes.end;
-    given = ap (λ (s : SourceState). s.given) only;
+    given = ap (λ (s : SupplyState). s.given) only;
     asked = λ part was. (asks.now.asked part).1 (inl was);
   }
 
   is_asked : IsReaderOf asked_file r'
   is_asked = reader_stays f asked_file r r' follows (is.readers reader r at) share right goes.geometry goes.start goes.first goes.end
-      (subst (λ (s : SourceState). TellsRoot f.handout.trees.shares r.share s.tree) (sym only) (is.readers reader r at).root)
+      (subst (λ (s : SupplyState). TellsRoot f.handout.trees.shares r.share s.tree) (sym only) (is.readers reader r at).root)
 
   grow : ReadersGoOn f.readers (slice_set f.readers reader r')
   grow other q there = elim (get_cases f.readers reader other r' r q at there) [
@@ -134,9 +134,9 @@ module _ (f : FileState) (reader : ℕ) (r r' : ReaderState) (gives : Bool) (las
       there = k.2;
       server = server ∙ ap (λ (x : ReaderState). x.server) k.1;
       share = share ∙ ap (λ (x : ReaderState). x.share) k.1;
-      source = subst (λ (x : ReaderState). GoesOn x.source r'.source) k.1 goes;
+      supply = subst (λ (x : ReaderState). GoesOn x.supply r'.supply) k.1 goes;
     }
-    | inr k ↦ record { now = q; there = k.1; server = refl; share = refl; source = goes_same q.source }
+    | inr k ↦ record { now = q; there = k.1; server = refl; share = refl; supply = goes_same q.supply }
   ]
 
   share_was : (other : ℕ) (q : ReaderState) → IsReader asked_file other q → (o : ReaderState) × (IsReader f other o) × (q.share ≡ o.share)
@@ -149,28 +149,28 @@ module _ (f : FileState) (reader : ℕ) (r r' : ReaderState) (gives : Bool) (las
   parts = ap waiting_parts waits ∙ map-append (λ (w : Waiting). w.wanted.part) r.waiting (placed place wanted)
       ∙ ap (λ (l : List Part). waiting_parts r.waiting ++ l) (placed_parts place wanted)
 
-  leads_on : LeadOn r'.source.taken (waiting_parts r'.waiting) r'.source.asked
+  leads_on : LeadOn r'.supply.taken (waiting_parts r'.waiting) r'.supply.asked
   leads_on =
-      let taken : r'.source.taken ≡ r.source.taken = ap (λ (s : SourceState). s.taken) only in
-      subst (λ (l : List Part). LeadOn r'.source.taken l r'.source.asked) (sym parts)
-      (subst (λ (c : Cursors). LeadOn c (waiting_parts r.waiting ++ parts_of wanted) r'.source.asked) (sym taken)
-      (lead_append r.source.taken r.source.asked r'.source.asked (waiting_parts r.waiting) (parts_of wanted) (is.live.waits reader r live at) asks.now.in_order))
+      let taken : r'.supply.taken ≡ r.supply.taken = ap (λ (s : SupplyState). s.taken) only in
+      subst (λ (l : List Part). LeadOn r'.supply.taken l r'.supply.asked) (sym parts)
+      (subst (λ (c : Cursors). LeadOn c (waiting_parts r.waiting ++ parts_of wanted) r'.supply.asked) (sym taken)
+      (lead_append r.supply.taken r.supply.asked r'.supply.asked (waiting_parts r.waiting) (parts_of wanted) (is.live.waits reader r live at) asks.now.in_order))
 
   upper_on : WaitsByLevels r'
   upper_on =
       let both : List Part = waiting_parts r.waiting ++ parts_of wanted in
-      subst (λ (l : List Part). UpperComeFirst r'.source.geometry (first_of r'.source) r'.source.taken l) (sym parts)
-      (subst (λ (s : SourceState). UpperComeFirst s.geometry (first_of s) s.taken both) (sym only)
-      (upper_append r.source.geometry (first_of r.source) r.source.taken r.source.asked (waiting_parts r.waiting) (parts_of wanted)
+      subst (λ (l : List Part). UpperComeFirst r'.supply.geometry (first_of r'.supply) r'.supply.taken l) (sym parts)
+      (subst (λ (s : SupplyState). UpperComeFirst s.geometry (first_of s) s.taken both) (sym only)
+      (upper_append r.supply.geometry (first_of r.supply) r.supply.taken r.supply.asked (waiting_parts r.waiting) (parts_of wanted)
       (is.live.waits reader r live at) (is.live.upper reader r live at) asks.now.upper))
 
-  reads_on : All (λ v. IsReadOf r'.source v.wanted) r'.waiting
+  reads_on : All (λ v. IsReadOf r'.supply v.wanted) r'.waiting
   reads_on =
-      subst (λ (l : List Waiting). All (λ v. IsReadOf r'.source v.wanted) l) (sym waits)
-      (subst (λ (s : SourceState). All (λ v. IsReadOf s v.wanted) (r.waiting ++ placed place wanted)) (sym only)
-      (All-append (λ v. IsReadOf r.source v.wanted) r.waiting (placed place wanted) (is.live.reads reader r live at)
-      (All-from_contains (λ v. IsReadOf r.source v.wanted) (placed place wanted)
-      (placed_all (IsReadOf r.source) place wanted (λ w among. All-contains (IsReadOf r.source) wanted w asks.now.reads among)))))
+      subst (λ (l : List Waiting). All (λ v. IsReadOf r'.supply v.wanted) l) (sym waits)
+      (subst (λ (s : SupplyState). All (λ v. IsReadOf s v.wanted) (r.waiting ++ placed place wanted)) (sym only)
+      (All-append (λ v. IsReadOf r.supply v.wanted) r.waiting (placed place wanted) (is.live.reads reader r live at)
+      (All-from_contains (λ v. IsReadOf r.supply v.wanted) (placed place wanted)
+      (placed_all (IsReadOf r.supply) place wanted (λ w among. All-contains (IsReadOf r.supply) wanted w asks.now.reads among)))))
 
   live_asked : AreLive asked_file
   live_asked =
@@ -184,7 +184,7 @@ module _ (f : FileState) (reader : ℕ) (r r' : ReaderState) (gives : Bool) (las
             let b = share_was j y at_two in
             is.live.different i j a.0 b.0 one two order a.1 b.1 (sym a.2 ∙ same ∙ b.2);
         waits = λ other q among there. elim (set_cases f.readers reader other r' q there) [
-          | inl k ↦ subst (λ (x : ReaderState). LeadOn x.source.taken (waiting_parts x.waiting) x.source.asked) k.1 leads_on
+          | inl k ↦ subst (λ (x : ReaderState). LeadOn x.supply.taken (waiting_parts x.waiting) x.supply.asked) k.1 leads_on
           | inr k ↦ is.live.waits other q among k.1
         ];
         upper = λ other q among there. elim (set_cases f.readers reader other r' q there) [
@@ -192,7 +192,7 @@ module _ (f : FileState) (reader : ℕ) (r r' : ReaderState) (gives : Bool) (las
           | inr k ↦ is.live.upper other q among k.1
         ];
         reads = λ other q among there. elim (set_cases f.readers reader other r' q there) [
-          | inl k ↦ subst (λ (x : ReaderState). All (λ v. IsReadOf x.source v.wanted) x.waiting) k.1 reads_on
+          | inl k ↦ subst (λ (x : ReaderState). All (λ v. IsReadOf x.supply v.wanted) x.waiting) k.1 reads_on
           | inr k ↦ is.live.reads other q among k.1
         ];
       }
@@ -213,8 +213,8 @@ module _ (f : FileState) (reader : ℕ) (r r' : ReaderState) (gives : Bool) (las
       pieces = is.ciphertext.pieces;
       known = is.ciphertext.known;
       at_giver = λ other q now there. elim (set_cases f.readers reader other r' q there) [
-        | inl k ↦ subst (λ (x : ReaderState). x.source.taken.ciphertext_tree ≡ f.taken) k.1
-            (ap (λ (s : SourceState). s.taken.ciphertext_tree) only ∙ is.ciphertext.at_giver other r now (ap (slice_get f.readers) k.0 ∙ at))
+        | inl k ↦ subst (λ (x : ReaderState). x.supply.taken.ciphertext_tree ≡ f.taken) k.1
+            (ap (λ (s : SupplyState). s.taken.ciphertext_tree) only ∙ is.ciphertext.at_giver other r now (ap (slice_get f.readers) k.0 ∙ at))
         | inr k ↦ is.ciphertext.at_giver other q now k.1
       ];
       behind = λ first other q p now order there asked. elim (set_cases f.readers reader other r' q there) [
@@ -223,7 +223,7 @@ module _ (f : FileState) (reader : ℕ) (r r' : ReaderState) (gives : Bool) (las
             let is_reader = k.0 in
             let not : giver f ≢ Some reader = λ e. let one : first ≡ reader = one_there (giver f) first reader now e in omega (arith, order, one, is_reader) in
             is.ciphertext.behind first other r p now order (ap (slice_get f.readers) k.0 ∙ at)
-            (tree (giver_is.1 not) p (subst (λ (x : ReaderState). IsAsked x.source (CiphertextTree p)) (sym k.1) asked))
+            (tree (giver_is.1 not) p (subst (λ (x : ReaderState). IsAsked x.supply (CiphertextTree p)) (sym k.1) asked))
       ];
     };
     groups = All-weaker (IsGroup f.handout f.readers) (IsGroup f.handout (slice_set f.readers reader r'))
@@ -234,7 +234,7 @@ module _ (f : FileState) (reader : ℕ) (r r' : ReaderState) (gives : Bool) (las
   pub read_asked : StaysRead f asked_file
   read_asked entries read = read_stays entries f asked_file refl refl refl (grow_none f.handout.trees) grow is.groups refl (λ p among. among)
       (λ other q there. elim (set_cases f.readers reader other r' q there) [
-        | inl k ↦ subst (λ (x : ReaderState). HoldsAnswers entries x) k.1 (subst (HoldsFor entries r'.server r'.share) (sym only) (holds_as entries r.server r.share r'.server r'.share r.source server share (read.held reader r at)))
+        | inl k ↦ subst (λ (x : ReaderState). HoldsAnswers entries x) k.1 (subst (HoldsFor entries r'.server r'.share) (sym only) (holds_as entries r.server r.share r'.server r'.share r.supply server share (read.held reader r at)))
         | inr k ↦ read.held other q k.1
       ])
       read
@@ -253,8 +253,8 @@ module _ (f : FileState) (reader : ℕ) (r r' : ReaderState) (gives : Bool) (las
 
   pub still_up : (other : ℕ) → StaysAskedUp f asked_file other
   still_up other = asked_up_stays f asked_file other refl (λ now. now) (λ q there. elim (set_cases f.readers reader other r' q there) [
-    | inl k ↦ (r, ap (slice_get f.readers) k.0 ∙ at, subst (λ (x : ReaderState). GrowsAsks r.source x.source) k.1 grows)
-    | inr k ↦ (q, k.1, grows_itself q.source)
+    | inl k ↦ (r, ap (slice_get f.readers) k.0 ∙ at, subst (λ (x : ReaderState). GrowsAsks r.supply x.supply) k.1 grows)
+    | inr k ↦ (q, k.1, grows_itself q.supply)
   ])
 
   -- all that is wanted up to the next segment is asked
@@ -262,58 +262,58 @@ module _ (f : FileState) (reader : ℕ) (r r' : ReaderState) (gives : Bool) (las
   now_up next next_is order before =
       let own = is.readers reader r at in
       let end = own.end in
-      let low : last < r.source.end = omega (arith, before, end) in
+      let low : last < r.supply.end = omega (arith, before, end) in
       record {
         own = λ q number part there is_next wants.
             let one : q ≡ r' = one_there (slice_get (slice_set f.readers reader r') reader) q r' there (get_set f.readers reader r' r at) in
             let same : number ≡ next = one_there (next_segment f.handout) number next is_next next_is in
-            subst (λ (x : ReaderState). IsAsked x.source part) (sym one)
-            (asks.own part (wanted_more r.source next last part order low (subst (λ (n : ℕ). IsWanted r.source n part) same
-            (wanted_back r.source r'.source number part grows (subst (λ (x : ReaderState). IsWanted x.source number part) one wants)))));
+            subst (λ (x : ReaderState). IsAsked x.supply part) (sym one)
+            (asks.own part (wanted_more r.supply next last part order low (subst (λ (n : ℕ). IsWanted r.supply n part) same
+            (wanted_back r.supply r'.supply number part grows (subst (λ (x : ReaderState). IsWanted x.supply number part) one wants)))));
         ciphertext = λ q number part first there is_next wants.
             let one : q ≡ r' = one_there (slice_get (slice_set f.readers reader r') reader) q r' there (get_set f.readers reader r' r at) in
             let same : number ≡ next = one_there (next_segment f.handout) number next is_next next_is in
-            subst (λ (x : ReaderState). IsAsked x.source part) (sym one)
-            (asks.ciphertext (giver_is.0 first) part (ciphertext_more r.source next last part order low (subst (λ (n : ℕ). IsWantedCiphertext r.source n part) same
-            (ciphertext_back r.source r'.source number part grows (subst (λ (x : ReaderState). IsWantedCiphertext x.source number part) one wants)))));
+            subst (λ (x : ReaderState). IsAsked x.supply part) (sym one)
+            (asks.ciphertext (giver_is.0 first) part (ciphertext_more r.supply next last part order low (subst (λ (n : ℕ). IsWantedCiphertext r.supply n part) same
+            (ciphertext_back r.supply r'.supply number part grows (subst (λ (x : ReaderState). IsWantedCiphertext x.supply number part) one wants)))));
       }
 
   -- ---- what is asked
 
   -- of two parts that are not one no byte is read twice
-  apart_from : (p q : Part) (o l : ℕ) (w : Wanted) → IsPartOf r.source p → IsReadOf r.source w → q ≡ w.part → p ≢ q
-      → o ≡ place_of r.source.geometry (first_of r.source p) r.source.end p → l ≡ length_of r.source.geometry (first_of r.source p) r.source.end p
+  apart_from : (p q : Part) (o l : ℕ) (w : Wanted) → IsPartOf r.supply p → IsReadOf r.supply w → q ≡ w.part → p ≢ q
+      → o ≡ place_of r.supply.geometry (first_of r.supply p) r.supply.end p → l ≡ length_of r.supply.geometry (first_of r.supply p) r.supply.end p
       → AreApart o l w.read.place w.read.length
-  apart_from p q o l w one read same other place_is long_is = elim (parts_apart r.source p w.part (is.readers reader r at).source one read.part) [
+  apart_from p q o l w one read same other place_is long_is = elim (parts_apart r.supply p w.part (is.readers reader r at).supply one read.part) [
     | inl e ↦ absurd (other (e ∙ sym same))
     | inr k ↦ subst (λ (n : ℕ). AreApart n l w.read.place w.read.length) (sym place_is)
-        (subst (λ (n : ℕ). AreApart (place_of r.source.geometry (first_of r.source p) r.source.end p) n w.read.place w.read.length) (sym long_is)
-        (subst (λ (n : ℕ). AreApart (place_of r.source.geometry (first_of r.source p) r.source.end p) (length_of r.source.geometry (first_of r.source p) r.source.end p) n w.read.length) (sym read.place)
-        (subst (λ (n : ℕ). AreApart (place_of r.source.geometry (first_of r.source p) r.source.end p) (length_of r.source.geometry (first_of r.source p) r.source.end p)
-        (place_of r.source.geometry (first_of r.source w.part) r.source.end w.part) n) (sym read.length) k)))
+        (subst (λ (n : ℕ). AreApart (place_of r.supply.geometry (first_of r.supply p) r.supply.end p) n w.read.place w.read.length) (sym long_is)
+        (subst (λ (n : ℕ). AreApart (place_of r.supply.geometry (first_of r.supply p) r.supply.end p) (length_of r.supply.geometry (first_of r.supply p) r.supply.end p) n w.read.length) (sym read.place)
+        (subst (λ (n : ℕ). AreApart (place_of r.supply.geometry (first_of r.supply p) r.supply.end p) (length_of r.supply.geometry (first_of r.supply p) r.supply.end p)
+        (place_of r.supply.geometry (first_of r.supply w.part) r.supply.end w.part) n) (sym read.length) k)))
   ]
 
-  planned_read : (w : Wanted) → IsReadOf r.source w → IsPlannedRead f w.read.place w.read.length
+  planned_read : (w : Wanted) → IsReadOf r.supply w → IsPlannedRead f w.read.place w.read.length
   planned_read w read =
       let own = is.readers reader r at in
-      let within = first_within r.source w.part own.source in
+      let within = first_within r.supply w.part own.supply in
       let from = within.0 in
       let before = within.1 in
       let start = own.start in
       let end = own.end in
       record {
-        from = first_of r.source w.part;
+        from = first_of r.supply w.part;
         begins = omega (arith, from, start);
         before = omega (arith, before, end);
-        planned = subst (λ (g : Geometry). IsPlanned g (first_of r.source w.part) f.end w.read.place w.read.length) own.geometry
-            (subst (λ (n : ℕ). IsPlanned r.source.geometry (first_of r.source w.part) n w.read.place w.read.length) own.end
+        planned = subst (λ (g : Geometry). IsPlanned g (first_of r.supply w.part) f.end w.read.place w.read.length) own.geometry
+            (subst (λ (n : ℕ). IsPlanned r.supply.geometry (first_of r.supply w.part) n w.read.place w.read.length) own.end
             (record { part = w.part; is = read.part; place_is = read.place; len_is = read.length }));
       }
 
   pub asks_parts : AsksParts f reader wanted asked_file
   asks_parts = record {
-    planned = All-weaker (IsReadOf r.source) (λ w. IsPlannedRead f w.read.place w.read.length) planned_read wanted asks.now.reads;
-    few = All-weaker (IsReadOf r.source) (λ w. (0 < w.read.length) × (w.read.length ≤ max_read)) (λ w read. (read.some, read.few)) wanted asks.now.reads;
+    planned = All-weaker (IsReadOf r.supply) (λ w. IsPlannedRead f w.read.place w.read.length) planned_read wanted asks.now.reads;
+    few = All-weaker (IsReadOf r.supply) (λ w. (0 < w.read.length) × (w.read.length ≤ max_read)) (λ w read. (read.some, read.few)) wanted asks.now.reads;
     apart = λ i j d order low.
         let one = asks.now.reads i d (omega (arith, order, low)) in
         let two = asks.now.reads j d low in
@@ -322,12 +322,12 @@ module _ (f : FileState) (reader : ℕ) (r r' : ReaderState) (gives : Bool) (las
     fresh = λ offset len has.
         let same : has.r ≡ r = one_there (slice_get f.readers reader) has.r r has.there at in
         All-from_contains (λ w. AreApart offset len w.read.place w.read.length) wanted (λ w among.
-        let asked : IsAsked r.source has.part = subst (λ (x : ReaderState). IsAsked x.source has.part) same has.asked in
-        let read = All-contains (IsReadOf r.source) wanted w asks.now.reads among in
-        apart_from has.part w.part offset len w ((is.readers reader r at).source.parts has.part (asked_passed r.source has.part asked)) read refl
-        (λ e. asks.now.fresh w.part (among_parts w among) (subst (IsAsked r.source) e asked))
-        (subst (λ (x : ReaderState). offset ≡ place_of x.source.geometry (first_of x.source has.part) x.source.end has.part) same has.place)
-        (subst (λ (x : ReaderState). len ≡ length_of x.source.geometry (first_of x.source has.part) x.source.end has.part) same has.long));
+        let asked : IsAsked r.supply has.part = subst (λ (x : ReaderState). IsAsked x.supply has.part) same has.asked in
+        let read = All-contains (IsReadOf r.supply) wanted w asks.now.reads among in
+        apart_from has.part w.part offset len w ((is.readers reader r at).supply.parts has.part (asked_passed r.supply has.part asked)) read refl
+        (λ e. asks.now.fresh w.part (among_parts w among) (subst (IsAsked r.supply) e asked))
+        (subst (λ (x : ReaderState). offset ≡ place_of x.supply.geometry (first_of x.supply has.part) x.supply.end has.part) same has.place)
+        (subst (λ (x : ReaderState). len ≡ length_of x.supply.geometry (first_of x.supply has.part) x.supply.end has.part) same has.long));
     asked = λ other offset len. (to other offset len, from other offset len);
   } where
     among_parts : (w : Wanted) → Contains wanted w → Contains (parts_of wanted) w.part
@@ -343,24 +343,24 @@ module _ (f : FileState) (reader : ℕ) (r r' : ReaderState) (gives : Bool) (las
     to other offset len has = elim (set_cases f.readers reader other r' has.r has.there) [
       | inr k ↦ inl (record { r = has.r; there = k.1; part = has.part; asked = has.asked; place = has.place; long = has.long })
       | inl k ↦
-          let place_is : offset ≡ place_of r.source.geometry (first_of r.source has.part) r.source.end has.part =
-          subst (λ (s : SourceState). offset ≡ place_of s.geometry (first_of s has.part) s.end has.part) only
-          (subst (λ (x : ReaderState). offset ≡ place_of x.source.geometry (first_of x.source has.part) x.source.end has.part) (sym k.1) has.place) in
-          let long_is : len ≡ length_of r.source.geometry (first_of r.source has.part) r.source.end has.part =
-          subst (λ (s : SourceState). len ≡ length_of s.geometry (first_of s has.part) s.end has.part) only
-          (subst (λ (x : ReaderState). len ≡ length_of x.source.geometry (first_of x.source has.part) x.source.end has.part) (sym k.1) has.long) in
-          elim ((asks.now.asked has.part).0 (subst (λ (x : ReaderState). IsAsked x.source has.part) (sym k.1) has.asked)) [
+          let place_is : offset ≡ place_of r.supply.geometry (first_of r.supply has.part) r.supply.end has.part =
+          subst (λ (s : SupplyState). offset ≡ place_of s.geometry (first_of s has.part) s.end has.part) only
+          (subst (λ (x : ReaderState). offset ≡ place_of x.supply.geometry (first_of x.supply has.part) x.supply.end has.part) (sym k.1) has.place) in
+          let long_is : len ≡ length_of r.supply.geometry (first_of r.supply has.part) r.supply.end has.part =
+          subst (λ (s : SupplyState). len ≡ length_of s.geometry (first_of s has.part) s.end has.part) only
+          (subst (λ (x : ReaderState). len ≡ length_of x.supply.geometry (first_of x.supply has.part) x.supply.end has.part) (sym k.1) has.long) in
+          elim ((asks.now.asked has.part).0 (subst (λ (x : ReaderState). IsAsked x.supply has.part) (sym k.1) has.asked)) [
             | inl old ↦ inl (record { r = r; there = ap (slice_get f.readers) k.0 ∙ at; part = has.part; asked = old; place = place_is; long = long_is })
             | inr new ↦
                 let w = from_map (λ (x : Wanted). x.part) wanted has.part new in
-                let read = All-contains (IsReadOf r.source) wanted w.0 asks.now.reads w.1 in
+                let read = All-contains (IsReadOf r.supply) wanted w.0 asks.now.reads w.1 in
                 inr (
                   k.0,
                   record {
                     one = w.0;
                     among = w.1;
-                    place = place_is ∙ sym (read.place ∙ ap (λ (p : Part). place_of r.source.geometry (first_of r.source p) r.source.end p) w.2);
-                    long = long_is ∙ sym (read.length ∙ ap (λ (p : Part). length_of r.source.geometry (first_of r.source p) r.source.end p) w.2);
+                    place = place_is ∙ sym (read.place ∙ ap (λ (p : Part). place_of r.supply.geometry (first_of r.supply p) r.supply.end p) w.2);
+                    long = long_is ∙ sym (read.length ∙ ap (λ (p : Part). length_of r.supply.geometry (first_of r.supply p) r.supply.end p) w.2);
                   },
                 )
           ]
@@ -374,11 +374,11 @@ module _ (f : FileState) (reader : ℕ) (r r' : ReaderState) (gives : Bool) (las
         r = r';
         there = k.2;
         part = has.part;
-        asked = grows.asked has.part (subst (λ (x : ReaderState). IsAsked x.source has.part) (sym k.1) has.asked);
-        place = subst (λ (s : SourceState). offset ≡ place_of s.geometry (first_of s has.part) s.end has.part) (sym only)
-            (subst (λ (x : ReaderState). offset ≡ place_of x.source.geometry (first_of x.source has.part) x.source.end has.part) (sym k.1) has.place);
-        long = subst (λ (s : SourceState). len ≡ length_of s.geometry (first_of s has.part) s.end has.part) (sym only)
-            (subst (λ (x : ReaderState). len ≡ length_of x.source.geometry (first_of x.source has.part) x.source.end has.part) (sym k.1) has.long);
+        asked = grows.asked has.part (subst (λ (x : ReaderState). IsAsked x.supply has.part) (sym k.1) has.asked);
+        place = subst (λ (s : SupplyState). offset ≡ place_of s.geometry (first_of s has.part) s.end has.part) (sym only)
+            (subst (λ (x : ReaderState). offset ≡ place_of x.supply.geometry (first_of x.supply has.part) x.supply.end has.part) (sym k.1) has.place);
+        long = subst (λ (s : SupplyState). len ≡ length_of s.geometry (first_of s has.part) s.end has.part) (sym only)
+            (subst (λ (x : ReaderState). len ≡ length_of x.supply.geometry (first_of x.supply has.part) x.supply.end has.part) (sym k.1) has.long);
       }
     ]
 
@@ -386,14 +386,14 @@ module _ (f : FileState) (reader : ℕ) (r r' : ReaderState) (gives : Bool) (las
     from other offset len (inl old) = still other offset len old
     from other offset len (inr new) =
         let one = new.1 in
-        let read = All-contains (IsReadOf r.source) wanted one.one asks.now.reads one.among in
+        let read = All-contains (IsReadOf r.supply) wanted one.one asks.now.reads one.among in
         record {
           r = r';
           there = ap (slice_get (slice_set f.readers reader r')) new.0 ∙ get_set f.readers reader r' r at;
           part = one.one.part;
           asked = (asks.now.asked one.one.part).1 (inr (among_parts one.one one.among));
-          place = subst (λ (s : SourceState). offset ≡ place_of s.geometry (first_of s one.one.part) s.end one.one.part) (sym only) (one.place ∙ read.place);
-          long = subst (λ (s : SourceState). len ≡ length_of s.geometry (first_of s one.one.part) s.end one.one.part) (sym only) (one.long ∙ read.length);
+          place = subst (λ (s : SupplyState). offset ≡ place_of s.geometry (first_of s one.one.part) s.end one.one.part) (sym only) (one.place ∙ read.place);
+          long = subst (λ (s : SupplyState). len ≡ length_of s.geometry (first_of s one.one.part) s.end one.one.part) (sym only) (one.long ∙ read.length);
         }
 
   pub has_wanted : HasWanted f reader place last wanted asked_file

@@ -10,7 +10,7 @@ use Rattle.lemmas.proofs.Members.{contains_at}
 use Rattle.request_record.specs.declared.requests.Request.{Request}
 use Rattle.share_layout.specs.Geometry.{Geometry}
 use Rattle.proved_parts.specs.Decoding.{DecodesBlocks}
-use Rattle.download_source.specs.Taking.{IsProved}
+use Rattle.download_supply.specs.Taking.{IsProved}
 use Rattle.download_segments.specs.Decoding.{blocks_in}
 use Rattle.download_segments.specs.Handout.{next_segment}
 use Rattle.download_segments.specs.State.{HandoutState, ProvesSegment}
@@ -46,7 +46,7 @@ has_it entries f number w = record {
 module _ (entries : List Request) (f : FileState) (number size : ℕ) (k : HasRowBlocks entries f number size) (rows : List (List ℕ)) (joins : IsRow entries f.readers number f.live rows) where
   -- the block of a reader in its row
   own_block : (i place reader : ℕ) (r : ReaderState) → i < 8 → slice_get f.live place ≡ Some reader → IsReader f reader r
-      → nth_block (nth rows i) size place ≡ block_of entries r.source (number + i)
+      → nth_block (nth rows i) size place ≡ block_of entries r.supply (number + i)
   own_block i place reader r low at there =
       ap (λ (l : List ℕ). nth_block l size place) (joins i low)
       ∙ nth_own entries f (number + i) size k.is k.read (row_there f.handout number i k.is.handout k.row.wanted low) (its_size entries f number size k i low)
@@ -54,7 +54,7 @@ module _ (entries : List Request) (f : FileState) (number size : ℕ) (k : HasRo
 
   pub to_proved : IsWholeRow entries f number → AreRowsProved f.readers f.live number rows size (length f.live)
   to_proved w i low place reader r below at there =
-      subst (IsProved r.source (number + i)) (sym (own_block i place reader r low at there)) (w.blocks i reader r low (contains_at f.live place reader at) there).proved
+      subst (IsProved r.supply (number + i)) (sym (own_block i place reader r low at there)) (w.blocks i reader r low (contains_at f.live place reader at) there).proved
 
   -- the segments that the last group decodes
   module _ (groups : List GroupState) (begun : HasLast f number groups) (group : GroupState) (last : IsLast groups group) (segments : List (List ℕ))
@@ -93,7 +93,7 @@ module _ (entries : List Request) (f : FileState) (number size : ℕ) (k : HasRo
           let at = at_contained f.live reader live in
           record {
             ready = row_ready entries f number size k i low reader r live there;
-            proved = subst (IsProved r.source (number + i)) (own_block i at.0 reader r low at.1 there)
+            proved = subst (IsProved r.supply (number + i)) (own_block i at.0 reader r low at.1 there)
                 (right i low at.0 reader r (slice_get_within f.live at.0 reader at.1) at.1 there);
           };
       segments = made.segments;

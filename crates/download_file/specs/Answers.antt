@@ -11,9 +11,9 @@ use Rattle.request_record.specs.declared.requests.Request.{Request}
 use Rattle.proved_parts.specs.Decoding.{DecodesBlocks}
 use Rattle.download_parts.specs.Plan.{length_of, place_of}
 use Rattle.download_parts.specs.declared.part.Part.TheVariants as parts
-use Rattle.download_source.specs.Blocks.{IsReady, block_places, joined_block}
-use Rattle.download_source.specs.Source.{SourceState}
-use Rattle.download_source.specs.Taking.{IsProved}
+use Rattle.download_supply.specs.Blocks.{IsReady, block_places, joined_block}
+use Rattle.download_supply.specs.Supply.{SupplyState}
+use Rattle.download_supply.specs.Taking.{IsProved}
 use Rattle.download_segments.specs.Decoding.{blocks_in}
 use Rattle.download_segments.specs.Pieces.{IsSlice}
 use Rattle.download_segments.specs.State.{HandoutState, ProvesSegment}
@@ -71,35 +71,35 @@ bytes_of (Some request) = bytes_in request.outcome
 abbrev pub answer_at : List Request → ℕ → List ℕ
 answer_at entries place = bytes_of (slice_get entries place)
 
--- the block of a segment, of the answers that its source holds
-abbrev pub block_of : List Request → SourceState → ℕ → List ℕ
+-- the block of a segment, of the answers that its supply holds
+abbrev pub block_of : List Request → SupplyState → ℕ → List ℕ
 block_of entries s number =
     joined_block s.geometry s.first number (map (answer_at entries) (block_places s number))
 
 abbrev pub block_in : List Request → ℕ → Option ReaderState → List ℕ
 block_in entries number None = []
-block_in entries number (Some r) = block_of entries r.source number
+block_in entries number (Some r) = block_of entries r.supply number
 
 -- the blocks of a segment that the readers at these places hold, one after another
 abbrev pub blocks_of : List Request → List ReaderState → ℕ → List ℕ → List ℕ
 blocks_of entries readers number places =
     flat_map (λ place. block_in entries number (slice_get readers place)) places
 
--- each piece of the data that the source holds was asked of this server, as bytes of this share
+-- each piece of the data that the supply holds was asked of this server, as bytes of this share
 -- where the piece lies, and is an answer of its length
-abbrev pub HoldsFor : List Request → ℕ → ℕ → SourceState → Type 0
+abbrev pub HoldsFor : List Request → ℕ → ℕ → SupplyState → Type 0
 HoldsFor entries server share s = (k : ℕ) → k < length s.held
     → IsAnswerOf entries server share (place_of s.geometry s.first s.end (parts.Data k))
     (length_of s.geometry s.first s.end (parts.Data k)) (slice_index_or s.held k 0)
 
 -- what a reader holds its own server sent, of its own share
 abbrev pub HoldsAnswers : List Request → ReaderState → Type 0
-HoldsAnswers entries r = HoldsFor entries r.server r.share r.source
+HoldsAnswers entries r = HoldsFor entries r.server r.share r.supply
 
 -- The block of a segment that a reader holds is the one whose hash its block tree tells.
 pub record HasRightBlock (entries : List Request) (r : ReaderState) (number : ℕ) : Type 0 where
-  pub ready : IsReady r.source number
-  pub proved : IsProved r.source number (block_of entries r.source number)
+  pub ready : IsReady r.supply number
+  pub proved : IsProved r.supply number (block_of entries r.supply number)
 
 -- so it is of each of the readers at these places
 abbrev pub HaveRightBlocks : List Request → List ReaderState → List ℕ → ℕ → Type 0

@@ -3,9 +3,9 @@ use Rattle.std.specs.Prelude.{◌≡◌, ◌⊎◌, ◌↔◌, ℕ, ◌<◌, ◌
 use Rattle.download_parts.specs.PlanLaws.{AreApart}
 use Rattle.download_parts.specs.Plan.{IsPlanned, length_of, max_read, place_of}
 use Rattle.download_parts.specs.declared.part.Part.{Part}
-use Rattle.download_source.specs.Asking.{IsAsked, IsWanted, IsWantedCiphertext}
-use Rattle.download_source.specs.Source.{first_of}
-use Rattle.download_source.specs.declared.wanted.Wanted.{Wanted}
+use Rattle.download_supply.specs.Asking.{IsAsked, IsWanted, IsWantedCiphertext}
+use Rattle.download_supply.specs.Supply.{first_of}
+use Rattle.download_supply.specs.declared.wanted.Wanted.{Wanted}
 use Rattle.download_segments.specs.Handout.{next_segment}
 use Rattle.download_file.specs.State.{FileState, IsLive, IsReader, ReaderState, giver}
 
@@ -14,9 +14,9 @@ pub record HasAsked (f : FileState) (reader offset len : ℕ) : Type 0 where
   pub r : ReaderState
   pub there : IsReader f reader r
   pub part : Part
-  pub asked : IsAsked r.source part
-  pub place : offset ≡ place_of r.source.geometry (first_of r.source part) r.source.end part
-  pub long : len ≡ length_of r.source.geometry (first_of r.source part) r.source.end part
+  pub asked : IsAsked r.supply part
+  pub place : offset ≡ place_of r.supply.geometry (first_of r.supply part) r.supply.end part
+  pub long : len ≡ length_of r.supply.geometry (first_of r.supply part) r.supply.end part
 
 -- the same was asked of each reader
 abbrev pub AsksNoMore : FileState → FileState → Type 0
@@ -53,11 +53,11 @@ pub record AsksParts (old : FileState) (reader : ℕ) (wanted : List Wanted) (ne
 -- it is the giver
 pub record IsAskedUp (f : FileState) (reader : ℕ) : Type 0 where
   pub own : (r : ReaderState) (number : ℕ) (part : Part) → IsReader f reader r
-      → next_segment f.handout ≡ Some number → IsWanted r.source number part
-      → IsAsked r.source part
+      → next_segment f.handout ≡ Some number → IsWanted r.supply number part
+      → IsAsked r.supply part
   pub ciphertext : (r : ReaderState) (number : ℕ) (part : Part) → giver f ≡ Some reader
       → IsReader f reader r → next_segment f.handout ≡ Some number
-      → IsWantedCiphertext r.source number part → IsAsked r.source part
+      → IsWantedCiphertext r.supply number part → IsAsked r.supply part
 
 -- so it is of each reader that is read
 abbrev pub AreAskedUp : FileState → Type 0

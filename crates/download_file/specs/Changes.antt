@@ -3,7 +3,7 @@ use Rattle.std.specs.Prelude.{◌≡◌, ◌≢◌, ◌++◌, ℕ, List, Option,
 use Rattle.request_record.specs.declared.requests.Request.{Request}
 use Rattle.merkle.specs.Partial.{PartialState}
 use Rattle.download_parts.specs.Trees.{KnowsAllOf}
-use Rattle.download_source.specs.Source.{SourceState}
+use Rattle.download_supply.specs.Supply.{SupplyState}
 use Rattle.download_segments.specs.State.{TreesGrow, with_trees}
 use Rattle.download_segments.specs.declared.piece.Piece.{Piece}
 use Rattle.download_file.specs.State.{FileState, ReaderState, waiting_at}
@@ -25,9 +25,9 @@ abbrev pub TreeStays : Option PartialState → Option PartialState → Type 0
 TreeStays old new =
     (p : PartialState) → old ≡ Some p → (q : PartialState) × (new ≡ Some q) × KnowsAllOf p q
 
--- A source that goes on reads the same parts of the same share. What is known of its block tree
+-- A supply that goes on reads the same parts of the same share. What is known of its block tree
 -- stays known, and what it holds it holds still.
-pub record GoesOn (s t : SourceState) : Type 0 where
+pub record GoesOn (s t : SupplyState) : Type 0 where
   pub geometry : t.geometry ≡ s.geometry
   pub start : t.start ≡ s.start
   pub first : t.first ≡ s.first
@@ -42,7 +42,7 @@ pub record GoesOnAt (readers : List ReaderState) (place : ℕ) (r : ReaderState)
   pub there : slice_get readers place ≡ Some now
   pub server : now.server ≡ r.server
   pub share : now.share ≡ r.share
-  pub source : GoesOn r.source now.source
+  pub supply : GoesOn r.supply now.supply
 
 -- so does each reader
 abbrev pub ReadersGoOn : List ReaderState → List ReaderState → Type 0

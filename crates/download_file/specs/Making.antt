@@ -7,7 +7,7 @@ use Rattle.share_layout.specs.Pieces.{block_length}
 use Rattle.merkle.specs.Partial.{PartialState}
 use Rattle.download_parts.specs.Trees.{RefutesBlock, known_leaf}
 use Rattle.proved_parts.specs.Decoding.{DecodesBlocks}
-use Rattle.download_source.specs.Blocks.{IsHeld, IsReady}
+use Rattle.download_supply.specs.Blocks.{IsHeld, IsReady}
 use Rattle.download_segments.specs.Decoding.{blocks_in}
 use Rattle.download_segments.specs.Handout.{IsRowWanted, ProvesRow, handed_out, next_segment}
 use Rattle.download_segments.specs.State.{ProvesSegment, RefutesSegment}
@@ -43,7 +43,7 @@ pub record AwaitsBlock (readers : List ReaderState) (live : List ℕ) (number : 
   pub among : Contains live reader
   pub r : ReaderState
   pub there : slice_get readers reader ≡ Some r
-  pub lacks : ¬ IsReady r.source number
+  pub lacks : ¬ IsReady r.supply number
   pub place : ℕ
   pub first : first_place r.waiting ≡ Some place
 
@@ -62,7 +62,7 @@ pub record LacksBlock (f : FileState) (number : ℕ) : Type 0 where
   pub live : IsLive f reader
   pub r : ReaderState
   pub there : IsReader f reader r
-  pub lacks : ¬ IsReady r.source number
+  pub lacks : ¬ IsReady r.supply number
 
 -- A next segment is wanted, and not all that it is made of is there: fewer shares are read than are
 -- needed, or a reader lacks its block, or the hash of the segment is not known.
@@ -85,11 +85,11 @@ pub record RefutesReader (entries : List Request) (f : FileState) (reader : ℕ)
   pub there : IsReader f reader r
   pub number : ℕ
   pub next : next_segment f.handout ≡ Some number
-  pub held : IsHeld r.source number
+  pub held : IsHeld r.supply number
   pub tree : PartialState
-  pub is : r.source.tree ≡ Some tree
-  pub long : length (block_of entries r.source number) ≡ block_length f.handout.geometry number
-  pub refuted : RefutesBlock tree number (block_of entries r.source number)
+  pub is : r.supply.tree ≡ Some tree
+  pub long : length (block_of entries r.supply number) ≡ block_length f.handout.geometry number
+  pub refuted : RefutesBlock tree number (block_of entries r.supply number)
 
 -- a piece is made of the next segment: the blocks of all that are read are right, and what is made
 -- is proved

@@ -7,11 +7,11 @@ use Rattle.download_parts.specs.Range.{IsRange}
 use Rattle.download_parts.specs.declared.part.NodePiece.{NodePiece}
 use Rattle.download_parts.specs.declared.part.Part.TheVariants.{CiphertextTree}
 use Rattle.download_parts.specs.Trees.{known_leaf}
-use Rattle.download_source.specs.Asking.{IsAsked, IsReadOf}
-use Rattle.download_source.specs.Cursors.{LeadOn, cursor_at}
-use Rattle.download_source.specs.Laws.{KnowsPiece}
-use Rattle.download_source.specs.Source.{IsSource, first_of}
-use Rattle.download_source.specs.Upper.{UpperComeFirst}
+use Rattle.download_supply.specs.Asking.{IsAsked, IsReadOf}
+use Rattle.download_supply.specs.Cursors.{LeadOn, cursor_at}
+use Rattle.download_supply.specs.Laws.{KnowsPiece}
+use Rattle.download_supply.specs.Supply.{IsSupply, first_of}
+use Rattle.download_supply.specs.Upper.{UpperComeFirst}
 use Rattle.download_segments.specs.Decoding.{IsDecoding}
 use Rattle.download_segments.specs.Handout.{next_segment}
 use Rattle.download_segments.specs.State.{HandoutState, IsHandout}
@@ -26,13 +26,13 @@ TellsRoot shares share tree = IfSome tree (λ t. known_leaf shares share ≡ Som
 -- It reads one share of this file, by the plan of the download, from a segment on that is not
 -- behind the next. The root of its block tree is the one that the file's share tree tells.
 pub record IsReaderOf (f : FileState) (r : ReaderState) : Type 0 where
-  pub source : IsSource r.source
-  pub geometry : r.source.geometry ≡ f.handout.geometry
-  pub start : r.source.start ≡ f.first
-  pub end : r.source.end ≡ f.end
-  pub begun : (number : ℕ) → next_segment f.handout ≡ Some number → r.source.first ≤ number
+  pub supply : IsSupply r.supply
+  pub geometry : r.supply.geometry ≡ f.handout.geometry
+  pub start : r.supply.start ≡ f.first
+  pub end : r.supply.end ≡ f.end
+  pub begun : (number : ℕ) → next_segment f.handout ≡ Some number → r.supply.first ≤ number
   pub share : r.share < f.handout.geometry.total
-  pub root : TellsRoot f.handout.trees.shares r.share r.source.tree
+  pub root : TellsRoot f.handout.trees.shares r.share r.supply.tree
 
 -- they rise, the first of them at this place or behind it
 abbrev pub RiseFrom : ℕ → List ℕ → Type 0
@@ -42,7 +42,7 @@ RiseFrom low (place ∷ places) = (low ≤ place) × RiseFrom (place + 1) places
 -- the pieces of trees that wait of a reader come each after the piece over it
 abbrev pub WaitsByLevels : ReaderState → Type 0
 WaitsByLevels r =
-    UpperComeFirst r.source.geometry (first_of r.source) r.source.taken (waiting_parts r.waiting)
+    UpperComeFirst r.supply.geometry (first_of r.supply) r.supply.taken (waiting_parts r.waiting)
 
 -- The readers that are read: at most as many as are needed, and of different shares. The parts that
 -- wait of each lead from what was taken of it to what was asked.
@@ -53,11 +53,11 @@ pub record AreLive (f : FileState) : Type 0 where
   pub different : (i j : ℕ) (r s : ReaderState) → IsLive f i → IsLive f j → i < j
       → IsReader f i r → IsReader f j s → r.share ≢ s.share
   pub waits : (place : ℕ) (r : ReaderState) → IsLive f place → IsReader f place r
-      → LeadOn r.source.taken (waiting_parts r.waiting) r.source.asked
+      → LeadOn r.supply.taken (waiting_parts r.waiting) r.supply.asked
   pub upper : (place : ℕ) (r : ReaderState) → IsLive f place → IsReader f place r
       → WaitsByLevels r
   pub reads : (place : ℕ) (r : ReaderState) → IsLive f place → IsReader f place r
-      → All (λ w. IsReadOf r.source w.wanted) r.waiting
+      → All (λ w. IsReadOf r.supply w.wanted) r.waiting
 
 -- The ciphertext tree is read of the giver, from the pieces on that were taken already. Those are
 -- known. A reader behind the giver was never asked for any of it.
@@ -68,9 +68,9 @@ pub record GivesTree (f : FileState) : Type 0 where
   pub known : (p : NodePiece) → p.index < cursor_at f.taken p.level
       → KnowsPiece f.handout.geometry f.first f.end f.handout.trees.ciphertext p
   pub at_giver : (place : ℕ) (r : ReaderState) → giver f ≡ Some place → IsReader f place r
-      → r.source.taken.ciphertext_tree ≡ f.taken
+      → r.supply.taken.ciphertext_tree ≡ f.taken
   pub behind : (place behind : ℕ) (r : ReaderState) (p : NodePiece) → giver f ≡ Some place
-      → place < behind → IsReader f behind r → ¬ IsAsked r.source (CiphertextTree p)
+      → place < behind → IsReader f behind r → ¬ IsAsked r.supply (CiphertextTree p)
 
 -- the number behind that of the last segment that was made
 abbrev pub made_end : FileState → ℕ

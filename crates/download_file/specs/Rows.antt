@@ -1,8 +1,8 @@
 -- Words of private clauses: eight segments in a row.
 use Rattle.std.specs.Prelude.{◌≡◌, ℕ, ◌+◌, ◌<◌, List, All}
 use Rattle.request_record.specs.declared.requests.Request.{Request}
-use Rattle.download_source.specs.Source.{SourceState}
-use Rattle.download_source.specs.Taking.{IsProved}
+use Rattle.download_supply.specs.Supply.{SupplyState}
+use Rattle.download_supply.specs.Taking.{IsProved}
 use Rattle.download_segments.specs.Handout.{IsRowWanted}
 use Rattle.download_segments.specs.State.{HandoutState}
 use Rattle.download_segments.specs.GroupMaking.{nth, nth_block}
@@ -27,8 +27,8 @@ abbrev pub IsRow : List Request → List ReaderState → ℕ → List ℕ → Li
 IsRow entries readers number places rows =
     (i : ℕ) → i < 8 → nth rows i ≡ blocks_of entries readers (number + i) places
 
--- among these blocks of eight segments, those that a source holds at this place are proved
-abbrev pub ProvesBlocks : SourceState → ℕ → List (List ℕ) → ℕ → ℕ → Type 0
+-- among these blocks of eight segments, those that a supply holds at this place are proved
+abbrev pub ProvesBlocks : SupplyState → ℕ → List (List ℕ) → ℕ → ℕ → Type 0
 ProvesBlocks s number rows len k =
     (i : ℕ) → i < 8 → IsProved s (number + i) (nth_block (nth rows i) len k)
 

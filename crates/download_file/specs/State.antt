@@ -4,8 +4,8 @@ use Rattle.std.specs.Prelude.{Option, Some, None, slice_get, filter, not, ◌==�
 use Rattle.ueb.specs.Shape.{Contents}
 use Rattle.share_layout.specs.Geometry.{Geometry}
 use Rattle.download_parts.specs.declared.part.Part.{Part}
-use Rattle.download_source.specs.Source.{SourceState}
-use Rattle.download_source.specs.declared.wanted.Wanted.{Wanted}
+use Rattle.download_supply.specs.Supply.{SupplyState}
+use Rattle.download_supply.specs.declared.wanted.Wanted.{Wanted}
 use Rattle.download_segments.specs.State.{HandoutState, starting_handout}
 use Rattle.download_segments.specs.GroupState.{GroupState}
 use Rattle.download_file.specs.declared.reader.Waiting.{Waiting}
@@ -15,7 +15,7 @@ use Rattle.download_file.specs.declared.reader.Waiting.{Waiting}
 pub record ReaderState : Type 0 where
   pub server : ℕ
   pub share : ℕ
-  pub source : SourceState
+  pub supply : SupplyState
   pub waiting : List Waiting
 
 -- The segments `first` to before `end` are wanted. `taken`: how many pieces of each level of the

@@ -14,14 +14,14 @@ use Rattle.download_parts.specs.declared.part.NodePiece.{NodePiece}
 use Rattle.download_parts.specs.declared.part.Part.{Part}
 use Rattle.download_parts.specs.declared.part.Part.TheVariants.{CiphertextTree, Data}
 use Rattle.download_parts.specs.Trees.{known_leaf}
-use Rattle.download_source.specs.Asking.{AsksNow, IsAsked, IsReadOf, IsWanted}
-use Rattle.download_source.specs.Asking.{IsWantedCiphertext}
-use Rattle.download_source.specs.Blocks.{IsHeld, IsReady}
-use Rattle.download_source.specs.Cursors.{cursor_at, passed, piece_passed}
-use Rattle.download_source.specs.Laws.{KnowsPiece}
-use Rattle.download_source.specs.Source.{IsSource, SourceState, gives_from}
-use Rattle.download_source.specs.Taking.{IsDue, IsProved}
-use Rattle.download_source.specs.declared.wanted.Wanted.{Wanted}
+use Rattle.download_supply.specs.Asking.{AsksNow, IsAsked, IsReadOf, IsWanted}
+use Rattle.download_supply.specs.Asking.{IsWantedCiphertext}
+use Rattle.download_supply.specs.Blocks.{IsHeld, IsReady}
+use Rattle.download_supply.specs.Cursors.{cursor_at, passed, piece_passed}
+use Rattle.download_supply.specs.Laws.{KnowsPiece}
+use Rattle.download_supply.specs.Supply.{IsSupply, SupplyState, gives_from}
+use Rattle.download_supply.specs.Taking.{IsDue, IsProved}
+use Rattle.download_supply.specs.declared.wanted.Wanted.{Wanted}
 use Rattle.download_segments.specs.State.{HandoutState, IsHandout}
 use Rattle.download_segments.specs.State.{TreesGrow, with_trees}
 use Rattle.download_segments.specs.GroupMaking.{nth_block}
@@ -35,7 +35,7 @@ use Rattle.download_file.specs.declared.reader.Waiting.{Waiting}
 -- each of the readers at these places has the block of a segment, and knows its hash
 abbrev pub AreReady : List ReaderState → List ℕ → ℕ → Type 0
 AreReady readers places number = (place : ℕ) (r : ReaderState) → Contains places place
-    → slice_get readers place ≡ Some r → IsReady r.source number
+    → slice_get readers place ≡ Some r → IsReady r.supply number
 
 -- one of them has not, or does not
 pub record IsNotReady (readers : List ReaderState) (places : List ℕ) (number : ℕ) : Type 0 where
@@ -43,20 +43,20 @@ pub record IsNotReady (readers : List ReaderState) (places : List ℕ) (number :
   pub among : Contains places place
   pub r : ReaderState
   pub there : slice_get readers place ≡ Some r
-  pub not : ¬ IsReady r.source number
+  pub not : ¬ IsReady r.supply number
 
 -- the reader at a place has the block of a segment, which has this length
 pub record HasBlock (readers : List ReaderState) (number len place : ℕ) : Type 0 where
   pub r : ReaderState
   pub there : slice_get readers place ≡ Some r
-  pub held : IsHeld r.source number
-  pub long : len ≡ block_length r.source.geometry number
+  pub held : IsHeld r.supply number
+  pub long : len ≡ block_length r.supply.geometry number
 
 -- of so many readers from the first on each has its block among these
 abbrev pub AreProved : List ReaderState → List ℕ → ℕ → List ℕ → ℕ → ℕ → Type 0
 AreProved readers places number joined len count = (k place : ℕ) (r : ReaderState) → k < count
     → slice_get places k ≡ Some place → slice_get readers place ≡ Some r
-    → IsProved r.source number (nth_block joined len k)
+    → IsProved r.supply number (nth_block joined len k)
 
 -- the block of the reader at this place is another
 pub record IsWrong (readers : List ReaderState) (places : List ℕ) (number : ℕ)
@@ -65,15 +65,15 @@ pub record IsWrong (readers : List ReaderState) (places : List ℕ) (number : �
   pub at : slice_get places k ≡ Some place
   pub r : ReaderState
   pub there : slice_get readers place ≡ Some r
-  pub not : ¬ IsProved r.source number (nth_block joined len k)
+  pub not : ¬ IsProved r.supply number (nth_block joined len k)
 
 -- the readers read shares of one file, and hold answers of this record
 pub record AreOfFile (entries : List Request) (g : Geometry) (readers : List ReaderState)
     : Type 0 where
-  pub source : (place : ℕ) (r : ReaderState) → slice_get readers place ≡ Some r
-      → IsSource r.source
+  pub supply : (place : ℕ) (r : ReaderState) → slice_get readers place ≡ Some r
+      → IsSupply r.supply
   pub geometry : (place : ℕ) (r : ReaderState) → slice_get readers place ≡ Some r
-      → r.source.geometry ≡ g
+      → r.supply.geometry ≡ g
   pub held : (place : ℕ) (r : ReaderState) → slice_get readers place ≡ Some r
       → HoldsAnswers entries r
 
@@ -89,7 +89,7 @@ abbrev pub stopped : ReaderState → ReaderState
 stopped r = record r { waiting = [] }
 
 abbrev pub giving : ReaderState → List ℕ → ReaderState
-giving r taken = record r { source = gives_from r.source taken }
+giving r taken = record r { supply = gives_from r.supply taken }
 
 -- the numbers of the parts
 abbrev pub part_numbers : List EvidencePart → List ℕ
@@ -108,25 +108,25 @@ pub record IsMadeGroup (entries : List Request) (h : HandoutState) (readers : Li
   pub made : (number : ℕ) → group.first ≤ number → number < group.end
       → IsMade entries h readers group number
 
--- These parts are asked now: all that is wanted of the source up to a segment, of the ciphertext
+-- These parts are asked now: all that is wanted of the supply up to a segment, of the ciphertext
 -- tree too where it gives that.
-pub record Asks (old : SourceState) (gives : Bool) (last : ℕ) (wanted : List Wanted)
-    (new : SourceState) : Type 0 where
+pub record Asks (old : SupplyState) (gives : Bool) (last : ℕ) (wanted : List Wanted)
+    (new : SupplyState) : Type 0 where
   pub now : AsksNow old new wanted
   pub own : (part : Part) → IsWanted old last part → IsAsked new part
   pub ciphertext : gives ≡ true → (part : Part) → IsWantedCiphertext old last part
       → IsAsked new part
 
 -- no piece of the ciphertext tree is asked
-abbrev pub AsksNoTree : SourceState → SourceState → Type 0
+abbrev pub AsksNoTree : SupplyState → SupplyState → Type 0
 AsksNoTree old new =
     (p : NodePiece) → IsAsked new (CiphertextTree p) → IsAsked old (CiphertextTree p)
 
 -- the reader can give the ciphertext tree from these pieces on: it was asked for none of it
 pub record CanGive (r : ReaderState) (taken : List ℕ) : Type 0 where
-  pub none : (p : NodePiece) → ¬ IsAsked r.source (CiphertextTree p)
+  pub none : (p : NodePiece) → ¬ IsAsked r.supply (CiphertextTree p)
   pub pieces : (p : NodePiece) → p.index < cursor_at taken p.level
-      → IsNodePiece r.source.geometry r.source.start r.source.end p
+      → IsNodePiece r.supply.geometry r.supply.start r.supply.end p
 
 -- a reader of which nothing was asked yet; where it gives the ciphertext tree, it does from these
 -- pieces on
@@ -135,16 +135,16 @@ pub record IsBegun (g : Geometry) (start first end server share : ℕ) (gives : 
   pub server_is : r.server ≡ server
   pub share_is : r.share ≡ share
   pub waiting : r.waiting ≡ []
-  pub right : IsSource r.source
-  pub geometry : r.source.geometry ≡ g
-  pub start_is : r.source.start ≡ start
-  pub first_is : r.source.first ≡ first
-  pub end_is : r.source.end ≡ end
-  pub asked : r.source.taken ≡ r.source.asked
-  pub tree : r.source.tree ≡ None
-  pub held : r.source.held ≡ []
-  pub from : gives ≡ true → r.source.taken.ciphertext_tree ≡ taken
-  pub none : (part : Part) → ¬ IsAsked r.source part
+  pub right : IsSupply r.supply
+  pub geometry : r.supply.geometry ≡ g
+  pub start_is : r.supply.start ≡ start
+  pub first_is : r.supply.first ≡ first
+  pub end_is : r.supply.end ≡ end
+  pub asked : r.supply.taken ≡ r.supply.asked
+  pub tree : r.supply.tree ≡ None
+  pub held : r.supply.held ≡ []
+  pub from : gives ≡ true → r.supply.taken.ciphertext_tree ≡ taken
+  pub none : (part : Part) → ¬ IsAsked r.supply part
 
 -- The reader at a place gave the ciphertext tree and ends. The first that is left gives it.
 pub record GivesNext (old : List ReaderState) (live : List ℕ) (taken : List ℕ) (reader : ℕ)
@@ -176,7 +176,7 @@ abbrev pub KnowsPart : Geometry → ℕ → ℕ → PartialState → Part → Ty
 KnowsPart g a b tree (CiphertextTree p) = KnowsPiece g a b tree p
 KnowsPart g a b tree part = Unit {0}
 
--- the answers that a source holds, with this part at this place
+-- the answers that a supply holds, with this part at this place
 abbrev pub held_with : List ℕ → Part → ℕ → List ℕ
 held_with held (Data i) place = held ++ place ∷ []
 held_with held part place = held
@@ -185,14 +185,14 @@ held_with held part place = held
 -- of it is the next to be taken.
 pub record IsTaker (h : HandoutState) (a b : ℕ) (r : ReaderState) (w : Waiting) : Type 0 where
   pub right : IsHandout h
-  pub source : IsSource r.source
-  pub geometry : r.source.geometry ≡ h.geometry
-  pub start : r.source.start ≡ a
-  pub end : r.source.end ≡ b
+  pub supply : IsSupply r.supply
+  pub geometry : r.supply.geometry ≡ h.geometry
+  pub start : r.supply.start ≡ a
+  pub end : r.supply.end ≡ b
   pub share : r.share < h.geometry.total
-  pub root : TellsRoot h.trees.shares r.share r.source.tree
-  pub due : IsDue r.source w.wanted.part
-  pub read : IsReadOf r.source w.wanted
+  pub root : TellsRoot h.trees.shares r.share r.supply.tree
+  pub due : IsDue r.supply w.wanted.part
+  pub read : IsReadOf r.supply w.wanted
 
 -- The first part that waits of a reader is taken, of the answer at a place. What is known of the
 -- trees stays known.
@@ -207,14 +207,14 @@ pub record TakesPart (h : HandoutState) (r : ReaderState) (taken : List ℕ) (a 
   pub server : r'.server ≡ r.server
   pub share : r'.share ≡ r.share
   pub waiting : r'.waiting ≡ drop 1 r.waiting
-  pub source : IsSource r'.source
-  pub source_is : r'.source ≡ record r.source {
-    taken = passed r.source.taken part;
-    tree = r'.source.tree;
-    held = held_with r.source.held part place;
+  pub supply : IsSupply r'.supply
+  pub supply_is : r'.supply ≡ record r.supply {
+    taken = passed r.supply.taken part;
+    tree = r'.supply.tree;
+    held = held_with r.supply.held part place;
   }
-  pub tree : TreeStays r.source.tree r'.source.tree
-  pub root : TellsRoot h'.trees.shares r.share r'.source.tree
+  pub tree : TreeStays r.supply.tree r'.supply.tree
+  pub root : TellsRoot h'.trees.shares r.share r'.supply.tree
   pub taken_is : taken' ≡ taken_with taken part
 
 -- why no segment is made of these readers' blocks

@@ -9,8 +9,8 @@ use Rattle.download_parts.specs.declared.part.Part.TheVariants.{ShareHashes, Blo
 use Rattle.download_parts.specs.declared.part.Part.TheVariants.{CiphertextTree, Data}
 use Rattle.download_parts.specs.Offers.{nodes_offered}
 use Rattle.download_parts.specs.Refusal.{IsHashesRefusal}
-use Rattle.download_source.specs.Taking.{RefutesPiece}
-use Rattle.download_source.specs.Upper.{KnowsTops}
+use Rattle.download_supply.specs.Taking.{RefutesPiece}
+use Rattle.download_supply.specs.Upper.{KnowsTops}
 use Rattle.download_segments.specs.State.{HandoutState}
 use Rattle.download_file.specs.State.{FileState, IsReader, ReaderState}
 use Rattle.download_file.specs.declared.reader.Waiting.{Waiting}
@@ -20,7 +20,7 @@ use Rattle.download_file.specs.declared.reader.Waiting.{Waiting}
 abbrev pub RefutesPart : HandoutState → ℕ → ℕ → ReaderState → Part → List ℕ → Check → Type 0
 RefutesPart h a b r ShareHashes bytes check = IsHashesRefusal h.trees r.share bytes check
 RefutesPart h a b r (BlockTree p) bytes check =
-    (check ≡ checks.BlockTree) × RefutesPiece r.source p bytes
+    (check ≡ checks.BlockTree) × RefutesPiece r.supply p bytes
 RefutesPart h a b r (CiphertextTree p) bytes check = (check ≡ checks.CiphertextTree)
     × IsNotConsistent h.trees.ciphertext (nodes_offered (nodes_of h.geometry a b p) bytes)
 RefutesPart h a b r (Data i) bytes check = ⊥
@@ -39,7 +39,7 @@ pub record IsRefused (f : FileState) (reader : ℕ) (bytes : List ℕ) (check : 
 
 -- what proves a part that is read of a reader is known
 abbrev pub KnowsProof : HandoutState → ℕ → ℕ → ReaderState → Part → Type 0
-KnowsProof h a b r (BlockTree p) = (t : PartialState) → r.source.tree ≡ Some t
-    → KnowsTops t (nodes_of r.source.geometry r.source.first r.source.end p)
+KnowsProof h a b r (BlockTree p) = (t : PartialState) → r.supply.tree ≡ Some t
+    → KnowsTops t (nodes_of r.supply.geometry r.supply.first r.supply.end p)
 KnowsProof h a b r (CiphertextTree p) = KnowsTops h.trees.ciphertext (nodes_of h.geometry a b p)
 KnowsProof h a b r part = Unit {0}

@@ -17,11 +17,11 @@ use Rattle.download_file.specs.Right.{IsFile}
 pub data IsTested (entries : List Request) (f : FileState) (input : List ℕ) : Type 0 where
   right_block : (place : ℕ) (r : ReaderState) (number : ℕ) → IsReader f place r
       → HasRightBlock entries r number
-      → input ≡ tagged_input Block (block_of entries r.source number) → IsTested entries f input
+      → input ≡ tagged_input Block (block_of entries r.supply number) → IsTested entries f input
   share_node : IsKnownInput f.handout.trees.shares input → IsTested entries f input
   ciphertext_node : IsKnownInput f.handout.trees.ciphertext input → IsTested entries f input
   block_node : (place : ℕ) (r : ReaderState) (tree : PartialState) → IsReader f place r
-      → r.source.tree ≡ Some tree → IsKnownInput tree input → IsTested entries f input
+      → r.supply.tree ≡ Some tree → IsKnownInput tree input → IsTested entries f input
 
 -- a law: where a file is inconsistent, what was tested of it tells that it is no code word
 abbrev pub InconsistentIsNoCodeWord : Type 0

@@ -4,7 +4,7 @@ ghost use Rattle.std.specs.Prelude.{◌≡◌, ◌<◌, ◌++◌, ◌*◌, All, 
 ghost use Rattle.std.specs.Prelude.{IsTrue, OnOk, false, length};
 ghost use Rattle.share_layout.specs.Geometry.{segment_count};
 ghost use Rattle.share_layout.specs.Pieces.{block_length};
-ghost use Rattle.download_source.specs.Blocks.{IsHeld};
+ghost use Rattle.download_supply.specs.Blocks.{IsHeld};
 ghost use Rattle.download_file.specs.Answers.{answer_at, block_of, blocks_of};
 ghost use Rattle.download_file.specs.Making.{AwaitsBlock};
 ghost use Rattle.download_file.specs.Steps.{AreProved, AreReady, HasAll, HasBlock, IsNotReady};
@@ -12,7 +12,7 @@ ghost use Rattle.download_file.specs.Steps.{IsWrong, LacksSome};
 
 use crate::reader::Reader;
 use download_segments::Handout;
-use download_source::Source;
+use download_supply::Supply;
 use request_record::requests::Requests;
 use std::alloc::{AllocError, Global};
 
@@ -45,7 +45,7 @@ pub(crate) fn join_blocks(
     for place in places {
         push_block(
             requests,
-            readers[*place].source(),
+            readers[*place].supply(),
             number,
             size,
             &mut joined,
@@ -57,19 +57,19 @@ pub(crate) fn join_blocks(
 // Adds the block of a segment, which has this length.
 fn push_block(
     requests: &Requests,
-    source: &Source,
+    supply: &Supply,
     number: u32,
     size: u32,
     joined: &mut Vec<u8>,
 ) -> Result<(), AllocError>
-    requires held { IsHeld source.now number }
-    requires long { size ≡ block_length source.now.geometry number }
+    requires held { IsHeld supply.now number }
+    requires long { size ≡ block_length supply.now.geometry number }
     ensures { OnOk result (joined.new.items
-        ≡ joined.old.items ++ block_of requests.now.entries source.now number) }
+        ≡ joined.old.items ++ block_of requests.now.entries supply.now number) }
 {
-    let mut skipped = source.block_offset(number) as usize;
+    let mut skipped = supply.block_offset(number) as usize;
     let mut left = size as usize;
-    for place in source.block_places(number) {
+    for place in supply.block_places(number) {
         let bytes = answer_at(requests, *place);
         let from = skipped.min(bytes.len());
         let upto = bytes.len().min(from + left);
@@ -100,7 +100,7 @@ pub(crate) fn find_wrong(
     let mut rest = joined;
     for place in places {
         let (block, others) = rest.split_at(size as usize);
-        if !readers[*place].source().proves(number, block) {
+        if !readers[*place].supply().proves(number, block) {
             return Some(*place);
         }
         rest = others;
@@ -119,7 +119,7 @@ fn are_ready(readers: &[Reader], places: &[usize], number: u32) -> bool
         return false;
     }
     for place in places {
-        if !readers[*place].source().is_ready(number) {
+        if !readers[*place].supply().is_ready(number) {
             return false;
         }
     }
@@ -133,7 +133,7 @@ fn is_last_ready(readers: &[Reader], places: &[usize], number: u32) -> bool
     ensures { result ≡ false → IsNotReady readers.now places.now number }
 {
     match places.last() {
-        Some(place) => readers[*place].source().is_ready(number),
+        Some(place) => readers[*place].supply().is_ready(number),
         None => true,
     }
 }
@@ -159,7 +159,7 @@ pub(crate) fn awaits_block(readers: &[Reader], live: &[usize], number: u32) -> b
 {
     for place in live {
         let reader = &readers[*place];
-        if reader.first_place().is_some() && !reader.source().is_ready(number) {
+        if reader.first_place().is_some() && !reader.supply().is_ready(number) {
             return true;
         }
     }

@@ -31,7 +31,7 @@ use crate::taking::take_part;
 use crate::window::{asks_rows, last_asked, plan_of};
 use download_parts::{Plan, TreeFault};
 use download_segments::{Group, Handout, Piece, make_segment, make_segments};
-use download_source::Wanted;
+use download_supply::Wanted;
 use proved_parts::EvidencePart;
 use request_record::requests::Requests;
 use share_layout::Geometry;
@@ -58,7 +58,7 @@ pub enum Made {
 /// A file whose extension block is accepted: the shares of it that are read, and the segments that
 /// are made of their blocks.
 #[derive(Drop)]
-pub struct File {
+pub struct PartialFile {
     alloc: Global,
     handout: Handout,
     plan: Plan,
@@ -69,7 +69,7 @@ pub struct File {
     groups: Vec<Group>,
 }
 
-impl Model for File {
+impl Model for PartialFile {
     ghost use Rattle.std.specs.Prelude.{◌≡◌};
     ghost use Rattle.download_file.specs.Right.{IsFile};
     ghost use Rattle.download_file.specs.State.{FileState, file_state};
@@ -85,7 +85,7 @@ impl Model for File {
         × (f.plan.geometry ≡ f.handout.geometry) };
 }
 
-impl File {
+impl PartialFile {
     /// The bytes from the place `from` up to `to` of a file are wanted. The key decrypts them.
     /// Nothing is read yet.
     pub fn new(
@@ -95,7 +95,7 @@ impl File {
         geometry: &Geometry,
         from: u64,
         to: u64,
-    ) -> Result<File, AllocError>
+    ) -> Result<PartialFile, AllocError>
         requires geometry { geometry.now ≡ geometry_by ueb.now }
         requires some { from < to }
         requires inside { to ≤ geometry.now.size }
@@ -103,7 +103,7 @@ impl File {
         ensures reads { IfOk result (λ file. (entries : List Request) → IsRead entries file) }
         ensures right { IfOk result IsFile }
     {
-        Ok(File {
+        Ok(PartialFile {
             alloc,
             handout: Handout::new(alloc, key, ueb, geometry, from, to)?,
             plan: plan_of(geometry, from, to),
@@ -288,7 +288,8 @@ impl File {
     /// while eight are on their way. The record is the one that the answers that were taken are in.
     pub fn make(&mut self, requests: &Requests, patient: bool) -> Result<Made, AllocError>
         requires reads { IsRead requests.now.entries self.old }
-        ensures ready { result ≡ Ok Made.Ready → MakesPieces requests.now.entries self.old self.new }
+        ensures ready { result ≡ Ok Made.Ready → MakesPieces requests.now.entries self.old
+            self.new }
         // Eight are made where eight can be made.
         ensures row { CanMakeRow requests.now.entries self.old
             → IfOk result (λ made. (made ≡ Made.Ready)

@@ -6,17 +6,17 @@ ghost use Rattle.std.specs.Prelude.{slice_get, slice_set};
 ghost use Rattle.share_layout.specs.Geometry.{segment_count};
 ghost use Rattle.download_parts.specs.Plan.{IsNodePiece, length_of};
 ghost use Rattle.download_parts.specs.Trees.{IsBlockTree};
-ghost use Rattle.download_source.specs.Asking.{IsAsked, OnlyAsks};
-ghost use Rattle.download_source.specs.Cursors.{cursor_at};
-ghost use Rattle.download_source.specs.Source.{IsSource, gives_from, new_source};
-ghost use Rattle.download_source.specs.Taking.{IsDue, RefutesPiece, TakesPiece, holds_more};
-ghost use Rattle.download_source.specs.Taking.{with_taken};
+ghost use Rattle.download_supply.specs.Asking.{IsAsked, OnlyAsks};
+ghost use Rattle.download_supply.specs.Cursors.{cursor_at};
+ghost use Rattle.download_supply.specs.Supply.{IsSupply, gives_from, new_supply};
+ghost use Rattle.download_supply.specs.Taking.{IsDue, RefutesPiece, TakesPiece, holds_more};
+ghost use Rattle.download_supply.specs.Taking.{with_taken};
 ghost use Rattle.download_file.specs.State.{ReaderState, first_place, placed, without};
 ghost use Rattle.download_file.specs.Steps.{Asks, AsksNoTree, CanGive, EndsReader, IsBegun};
 ghost use Rattle.download_file.specs.Steps.{giving};
 
 use download_parts::{BlockTree, NodePiece, Part, Plan, TreeFault};
-use download_source::{Source, Wanted};
+use download_supply::{Supply, Wanted};
 use share_verify::Check;
 use std::alloc::{AllocError, Global};
 use std::collections::VecDeque;
@@ -37,7 +37,7 @@ pub struct Waiting {
 pub(crate) struct Reader {
     server: NodeId,
     share: u8,
-    source: Source,
+    supply: Supply,
     waiting: VecDeque<Waiting>,
 }
 
@@ -49,7 +49,7 @@ impl Model for Reader {
     ghost view = { λ r. record {
       server = r.server;
       share = r.share;
-      source = r.source;
+      supply = r.supply;
       waiting = r.waiting.items;
     } };
 }
@@ -62,15 +62,15 @@ impl Reader {
         requires before { first < plan.now.end }
         ensures server { result.server ≡ server }
         ensures share { result.share ≡ share }
-        ensures source { result.source
-            ≡ new_source plan.now.geometry plan.now.first first plan.now.end }
+        ensures supply { result.supply
+            ≡ new_supply plan.now.geometry plan.now.first first plan.now.end }
         ensures waiting { result.waiting ≡ [] }
-        ensures right { IsSource result.source }
+        ensures right { IsSupply result.supply }
     {
         Reader {
             server,
             share,
-            source: Source::new(alloc, plan, first),
+            supply: Supply::new(alloc, plan, first),
             waiting: VecDeque::new(alloc),
         }
     }
@@ -83,10 +83,10 @@ impl Reader {
     }
 
     /// What was asked and taken of it.
-    pub(crate) fn source(&self) -> &Source
-        ensures { result.now ≡ self.now.source }
+    pub(crate) fn supply(&self) -> &Supply
+        ensures { result.now ≡ self.now.supply }
     {
-        &self.source
+        &self.supply
     }
 
     /// The first part that waits.
@@ -109,16 +109,16 @@ impl Reader {
     /// From now on it gives the ciphertext tree, from these pieces of each level on. It was asked
     /// for none of it.
     pub(crate) fn give(&mut self, taken: &[u32; 3])
-        requires none { (p : NodePiece) → ¬ IsAsked self.old.source (Part.CiphertextTree p) }
+        requires none { (p : NodePiece) → ¬ IsAsked self.old.supply (Part.CiphertextTree p) }
         requires pieces { (p : NodePiece) → p.index < cursor_at taken.now p.level
-            → IsNodePiece self.old.source.geometry self.old.source.start self.old.source.end p }
+            → IsNodePiece self.old.supply.geometry self.old.supply.start self.old.supply.end p }
         ensures gives { self.new
-            ≡ record self.old { source = gives_from self.old.source taken.now } }
+            ≡ record self.old { supply = gives_from self.old.supply taken.now } }
         ensures asked { (part : Part)
-            → IsAsked self.new.source part ↔ IsAsked self.old.source part }
-        ensures right { IsSource self.new.source }
+            → IsAsked self.new.supply part ↔ IsAsked self.old.supply part }
+        ensures right { IsSupply self.new.supply }
     {
-        self.source.give_ciphertext(taken);
+        self.supply.give_ciphertext(taken);
     }
 
     /// It is read no more.
@@ -138,32 +138,32 @@ impl Reader {
         place: usize,
     ) -> Result<Vec<Wanted>, AllocError>
         ensures asks { IfOk result (λ wanted.
-            Asks self.old.source gives last wanted.items self.new.source) }
+            Asks self.old.supply gives last wanted.items self.new.supply) }
         ensures waits { IfOk result (λ wanted.
             self.new.waiting ≡ self.old.waiting ++ placed place wanted.items) }
         // It is asked for the ciphertext tree only where it gives that.
-        ensures none { gives ≡ false → AsksNoTree self.old.source self.new.source }
-        ensures only { OnlyAsks self.old.source self.new.source }
+        ensures none { gives ≡ false → AsksNoTree self.old.supply self.new.supply }
+        ensures only { OnlyAsks self.old.supply self.new.supply }
         ensures server { self.new.server ≡ self.old.server }
         ensures share { self.new.share ≡ self.old.share }
-        ensures right { IsSource self.new.source }
+        ensures right { IsSupply self.new.supply }
     {
-        let wanted = ask_source(alloc, &mut self.source, gives, last)?;
+        let wanted = ask_supply(alloc, &mut self.supply, gives, last)?;
         wait_for(&mut self.waiting, place, &wanted)?;
         Ok(wanted)
     }
 
     /// Takes the block tree that the share hashes tell the root of.
     pub(crate) fn take_tree(&mut self, tree: BlockTree)
-        requires due { IsDue self.old.source Part.ShareHashes }
-        requires leads { IsBlockTree tree (segment_count self.old.source.geometry) }
+        requires due { IsDue self.old.supply Part.ShareHashes }
+        requires leads { IsBlockTree tree (segment_count self.old.supply.geometry) }
         ensures taken { self.new ≡ record self.old {
-          source = record (with_taken self.old.source Part.ShareHashes) { tree = Some tree };
+          supply = record (with_taken self.old.supply Part.ShareHashes) { tree = Some tree };
           waiting = drop 1 self.old.waiting;
         } }
-        ensures right { IsSource self.new.source }
+        ensures right { IsSupply self.new.supply }
     {
-        self.source.take_tree(tree);
+        self.supply.take_tree(tree);
         drop_first(&mut self.waiting);
     }
 
@@ -174,93 +174,93 @@ impl Reader {
         piece: &NodePiece,
         bytes: &[u8],
     ) -> Result<(), TreeFault>
-        requires due { IsDue self.old.source (Part.BlockTree piece.now) }
-        requires long { length bytes.now ≡ length_of self.old.source.geometry
-            self.old.source.first self.old.source.end (Part.BlockTree piece.now) }
+        requires due { IsDue self.old.supply (Part.BlockTree piece.now) }
+        requires long { length bytes.now ≡ length_of self.old.supply.geometry
+            self.old.supply.first self.old.supply.end (Part.BlockTree piece.now) }
         ensures taken { OnOk result
-            (TakesPiece self.old.source piece.now bytes.now self.new.source) }
+            (TakesPiece self.old.supply piece.now bytes.now self.new.supply) }
         ensures server { self.new.server ≡ self.old.server }
         ensures share { self.new.share ≡ self.old.share }
         ensures waiting { OnOk result (self.new.waiting ≡ drop 1 self.old.waiting) }
         ensures refused { (check : Check) → result ≡ Err (TreeFault.Check check)
-            → (check ≡ Check.BlockTree) × RefutesPiece self.old.source piece.now bytes.now }
+            → (check ≡ Check.BlockTree) × RefutesPiece self.old.supply piece.now bytes.now }
         ensures unchanged { OnErr result (self.new ≡ self.old) }
-        ensures right { IsSource self.new.source }
+        ensures right { IsSupply self.new.supply }
     {
-        self.source.take_nodes(alloc, piece, bytes)?;
+        self.supply.take_nodes(alloc, piece, bytes)?;
         drop_first(&mut self.waiting);
         Ok(())
     }
 
     /// A piece of the ciphertext tree, which the share gave, is taken.
     pub(crate) fn take_ciphertext(&mut self, piece: &NodePiece)
-        requires due { IsDue self.old.source (Part.CiphertextTree piece.now) }
+        requires due { IsDue self.old.supply (Part.CiphertextTree piece.now) }
         ensures taken { self.new ≡ record self.old {
-          source = with_taken self.old.source (Part.CiphertextTree piece.now);
+          supply = with_taken self.old.supply (Part.CiphertextTree piece.now);
           waiting = drop 1 self.old.waiting;
         } }
-        ensures right { IsSource self.new.source }
+        ensures right { IsSupply self.new.supply }
     {
-        self.source.take_ciphertext(piece);
+        self.supply.take_ciphertext(piece);
         drop_first(&mut self.waiting);
     }
 
     /// Takes the next piece of the data, which is the answer at this place.
     pub(crate) fn take_data(&mut self, place: usize) -> Result<(), AllocError>
-        requires due { self.old.source.taken.data_piece < self.old.source.asked.data_piece }
+        requires due { self.old.supply.taken.data_piece < self.old.supply.asked.data_piece }
         ensures taken { OnOk result (self.new ≡ record self.old {
-          source = holds_more self.old.source place;
+          supply = holds_more self.old.supply place;
           waiting = drop 1 self.old.waiting;
         }) }
         ensures unchanged { OnErr result (self.new ≡ self.old) }
-        ensures right { IsSource self.new.source }
+        ensures right { IsSupply self.new.supply }
     {
-        self.source.take_data(place)?;
+        self.supply.take_data(place)?;
         drop_first(&mut self.waiting);
         Ok(())
     }
 }
 
-// What a source is to be asked for the segments up to this one, of the ciphertext tree too where it
+// What a supply is to be asked for the segments up to this one, of the ciphertext tree too where it
 // gives that.
-fn ask_source(
+fn ask_supply(
     alloc: Global,
-    source: &mut Source,
+    supply: &mut Supply,
     gives: bool,
     last: u32,
 ) -> Result<Vec<Wanted>, AllocError>
-    ensures asks { IfOk result (λ wanted. Asks source.old gives last wanted.items source.new) }
-    ensures none { gives ≡ false → AsksNoTree source.old source.new }
-    ensures only { OnlyAsks source.old source.new }
-    ensures right { IsSource source.new }
+    ensures asks { IfOk result (λ wanted. Asks supply.old gives last wanted.items supply.new) }
+    ensures none { gives ≡ false → AsksNoTree supply.old supply.new }
+    ensures only { OnlyAsks supply.old supply.new }
+    ensures right { IsSupply supply.new }
 {
     if gives {
-        ask_giver(alloc, source, last)
+        ask_giver(alloc, supply, last)
     } else {
-        ask_other(alloc, source, last)
+        ask_other(alloc, supply, last)
     }
 }
 
-// What a source that gives the ciphertext tree is to be asked.
-fn ask_giver(alloc: Global, source: &mut Source, last: u32) -> Result<Vec<Wanted>, AllocError>
-    ensures asks { IfOk result (λ wanted. Asks source.old true last wanted.items source.new) }
-    ensures only { OnlyAsks source.old source.new }
-    ensures right { IsSource source.new }
+// What a supply that gives the ciphertext tree is to be asked.
+fn ask_giver(alloc: Global, supply: &mut Supply, last: u32) -> Result<Vec<Wanted>, AllocError>
+    ensures asks { IfOk result (λ wanted. Asks supply.old true last wanted.items supply.new) }
+    ensures only { OnlyAsks supply.old supply.new }
+    ensures right { IsSupply supply.new }
 {
-    let mut wanted = source.wanted(alloc, last)?;
-    let mut more = source.wanted_ciphertext(alloc, last)?;
+    let mut wanted = supply.wanted(alloc, last)?;
+    let mut more = supply.wanted_ciphertext(alloc, last)?;
     wanted.append(&mut more)?;
     Ok(wanted)
 }
 
-// What another source is to be asked.
-fn ask_other(alloc: Global, source: &mut Source, last: u32) -> Result<Vec<Wanted>, AllocError>
-    ensures asks { IfOk result (λ wanted. Asks source.old false last wanted.items source.new) }
-    ensures none { AsksNoTree source.old source.new }
-    ensures only { OnlyAsks source.old source.new }
-    ensures right { IsSource source.new }
+// What another supply is to be asked.
+fn ask_other(alloc: Global, supply: &mut Supply, last: u32) -> Result<Vec<Wanted>, AllocError>
+    ensures asks { IfOk result (λ wanted. Asks supply.old false last wanted.items supply.new) }
+    ensures none { AsksNoTree supply.old supply.new }
+    ensures only { OnlyAsks supply.old supply.new }
+    ensures right { IsSupply supply.new }
 {
-    source.wanted(alloc, last)
+    supply.wanted(alloc, last)
 }
 
 // These parts wait from now on, the first at this place and the others behind.

@@ -9,7 +9,7 @@ ghost use Rattle.download_file.specs.Steps.{AreReady};
 use crate::blocks::{has_all, join_blocks};
 use crate::reader::Reader;
 use download_segments::{Handout, block_hashes};
-use download_source::Source;
+use download_supply::Supply;
 use request_record::requests::Requests;
 use std::alloc::{AllocError, Global};
 
@@ -74,7 +74,7 @@ pub(crate) fn are_right(
         (map (λ r. r.items) rows.now) size (length places.now) }
 {
     for k in 0..places.len() {
-        if !are_proved(readers[places[k]].source(), number, rows, size, k) {
+        if !are_proved(readers[places[k]].supply(), number, rows, size, k) {
             return false;
         }
     }
@@ -82,19 +82,19 @@ pub(crate) fn are_right(
 }
 
 // Whether the blocks at this place of each of eight segments, which have this length, are those
-// that the block tree of a source tells.
-fn are_proved(source: &Source, number: u32, rows: &[Vec<u8>], size: u32, k: usize) -> bool
-    requires within { number + 8 ≤ source.now.end }
+// that the block tree of a supply tells.
+fn are_proved(supply: &Supply, number: u32, rows: &[Vec<u8>], size: u32, k: usize) -> bool
+    requires within { number + 8 ≤ supply.now.end }
     requires low { number + 8 < 2 ^ 32 }
     requires eight { length rows.now ≡ 8 }
     requires long { All (λ r. k * size + size ≤ length r.items) rows.now }
-    ensures { IsTrue result ↔ ProvesBlocks source.now number
+    ensures { IsTrue result ↔ ProvesBlocks supply.now number
         (map (λ r. r.items) rows.now) size k }
 {
     let hashes = block_hashes(rows, size, k);
     let mut place = number;
     for hash in &hashes {
-        if !source.proves_hash(place, hash) {
+        if !supply.proves_hash(place, hash) {
             return false;
         }
         place += 1;

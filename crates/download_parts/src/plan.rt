@@ -10,7 +10,8 @@ ghost use Rattle.download_parts.specs.Level.{IsAbove, group_size, leaves_below, 
 ghost use Rattle.download_parts.specs.Plan.{IsAmong, IsNodePiece, IsPart, IsPlanned, block_place};
 ghost use Rattle.download_parts.specs.Plan.{EndsWithBlock, data_end, data_pieces, data_place};
 ghost use Rattle.download_parts.specs.Plan.{first_piece, length_of, max_nodes, max_read, piece_at};
-ghost use Rattle.download_parts.specs.Plan.{next_piece, nodes_of, nodes_place, offset_at, pieces_of};
+ghost use Rattle.download_parts.specs.Plan.{next_piece, nodes_of, nodes_place, offset_at};
+ghost use Rattle.download_parts.specs.Plan.{pieces_of};
 ghost use Rattle.download_parts.specs.Plan.{place_of, run_reads, run_size};
 ghost use Rattle.download_parts.specs.Range.{IsRange};
 

@@ -1,6 +1,7 @@
 //! Laws of plans.
 
-ghost use Rattle.download_parts.specs.PlanLaws.{LevelsHoldGroups, PartsAreApart, PartsHoldTheBlocks};
+ghost use Rattle.download_parts.specs.PlanLaws.{LevelsHoldGroups, PartsAreApart};
+ghost use Rattle.download_parts.specs.PlanLaws.{PartsHoldTheBlocks};
 ghost use Rattle.download_parts.specs.PlanLaws.{PartsLieInside, PiecesAreGroups};
 ghost use Rattle.download_parts.specs.PlanLaws.{PiecesAreUnderPieces, PiecesEndWithBlocks};
 

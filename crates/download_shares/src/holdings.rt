@@ -12,7 +12,8 @@ ghost use Rattle.request_record.specs.declared.requests.Outcome.TheVariants.{Ans
 ghost use Rattle.request_record.specs.declared.requests.Request.{Request};
 ghost use Rattle.download_shares.specs.Choice.{NoneIsFreeBefore};
 ghost use Rattle.download_shares.specs.HoldingMoves.{Asks, Begins, Blames, Hears, IsUnasked};
-ghost use Rattle.download_shares.specs.HoldingMoves.{IsAmong, IsSame, RetiresAll, Tells, Ticks, held_by};
+ghost use Rattle.download_shares.specs.HoldingMoves.{IsAmong, IsSame, RetiresAll, Tells, Ticks};
+ghost use Rattle.download_shares.specs.HoldingMoves.{held_by};
 ghost use Rattle.download_shares.specs.Right.{AreAllHeld, IsReadOf, IsRight};
 ghost use Rattle.download_shares.specs.Numbers.{read_count};
 ghost use Rattle.download_shares.specs.Table.{IsFree, IsHolding, IsTable, NoneIsFree};

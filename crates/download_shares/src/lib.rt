@@ -1,5 +1,5 @@
-//! The shares that servers hold of a file, as a download finds them: which there are, and what their
-//! beginnings say.
+//! The shares that servers hold of a file, as a download finds them: which there are, and what
+//! their beginnings say.
 //!
 //! `Holdings` is which servers told that they hold which shares, what an operation asked of each of
 //! these, and which of them are left to read.

@@ -5,7 +5,8 @@ ghost use Rattle.std.specs.Prelude.{length};
 ghost use Rattle.std.specs.Prelude.{All, Contains, Some, true, false, is_some};
 ghost use Rattle.download_shares.specs.Choice.{Chooses, NoneIsFreeBefore};
 ghost use Rattle.download_shares.specs.Numbers.{no_holding, read_count, with_place};
-ghost use Rattle.download_shares.specs.Table.{ChangesNumber, IsFree, IsHolding, IsTable, NoneIsFree};
+ghost use Rattle.download_shares.specs.Table.{ChangesNumber, IsFree, IsHolding, IsTable};
+ghost use Rattle.download_shares.specs.Table.{NoneIsFree};
 ghost use Rattle.download_shares.specs.Table.{Releases, Retires, Suspends, TakesUp, told_one};
 ghost use Rattle.download_shares.specs.declared.holding.Holding.{Holding};
 

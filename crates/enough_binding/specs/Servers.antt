@@ -6,7 +6,7 @@ use Rattle.wire.specs.declared.message.Message.{Message}
 use Rattle.wire.specs.declared.message.ShareId.{ShareId}
 use Rattle.share_store.specs.Calls.{shelf_calls}
 use Rattle.share_store.specs.Shelf.{Shelf}
-use Rattle.server_core.specs.Machine.{Machine, Serves}
+use Rattle.server_core.specs.ServerState.{ServerState, Serves}
 use Rattle.server_core.specs.Sound.{IsSound, Tells}
 use Rattle.server_binding.specs.Telling.{BringsClosed, ListsAll}
 
@@ -20,6 +20,6 @@ pub record TellsAll (s : Shelf) (request answer : Body) : Type 0 where
 
 -- a law: so is each answer of a sound server
 abbrev pub ServersTellAll : Type 0
-ServersTellAll = (old new : Machine Shelf) (from now : ℕ) (request r : Message) → IsSound old
+ServersTellAll = (old new : ServerState Shelf) (from now : ℕ) (request r : Message) → IsSound old
     → Serves shelf_calls old from request now (Ok (Some r)) new
     → TellsAll new.store request.body r.body

@@ -1,5 +1,6 @@
 -- Laws of shares that are made anew.
-use Rattle.std.specs.Prelude.{◌≡◌, ℕ, ◌<◌, ◌≤◌, ◌^◌, List, [], length, slice_index, slice_index_or, All}
+use Rattle.std.specs.Prelude.{◌≡◌, ℕ, ◌<◌, ◌≤◌, ◌^◌, List, [], length, slice_index, slice_index_or}
+use Rattle.std.specs.Prelude.{All}
 use Rattle.std.specs.List.{flat_map}
 use Rattle.tagged_hash.specs.Clash.{HasNoClash}
 use Rattle.merkle.specs.Inputs.{AreAmong}
@@ -32,7 +33,8 @@ RegeneratedPass = (cap : VerifyCapValue) (numbers : List ℕ) (strings shares : 
 
 -- what is hashed for the shares that are taken
 abbrev pub taken_inputs : List TakenShare → List (List ℕ)
-taken_inputs taken = flat_map (λ (t : TakenShare). share_inputs t.contents t.number t.sections) taken
+taken_inputs taken = flat_map (λ (t : TakenShare). share_inputs t.contents t.number t.sections)
+    taken
 
 abbrev pub AreTakenAmong : List (List ℕ) → VerifyCapValue → List ℕ → List (List ℕ) → Type 0
 AreTakenAmong inputs cap numbers strings =
@@ -74,10 +76,11 @@ EnoughPass = (cap : VerifyCapValue) (numbers : List ℕ) (strings : List (List �
     → PassDifferent cap numbers strings cap.needed → ¬ LacksShares cap numbers strings
 
 -- these strings pass, each with the number that stands at its place, and the numbers rise
-pub record AllPass (cap : VerifyCapValue) (numbers : List ℕ) (strings : List (List ℕ)) : Type 0 where
-  pub rising : AreRising numbers
-  pub sound : (i : ℕ) → i < length numbers
-      → IsSoundShare cap (slice_index numbers i) (slice_index_or strings i [])
+pub record AllPass (cap : VerifyCapValue) (numbers : List ℕ) (strings : List (List ℕ)) : Type 0
+  where
+    pub rising : AreRising numbers
+    pub sound : (i : ℕ) → i < length numbers
+        → IsSoundShare cap (slice_index numbers i) (slice_index_or strings i [])
 
 -- a law: shares are lacking where fewer than needed are given
 abbrev pub FewLack : Type 0

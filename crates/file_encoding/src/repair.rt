@@ -79,8 +79,8 @@ pub fn regenerate(
 /// `DecodedFile::make_shares`, of which it is made.
 ///
 /// Refuses `NotEnoughShares` exactly where `read_from` does, and
-/// `Inconsistent` where the shares that are taken contradict one another, or the root over the shares
-/// that are made is not the one that the extension block tells.
+/// `Inconsistent` where the shares that are taken contradict one another, or the root over the
+/// shares that are made is not the one that the extension block tells.
 pub fn regenerate_all(
     alloc: Global,
     cap: &VerifyCap,
@@ -105,8 +105,8 @@ impl DecodedFile {
     /// All shares of the file, by number, made anew without its key in one pass over its segments.
     /// The extension block is copied.
     ///
-    /// Refuses `Inconsistent` where the root over the shares is not the one that the extension block
-    /// tells, and `OutOfMemory`.
+    /// Refuses `Inconsistent` where the root over the shares is not the one that the extension
+    /// block tells, and `OutOfMemory`.
     pub fn make_shares(&self, alloc: Global) -> Result<Vec<Share>, ReadError>
         ensures made { IfOk result (λ shares. AreMade self.now shares.items) }
         ensures regenerated { (cap : VerifyCapValue) (numbers : List ℕ)

@@ -34,8 +34,8 @@ impl<R: Files + AllocGlobal> Part<R> {
         })
     }
 
-    /// Ends the file, of which so much was written as this outcome says: one that is whole is put on
-    /// the disk, and gets its name.
+    /// Ends the file, of which so much was written as this outcome says: one that is whole is put
+    /// on the disk, and gets its name.
     pub(crate) fn finish(self, rt: &R, outcome: Result<(), Failure>) -> Result<(), Failure> {
         let alloc = rt.alloc();
         let part = self.part.as_str();

@@ -92,8 +92,8 @@ where
         Ok(())
     }
 
-    // Writes a span: from the servers that are no suspects, and where these do not have enough, from
-    // all.
+    // Writes a span: from the servers that are no suspects, and where these do not have enough,
+    // from all.
     fn write_span<O, E>(
         &mut self,
         servers: &[NodeId],

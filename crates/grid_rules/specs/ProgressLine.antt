@@ -40,7 +40,7 @@ abbrev pub encoding_line : Verb → ℕ → List ℕ
 encoding_line verb size =
     verb_text verb ++ (codes ": encoding " ++ (decimal (size / 1000) ++ codes " kB"))
 
--- The time that is left is to the time that went by, in milliseconds, as the bytes that are left are
--- to those that are done.
+-- The time that is left is to the time that went by, in milliseconds, as the bytes that are left
+-- are to those that are done.
 abbrev pub seconds_left : ℕ → Amount → ℕ
 seconds_left elapsed amount = elapsed * (amount.total - amount.done) / amount.done / 1000

@@ -7,7 +7,8 @@ use Rattle.share_scrub.specs.declared.folder.Action.{Action}
 use Rattle.share_scrub.specs.declared.folder.Action.TheVariants.{Left, Done, Failed}
 use Rattle.share_scrub.specs.declared.folder.Finding.{Finding}
 use Rattle.share_scrub.specs.declared.folder.State.{State}
-use Rattle.share_scrub.specs.declared.folder.State.TheVariants.{Whole, Damaged, Unreadable, LeftOpen}
+use Rattle.share_scrub.specs.declared.folder.State.TheVariants.{Whole, Damaged, Unreadable}
+use Rattle.share_scrub.specs.declared.folder.State.TheVariants.{LeftOpen}
 use Rattle.grid_rules.specs.ReportLines.{server_name}
 use Rattle.grid_rules.specs.declared.scrubbing.Scrubbed.{Scrubbed}
 
@@ -62,7 +63,8 @@ one_more n = min (n + 1) 18446744073709551615
 -- A closed share is one of those that were looked at, whichever way it was found. Files that were
 -- left open are told, and not counted.
 abbrev pub counted : Scrubbed → State → Scrubbed
-counted s Whole = record { shares = one_more s.shares; damaged = s.damaged; unreadable = s.unreadable }
+counted s Whole =
+    record { shares = one_more s.shares; damaged = s.damaged; unreadable = s.unreadable }
 counted s (Damaged _) =
     record { shares = one_more s.shares; damaged = one_more s.damaged; unreadable = s.unreadable }
 counted s (Unreadable _) =

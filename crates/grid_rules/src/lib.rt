@@ -3,8 +3,8 @@
 //! Each fault has a number, an exit status and a text; a cap is told in lines, and so are a check
 //! and a scrub, which are told as JSON too; a grid's folders have names, by which its servers are
 //! ordered; an upload's end is its happiness or a fault, and that of a download nothing or a fault;
-//! a range is one of the file or refused, and so is each number; how many turns of the loop a command
-//! may take is a number; and how far a command is stands in one line.
+//! a range is one of the file or refused, and so is each number; how many turns of the loop a
+//! command may take is a number; and how far a command is stands in one line.
 #![tactic(auto)]
 
 mod checking;

@@ -10,7 +10,8 @@ use std::io::{ErrorKind, Read};
 use std::rt::Files;
 use std::{fs, io};
 
-/// The path that stands for standard input, the path at which the system has it, and how it is told.
+/// The path that stands for standard input, the path at which the system has it, and how it is
+/// told.
 const STANDARD_INPUT: &str = "-";
 
 const INPUT_PATH: &str = "/dev/stdin";

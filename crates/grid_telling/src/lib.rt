@@ -1,6 +1,6 @@
 //! What a command of `grid` tells on standard error while it runs: how far it is, where that is a
-//! terminal, and which servers serve badly, where the user asks for it; and how it ends where it has
-//! no result.
+//! terminal, and which servers serve badly, where the user asks for it; and how it ends where it
+//! has no result.
 #![tactic(auto)]
 
 mod counted;

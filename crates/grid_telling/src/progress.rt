@@ -9,7 +9,7 @@ use std::time::{Duration, Instant};
 use wire::message::{Body, Message, NodeId};
 
 // How long a command runs before it tells how far it is, in milliseconds.
-const PATIENCE: u64 = 1000;
+const FIRST_PAUSE: u64 = 1000;
 
 // How long it goes on before it tells so again.
 const PAUSE: u64 = 100;
@@ -81,7 +81,7 @@ where
             alloc: rt.alloc(),
             to,
             times,
-            pause: PATIENCE,
+            pause: FIRST_PAUSE,
             is_shown: false,
             verb: Verb::Get,
             counting: Counting::Added,

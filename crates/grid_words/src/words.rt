@@ -3,7 +3,8 @@
 ghost use Rattle.std.specs.Prelude.{◌≡◌, IfErr, IfOk, map, option_map, true};
 ghost use Rattle.clap.specs.Words.{first_of, kind_of, one_of, subcommand_of, takes};
 ghost use Rattle.grid_words.specs.Asked.{Asks, AsksCheck, AsksGet, AsksInit, AsksPut, AsksRepair};
-ghost use Rattle.grid_words.specs.Asked.{AsksScrub, IsAsked, IsFlag, IsSecret, number_under, rows_in};
+ghost use Rattle.grid_words.specs.Asked.{AsksScrub, IsAsked, IsFlag, IsSecret, number_under};
+ghost use Rattle.grid_words.specs.Asked.{rows_in};
 ghost use Rattle.grid_words.specs.Asked.{text_under};
 ghost use Rattle.grid_words.specs.CommandLine.{grid_app};
 

@@ -8,7 +8,7 @@ use Rattle.share_store.specs.Calls.{Calls}
 use Rattle.local_grid.specs.declared.link.Way.TheVariants.{ToServer}
 use Rattle.server_core.specs.declared.bucket.Bucket.{Bucket}
 use Rattle.server_core.specs.declared.error.ServerFault.TheVariants.{OutOfMemory}
-use Rattle.server_core.specs.Machine.{Machine, Outcome, Serves, Ticks}
+use Rattle.server_core.specs.ServerState.{ServerState, Outcome, Serves, Ticks}
 use Rattle.local_grid.specs.Nodes.{Carries, Exchanges, IsLeftUnanswered, IsMet, NodeState, StopsShort, client_node, ticked, ticked_node, ticked_server, with_link}
 use Rattle.local_grid.specs.Turns.{Asks, AsksAt, GridState, Stops, StopsAt, later, passed}
 
@@ -50,12 +50,12 @@ module _ {S L : Type 0} (calls : Calls S) (carries : Carries L) (gives_up : L �
   on_err (Err e) f p = f p
 
   -- on the answer's way back
-  pub back_stops : (old new : NodeState S L) (came said : Message) (now : ℕ) (outcome : Outcome) (server : Machine S) → Serves calls old.server client_node came now outcome server
+  pub back_stops : (old new : NodeState S L) (came said : Message) (now : ℕ) (outcome : Outcome) (server : ServerState S) → Serves calls old.server client_node came now outcome server
       → outcome ≡ Ok (Some said) → new.server ≡ server → gives_up old.link new.link → IsLeftUnanswered calls gives_up old came now new
   back_stops old new came said now outcome server serves is same gave =
       inr (
         said,
-        subst (λ (x : Machine S). Serves calls old.server client_node came now (Ok (Some said)) x) (sym same)
+        subst (λ (x : ServerState S). Serves calls old.server client_node came now (Ok (Some said)) x) (sym same)
             (subst (λ (o : Outcome). Serves calls old.server client_node came now o server) is serves),
         gave,
       )
@@ -87,7 +87,7 @@ module _ {S L : Type 0} (calls : Calls S) (carries : Carries L) (gives_up : L �
       (subst (λ (o : Option (Option (NodeState S L))). StopsAt calls carries gives_up before place o m new) (sym there) (after, stops, refl)))
 
 -- a tick is the one that `Ticks` says
-server_ticked : {S : Type 0} (now : ℕ) (old new : Machine S) → Ticks old now new → new ≡ ticked_server now old
+server_ticked : {S : Type 0} (now : ℕ) (old new : ServerState S) → Ticks old now new → new ≡ ticked_server now old
 server_ticked {S = S} now old new t =
     ap (λ (x : S). record { store = x; buckets = new.buckets; clock = new.clock; capacity = new.capacity; readonly = new.readonly }) t.after.store
     ∙ ap (λ (x : List Bucket). record { store = old.store; buckets = x; clock = new.clock; capacity = new.capacity; readonly = new.readonly }) t.after.buckets
@@ -95,11 +95,11 @@ server_ticked {S = S} now old new t =
     ∙ ap (λ (x : ℕ). record { store = old.store; buckets = (ticked_server now old).buckets; clock = max old.clock now; capacity = x; readonly = new.readonly }) t.terms.capacity
     ∙ ap (λ (x : Bool). record { store = old.store; buckets = (ticked_server now old).buckets; clock = max old.clock now; capacity = old.capacity; readonly = x }) t.terms.readonly
 
-pub speaking_ticked : {S L : Type 0} (now : ℕ) (old : NodeState S L) (server : Machine S) → old.silent ≡ false → Ticks old.server now server
+pub speaking_ticked : {S L : Type 0} (now : ℕ) (old : NodeState S L) (server : ServerState S) → old.silent ≡ false → Ticks old.server now server
     → record { server = server; link = old.link; silent = old.silent } ≡ ticked_node now old
 speaking_ticked {S = S} {L = L} now old server speaks t =
     let after : NodeState S L = record { server = ticked_server now old.server; link = old.link; silent = old.silent } in
-    ap (λ (x : Machine S). record { server = x; link = old.link; silent = old.silent }) (server_ticked now old.server server t)
+    ap (λ (x : ServerState S). record { server = x; link = old.link; silent = old.silent }) (server_ticked now old.server server t)
     ∙ subst (λ (b : Bool). after ≡ cond b old after) (sym speaks) refl
 
 pub silent_ticked : {S L : Type 0} (now : ℕ) (old : NodeState S L) → old.silent ≡ true → old ≡ ticked_node now old

@@ -5,7 +5,7 @@ use Rattle.std.specs.List.{filter}
 use Rattle.wire.specs.declared.message.Message.{Message}
 use Rattle.share_store.specs.Calls.{Calls}
 use Rattle.server_core.specs.declared.error.ServerFault.TheVariants.{OutOfMemory, StoreFault}
-use Rattle.server_core.specs.Machine.{Machine, Outcome, Serves, is_fresh_at}
+use Rattle.server_core.specs.ServerState.{ServerState, Outcome, Serves, is_fresh_at}
 use Rattle.local_grid.specs.declared.link.Way.{Way}
 use Rattle.local_grid.specs.declared.link.Way.TheVariants.{ToServer, ToClient}
 
@@ -15,7 +15,7 @@ client_node = 256
 
 -- a server with its link, and whether nothing comes from it any more
 pub record NodeState (S L : Type 0) : Type 0 where
-  pub server : Machine S
+  pub server : ServerState S
   pub link : L
   pub silent : Bool
 
@@ -85,7 +85,7 @@ pub record StopsShort {S L : Type 0} (calls : Calls S) (carries : Carries L)
       × IsLeftUnanswered calls gives_up (with_link old link) came now new)
 
 -- A server at a second drops the buckets that were left too long, as `Ticks` says.
-abbrev pub ticked_server : {S : Type 0} → ℕ → Machine S → Machine S
+abbrev pub ticked_server : {S : Type 0} → ℕ → ServerState S → ServerState S
 ticked_server now s =
     record {
       store = s.store;

@@ -87,8 +87,8 @@ impl<S: Store, L: Link> LocalGrid<S, L> {
     /// Carries frames between an operation and the nodes until the operation is at its end. In each
     /// turn the operation's next message goes to its node, and the node's answer comes back. Where
     /// there is nothing to carry, the clock goes on by 5 seconds, and nodes and operation tick. A
-    /// node whose store fails, or whose link loses a message, is silent from then on, and the others
-    /// go on.
+    /// node whose store fails, or whose link loses a message, is silent from then on, and the
+    /// others go on.
     ///
     /// `TurnLimit` where the operation still runs after 100,000,000 turns, and `OutOfMemory` where
     /// memory was refused in the middle of a turn: then a server may have done what was asked of

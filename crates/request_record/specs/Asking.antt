@@ -80,13 +80,14 @@ one_sent r = record r { outgoing = drop 1 r.outgoing }
 
 -- the message of the request at a place, to the server that it asks, for a file of this storage
 -- index
-pub record IsFrame (index : List ℕ) (r : RequestsState) (place node : ℕ) (m : Message) : Type 0 where
-  pub request : Request
-  pub there : slice_get r.entries place ≡ Some request
-  pub server : node ≡ request.server
-  pub body : Body
-  pub spelled : Spells index request.asked body
-  pub message : m ≡ message_at place body r
+pub record IsFrame (index : List ℕ) (r : RequestsState) (place node : ℕ) (m : Message) : Type 0
+  where
+    pub request : Request
+    pub there : slice_get r.entries place ≡ Some request
+    pub server : node ≡ request.server
+    pub body : Body
+    pub spelled : Spells index request.asked body
+    pub message : m ≡ message_at place body r
 
 -- The first request to send is sent. Where none is, there is none to send, or the first is a
 -- Writing, whose bytes the record does not know.

@@ -26,7 +26,7 @@ const MARK: u64 = 5;
 const MARKS: u64 = 3;
 
 /// The age in seconds at which an unanswered request is lost.
-const PATIENCE: u64 = 20;
+const LOST_AGE: u64 = 20;
 
 /// What a request asks, of which share. The operation's file is known to it; the bytes of a
 /// `Writing` are those of the share, and are not kept.
@@ -169,7 +169,7 @@ impl Request {
     pub(crate) fn is_lost_at(&self, now: u64) -> bool
         ensures { result ≡ is_lost_at now self.now }
     {
-        self.is_outstanding() && PATIENCE <= self.age(now)
+        self.is_outstanding() && LOST_AGE <= self.age(now)
     }
 
     /// Is it sent again at a tick at this second?
@@ -177,7 +177,7 @@ impl Request {
         ensures { result ≡ is_resent_at now self.now }
     {
         let age = self.age(now);
-        self.is_outstanding() && age < PATIENCE && self.marks < passed(age)
+        self.is_outstanding() && age < LOST_AGE && self.marks < passed(age)
     }
 
     /// Is it a `Writing` whose bytes were all written, by its answer?

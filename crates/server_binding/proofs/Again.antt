@@ -8,7 +8,7 @@ use Rattle.wire.specs.declared.message.HeldShare.{HeldShare}
 use Rattle.wire.specs.declared.message.ShareId.{ShareId}
 use Rattle.share_store.specs.Shelf.{Shelf, closed_at, digest_at}
 use Rattle.share_store.specs.declared.shelf.ClosedShare.{ClosedShare}
-use Rattle.server_core.specs.Machine.{Machine}
+use Rattle.server_core.specs.ServerState.{ServerState}
 use Rattle.server_core.specs.Sound.{ClosedStay, IsSound, Tells}
 use Rattle.server_core.proofs.Keeps.{messages_keep}
 use Rattle.server_core.proofs.Stays.{messages_leave_others, ticks_leave_closed, restarts_leave_closed}
@@ -19,14 +19,14 @@ use Rattle.server_binding.proofs.Telling.{asks_list_all, reads_closed}
 
 -- ---- later states
 
-move_keeps : (old new : Machine Shelf) → Moves old new → ClosedStay old.store new.store
+move_keeps : (old new : ServerState Shelf) → Moves old new → ClosedStay old.store new.store
 move_keeps old new (by_message from now request outcome serves) = (messages_leave_others old new from now request outcome serves).stays
 move_keeps old new (by_tick now ticks) = ticks_leave_closed old new now ticks
 move_keeps old new (by_restart restarts) = restarts_leave_closed old new restarts
 
 -- what is closed stays so through any number of moves
-pub later_keeps : (first : Machine Shelf) (states : List (Machine Shelf)) (last : Machine Shelf) → GoesThrough first states last → ClosedStay first.store last.store
-later_keeps first [] last same id c found = ap (λ (m : Machine Shelf). closed_at id m.store.closed) same ∙ found
+pub later_keeps : (first : ServerState Shelf) (states : List (ServerState Shelf)) (last : ServerState Shelf) → GoesThrough first states last → ClosedStay first.store last.store
+later_keeps first [] last same id c found = ap (λ (m : ServerState Shelf). closed_at id m.store.closed) same ∙ found
 later_keeps first (next ∷ states) last goes id c found = later_keeps next states last goes.1 id c (move_keeps first next goes.0 id c found)
 
 -- ---- what was told is closed
@@ -42,14 +42,14 @@ told_closed s request answer id digest tells (by_close asked said) = subst (λ (
 -- ---- and is told again
 
 -- where a share is closed, it is told
-pub closed_is_told : (m : Machine Shelf) (id : ShareId) (c : ClosedShare) → id.share ≤ 255 → closed_at id m.store.closed ≡ Some c → IsTold m id c
+pub closed_is_told : (m : ServerState Shelf) (id : ShareId) (c : ClosedShare) → id.share ≤ 255 → closed_at id m.store.closed ≡ Some c → IsTold m id c
 closed_is_told m id c low found = record {
   closed = found;
   asks = λ new from now request r is serves. (asks_list_all m new from now request r id.index is serves).each id c refl low ((messages_leave_others m new from now request (Ok (Some r)) serves).stays id c found);
   reads = λ new from now request r offset len is serves. reads_closed m new from now request r id offset len c is found serves;
 }
 
-closed_for_good : (m : Machine Shelf) (id : ShareId) (digest : List ℕ) (at : Option ClosedShare) → id.share ≤ 255 → IsSound m → closed_at id m.store.closed ≡ at → option_map (λ (c : ClosedShare). c.digest) at ≡ Some digest → IsToldForGood m id digest
+closed_for_good : (m : ServerState Shelf) (id : ShareId) (digest : List ℕ) (at : Option ClosedShare) → id.share ≤ 255 → IsSound m → closed_at id m.store.closed ≡ at → option_map (λ (c : ClosedShare). c.digest) at ≡ Some digest → IsToldForGood m id digest
 closed_for_good m id digest None low sound found told = absurd cc
 closed_for_good m id digest (Some c) low sound found told =
     let same : c.digest ≡ digest = cc in

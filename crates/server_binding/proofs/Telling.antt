@@ -17,7 +17,7 @@ use Rattle.share_store.specs.Calls.{shelf_calls}
 use Rattle.share_store.specs.Shelf.{Place, Shelf, bytes_at, closed_at, digest_at, held, is_under, place_of, same_place}
 use Rattle.share_store.specs.declared.shelf.ClosedShare.{ClosedShare}
 use Rattle.share_store.proofs.ShelfLaws.{same_is}
-use Rattle.server_core.specs.Machine.{Does, ListsHoldings, Machine, ReadsShare, Serves, line_of, read_line}
+use Rattle.server_core.specs.ServerState.{Does, ListsHoldings, ServerState, ReadsShare, Serves, line_of, read_line}
 use Rattle.server_binding.specs.Telling.{AsksListAll, ListsAll, ReadsBringClosed}
 
 -- ---- a closed share is among those that are listed under its storage index
@@ -66,7 +66,7 @@ lists_all s index readonly answer e = record {
   };
 }
 
-answers_list : (old new : Machine Shelf) (now : ℕ) (request r : Message) (index : List ℕ) → Does shelf_calls (ListsHoldings index) now old request (Ok (Some r)) new → ListsAll new.store index r.body
+answers_list : (old new : ServerState Shelf) (now : ℕ) (request r : Message) (index : List ℕ) → Does shelf_calls (ListsHoldings index) now old request (Ok (Some r)) new → ListsAll new.store index r.body
 answers_list old new now request r index does =
     lists_all new.store index old.readonly r.body
     (ap (λ (m : Message). m.body) does.answer ∙ ap (Have old.readonly) (does.listed.0 ∙ ap (λ (s : Shelf). held index s.closed) (sym does.listed.1)))
@@ -78,14 +78,14 @@ asks_list_all old new from now request r index is serves =
 
 -- ---- a read
 
-read_does : (old new : Machine Shelf) (t : ℕ) (request r : Message) (id : ShareId) (offset len : ℕ) (c : ClosedShare) → closed_at id old.store.closed ≡ Some c
+read_does : (old new : ServerState Shelf) (t : ℕ) (request r : Message) (id : ShareId) (offset len : ℕ) (c : ClosedShare) → closed_at id old.store.closed ≡ Some c
     → Does shelf_calls (ReadsShare id offset len) t old request (Ok (Some r)) new → r.body ≡ Data (take len (drop offset c.bytes))
 read_does old new t request r id offset len c found does =
     let bytes : bytes_at id old.store.closed ≡ c.bytes = ap (λ (o : Option ClosedShare). unwrap_or (option_map (λ (x : ClosedShare). x.bytes) o) []) found in
     ap (λ (m : Message). m.body) does.answer ∙ ap Data (does.read.0 ∙ ap (λ (l : List ℕ). take len (drop offset l)) bytes)
 
 -- a read of a share that was closed before it
-pub reads_closed : (old new : Machine Shelf) (from now : ℕ) (request r : Message) (id : ShareId) (offset len : ℕ) (c : ClosedShare) → request.body ≡ Read id offset len
+pub reads_closed : (old new : ServerState Shelf) (from now : ℕ) (request r : Message) (id : ShareId) (offset len : ℕ) (c : ClosedShare) → request.body ≡ Read id offset len
     → closed_at id old.store.closed ≡ Some c → Serves shelf_calls old from request now (Ok (Some r)) new → r.body ≡ Data (take len (drop offset c.bytes))
 reads_closed old new from now request r id offset len c is found serves =
     let digest : digest_at id old.store.closed ≡ Some c.digest = ap (option_map (λ (x : ClosedShare). x.digest)) found in
@@ -94,7 +94,7 @@ reads_closed old new from now request r id offset len c is found serves =
     (subst (λ (b : Body). Does shelf_calls (line_of shelf_calls old from request.session b) (max old.clock now) old request (Ok (Some r)) new) is serves.does))
 
 -- a read leaves the shelf as it was
-read_keeps : (old new : Machine Shelf) (t : ℕ) (request r : Message) (id : ShareId) (offset len : ℕ) (told : Option (List ℕ)) → Does shelf_calls (read_line id offset len told) t old request (Ok (Some r)) new → new.store ≡ old.store
+read_keeps : (old new : ServerState Shelf) (t : ℕ) (request r : Message) (id : ShareId) (offset len : ℕ) (told : Option (List ℕ)) → Does shelf_calls (read_line id offset len told) t old request (Ok (Some r)) new → new.store ≡ old.store
 read_keeps old new t request r id offset len (Some digest) does = does.read.1
 read_keeps old new t request r id offset len None does = does.after.store
 

@@ -9,21 +9,21 @@ use Rattle.wire.specs.declared.message.ShareId.{ShareId}
 use Rattle.share_store.specs.Calls.{shelf_calls}
 use Rattle.share_store.specs.Shelf.{Shelf, Restarts, closed_at}
 use Rattle.share_store.specs.declared.shelf.ClosedShare.{ClosedShare}
-use Rattle.server_core.specs.Machine.{Machine, Outcome, RestartsTo, Serves, Ticks}
+use Rattle.server_core.specs.ServerState.{ServerState, Outcome, RestartsTo, Serves, Ticks}
 use Rattle.server_core.specs.Sound.{IsSound}
 use Rattle.server_binding.specs.Telling.{ListsShare}
 
 -- ---- later states
 
 -- one move of a server: a message from a client, a tick, or a restart
-pub data Moves (old new : Machine Shelf) : Type 0 where
+pub data Moves (old new : ServerState Shelf) : Type 0 where
   by_message : (from now : ℕ) (request : Message) (outcome : Outcome)
       → Serves shelf_calls old from request now outcome new → Moves old new
   by_tick : (now : ℕ) → Ticks old now new → Moves old new
   by_restart : RestartsTo Restarts old new → Moves old new
 
 -- The server moves from the first state through these, one by one, and so comes to the last.
-abbrev pub GoesThrough : Machine Shelf → List (Machine Shelf) → Machine Shelf → Type 0
+abbrev pub GoesThrough : ServerState Shelf → List (ServerState Shelf) → ServerState Shelf → Type 0
 GoesThrough first [] last = last ≡ first
 GoesThrough first (next ∷ states) last = Moves first next × GoesThrough next states last
 
@@ -43,27 +43,28 @@ pub data TellsDigest (request answer : Body) (id : ShareId) (digest : List ℕ) 
 
 -- The share is closed, each answer to an Ask lists it with its digest, and each to a read of it has
 -- its bytes.
-pub record IsTold (m : Machine Shelf) (id : ShareId) (c : ClosedShare) : Type 0 where
+pub record IsTold (m : ServerState Shelf) (id : ShareId) (c : ClosedShare) : Type 0 where
   pub closed : closed_at id m.store.closed ≡ Some c
-  pub asks : (new : Machine Shelf) (from now : ℕ) (request r : Message)
+  pub asks : (new : ServerState Shelf) (from now : ℕ) (request r : Message)
       → request.body ≡ Ask id.index → Serves shelf_calls m from request now (Ok (Some r)) new
       → ListsShare r.body id.share c.digest
-  pub reads : (new : Machine Shelf) (from now : ℕ) (request r : Message) (offset len : ℕ)
+  pub reads : (new : ServerState Shelf) (from now : ℕ) (request r : Message) (offset len : ℕ)
       → request.body ≡ Read id offset len
       → Serves shelf_calls m from request now (Ok (Some r)) new
       → r.body ≡ Data (take len (drop offset c.bytes))
 
 -- one closed share, of this digest, is told in this state and in each later one
-pub record IsToldForGood (m : Machine Shelf) (id : ShareId) (digest : List ℕ) : Type 0 where
+pub record IsToldForGood (m : ServerState Shelf) (id : ShareId) (digest : List ℕ) : Type 0 where
   pub share : ClosedShare
   pub has : share.digest ≡ digest
   pub digest_of : share_digest share.bytes ≡ digest
-  pub later : (states : List (Machine Shelf)) (last : Machine Shelf) → GoesThrough m states last
+  pub later : (states : List (ServerState Shelf)) (last : ServerState Shelf)
+      → GoesThrough m states last
       → IsTold last id share
 
 -- a law: what a sound server told once is told for good
 abbrev pub ToldIsToldAgain : Type 0
-ToldIsToldAgain = (old new : Machine Shelf) (from now : ℕ) (request r : Message) (id : ShareId)
+ToldIsToldAgain = (old new : ServerState Shelf) (from now : ℕ) (request r : Message) (id : ShareId)
     (digest : List ℕ) → id.share ≤ 255 → IsSound old
     → Serves shelf_calls old from request now (Ok (Some r)) new
     → TellsDigest request.body r.body id digest → IsToldForGood new id digest

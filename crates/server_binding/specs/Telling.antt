@@ -8,7 +8,7 @@ use Rattle.wire.specs.declared.message.ShareId.{ShareId}
 use Rattle.share_store.specs.Calls.{shelf_calls}
 use Rattle.share_store.specs.Shelf.{Shelf, closed_at, held}
 use Rattle.share_store.specs.declared.shelf.ClosedShare.{ClosedShare}
-use Rattle.server_core.specs.Machine.{Machine, Serves}
+use Rattle.server_core.specs.ServerState.{ServerState, Serves}
 
 -- the answer is a list that has the share of this number with this digest
 pub record ListsShare (answer : Body) (share : ℕ) (digest : List ℕ) : Type 0 where
@@ -33,13 +33,13 @@ BringsClosed s id offset len answer = (c : ClosedShare) → closed_at id s.close
 
 -- a law: an answer to an Ask lists every share that is closed under the storage index
 abbrev pub AsksListAll : Type 0
-AsksListAll = (old new : Machine Shelf) (from now : ℕ) (request r : Message) (index : List ℕ)
+AsksListAll = (old new : ServerState Shelf) (from now : ℕ) (request r : Message) (index : List ℕ)
     → request.body ≡ Ask index → Serves shelf_calls old from request now (Ok (Some r)) new
     → ListsAll new.store index r.body
 
 -- a law: a read of a closed share is answered by its bytes
 abbrev pub ReadsBringClosed : Type 0
-ReadsBringClosed = (old new : Machine Shelf) (from now : ℕ) (request r : Message) (id : ShareId)
+ReadsBringClosed = (old new : ServerState Shelf) (from now : ℕ) (request r : Message) (id : ShareId)
     (offset len : ℕ) → request.body ≡ Read id offset len
     → Serves shelf_calls old from request now (Ok (Some r)) new
     → BringsClosed new.store id offset len r.body

@@ -18,21 +18,21 @@ use Rattle.server_core.specs.declared.bucket.Bucket.{Bucket}
 use Rattle.server_core.specs.Buckets.{bucket_at, is_owned, changed, ended, touched, with_bytes, bytes_so_far}
 use Rattle.share_store.specs.Calls.{shelf_calls}
 use Rattle.server_core.specs.Limits.{most_buckets}
-use Rattle.server_core.specs.Machine.{Machine, Outcome, Does, HasBuckets, is_full, reply_to, allocate_line, write_line, close_line, close_gathered, abort_line, read_line, line_of, is_fresh_at}
-use Rattle.server_core.specs.Machine.{Silent, Says, Touches, Opens, Ends, ListsHoldings, WritesBytes, ClosesShare, ReadsShare}
+use Rattle.server_core.specs.ServerState.{ServerState, Outcome, Does, HasBuckets, is_full, reply_to, allocate_line, write_line, close_line, close_gathered, abort_line, read_line, line_of, is_fresh_at}
+use Rattle.server_core.specs.ServerState.{Silent, Says, Touches, Opens, Ends, ListsHoldings, WritesBytes, ClosesShare, ReadsShare}
 use Rattle.server_core.specs.Sound.{ClosedStay, AreRight, AreSound, IsSound, IsWritten, is_request, Tells, IsAnswer, Answers, MessagesKeep, TicksKeep, RestartsKeep, StartsSound}
 use Rattle.server_core.proofs.Shares.{listed}
 use Rattle.server_core.proofs.Stays.{messages_leave_others, same_closed, ticks_leave_closed, restarts_leave_closed}
 use Rattle.server_core.proofs.Kept.{changed_sound, ended_sound, filter_sound, push_sound, grown, others_same, closed_new, closed_stays, closing_sound}
 
 -- closed shares stay, the server is sound, and the answer is so
-record Keeps (old : Machine Shelf) (request : Message) (outcome : Outcome) (new : Machine Shelf) : Type 0 where
+record Keeps (old : ServerState Shelf) (request : Message) (outcome : Outcome) (new : ServerState Shelf) : Type 0 where
   stays : ClosedStay old.store new.store
   sound : IsSound new
   answers : Answers new.store request outcome
 
 -- the same store, and sound buckets
-kept_at : (old new : Machine Shelf) (bs : List Bucket) (m : Message) (outcome : Outcome) → HasBuckets old bs new → AreSound old.store.closed old.store.opened bs → Answers old.store m outcome → Keeps old m outcome new
+kept_at : (old new : ServerState Shelf) (bs : List Bucket) (m : Message) (outcome : Outcome) → HasBuckets old bs new → AreSound old.store.closed old.store.opened bs → Answers old.store m outcome → Keeps old m outcome new
 kept_at old new bs m outcome h s a = record {
   stays = λ id c e. ap (λ (t : Shelf). closed_at id t.closed) h.store ∙ e;
   sound = subst (λ (t : Shelf). AreSound t.closed t.opened new.buckets) (sym h.store) (subst (λ (x : List Bucket). AreSound old.store.closed old.store.opened x) (sym h.buckets) s);
@@ -40,7 +40,7 @@ kept_at old new bs m outcome h s a = record {
 }
 
 -- the same closed shares, and sound buckets
-kept_with : (old new : Machine Shelf) (bs : List Bucket) (m : Message) (outcome : Outcome) → new.store.closed ≡ old.store.closed → new.buckets ≡ bs → AreSound old.store.closed new.store.opened bs → Answers new.store m outcome → Keeps old m outcome new
+kept_with : (old new : ServerState Shelf) (bs : List Bucket) (m : Message) (outcome : Outcome) → new.store.closed ≡ old.store.closed → new.buckets ≡ bs → AreSound old.store.closed new.store.opened bs → Answers new.store m outcome → Keeps old m outcome new
 kept_with old new bs m outcome e b s a = record {
   stays = same_closed old.store new.store e;
   sound = subst (λ (x : List (Place × ClosedShare)). AreSound x new.store.opened new.buckets) (sym e) (subst (λ (x : List Bucket). AreSound old.store.closed new.store.opened x) (sym b) s);
@@ -54,17 +54,17 @@ answer_is s m body r e asked kind tells =
 
 -- ---- lines that call no store
 
-silent_keep : (old new : Machine Shelf) (t : ℕ) (m : Message) (outcome : Outcome) → IsSound old → Does shelf_calls Silent t old m outcome new → Keeps old m outcome new
+silent_keep : (old new : ServerState Shelf) (t : ℕ) (m : Message) (outcome : Outcome) → IsSound old → Does shelf_calls Silent t old m outcome new → Keeps old m outcome new
 silent_keep old new t m (Ok None) s d = kept_at old new old.buckets m (Ok None) d s tt
 silent_keep old new t m (Ok (Some r)) s d = absurd d
 silent_keep old new t m (Err e) s d = absurd d
 
-says_keep : (old new : Machine Shelf) (t : ℕ) (m : Message) (body : Body) (outcome : Outcome) → IsSound old → is_request m.body ≡ true → is_request body ≡ false → Tells old.store m.body body → Does shelf_calls (Says body) t old m outcome new → Keeps old m outcome new
+says_keep : (old new : ServerState Shelf) (t : ℕ) (m : Message) (body : Body) (outcome : Outcome) → IsSound old → is_request m.body ≡ true → is_request body ≡ false → Tells old.store m.body body → Does shelf_calls (Says body) t old m outcome new → Keeps old m outcome new
 says_keep old new t m body (Ok (Some r)) s asked kind tells d = kept_at old new old.buckets m (Ok (Some r)) d.after s (answer_is old.store m body r d.answer asked kind tells)
 says_keep old new t m body (Ok None) s asked kind tells d = absurd d
 says_keep old new t m body (Err e) s asked kind tells d = absurd d
 
-touches_keep : (old new : Machine Shelf) (t : ℕ) (m : Message) (id : ShareId) (body : Body) (outcome : Outcome) → IsSound old → is_request m.body ≡ true → is_request body ≡ false → Tells old.store m.body body → Does shelf_calls (Touches id body) t old m outcome new → Keeps old m outcome new
+touches_keep : (old new : ServerState Shelf) (t : ℕ) (m : Message) (id : ShareId) (body : Body) (outcome : Outcome) → IsSound old → is_request m.body ≡ true → is_request body ≡ false → Tells old.store m.body body → Does shelf_calls (Touches id body) t old m outcome new → Keeps old m outcome new
 touches_keep old new t m id body (Ok (Some r)) s asked kind tells d =
     kept_at old new (changed id (touched t) old.buckets) m (Ok (Some r)) d.after
     (changed_sound old.store.closed old.store.opened old.store.opened old.buckets id (touched t) (λ b. refl) (λ other apart. refl) (λ b e. s.gathered id b e) s)
@@ -72,7 +72,7 @@ touches_keep old new t m id body (Ok (Some r)) s asked kind tells d =
 touches_keep old new t m id body (Ok None) s asked kind tells d = absurd d
 touches_keep old new t m id body (Err e) s asked kind tells d = absurd d
 
-opens_keep : (old new : Machine Shelf) (t : ℕ) (m : Message) (client session : ℕ) (id : ShareId) (len : ℕ) (outcome : Outcome) → IsSound old → is_request m.body ≡ true → Tells old.store m.body Granted → bucket_at id old.buckets ≡ None → length old.buckets < most_buckets → Does shelf_calls (Opens client session id len) t old m outcome new → Keeps old m outcome new
+opens_keep : (old new : ServerState Shelf) (t : ℕ) (m : Message) (client session : ℕ) (id : ShareId) (len : ℕ) (outcome : Outcome) → IsSound old → is_request m.body ≡ true → Tells old.store m.body Granted → bucket_at id old.buckets ≡ None → length old.buckets < most_buckets → Does shelf_calls (Opens client session id len) t old m outcome new → Keeps old m outcome new
 opens_keep old new t m client session id len (Ok (Some r)) s asked tells none room d =
     let fresh = d.fresh in
     kept_at old new (old.buckets ++ d.bucket ∷ []) m (Ok (Some r)) d.after
@@ -82,7 +82,7 @@ opens_keep old new t m client session id len (Err OutOfMemory) s asked tells non
 opens_keep old new t m client session id len (Err StoreFault) s asked tells none room d = absurd d
 opens_keep old new t m client session id len (Ok None) s asked tells none room d = absurd d
 
-ends_keep : (old new : Machine Shelf) (t : ℕ) (m : Message) (id : ShareId) (outcome : Outcome) → IsSound old → is_request m.body ≡ true → Tells old.store m.body NoShare → Does shelf_calls (Ends id) t old m outcome new → Keeps old m outcome new
+ends_keep : (old new : ServerState Shelf) (t : ℕ) (m : Message) (id : ShareId) (outcome : Outcome) → IsSound old → is_request m.body ≡ true → Tells old.store m.body NoShare → Does shelf_calls (Ends id) t old m outcome new → Keeps old m outcome new
 ends_keep old new t m id (Ok (Some r)) s asked tells d =
     kept_at old new (ended id old.buckets) m (Ok (Some r)) d.after
     (ended_sound old.store.closed old.store.opened old.store.opened old.buckets id (λ other apart. refl) s)
@@ -93,10 +93,10 @@ ends_keep old new t m id (Err e) s asked tells d = absurd d
 -- ---- lines that call the store
 
 -- the same store, with a fault
-fault_keep : (old new : Machine Shelf) (m : Message) (e : ServerFault) → IsSound old → new.store ≡ old.store → new.buckets ≡ old.buckets → Keeps old m (Err e) new
+fault_keep : (old new : ServerState Shelf) (m : Message) (e : ServerFault) → IsSound old → new.store ≡ old.store → new.buckets ≡ old.buckets → Keeps old m (Err e) new
 fault_keep old new m e s a b = kept_at old new old.buckets m (Err e) (record { store = a; buckets = b }) s tt
 
-lists_keep : (old new : Machine Shelf) (t : ℕ) (m : Message) (index : List ℕ) (outcome : Outcome) → IsSound old → m.body ≡ Ask index → Does shelf_calls (ListsHoldings index) t old m outcome new → Keeps old m outcome new
+lists_keep : (old new : ServerState Shelf) (t : ℕ) (m : Message) (index : List ℕ) (outcome : Outcome) → IsSound old → m.body ≡ Ask index → Does shelf_calls (ListsHoldings index) t old m outcome new → Keeps old m outcome new
 lists_keep old new t m index (Ok (Some r)) s e d =
     let found = d.found in
     let told : All (λ (h : HeldShare). digest_at (record { index = index; share = h.share }) old.store.closed ≡ Some h.digest) found =
@@ -107,7 +107,7 @@ lists_keep old new t m index (Err OutOfMemory) s e d = fault_keep old new m OutO
 lists_keep old new t m index (Err StoreFault) s e d = fault_keep old new m StoreFault s d.call d.buckets
 lists_keep old new t m index (Ok None) s e d = absurd d
 
-writes_keep : (old new : Machine Shelf) (t : ℕ) (m : Message) (id : ShareId) (b : Bucket) (bytes : List ℕ) (outcome : Outcome) → IsSound old → bucket_at id old.buckets ≡ Some b → is_request m.body ≡ true → Tells new.store m.body (Wrote (bytes_so_far b + length bytes)) → Does shelf_calls (WritesBytes id b bytes) t old m outcome new → Keeps old m outcome new
+writes_keep : (old new : ServerState Shelf) (t : ℕ) (m : Message) (id : ShareId) (b : Bucket) (bytes : List ℕ) (outcome : Outcome) → IsSound old → bucket_at id old.buckets ≡ Some b → is_request m.body ≡ true → Tells new.store m.body (Wrote (bytes_so_far b + length bytes)) → Does shelf_calls (WritesBytes id b bytes) t old m outcome new → Keeps old m outcome new
 writes_keep old new t m id b bytes (Ok (Some r)) s at asked tells d =
     let gathered = d.gathered in
     let writes = d.written in
@@ -125,7 +125,7 @@ writes_keep old new t m id b bytes (Err StoreFault) s at asked tells d =
 writes_keep old new t m id b bytes (Ok None) s at asked tells d = absurd d
 
 -- one more closed share, and its bucket ended
-closed_keep : (old new : Machine Shelf) (m : Message) (id : ShareId) (digest : List ℕ) (outcome : Outcome) → IsSound old → digest ≡ share_digest (written id old.store.opened) → digest_at id old.store.closed ≡ None → new.store.closed ≡ with_closed old.store id digest → ((other : ShareId) → Rattle.server_core.specs.Buckets.same_id other id ≡ false → written other new.store.opened ≡ written other old.store.opened) → new.buckets ≡ ended id old.buckets → Answers new.store m outcome → Keeps old m outcome new
+closed_keep : (old new : ServerState Shelf) (m : Message) (id : ShareId) (digest : List ℕ) (outcome : Outcome) → IsSound old → digest ≡ share_digest (written id old.store.opened) → digest_at id old.store.closed ≡ None → new.store.closed ≡ with_closed old.store id digest → ((other : ShareId) → Rattle.server_core.specs.Buckets.same_id other id ≡ false → written other new.store.opened ≡ written other old.store.opened) → new.buckets ≡ ended id old.buckets → Answers new.store m outcome → Keeps old m outcome new
 closed_keep old new m id digest outcome s right none closed others b a = record {
   stays = λ other c e. ap (closed_at other) closed ∙ closed_stays old.store id digest none other c e;
   sound = subst (λ (x : List (Place × ClosedShare)). AreSound x new.store.opened new.buckets) (sym closed)
@@ -134,7 +134,7 @@ closed_keep old new m id digest outcome s right none closed others b a = record 
   answers = a;
 }
 
-closes_keep : (old new : Machine Shelf) (t : ℕ) (m : Message) (id : ShareId) (digest : List ℕ) (outcome : Outcome) → IsSound old → m.body ≡ Close id → digest ≡ share_digest (written id old.store.opened) → digest_at id old.store.closed ≡ None → Does shelf_calls (ClosesShare id digest) t old m outcome new → Keeps old m outcome new
+closes_keep : (old new : ServerState Shelf) (t : ℕ) (m : Message) (id : ShareId) (digest : List ℕ) (outcome : Outcome) → IsSound old → m.body ≡ Close id → digest ≡ share_digest (written id old.store.opened) → digest_at id old.store.closed ≡ None → Does shelf_calls (ClosesShare id digest) t old m outcome new → Keeps old m outcome new
 closes_keep old new t m id digest (Ok (Some r)) s e right none d =
     let closed : new.store.closed ≡ with_closed old.store id digest = d.closed.0 in
     let told : digest_at id new.store.closed ≡ Some digest = ap (digest_at id) closed ∙ ap (option_map (λ (c : ClosedShare). c.digest)) (closed_new old.store id digest) in
@@ -157,7 +157,7 @@ some_of_digest : (o : Option ClosedShare) (digest : List ℕ) → option_map (λ
 some_of_digest None digest e = absurd cc
 some_of_digest (Some c) digest e = (c, refl)
 
-reads_keep : (old new : Machine Shelf) (t : ℕ) (m : Message) (id : ShareId) (offset len : ℕ) (digest : List ℕ) (outcome : Outcome) → IsSound old → m.body ≡ Read id offset len → digest_at id old.store.closed ≡ Some digest → Does shelf_calls (ReadsShare id offset len) t old m outcome new → Keeps old m outcome new
+reads_keep : (old new : ServerState Shelf) (t : ℕ) (m : Message) (id : ShareId) (offset len : ℕ) (digest : List ℕ) (outcome : Outcome) → IsSound old → m.body ≡ Read id offset len → digest_at id old.store.closed ≡ Some digest → Does shelf_calls (ReadsShare id offset len) t old m outcome new → Keeps old m outcome new
 reads_keep old new t m id offset len digest (Ok (Some r)) s e closed d =
     let c = some_of_digest (closed_at id old.store.closed) digest closed in
     let piece : d.bytes ≡ take len (drop offset c.0.bytes) =
@@ -178,7 +178,7 @@ whole_digest : (digest : List ℕ) (b : Bucket) (w : List ℕ) → b.gathered �
 whole_digest digest b w e (inl n) = absurd (subst (λ (g : Gathered). Rattle.server_core.specs.Buckets.IsNothing g) e n)
 whole_digest digest b w e (inr g) = (subst (λ (x : Gathered). Rattle.server_core.specs.Buckets.Gathers b.length x w) e g).1
 
-by_kind : (old new : Machine Shelf) (from t : ℕ) (m : Message) (outcome : Outcome) → IsSound old → (body : Body) → m.body ≡ body → Does shelf_calls (line_of shelf_calls old from m.session body) t old m outcome new → Keeps old m outcome new
+by_kind : (old new : ServerState Shelf) (from t : ℕ) (m : Message) (outcome : Outcome) → IsSound old → (body : Body) → m.body ≡ body → Does shelf_calls (line_of shelf_calls old from m.session body) t old m outcome new → Keeps old m outcome new
 by_kind old new from t m outcome s = kinds
   where
     asks : (request : Body) → m.body ≡ request → is_request request ≡ true → is_request m.body ≡ true

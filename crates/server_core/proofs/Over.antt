@@ -11,16 +11,16 @@ use Rattle.server_core.specs.declared.bucket.Bucket.{Bucket}
 use Rattle.server_core.specs.Buckets.{bucket_at, bytes_so_far, promised}
 use Rattle.share_store.specs.Calls.{Calls, AreKept, shelf_calls}
 use Rattle.server_core.specs.Limits.{most_buckets}
-use Rattle.server_core.specs.Machine.{Machine, Line, Outcome, Does, Serves, HasBuckets, is_full, allocate_line, write_line, close_line, read_line, line_of}
-use Rattle.server_core.specs.Machine.{Silent, Says, Touches, Opens, Ends, ListsHoldings, WritesBytes, ClosesShare, ReadsShare}
+use Rattle.server_core.specs.ServerState.{ServerState, Line, Outcome, Does, Serves, HasBuckets, is_full, allocate_line, write_line, close_line, read_line, line_of}
+use Rattle.server_core.specs.ServerState.{Silent, Says, Touches, Opens, Ends, ListsHoldings, WritesBytes, ClosesShare, ReadsShare}
 use Rattle.server_core.specs.Sound.{over}
 
 module _ {S : Type 0} (calls : Calls S) (shelf : S → Shelf) (k : AreKept calls shelf) where
-  full_same : (old : Machine S) (len : ℕ) → is_full calls old len ≡ is_full shelf_calls (over shelf old) len
+  full_same : (old : ServerState S) (len : ℕ) → is_full calls old len ≡ is_full shelf_calls (over shelf old) len
   full_same old len = ap (λ u. old.readonly || nat_le most_buckets (length old.buckets) || nat_lt (old.capacity - u - promised old.buckets) len) (k.sums old.store)
 
   -- the same line
-  line_same : (old : Machine S) (from session : ℕ) (body : Body) → line_of calls old from session body ≡ line_of shelf_calls (over shelf old) from session body
+  line_same : (old : ServerState S) (from session : ℕ) (body : Body) → line_of calls old from session body ≡ line_of shelf_calls (over shelf old) from session body
   line_same old from session (Allocate id len) =
       ap (λ f. allocate_line from session id len f (calls.told old.store id) (bucket_at id old.buckets)) (full_same old len)
       ∙ ap (λ t. allocate_line from session id len (is_full shelf_calls (over shelf old) len) t (bucket_at id old.buckets)) (k.tells old.store id)
@@ -41,11 +41,11 @@ module _ {S : Type 0} (calls : Calls S) (shelf : S → Shelf) (k : AreKept calls
   line_same old from session (Data bytes) = refl
   line_same old from session NoShare = refl
 
-  has_buckets : (old new : Machine S) (bs : List Bucket) → HasBuckets old bs new → HasBuckets (over shelf old) bs (over shelf new)
+  has_buckets : (old new : ServerState S) (bs : List Bucket) → HasBuckets old bs new → HasBuckets (over shelf old) bs (over shelf new)
   has_buckets old new bs h = record { store = ap shelf h.store; buckets = h.buckets }
 
   -- which does the same
-  does_same : (old new : Machine S) (line : Line) (t : ℕ) (m : Message) (outcome : Outcome) → Does calls line t old m outcome new → Does shelf_calls line t (over shelf old) m outcome (over shelf new)
+  does_same : (old new : ServerState S) (line : Line) (t : ℕ) (m : Message) (outcome : Outcome) → Does calls line t old m outcome new → Does shelf_calls line t (over shelf old) m outcome (over shelf new)
   does_same old new Silent t m (Ok None) d = has_buckets old new _ d
   does_same old new Silent t m (Ok (Some r)) d = absurd d
   does_same old new Silent t m (Err e) d = absurd d
@@ -80,7 +80,7 @@ module _ {S : Type 0} (calls : Calls S) (shelf : S → Shelf) (k : AreKept calls
   does_same old new (ReadsShare id offset len) t m (Ok None) d = absurd d
 
   -- so a message is one to a server over the shelf
-  pub serves_over : (old new : Machine S) (from now : ℕ) (m : Message) (outcome : Outcome) → Serves calls old from m now outcome new → Serves shelf_calls (over shelf old) from m now outcome (over shelf new)
+  pub serves_over : (old new : ServerState S) (from now : ℕ) (m : Message) (outcome : Outcome) → Serves calls old from m now outcome new → Serves shelf_calls (over shelf old) from m now outcome (over shelf new)
   serves_over old new from now m outcome d =
       let t = Rattle.std.proofs.Common.max old.clock now in
       record {

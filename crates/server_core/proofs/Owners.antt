@@ -13,8 +13,8 @@ use Rattle.server_core.specs.declared.bucket.Gathered.TheVariants.{Part, Whole}
 use Rattle.server_core.specs.declared.bucket.Bucket.{Bucket}
 use Rattle.server_core.specs.Buckets.{same_id, bucket_at, is_owned, changed, ended, touched, with_bytes, bytes_so_far}
 use Rattle.share_store.specs.Calls.{Calls, shelf_calls}
-use Rattle.server_core.specs.Machine.{Machine, Line, Outcome, Does, allocate_line, write_line, close_line, close_gathered, abort_line, read_line, line_of}
-use Rattle.server_core.specs.Machine.{Silent, Says, Touches, Opens, Ends, ListsHoldings, WritesBytes, ClosesShare, ReadsShare}
+use Rattle.server_core.specs.ServerState.{ServerState, Line, Outcome, Does, allocate_line, write_line, close_line, close_gathered, abort_line, read_line, line_of}
+use Rattle.server_core.specs.ServerState.{Silent, Says, Touches, Opens, Ends, ListsHoldings, WritesBytes, ClosesShare, ReadsShare}
 use Rattle.server_core.specs.Sound.{Owns, IsOwnLine, OthersBucketsStay, OthersBytesStay}
 use Rattle.server_core.proofs.Shares.{same_agrees}
 use Rattle.server_core.proofs.Listed.{KeepsId, eq_of_same, other_of, changed_other, ended_other}
@@ -66,7 +66,7 @@ own_read from session bs id offset len (Some digest) = tt
 own_read from session bs id offset len None = tt
 
 -- each line is one of the owner's
-pub own_line : {S : Type 0} (calls : Calls S) (old : Machine S) (from session : ℕ) (body : Body) → IsOwnLine from session old.buckets (line_of calls old from session body)
+pub own_line : {S : Type 0} (calls : Calls S) (old : ServerState S) (from session : ℕ) (body : Body) → IsOwnLine from session old.buckets (line_of calls old from session body)
 own_line calls old from session (Ask index) = tt
 own_line calls old from session (Allocate id len) = own_allocate from session old.buckets id len _ _ _ refl
 own_line calls old from session (Write id offset bytes) = own_write from session old.buckets id offset bytes _ _ refl
@@ -118,7 +118,7 @@ ended_others : (from session : ℕ) (old new : List Bucket) (id : ShareId) → O
 ended_others from session old new id own e other b at not_own = ap (bucket_at other) e ∙ ended_other id other old (not_mine from session old id other b own at not_own) ∙ at
 
 -- others' buckets stay, over every store
-pub others_stay : {S : Type 0} (calls : Calls S) (old new : Machine S) (line : Line) (t from : ℕ) (m : Message) (outcome : Outcome) → IsOwnLine from m.session old.buckets line → Does calls line t old m outcome new → OthersBucketsStay from m.session old.buckets new.buckets
+pub others_stay : {S : Type 0} (calls : Calls S) (old new : ServerState S) (line : Line) (t from : ℕ) (m : Message) (outcome : Outcome) → IsOwnLine from m.session old.buckets line → Does calls line t old m outcome new → OthersBucketsStay from m.session old.buckets new.buckets
 others_stay calls old new Silent t from m (Ok None) own d = same_buckets from m.session old.buckets new.buckets d.buckets
 others_stay calls old new Silent t from m (Ok (Some r)) own d = absurd d
 others_stay calls old new Silent t from m (Err e) own d = absurd d
@@ -154,13 +154,13 @@ others_stay calls old new (ReadsShare id offset len) t from m (Ok None) own d = 
 
 -- ---- what others have written
 
-same_bytes : (from session : ℕ) (old : Machine Shelf) (new : Shelf) → new ≡ old.store → OthersBytesStay from session old new
+same_bytes : (from session : ℕ) (old : ServerState Shelf) (new : Shelf) → new ≡ old.store → OthersBytesStay from session old new
 same_bytes from session old new e id b at not_own = ap (λ (t : Shelf). written id t.opened) e
 
-owned_bytes : (from session : ℕ) (old : Machine Shelf) (new : Shelf) (id : ShareId) → Owns from session id old.buckets → OthersStay id old.store.opened new.opened → OthersBytesStay from session old new
+owned_bytes : (from session : ℕ) (old : ServerState Shelf) (new : Shelf) (id : ShareId) → Owns from session id old.buckets → OthersStay id old.store.opened new.opened → OthersBytesStay from session old new
 owned_bytes from session old new id own o other b at not_own = o (place_of other) (same_agrees id other ∙ other_of other id (not_mine from session old.buckets id other b own at not_own))
 
-pub others_bytes : (old new : Machine Shelf) (line : Line) (t from : ℕ) (m : Message) (outcome : Outcome) → IsOwnLine from m.session old.buckets line → Does shelf_calls line t old m outcome new → OthersBytesStay from m.session old new.store
+pub others_bytes : (old new : ServerState Shelf) (line : Line) (t from : ℕ) (m : Message) (outcome : Outcome) → IsOwnLine from m.session old.buckets line → Does shelf_calls line t old m outcome new → OthersBytesStay from m.session old new.store
 others_bytes old new Silent t from m (Ok None) own d = same_bytes from m.session old new.store d.store
 others_bytes old new Silent t from m (Ok (Some r)) own d = absurd d
 others_bytes old new Silent t from m (Err e) own d = absurd d

@@ -12,14 +12,14 @@ use Rattle.server_core.specs.declared.bucket.Gathered.{Gathered}
 use Rattle.server_core.specs.declared.bucket.Gathered.TheVariants.{Part, Whole}
 use Rattle.server_core.specs.declared.bucket.Bucket.{Bucket}
 use Rattle.server_core.specs.Buckets.{is_owned, bytes_so_far}
-use Rattle.server_core.specs.Machine.{Machine, Line, Outcome, Does, is_misplaced, allocate_line, write_line, close_line, close_gathered, abort_line, read_line, line_of}
-use Rattle.server_core.specs.Machine.{Silent, Says, Touches, Opens, Ends, ListsHoldings, WritesBytes, ClosesShare, ReadsShare}
+use Rattle.server_core.specs.ServerState.{ServerState, Line, Outcome, Does, is_misplaced, allocate_line, write_line, close_line, close_gathered, abort_line, read_line, line_of}
+use Rattle.server_core.specs.ServerState.{Silent, Says, Touches, Opens, Ends, ListsHoldings, WritesBytes, ClosesShare, ReadsShare}
 use Rattle.server_core.specs.Sound.{ClosedStay, MessagesLeaveOthers, TicksLeaveClosed, RestartsLeaveClosed}
 use Rattle.server_core.proofs.Owners.{own_line, others_stay, others_bytes}
 use Rattle.server_core.proofs.Kept.{closed_stays}
 
 -- a line closes no share that is closed already
-abbrev ClosesNew : Machine Shelf → Line → Type 0
+abbrev ClosesNew : ServerState Shelf → Line → Type 0
 ClosesNew old (ClosesShare id digest) = digest_at id old.store.closed ≡ None
 ClosesNew old Silent = ⊤
 ClosesNew old (Says body) = ⊤
@@ -30,7 +30,7 @@ ClosesNew old (ListsHoldings index) = ⊤
 ClosesNew old (WritesBytes id b bytes) = ⊤
 ClosesNew old (ReadsShare id offset len) = ⊤
 
-new_allocate : (old : Machine Shelf) (from session : ℕ) (id : ShareId) (len : ℕ) (full : Bool) (told : Option (List ℕ)) (bucket : Option Bucket) → ClosesNew old (allocate_line from session id len full told bucket)
+new_allocate : (old : ServerState Shelf) (from session : ℕ) (id : ShareId) (len : ℕ) (full : Bool) (told : Option (List ℕ)) (bucket : Option Bucket) → ClosesNew old (allocate_line from session id len full told bucket)
 new_allocate old from session id len full (Some digest) bucket = tt
 new_allocate old from session id len full None (Some c) = owned (is_owned from session c && (c.length == len)) where
   owned : (yes : Bool) → ClosesNew old (cond yes (Touches id Granted) (Says Busy))
@@ -39,7 +39,7 @@ new_allocate old from session id len full None (Some c) = owned (is_owned from s
 new_allocate old from session id len true None None = tt
 new_allocate old from session id len false None None = tt
 
-new_write : (old : Machine Shelf) (from session : ℕ) (id : ShareId) (offset : ℕ) (bytes : List ℕ) (told : Option (List ℕ)) (bucket : Option Bucket) → ClosesNew old (write_line from session id offset bytes told bucket)
+new_write : (old : ServerState Shelf) (from session : ℕ) (id : ShareId) (offset : ℕ) (bytes : List ℕ) (told : Option (List ℕ)) (bucket : Option Bucket) → ClosesNew old (write_line from session id offset bytes told bucket)
 new_write old from session id offset bytes (Some digest) bucket = tt
 new_write old from session id offset bytes None None = tt
 new_write old from session id offset bytes None (Some c) = owned (not (is_owned from session c)) (is_misplaced offset bytes c) where
@@ -48,7 +48,7 @@ new_write old from session id offset bytes None (Some c) = owned (not (is_owned 
   owned false true = tt
   owned false false = tt
 
-new_close : (old : Machine Shelf) (from session : ℕ) (id : ShareId) (told : Option (List ℕ)) (bucket : Option Bucket) → digest_at id old.store.closed ≡ told → ClosesNew old (close_line from session id told bucket)
+new_close : (old : ServerState Shelf) (from session : ℕ) (id : ShareId) (told : Option (List ℕ)) (bucket : Option Bucket) → digest_at id old.store.closed ≡ told → ClosesNew old (close_line from session id told bucket)
 new_close old from session id (Some digest) bucket e = tt
 new_close old from session id None None e = tt
 new_close old from session id None (Some c) e = owned (not (is_owned from session c)) where
@@ -60,18 +60,18 @@ new_close old from session id None (Some c) e = owned (not (is_owned from sessio
   owned true = tt
   owned false = whole c.gathered
 
-new_abort : (old : Machine Shelf) (from session : ℕ) (id : ShareId) (bucket : Option Bucket) → ClosesNew old (abort_line from session id bucket)
+new_abort : (old : ServerState Shelf) (from session : ℕ) (id : ShareId) (bucket : Option Bucket) → ClosesNew old (abort_line from session id bucket)
 new_abort old from session id None = tt
 new_abort old from session id (Some c) = owned (is_owned from session c) where
   owned : (yes : Bool) → ClosesNew old (cond yes (Ends id) (Says NoShare))
   owned true = tt
   owned false = tt
 
-new_read : (old : Machine Shelf) (id : ShareId) (offset len : ℕ) (told : Option (List ℕ)) → ClosesNew old (read_line id offset len told)
+new_read : (old : ServerState Shelf) (id : ShareId) (offset len : ℕ) (told : Option (List ℕ)) → ClosesNew old (read_line id offset len told)
 new_read old id offset len (Some digest) = tt
 new_read old id offset len None = tt
 
-closes_new : (old : Machine Shelf) (from session : ℕ) (body : Body) → ClosesNew old (line_of shelf_calls old from session body)
+closes_new : (old : ServerState Shelf) (from session : ℕ) (body : Body) → ClosesNew old (line_of shelf_calls old from session body)
 closes_new old from session (Ask index) = tt
 closes_new old from session (Allocate id len) = new_allocate old from session id len _ _ _
 closes_new old from session (Write id offset bytes) = new_write old from session id offset bytes _ _
@@ -101,7 +101,7 @@ same_closed old new e id c h = ap (closed_at id) e ∙ h
 one_more : (old new : Shelf) (id : ShareId) (digest : List ℕ) → digest_at id old.closed ≡ None → new.closed ≡ with_closed old id digest → ClosedStay old new
 one_more old new id digest none e other c h = ap (closed_at other) e ∙ closed_stays old id digest none other c h
 
-stays_by : (old new : Machine Shelf) (line : Line) (t : ℕ) (m : Message) (outcome : Outcome) → ClosesNew old line → Does shelf_calls line t old m outcome new → ClosedStay old.store new.store
+stays_by : (old new : ServerState Shelf) (line : Line) (t : ℕ) (m : Message) (outcome : Outcome) → ClosesNew old line → Does shelf_calls line t old m outcome new → ClosedStay old.store new.store
 stays_by old new Silent t m (Ok None) none d = same_store old.store new.store d.store
 stays_by old new Silent t m (Ok (Some r)) none d = absurd d
 stays_by old new Silent t m (Err e) none d = absurd d

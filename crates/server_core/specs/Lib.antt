@@ -2,5 +2,5 @@
 pub mod Faults
 pub mod Limits
 pub mod Buckets
-pub mod Machine
+pub mod ServerState
 pub mod Sound

@@ -17,12 +17,12 @@ use Rattle.share_store.specs.Calls.{shelf_calls}
 use Rattle.server_core.specs.declared.bucket.Bucket.{Bucket}
 use Rattle.server_core.specs.Buckets.{bucket_at, is_owned, Gathers, IsNothing}
 use Rattle.server_core.specs.Limits.{most_buckets}
-use Rattle.server_core.specs.Machine.{Machine, Line, Outcome, Serves, Ticks, RestartsTo}
-use Rattle.server_core.specs.Machine.{Silent, Says, Touches, Opens, Ends, ListsHoldings}
-use Rattle.server_core.specs.Machine.{WritesBytes, ClosesShare, ReadsShare}
+use Rattle.server_core.specs.ServerState.{ServerState, Line, Outcome, Serves, Ticks, RestartsTo}
+use Rattle.server_core.specs.ServerState.{Silent, Says, Touches, Opens, Ends, ListsHoldings}
+use Rattle.server_core.specs.ServerState.{WritesBytes, ClosesShare, ReadsShare}
 
 -- the same server, over what its store is to it
-abbrev pub over : {S T : Type 0} → (S → T) → Machine S → Machine T
+abbrev pub over : {S T : Type 0} → (S → T) → ServerState S → ServerState T
 over f m =
     record {
       store = f m.store;
@@ -69,7 +69,7 @@ pub record AreSound (closed : List (Place × ClosedShare)) (opened : List (Place
   pub gathered : (id : ShareId) (b : Bucket) → bucket_at id buckets ≡ Some b
       → IsWritten b (written id opened)
 
-abbrev pub IsSound : Machine Shelf → Type 0
+abbrev pub IsSound : ServerState Shelf → Type 0
 IsSound m = AreSound m.store.closed m.store.opened m.buckets
 
 -- ---- what answers tell
@@ -146,7 +146,7 @@ OthersBucketsStay client session old new =
     → bucket_at id new ≡ Some b
 
 -- And so does what they have written.
-abbrev pub OthersBytesStay : ℕ → ℕ → Machine Shelf → Shelf → Type 0
+abbrev pub OthersBytesStay : ℕ → ℕ → ServerState Shelf → Shelf → Type 0
 OthersBytesStay client session old new =
     (id : ShareId) (b : Bucket) → bucket_at id old.buckets ≡ Some b
     → is_owned client session b ≡ false → written id new.opened ≡ written id old.store.opened
@@ -155,7 +155,8 @@ OthersBytesStay client session old new =
 
 -- What a message leaves whatever the server's state: closed shares stay as they are, and so do the
 -- buckets of other clients and sessions with what they have written.
-pub record LeavesOthers (old : Machine Shelf) (from : ℕ) (request : Message) (new : Machine Shelf) :
+pub record LeavesOthers (old : ServerState Shelf) (from : ℕ) (request : Message)
+    (new : ServerState Shelf) :
     Type 0 where
   pub stays : ClosedStay old.store new.store
   pub buckets : OthersBucketsStay from request.session old.buckets new.buckets
@@ -163,27 +164,27 @@ pub record LeavesOthers (old : Machine Shelf) (from : ℕ) (request : Message) (
 
 abbrev pub MessagesLeaveOthers : Type 0
 MessagesLeaveOthers =
-    (old new : Machine Shelf) (from now : ℕ) (request : Message) (outcome : Outcome)
+    (old new : ServerState Shelf) (from now : ℕ) (request : Message) (outcome : Outcome)
     → Serves shelf_calls old from request now outcome new → LeavesOthers old from request new
 
 abbrev pub TicksLeaveClosed : Type 0
 TicksLeaveClosed =
-    (old new : Machine Shelf) (now : ℕ) → Ticks old now new → ClosedStay old.store new.store
+    (old new : ServerState Shelf) (now : ℕ) → Ticks old now new → ClosedStay old.store new.store
 
 abbrev pub RestartsLeaveClosed : Type 0
 RestartsLeaveClosed =
-    (old new : Machine Shelf) → RestartsTo Restarts old new → ClosedStay old.store new.store
+    (old new : ServerState Shelf) → RestartsTo Restarts old new → ClosedStay old.store new.store
 
 -- ---- the laws of sound servers
 
 -- A sound server stays sound, and keeps its closed shares.
-pub record StaysSound (old new : Machine Shelf) : Type 0 where
+pub record StaysSound (old new : ServerState Shelf) : Type 0 where
   pub stays : ClosedStay old.store new.store
   pub sound : IsSound new
 
 -- what one message does to a sound server over a store that keeps
-pub record IsKept (old : Machine Shelf) (from : ℕ) (request : Message) (outcome : Outcome)
-    (new : Machine Shelf) : Type 0 where
+pub record IsKept (old : ServerState Shelf) (from : ℕ) (request : Message) (outcome : Outcome)
+    (new : ServerState Shelf) : Type 0 where
   pub stays : ClosedStay old.store new.store
   pub sound : IsSound new
   pub answers : Answers new.store request outcome
@@ -194,17 +195,17 @@ pub record IsKept (old : Machine Shelf) (from : ℕ) (request : Message) (outcom
 -- is so.
 abbrev pub MessagesKeep : Type 0
 MessagesKeep =
-    (old new : Machine Shelf) (from now : ℕ) (request : Message) (outcome : Outcome)
+    (old new : ServerState Shelf) (from now : ℕ) (request : Message) (outcome : Outcome)
     → IsSound old → Serves shelf_calls old from request now outcome new
     → IsKept old from request outcome new
 
 abbrev pub TicksKeep : Type 0
 TicksKeep =
-    (old new : Machine Shelf) (now : ℕ) → IsSound old → Ticks old now new → StaysSound old new
+    (old new : ServerState Shelf) (now : ℕ) → IsSound old → Ticks old now new → StaysSound old new
 
 abbrev pub RestartsKeep : Type 0
 RestartsKeep =
-    (old new : Machine Shelf) → IsSound old → RestartsTo Restarts old new → StaysSound old new
+    (old new : ServerState Shelf) → IsSound old → RestartsTo Restarts old new → StaysSound old new
 
 -- A server is sound from its start on where its closed shares are right.
 abbrev pub StartsSound : Type 0

@@ -4,7 +4,7 @@ ghost use Rattle.std.specs.Prelude.{◌≡◌, ◌<◌, ◌-◌, ◌∷◌, ◌+
 ghost use Rattle.std.specs.Prelude.{IfNone, IfSome, None, OnErr, OnOk, Some};
 ghost use Rattle.server_core.specs.Buckets.{GoesOn, HasRoom, bucket_at, changed, ended, place_of};
 ghost use Rattle.server_core.specs.Buckets.{promised, touched, with_bytes};
-ghost use Rattle.server_core.specs.Machine.{is_fresh_at};
+ghost use Rattle.server_core.specs.ServerState.{is_fresh_at};
 ghost use Rattle.server_core.specs.declared.bucket.Bucket.{Bucket};
 ghost use Rattle.server_core.specs.declared.bucket.Gathered.{Gathered};
 ghost use Rattle.wire.specs.declared.message.ShareId.{ShareId};
@@ -15,7 +15,7 @@ use std::marker::Model;
 use wire::message::ShareId;
 
 /// The seconds after which a bucket that was not touched is dropped.
-const PATIENCE: u64 = 600;
+const IDLE_LIMIT: u64 = 600;
 
 /// The open buckets. No share has two.
 #[derive(Drop)]
@@ -125,7 +125,7 @@ impl Buckets {
         ensures { self.new ≡ filter (is_fresh_at now) self.old }
     {
         self.open
-            .retain(|bucket| now.saturating_sub(bucket.touched) < PATIENCE);
+            .retain(|bucket| now.saturating_sub(bucket.touched) < IDLE_LIMIT);
     }
 
     /// Ends all.

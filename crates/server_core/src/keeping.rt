@@ -1,7 +1,7 @@
 //! A server over a store that keeps: what it does to what the store holds.
 
 ghost use Rattle.std.specs.Prelude.{◌≡◌, []};
-ghost use Rattle.server_core.specs.Machine.{Serves, Ticks, RestartsTo};
+ghost use Rattle.server_core.specs.ServerState.{Serves, Ticks, RestartsTo};
 ghost use Rattle.server_core.specs.Sound.{over, ClosedStay, HaveDigests, IsSound, IsKept};
 ghost use Rattle.server_core.specs.Sound.{LeavesOthers, StaysSound};
 ghost use Rattle.share_store.specs.Calls.{shelf_calls};

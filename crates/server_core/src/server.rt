@@ -1,10 +1,11 @@
 //! The server over a store.
 
 ghost use Rattle.std.specs.Prelude.{◌≡◌, ◌≤◌, ℕ, [], length, max, true};
-ghost use Rattle.server_core.specs.Machine.{Does, DoesFor, Serves, Ticks, RestartsTo, KeepsTerms};
-ghost use Rattle.server_core.specs.Machine.{ListsHoldings, outcome_of, is_full, line_of};
-ghost use Rattle.server_core.specs.Machine.{allocate_line, write_line, close_line, abort_line};
-ghost use Rattle.server_core.specs.Machine.{read_line};
+ghost use Rattle.server_core.specs.ServerState.{Does, DoesFor, Serves, Ticks, RestartsTo};
+ghost use Rattle.server_core.specs.ServerState.{KeepsTerms};
+ghost use Rattle.server_core.specs.ServerState.{ListsHoldings, outcome_of, is_full, line_of};
+ghost use Rattle.server_core.specs.ServerState.{allocate_line, write_line, close_line, abort_line};
+ghost use Rattle.server_core.specs.ServerState.{read_line};
 ghost use Rattle.server_core.specs.Buckets.{bucket_at};
 ghost use Rattle.server_core.specs.Sound.{OthersBucketsStay};
 
@@ -62,9 +63,9 @@ pub struct Server<S: Store> {
 }
 
 impl<S: Store> Model for Server<S> {
-    ghost use Rattle.server_core.specs.Machine.{Machine};
+    ghost use Rattle.server_core.specs.ServerState.{ServerState};
 
-    ghost Value = { Machine S };
+    ghost Value = { ServerState S };
 
     ghost view = { λ s. record {
       store = s.store;

@@ -35,8 +35,8 @@ use Rattle.share_reading.specs.Verdict.{IsJudged}
 use Rattle.share_reading.specs.Whole.{joined}
 use Rattle.share_reading.specs.declared.judged.Judged.{Judged}
 use Rattle.share_reading.specs.declared.reading.Progress.TheVariants.{Next, Whole}
-use Rattle.share_reading.specs.declared.reading.Reading.{Reading}
-use Rattle.share_reading.specs.declared.reading.Reading.TheVariants.{Beginning, Remaining}
+use Rattle.share_reading.specs.declared.reading.ShareReading.{ShareReading}
+use Rattle.share_reading.specs.declared.reading.ShareReading.TheVariants.{Beginning, Remaining}
 use Rattle.share_reading.specs.declared.rest.Rest.{Rest}
 use Rattle.share_reading.specs.declared.verdict.Verdict.{Verdict}
 use Rattle.share_reading.specs.declared.verdict.Verdict.TheVariants.{Good, Corrupt}
@@ -101,7 +101,7 @@ length_rest cap front back r j bytes led is a =
     let place = ap (λ (p : Places). p.extension_block) is.places in
     omega (arith, all, parts, long, place, a.0, a.1, length-append is.taken bytes)
 
-pub at_end : (cap : VerifyCapValue) (front back : List Brought) (reading : Reading) (bytes : List ℕ) (j : Judged) (of : Option Judging) → j.judging ≡ of → IsReadBy cap front back reading
+pub at_end : (cap : VerifyCapValue) (front back : List Brought) (reading : ShareReading) (bytes : List ℕ) (j : Judged) (of : Option Judging) → j.judging ≡ of → IsReadBy cap front back reading
     → HasJudged cap front back reading of → Advances cap reading bytes Whole → IsAtEnd j bytes
 at_end cap front back (Beginning Start) bytes j of some led is a = absurd a.1
 at_end cap front back (Beginning (Second s)) bytes j of some led is a = absurd a.1
@@ -121,7 +121,7 @@ rest_joined cap front back r j bytes is =
     (λ i. front_is i ++ is.end i)
     ∙ sym (append_assoc (header g ++ (is.taken ++ bytes)) (spelled (layout_of g) (length is.block)) is.block)
 
-pub judged_whole : (cap : VerifyCapValue) (num : ℕ) (front back : List Brought) (reading : Reading) (bytes : List ℕ) (j : Judged) (of : Option Judging) (v : Verdict) → j.judging ≡ of
+pub judged_whole : (cap : VerifyCapValue) (num : ℕ) (front back : List Brought) (reading : ShareReading) (bytes : List ℕ) (j : Judged) (of : Option Judging) (v : Verdict) → j.judging ≡ of
     → HasJudged cap front back reading of → Advances cap reading bytes Whole → IsVerdictOn cap num j bytes v
     → IsJudged cap num (joined (more_front reading bytes front) ++ joined (more_back reading bytes back)) v
 judged_whole cap num front back (Beginning Start) bytes j of v some is a verdict = absurd a.1
@@ -135,16 +135,16 @@ judged_whole cap num front back (Remaining r) bytes j (Some judging) v some is a
 
 -- ---- going on
 
-pub goes_in : {T E : Type 0} (r : Result T E) (old new : Option Judging) (j k : Judging) (reading : Reading) (rest : Rest) (bytes : List ℕ)
+pub goes_in : {T E : Type 0} (r : Result T E) (old new : Option Judging) (j k : Judging) (reading : ShareReading) (rest : Rest) (bytes : List ℕ)
     → old ≡ Some j → reading ≡ Remaining rest → new ≡ Some k
     → OnOk r ((u : Contents) (taken : List ℕ) → HasTaken j u taken → HasTaken k u (taken ++ bytes)) → OnOk r (GoesOn old reading bytes new)
 goes_in (Err e) old new j k reading rest bytes o is n takes = tt
 goes_in (Ok x) old new j k reading rest bytes o is n takes =
-    subst (λ (f : Reading). GoesOn old f bytes new) (sym is) (subst (λ (x : Option Judging). GoesOn x (Remaining rest) bytes new) (sym o) (k, n, takes))
+    subst (λ (f : ShareReading). GoesOn old f bytes new) (sym is) (subst (λ (x : Option Judging). GoesOn x (Remaining rest) bytes new) (sym o) (k, n, takes))
 
-pub goes_first : (old : Option Judging) (k : Judging) (reading : Reading) (rest : Rest) (bytes : List ℕ) → old ≡ None → reading ≡ Remaining rest → HasTaken k rest.ueb [] → GoesOn old reading bytes (Some k)
+pub goes_first : (old : Option Judging) (k : Judging) (reading : ShareReading) (rest : Rest) (bytes : List ℕ) → old ≡ None → reading ≡ Remaining rest → HasTaken k rest.ueb [] → GoesOn old reading bytes (Some k)
 goes_first old k reading rest bytes o is has =
-    subst (λ (f : Reading). GoesOn old f bytes (Some k)) (sym is) (subst (λ (x : Option Judging). GoesOn x (Remaining rest) bytes (Some k)) (sym o) (k, refl, has))
+    subst (λ (f : ShareReading). GoesOn old f bytes (Some k)) (sym is) (subst (λ (x : Option Judging). GoesOn x (Remaining rest) bytes (Some k)) (sym o) (k, refl, has))
 
 -- the rest begins
 first_rest : (cap : VerifyCapValue) (front back : List Brought) (b : PendingBlock) (bytes : List ℕ) (o : Opened) (r : Rest) (j : Judging)
@@ -194,7 +194,7 @@ block_judged cap front back h b bytes new small none a is =
           ∙ ap (λ (i : ShareHeader). spelled i.places.layout b.block_length) (sym same),
     )
 
-pub judged_on : (cap : VerifyCapValue) (front back : List Brought) (old new : Reading) (bytes : List ℕ) (of then : Option Judging) → ((i : ℕ) → get_or bytes i 0 < 256)
+pub judged_on : (cap : VerifyCapValue) (front back : List Brought) (old new : ShareReading) (bytes : List ℕ) (of then : Option Judging) → ((i : ℕ) → get_or bytes i 0 < 256)
     → IsReadBy cap front back old → HasJudged cap front back old of → Advances cap old bytes (Next new) → GoesOn of new bytes then
     → HasJudged cap (more_front old bytes front) (more_back old bytes back) new then
 judged_on cap front back (Beginning Start) (Beginning Start) bytes of then small led is a goes = absurd a.1

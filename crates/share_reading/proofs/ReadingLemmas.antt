@@ -31,8 +31,8 @@ use Rattle.share_reading.proofs.BlameLemmas.{refused_fail}
 use Rattle.share_reading.specs.Reading.{next_length, next_place}
 use Rattle.share_reading.specs.Reads.{Ask, AsksNone, End, GoOn, HasHeaderBy, IsAsked, IsOpenedBy, IsReadBy, IsRest, IsRestBy, Stop}
 use Rattle.share_reading.specs.Whole.{AreConsecutive}
-use Rattle.share_reading.specs.declared.reading.Reading.{Reading}
-use Rattle.share_reading.specs.declared.reading.Reading.TheVariants.{Beginning, Remaining}
+use Rattle.share_reading.specs.declared.reading.ShareReading.{ShareReading}
+use Rattle.share_reading.specs.declared.reading.ShareReading.TheVariants.{Beginning, Remaining}
 use Rattle.share_reading.specs.declared.rest.Rest.{Rest}
 use Rattle.share_reading.proofs.ConsecutiveLemmas.{append, inside, push, whole}
 
@@ -69,7 +69,7 @@ led_by cap front back (Block b) is = (
 before : (front : List Brought) (end len : ℕ) (read : Brought) → AreConsecutive 0 front end → Contains front read → AsksNone read end len
 before front end len read is at = inl (inside 0 end front read is at).1
 
-apart : (cap : VerifyCapValue) (front back : List Brought) (r : Reading) → IsReadBy cap front back r → (read : Brought) → Contains (front ++ back) read
+apart : (cap : VerifyCapValue) (front back : List Brought) (r : ShareReading) → IsReadBy cap front back r → (read : Brought) → Contains (front ++ back) read
     → AsksNone read (next_place r) (next_length r)
 apart cap front back (Beginning Start) is read at =
     absurd (contains_none read (subst (λ (l : List Brought). Contains l read) (ap (λ (l : List Brought). l ++ back) is.0 ∙ is.1) at))

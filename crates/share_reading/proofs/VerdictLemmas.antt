@@ -23,8 +23,8 @@ use Rattle.share_reading.proofs.ReadLemmas.{more_led}
 use Rattle.share_reading.specs.Reading.{Advances, IsStop, next_place}
 use Rattle.share_reading.specs.Reads.{IsOpenedBy}
 use Rattle.share_reading.specs.declared.reading.Progress.TheVariants.{Whole}
-use Rattle.share_reading.specs.declared.reading.Reading.{Reading}
-use Rattle.share_reading.specs.declared.reading.Reading.TheVariants.{Beginning, Remaining}
+use Rattle.share_reading.specs.declared.reading.ShareReading.{ShareReading}
+use Rattle.share_reading.specs.declared.reading.ShareReading.TheVariants.{Beginning, Remaining}
 use Rattle.share_reading.specs.declared.rest.Rest.{Rest}
 use Rattle.share_reading.specs.Verdict.{AreAnswered, AreApart, AreExclusive, AreFull, FailsFirst, HasLed, IsGood, IsLost, IsStopped, IsVerdict, Settled, brought_at, brought_by, brought_of}
 use Rattle.share_reading.specs.declared.verdict.Verdict.{Verdict}
@@ -194,7 +194,7 @@ brought_apart reads apart one other a b e =
 
 -- what the reads brought, where they led to a reading and then to these bytes
 module _ (cap : VerifyCapValue) (reads : List Settled) where
-  last_at : (r : Reading) (bytes : List ℕ) → HasLed cap reads r bytes → Contains (brought_of reads) (next_place r, bytes)
+  last_at : (r : ShareReading) (bytes : List ℕ) → HasLed cap reads r bytes → Contains (brought_of reads) (next_place r, bytes)
   last_at r bytes l = brought_has reads _ bytes l.last refl
 
   led_at : (o : Opening) (bytes : List ℕ) → HasLed cap reads (Beginning o) bytes → IsLedToBy (brought_of reads) o
@@ -204,7 +204,7 @@ module _ (cap : VerifyCapValue) (reads : List Settled) where
   rest_opened : (r : Rest) (bytes : List ℕ) → HasLed cap reads (Remaining r) bytes → IsOpenedBy cap (brought_of reads)
   rest_opened r bytes l = opened_more cap (l.front ++ l.back) (brought_of reads) l.among l.led.begun
 
-  ends_opened : (r : Reading) (bytes : List ℕ) → HasLed cap reads r bytes → Advances cap r bytes Whole → IsOpenedBy cap (brought_of reads)
+  ends_opened : (r : ShareReading) (bytes : List ℕ) → HasLed cap reads r bytes → Advances cap r bytes Whole → IsOpenedBy cap (brought_of reads)
   ends_opened (Beginning Start) bytes l a = absurd a.1
   ends_opened (Beginning (Second s)) bytes l a = absurd a.1
   ends_opened (Beginning (Header h)) bytes l a = absurd a.1
@@ -213,7 +213,7 @@ module _ (cap : VerifyCapValue) (reads : List Settled) where
   ends_opened (Remaining r) bytes l a = rest_opened r bytes l
 
   module _ (apart : AreApart reads) where
-    one_stop : (r t : Reading) (bytes more : List ℕ) (one other : Check) → HasLed cap reads r bytes → HasLed cap reads t more → IsStop cap r bytes one → IsStop cap t more other → one ≡ other
+    one_stop : (r t : ShareReading) (bytes more : List ℕ) (one other : Check) → HasLed cap reads r bytes → HasLed cap reads t more → IsStop cap r bytes one → IsStop cap t more other → one ≡ other
     one_stop (Beginning o) (Beginning p) bytes more one other l k why also =
         why.2
         ∙ one_check cap (brought_of reads) (brought_apart reads apart) o p bytes more why.0 also.0
@@ -226,7 +226,7 @@ module _ (cap : VerifyCapValue) (reads : List Settled) where
         absurd (refused_or_opened cap (brought_of reads) (brought_apart reads apart) p more also.0 (led_at p more k) (last_at (Beginning p) more k) also.1 (rest_opened r bytes l))
     one_stop (Remaining r) (Remaining t) bytes more one other l k why also = why.1 ∙ sym also.1
 
-    stopped_or_ended : (r t : Reading) (bytes more : List ℕ) (check : Check) → HasLed cap reads r bytes → IsStop cap r bytes check → AreFull reads
+    stopped_or_ended : (r t : ShareReading) (bytes more : List ℕ) (check : Check) → HasLed cap reads r bytes → IsStop cap r bytes check → AreFull reads
         → HasLed cap reads t more → Advances cap t more Whole → ⊥
     stopped_or_ended (Beginning o) t bytes more check l why full k a =
         refused_or_opened cap (brought_of reads) (brought_apart reads apart) o bytes why.0 (led_at o bytes l) (last_at (Beginning o) bytes l) why.1 (ends_opened t more k a)

@@ -16,8 +16,8 @@ use Rattle.share_reading.specs.declared.judged.Found.{Found}
 use Rattle.share_reading.specs.declared.judged.Found.TheVariants as found
 use Rattle.share_reading.specs.declared.judged.Judged.{Judged}
 use Rattle.share_reading.specs.declared.reading.Progress.TheVariants.{Next, Whole}
-use Rattle.share_reading.specs.declared.reading.Reading.{Reading}
-use Rattle.share_reading.specs.declared.reading.Reading.TheVariants.{Beginning, Remaining}
+use Rattle.share_reading.specs.declared.reading.ShareReading.{ShareReading}
+use Rattle.share_reading.specs.declared.reading.ShareReading.TheVariants.{Beginning, Remaining}
 use Rattle.share_reading.specs.declared.rest.Rest.{Rest}
 use Rattle.share_reading.specs.declared.verdict.Verdict.{Verdict}
 
@@ -36,7 +36,7 @@ pub record HasRest (cap : VerifyCapValue) (front back : List Brought) (r : Rest)
 
 -- what is judged of a share that is read so far by these reads: of its beginning nothing
 abbrev pub HasJudged
-    : VerifyCapValue → List Brought → List Brought → Reading → Option Judging → Type 0
+    : VerifyCapValue → List Brought → List Brought → ShareReading → Option Judging → Type 0
 HasJudged cap front back (Beginning Start) j = j ≡ None
 HasJudged cap front back (Beginning (Second s)) j = j ≡ None
 HasJudged cap front back (Beginning (Header h)) j = j ≡ None
@@ -46,25 +46,25 @@ HasJudged cap front back (Remaining r) None = ⊥
 HasJudged cap front back (Remaining r) (Some j) = HasRest cap front back r j
 
 abbrev pub IsJudgedBy
-    : VerifyCapValue → List Brought → List Brought → Reading → Judged → Type 0
+    : VerifyCapValue → List Brought → List Brought → ShareReading → Judged → Type 0
 IsJudgedBy cap front back reading j = HasJudged cap front back reading j.judging
 
 -- reads led to the reading, and what they brought is judged so far
-pub record IsUnderway (cap : VerifyCapValue) (reading : Reading) (j : Judged) : Type 0 where
+pub record IsUnderway (cap : VerifyCapValue) (reading : ShareReading) (j : Judged) : Type 0 where
   pub front : List Brought
   pub back : List Brought
   pub led : IsReadBy cap front back reading
   pub judged : IsJudgedBy cap front back reading j
 
 -- what comes of the bytes that the next read brought
-abbrev pub Comes : VerifyCapValue → Reading → List ℕ → Found → Type 0
+abbrev pub Comes : VerifyCapValue → ShareReading → List ℕ → Found → Type 0
 Comes cap reading bytes (found.Next next) = Advances cap reading bytes (Next next)
 Comes cap reading bytes (found.Whole verdict) = Advances cap reading bytes Whole
 Comes cap reading bytes (found.Stopped check) = IsStop cap reading bytes check
 
 -- With the bytes that the next read brought, more is judged; at the end the verdict is the one on
 -- the bytes of all reads, joined.
-abbrev pub IsJudgedOn : VerifyCapValue → ℕ → List Brought → List Brought → Reading → List ℕ
+abbrev pub IsJudgedOn : VerifyCapValue → ℕ → List Brought → List Brought → ShareReading → List ℕ
     → Found → Judged → Type 0
 IsJudgedOn cap num front back reading bytes (found.Next next) new =
     IsJudgedBy cap (more_front reading bytes front) (more_back reading bytes back) next new
@@ -76,7 +76,7 @@ IsJudgedOn cap num front back reading bytes (found.Stopped check) new = Unit {0}
 -- ---- words of private clauses
 
 -- the judging begins with the rest, and takes its bytes
-abbrev pub GoesOn : Option Judging → Reading → List ℕ → Option Judging → Type 0
+abbrev pub GoesOn : Option Judging → ShareReading → List ℕ → Option Judging → Type 0
 GoesOn old (Beginning opening) bytes new = new ≡ old
 GoesOn None (Remaining r) bytes new = (j : Judging) × (new ≡ Some j) × HasTaken j r.ueb []
 GoesOn (Some old) (Remaining r) bytes new =

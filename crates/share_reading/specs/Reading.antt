@@ -13,24 +13,24 @@ use Rattle.share_reading.specs.declared.block.Opened.{Opened}
 use Rattle.share_reading.specs.declared.error.OpeningError.{OpeningError}
 use Rattle.share_reading.specs.declared.opening.Opening.TheVariants.{Header, Block}
 use Rattle.share_reading.specs.declared.opening.Progress.TheVariants as progress
-use Rattle.share_reading.specs.declared.reading.Reading.{Reading}
-use Rattle.share_reading.specs.declared.reading.Reading.TheVariants.{Beginning, Remaining}
+use Rattle.share_reading.specs.declared.reading.ShareReading.{ShareReading}
+use Rattle.share_reading.specs.declared.reading.ShareReading.TheVariants.{Beginning, Remaining}
 use Rattle.share_reading.specs.declared.reading.Progress.{Progress}
 use Rattle.share_reading.specs.declared.reading.Progress.TheVariants.{Next, Whole}
 
 -- where the next read begins
-abbrev pub next_place : Reading → ℕ
+abbrev pub next_place : ShareReading → ℕ
 next_place (Beginning o) = opening.next_place o
 next_place (Remaining r) = r.next
 
 -- and how many bytes it asks for
-abbrev pub next_length : Reading → ℕ
+abbrev pub next_length : ShareReading → ℕ
 next_length (Beginning o) = opening.next_length o
 next_length (Remaining r) = min (r.places.extension_block - r.next) most_data
 
 -- are the next bytes the extension block's length or the extension block? They stand behind the
 -- rest.
-abbrev pub is_behind : Reading → Bool
+abbrev pub is_behind : ShareReading → Bool
 is_behind (Beginning (Header h)) = true
 is_behind (Beginning (Block b)) = true
 is_behind reading = false
@@ -43,7 +43,7 @@ BeginsRest o (Next (Beginning next)) = ⊥
 BeginsRest o Whole = o.places.extension_block ≤ header_size o.places.layout
 
 -- what comes of the bytes that the next read brought, which are as many as it asked for
-abbrev pub Advances : VerifyCapValue → Reading → List ℕ → Progress → Type 0
+abbrev pub Advances : VerifyCapValue → ShareReading → List ℕ → Progress → Type 0
 Advances cap (Beginning o) bytes (Next (Beginning next)) =
     opening.Advances cap o bytes (progress.Next next)
 Advances cap (Beginning o) bytes (Next (Remaining r)) =
@@ -60,7 +60,7 @@ Advances cap (Remaining r) bytes Whole = (length bytes ≡ next_length (Remainin
     × (r.next + next_length (Remaining r) ≡ r.places.extension_block)
 
 -- why the share is not read on: the first fault of its beginning, or a wrong length
-abbrev pub IsStop : VerifyCapValue → Reading → List ℕ → Check → Type 0
+abbrev pub IsStop : VerifyCapValue → ShareReading → List ℕ → Check → Type 0
 IsStop cap (Beginning o) bytes check =
     (error : OpeningError) × IsRefused cap o bytes error × (check ≡ check_of error)
 IsStop cap (Remaining r) bytes check = (length bytes ≢ next_length (Remaining r)) × (check ≡ Layout)

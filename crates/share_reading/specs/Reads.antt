@@ -21,9 +21,9 @@ use Rattle.share_reading.specs.declared.opening.Progress.TheVariants as progress
 use Rattle.share_reading.specs.Reading.{Advances, IsStop, is_behind, next_length}
 use Rattle.share_reading.specs.Reading.{next_place}
 use Rattle.share_reading.specs.Whole.{AreConsecutive, IsWhole, joined}
-use Rattle.share_reading.specs.declared.reading.Reading.{Reading}
+use Rattle.share_reading.specs.declared.reading.ShareReading.{ShareReading}
 use Rattle.share_reading.specs.declared.rest.Rest.{Rest}
-use Rattle.share_reading.specs.declared.reading.Reading.TheVariants.{Beginning, Remaining}
+use Rattle.share_reading.specs.declared.reading.ShareReading.TheVariants.{Beginning, Remaining}
 use Rattle.share_reading.specs.declared.reading.Progress.TheVariants.{Next, Whole}
 
 -- where an extension block stands: behind its length
@@ -71,7 +71,7 @@ pub record IsRestBy (cap : VerifyCapValue) (front back : List Brought) (r : Rest
 
 -- These reads led to the reading: `front` those from the share's beginning on, and `back` those of
 -- the extension block and its length.
-abbrev pub IsReadBy : VerifyCapValue → List Brought → List Brought → Reading → Type 0
+abbrev pub IsReadBy : VerifyCapValue → List Brought → List Brought → ShareReading → Type 0
 IsReadBy cap front back (Beginning Start) = (front ≡ []) × (back ≡ [])
 IsReadBy cap front back (Beginning (Second s)) = (front ≡ (0, s.bytes) ∷ []) × (back ≡ [])
 IsReadBy cap front back (Beginning (Header h)) = HasHeaderBy front h × (back ≡ [])
@@ -82,11 +82,11 @@ IsReadBy cap front back (Beginning (Block b)) = HasHeaderBy front b.header
 IsReadBy cap front back (Remaining r) = IsRestBy cap front back r
 
 -- with the bytes that the next read brought, these are the reads of `front`, and these of `back`
-abbrev pub more_front : Reading → List ℕ → List Brought → List Brought
+abbrev pub more_front : ShareReading → List ℕ → List Brought → List Brought
 more_front r bytes front =
     if is_behind r then front else front ++ (next_place r, bytes) ∷ []
 
-abbrev pub more_back : Reading → List ℕ → List Brought → List Brought
+abbrev pub more_back : ShareReading → List ℕ → List Brought → List Brought
 more_back r bytes back = if is_behind r then back ++ (next_place r, bytes) ∷ [] else back
 
 -- the read asks for none of these bytes
@@ -96,20 +96,21 @@ AsksNone read place len = (read.0 + length read.1 ≤ place) ⊎ (place + len �
 -- a law: the next read is one of the share's beginning or of its rest, and asks for no byte that
 -- was read
 abbrev pub Ask : Type 0
-Ask = (cap : VerifyCapValue) (front back : List Brought) (r : Reading) → IsReadBy cap front back r
+Ask = (cap : VerifyCapValue) (front back : List Brought) (r : ShareReading)
+    → IsReadBy cap front back r
     → IsAsked cap (front ++ back) (next_place r) (next_length r)
     × ((read : Brought) → Contains (front ++ back) read
     → AsksNone read (next_place r) (next_length r))
 
 -- a law: with the bytes that the next read brought, the reads lead to the reading that goes on
 abbrev pub GoOn : Type 0
-GoOn = (cap : VerifyCapValue) (front back : List Brought) (old new : Reading) (bytes : List ℕ)
+GoOn = (cap : VerifyCapValue) (front back : List Brought) (old new : ShareReading) (bytes : List ℕ)
     → IsReadBy cap front back old → Advances cap old bytes (Next new)
     → IsReadBy cap (more_front old bytes front) (more_back old bytes back) new
 
 -- a law: at the end the reads brought all bytes of a share, joined by place
 abbrev pub End : Type 0
-End = (cap : VerifyCapValue) (front back : List Brought) (old : Reading) (bytes : List ℕ)
+End = (cap : VerifyCapValue) (front back : List Brought) (old : ShareReading) (bytes : List ℕ)
     → IsReadBy cap front back old → Advances cap old bytes Whole
     → let reads = more_front old bytes front ++ more_back old bytes back in
     IsWhole reads (joined reads)
@@ -117,7 +118,7 @@ End = (cap : VerifyCapValue) (front back : List Brought) (old : Reading) (bytes 
 -- a law: where a share is not read on for what came, no share that has what was read passes the
 -- check
 abbrev pub Stop : Type 0
-Stop = (cap : VerifyCapValue) (front back : List Brought) (r : Reading) (bytes : List ℕ)
+Stop = (cap : VerifyCapValue) (front back : List Brought) (r : ShareReading) (bytes : List ℕ)
     (check : Check) (num : ℕ) (share : List ℕ)
     → IsReadBy cap front back r → IsStop cap r bytes check → length bytes ≡ next_length r
     → HasReads (front ++ back) share → HasAt share (next_place r) bytes

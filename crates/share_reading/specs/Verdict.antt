@@ -12,7 +12,7 @@ use Rattle.share_reading.specs.Reading.{Advances, IsStop, next_length, next_plac
 use Rattle.share_reading.specs.Reads.{IsReadBy}
 use Rattle.share_reading.specs.Whole.{IsWhole}
 use Rattle.share_reading.specs.declared.reading.Progress.TheVariants.{Whole}
-use Rattle.share_reading.specs.declared.reading.Reading.{Reading}
+use Rattle.share_reading.specs.declared.reading.ShareReading.{ShareReading}
 use Rattle.share_reading.specs.declared.verdict.Verdict.{Verdict}
 use Rattle.share_reading.specs.declared.verdict.Verdict.TheVariants.{Good, Corrupt, Lost}
 
@@ -53,7 +53,7 @@ pub record IsGood (cap : VerifyCapValue) (num : ℕ) (reads : List Settled) : Ty
 
 -- what the reads brought led to a reading, and one of them brought these bytes, the next that it
 -- asks for
-pub record HasLed (cap : VerifyCapValue) (reads : List Settled) (reading : Reading)
+pub record HasLed (cap : VerifyCapValue) (reads : List Settled) (reading : ShareReading)
     (bytes : List ℕ) : Type 0 where
   pub front : List Brought
   pub back : List Brought
@@ -69,7 +69,7 @@ pub record HasLed (cap : VerifyCapValue) (reads : List Settled) (reading : Readi
 -- what the reads brought led to a reading that stopped by this check
 pub record IsStopped (cap : VerifyCapValue) (reads : List Settled) (check : Check) : Type 0 where
   pub answered : AreAnswered reads
-  pub reading : Reading
+  pub reading : ShareReading
   pub bytes : List ℕ
   pub led : HasLed cap reads reading bytes
   pub stop : IsStop cap reading bytes check
@@ -78,7 +78,7 @@ pub record IsStopped (cap : VerifyCapValue) (reads : List Settled) (check : Chec
 -- place, it fails this check first.
 pub record FailsFirst (cap : VerifyCapValue) (num : ℕ) (reads : List Settled) (check : Check)
     : Type 0 where
-  pub reading : Reading
+  pub reading : ShareReading
   pub last_bytes : List ℕ
   pub led : HasLed cap reads reading last_bytes
   pub ends : Advances cap reading last_bytes Whole

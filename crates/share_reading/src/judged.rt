@@ -8,7 +8,7 @@ ghost use Rattle.share_reading.specs.Judged.{Comes, GoesOn, IsAtEnd, IsJudgedBy,
 ghost use Rattle.share_reading.specs.Judged.{IsUnderway, IsVerdictOn};
 ghost use Rattle.share_reading.specs.Reads.{IsReadBy};
 
-use crate::reading::{Progress, Reading};
+use crate::reading::{Progress, ShareReading};
 use crate::verdict::{Verdict, verdict_of};
 use cap_text::VerifyCap;
 use share_verify::{Check, Judging};
@@ -28,7 +28,7 @@ pub struct Judged {
 #[derive(Clone, Copy, PartialEq, Eq)]
 pub enum Found {
     /// More is to be read.
-    Next(Reading),
+    Next(ShareReading),
     /// All bytes of the share are read, and this is the verdict on them.
     Whole(Verdict),
     /// The share is not read on: it fails this check first.
@@ -39,7 +39,7 @@ impl Judged {
     /// Nothing is judged of a share of which nothing was read. Takes no memory.
     pub fn begin(alloc: Global) -> Judged
         ensures { (cap : VerifyCapValue)
-            → IsJudgedBy cap [] [] (Reading.Beginning openings.Start) result }
+            → IsJudgedBy cap [] [] (ShareReading.Beginning openings.Start) result }
     {
         Judged {
             alloc,
@@ -55,7 +55,7 @@ impl Judged {
         &mut self,
         cap: &VerifyCap,
         num: u16,
-        reading: &Reading,
+        reading: &ShareReading,
         bytes: &[u8],
     ) -> Result<Found, AllocError>
         requires underway { IsUnderway cap.now reading.now self.old }
@@ -76,10 +76,10 @@ impl Judged {
     }
 
     // Takes the bytes that led to this reading.
-    fn go_on(&mut self, next: &Reading, bytes: &[u8]) -> Result<(), AllocError>
+    fn go_on(&mut self, next: &ShareReading, bytes: &[u8]) -> Result<(), AllocError>
         ensures { OnOk result (GoesOn self.old.judging next.now bytes.now self.new.judging) }
     {
-        let Reading::Remaining(rest) = next else {
+        let ShareReading::Remaining(rest) = next else {
             return Ok(());
         };
         match &mut self.judging {

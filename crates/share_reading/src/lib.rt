@@ -36,6 +36,6 @@ pub use laws::{
 };
 pub use opening::Opening;
 pub use opening_laws::{reads_lead_on, reads_rise, refused_shares_fail};
-pub use reading::{Progress, Reading};
+pub use reading::{Progress, ShareReading};
 pub use rest::Rest;
 pub use verdict::Verdict;

@@ -14,7 +14,7 @@ use share_verify::Check;
 
 /// How far a share is read.
 #[derive(Clone, Copy, PartialEq, Eq)]
-pub enum Reading {
+pub enum ShareReading {
     /// Its beginning is read.
     Beginning(Opening),
     /// Its beginning was read and tested, and the bytes before its extension block are read.
@@ -25,17 +25,17 @@ pub enum Reading {
 #[derive(Clone, Copy, PartialEq, Eq)]
 pub enum Progress {
     /// More is to be read.
-    Next(Reading),
+    Next(ShareReading),
     /// All bytes of the share are read.
     Whole,
 }
 
-impl Reading {
+impl ShareReading {
     /// The reading of a share of which nothing was read.
-    pub fn start() -> Reading
-        ensures { result ≡ Reading.Beginning Opening.Start }
+    pub fn start() -> ShareReading
+        ensures { result ≡ ShareReading.Beginning Opening.Start }
     {
-        Reading::Beginning(Opening::start())
+        ShareReading::Beginning(Opening::start())
     }
 
     /// The place of the first byte to read next.
@@ -43,8 +43,8 @@ impl Reading {
         ensures { result ≡ next_place self.now }
     {
         match self {
-            Reading::Beginning(opening) => opening.next_place(),
-            Reading::Remaining(rest) => rest.next,
+            ShareReading::Beginning(opening) => opening.next_place(),
+            ShareReading::Remaining(rest) => rest.next,
         }
     }
 
@@ -54,8 +54,8 @@ impl Reading {
         ensures range { (0 < result) × (result ≤ most_data) }
     {
         match self {
-            Reading::Beginning(opening) => opening.next_length(),
-            Reading::Remaining(rest) => rest.next_length(),
+            ShareReading::Beginning(opening) => opening.next_length(),
+            ShareReading::Remaining(rest) => rest.next_length(),
         }
     }
 
@@ -66,7 +66,7 @@ impl Reading {
     {
         matches!(
             self,
-            Reading::Beginning(Opening::Header(_)) | Reading::Beginning(Opening::Block(_))
+            ShareReading::Beginning(Opening::Header(_)) | ShareReading::Beginning(Opening::Block(_))
         )
     }
 
@@ -79,12 +79,14 @@ impl Reading {
             ↔ IsStop cap.now self.now bytes.now check }
     {
         match self {
-            Reading::Beginning(opening) => match opening.take(cap, bytes) {
-                Ok(OpeningProgress::Next(next)) => Ok(Progress::Next(Reading::Beginning(next))),
+            ShareReading::Beginning(opening) => match opening.take(cap, bytes) {
+                Ok(OpeningProgress::Next(next)) => Ok(Progress::Next(ShareReading::Beginning(
+                    next,
+                ))),
                 Ok(OpeningProgress::Done(opened)) => Ok(Rest::begin(&opened)),
                 Err(error) => Err(error.check()),
             },
-            Reading::Remaining(rest) => rest.take(bytes),
+            ShareReading::Remaining(rest) => rest.take(bytes),
         }
     }
 }

@@ -9,7 +9,7 @@ ghost use Rattle.share_verify.specs.declared.check.Check.{Check};
 ghost use Rattle.wire.specs.Limits.{most_data};
 
 use crate::block::Opened;
-use crate::reading::{Progress, Reading};
+use crate::reading::{Progress, ShareReading};
 use share_layout::Places;
 use share_verify::{Check, geometry_of};
 use ueb::Ueb;
@@ -30,7 +30,7 @@ pub struct Rest {
 
 impl Rest {
     ghost use Rattle.share_reading.specs.Reading.{Advances, BeginsRest, IsStop, next_length};
-    ghost use Rattle.share_reading.specs.declared.reading.Reading.TheVariants as readings;
+    ghost use Rattle.share_reading.specs.declared.reading.ShareReading.TheVariants as readings;
 
     /// How many bytes a `Judged` may keep of the share: a hash for each block, eight blocks, the
     /// trees and the share hashes, all of it twice, since its lists may have room for as much more.
@@ -51,7 +51,7 @@ impl Rest {
         let places = opened.places;
         let next = places.layout.header_size() as u64;
         if next < places.extension_block {
-            Progress::Next(Reading::Remaining(Rest {
+            Progress::Next(ShareReading::Remaining(Rest {
                 ueb: opened.ueb,
                 places,
                 next,
@@ -84,7 +84,7 @@ impl Rest {
         let end = self.places.extension_block;
         let next = self.next + u64::from(length);
         if next < end {
-            return Ok(Progress::Next(Reading::Remaining(Rest {
+            return Ok(Progress::Next(ShareReading::Remaining(Rest {
                 ueb: self.ueb,
                 places: self.places,
                 next,

@@ -1,6 +1,7 @@
 //! Whether bytes that are read have a share's digest.
 
-ghost use Rattle.std.specs.Prelude.{◌≡◌, ◌≢◌, ◌<◌, length, IfErr, IfOk, IfSome, OnOk, Option, List, ℕ};
+ghost use Rattle.std.specs.Prelude.{◌≡◌, ◌≢◌, ◌<◌, length, IfErr, IfOk, IfSome, OnOk, Option, List};
+ghost use Rattle.std.specs.Prelude.{ℕ};
 ghost use Rattle.std.specs.IoError.{error_kind};
 ghost use Rattle.std.specs.declared.io.ErrorKind.TheVariants.{Interrupted};
 ghost use Rattle.std.specs.Io.KnownBytes.{IsAtEnd};

@@ -1,7 +1,9 @@
 -- What a store over files does, as far as its table tells. What the files hold is for the folder to
 -- keep.
-use Rattle.std.specs.Prelude.{◌≡◌, ℕ, ◌+◌, ◌-◌, ◌^◌, ◌==◌, min, List, [], length, map, false, Option}
-use Rattle.std.specs.Prelude.{Some, None, Result, Ok, Err, if◌then◌else◌, option_map, unwrap_or, OnOk}
+use Rattle.std.specs.Prelude.{◌≡◌, ℕ, ◌+◌, ◌-◌, ◌^◌, ◌==◌, min, List, [], length, map, false}
+use Rattle.std.specs.Prelude.{Option}
+use Rattle.std.specs.Prelude.{Some, None, Result, Ok, Err, if◌then◌else◌, option_map, unwrap_or}
+use Rattle.std.specs.Prelude.{OnOk}
 use Rattle.std.specs.BTreeMap.{insert_entry}
 use Rattle.wire.specs.declared.message.ShareId.{ShareId}
 use Rattle.wire.specs.declared.message.HeldShare.{HeldShare}
@@ -13,8 +15,8 @@ use Rattle.share_store.specs.Calls.{Calls}
 use Rattle.share_store.specs.Table.{AreSeen}
 use Rattle.share_store.specs.declared.files.OpenShare.{OpenShare}
 
--- the folder's path, the closed shares, how many bytes were written to each open one, the bytes that
--- the closed ones have together, and the faults so far
+-- the folder's path, the closed shares, how many bytes were written to each open one, the bytes
+-- that the closed ones have together, and the faults so far
 pub record FolderState : Type 0 where
   pub folder : List ℕ
   pub closed : List (Place × KeptShare)

@@ -76,8 +76,8 @@ impl<R: Files + AllocGlobal + Clone + Drop> FolderStore<R> {
     /// ignored, and so are files with other names and what is no regular file. Of two closed files
     /// of one share the one with the lower digest text counts.
     ///
-    /// `StoreFault` where the folder cannot be made or read, or, for synced writing, its name or the
-    /// names of the closed shares not be put on the disk.
+    /// `StoreFault` where the folder cannot be made or read, or, for synced writing, its name or
+    /// the names of the closed shares not be put on the disk.
     pub fn open(rt: &R, folder: &str, purpose: Purpose) -> Result<FolderStore<R>, StoreError>
         ensures { IfOk result (λ s. (s.folder ≡ folder.now) × (s.opened ≡ [])
             × (s.used ≡ kept_bytes s.closed) × (s.failures ≡ 0)) }

@@ -2,7 +2,8 @@
 
 ghost use Rattle.std.specs.Prelude.{◌≡◌, ◌≤◌, ◌*◌, ◌+◌, ◌++◌, List, MatchResult, ℕ, length};
 ghost use Rattle.cap_text.specs.Cap.{VerifyCapValue};
-ghost use Rattle.share_layout.specs.Geometry.{hashes_size, segment_count, share_data_size, tree_size};
+ghost use Rattle.share_layout.specs.Geometry.{hashes_size, segment_count, share_data_size};
+ghost use Rattle.share_layout.specs.Geometry.{tree_size};
 ghost use Rattle.share_layout.specs.Share.{share_bytes};
 ghost use Rattle.share_verify.specs.CapBlock.{IsUebFor, geometry_by};
 ghost use Rattle.share_verify.specs.Hashed.{AreHashed, HaveHashLengths, sections_with};

@@ -7,7 +7,7 @@ use std::net::{Ipv4Addr, Net, OpenListener, OpenStream, SocketAddr, TcpListener,
 use std::time::Duration;
 
 // How many seconds a read or write may wait for the other end, which is in this process too.
-const PATIENCE: u64 = 5;
+const TIMEOUT: u64 = 5;
 
 // How many strangers may knock at a server before the client is let in.
 const STRANGERS: usize = 16;
@@ -40,9 +40,9 @@ fn prepared<S: OpenStream + Drop>(pair: SocketPair<S>) -> io::Result<SocketPair<
 
 fn prepare<S: OpenStream>(stream: &S) -> io::Result<()> {
     stream.set_nodelay(true)?;
-    let patience = Some(Duration::from_secs(PATIENCE));
-    stream.set_read_timeout(patience)?;
-    stream.set_write_timeout(patience)
+    let timeout = Some(Duration::from_secs(TIMEOUT));
+    stream.set_read_timeout(timeout)?;
+    stream.set_write_timeout(timeout)
 }
 
 // The connection that comes from this address. Another program may have connected first.

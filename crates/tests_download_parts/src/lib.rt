@@ -1,6 +1,6 @@
 //! The tests of the parts that a download has of shares: how one is begun to be read, which is read
-//! next, plans, what sources are asked for, hash trees, and segments. They look at what no contract
-//! says, and at values from outside.
+//! next, plans, what supplies are asked for, hash trees, and segments. They look at what no
+//! contract says, and at values from outside.
 #![tactic(auto)]
 
 #[cfg(test)]
@@ -20,6 +20,6 @@ mod row_tests;
 #[cfg(test)]
 mod share_tests;
 #[cfg(test)]
-mod source_tests;
+mod supply_tests;
 #[cfg(test)]
 mod taking;

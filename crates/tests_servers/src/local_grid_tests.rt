@@ -1,4 +1,5 @@
-//! An operation of the tests' own over servers in memory, some of which fail, and links that go wrong.
+//! An operation of the tests' own over servers in memory, some of which fail, and links that go
+//! wrong.
 //!
 //! The test whose name begins with `refused_memory` passes too where any one allocation of its is
 //! refused.

@@ -238,7 +238,7 @@ never_inconsistent w c no_clash file secret p d s of e =
 
 pub blocks_are_own : (w : WorldState) → IsConsistent w → HasNoClashInTests w → BlocksAreOwn w
 blocks_are_own w c no_clash file secret p d f place segment r s of there at own =
-    own_block w c no_clash file secret p s d of f there r.share segment (block_of d.requests.entries r.source segment)
+    own_block w c no_clash file secret p s d of f there r.share segment (block_of d.requests.entries r.supply segment)
     (right_blocks d f place segment r (right w c no_clash file secret p s d of) there at own)
 
 pub good_shares_are_own : (w : WorldState) → IsConsistent w → HasNoClashInTests w → GoodSharesAreOwn w

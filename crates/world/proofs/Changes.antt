@@ -17,7 +17,7 @@ use Rattle.request_record.specs.declared.requests.Request.{Request}
 use Rattle.share_store.specs.Memory.{MemoryState}
 use Rattle.share_store.specs.Shelf.{Shelf, digest_at}
 use Rattle.share_store.specs.declared.shelf.ClosedShare.{ClosedShare}
-use Rattle.server_core.specs.Machine.{Machine}
+use Rattle.server_core.specs.ServerState.{ServerState}
 use Rattle.server_core.specs.Sound.{ClosedStay, IsAnswer, IsSound, Tells, is_request}
 use Rattle.world_operations.specs.declared.job.Job.{Job}
 use Rattle.world_operations.specs.declared.job.Job.TheVariants.{Upload, Changing, Download, Check, Repair, NoRepair}
@@ -64,7 +64,7 @@ tells_on old new (Close id) (Closed digest) stays t = digest_stays old new id di
 tells_on old new (Read id offset len) (Data bytes) stays t = (t.0, stays id t.0 t.1, t.2)
 tells_on old new _ _ stays t = tt
 
-justified_on : (old new : Machine MemoryState) (sent : List Sent) (x : Sent) (answer : Message) → ClosedStay old.store.shelf new.store.shelf
+justified_on : (old new : ServerState MemoryState) (sent : List Sent) (x : Sent) (answer : Message) → ClosedStay old.store.shelf new.store.shelf
     → IsJustified old sent x answer → IsJustified new sent x answer
 justified_on old new sent x answer stays j = record {
   frame = j.frame;
@@ -82,16 +82,16 @@ justified_on old new sent x answer stays j = record {
   };
 }
 
-pub server_changed : (servers : List (Machine MemoryState)) (operations : List Operation) (sent : List Sent) (node : ℕ) (old new : Machine MemoryState)
+pub server_changed : (servers : List (ServerState MemoryState)) (operations : List Operation) (sent : List Sent) (node : ℕ) (old new : ServerState MemoryState)
     → slice_get servers node ≡ Some old → ClosedStay old.store.shelf new.store.shelf → IsSound (shelved new)
     → AreConsistent servers operations sent → AreConsistent (slice_set servers node new) operations sent
 server_changed servers operations sent node old new at stays is_sound c = record {
   sound = λ j m e. elim (get_set servers node j m new e) [
-    | inl h ↦ subst (λ (n : Machine MemoryState). IsSound (shelved n)) (sym h.1) is_sound
+    | inl h ↦ subst (λ (n : ServerState MemoryState). IsSound (shelved n)) (sym h.1) is_sound
     | inr h ↦ c.sound j m h
   ];
   justified = λ x m answer k e spelled kind. elim (get_set servers node x.from m new e) [
-    | inl h ↦ subst (λ (n : Machine MemoryState). IsJustified n sent x answer) (sym h.1)
+    | inl h ↦ subst (λ (n : ServerState MemoryState). IsJustified n sent x answer) (sym h.1)
         (justified_on old new sent x answer stays (c.justified x old answer k (ap (slice_get servers) h.0 ∙ at) spelled kind))
     | inr h ↦ c.justified x m answer k h spelled kind
   ];
@@ -99,7 +99,7 @@ server_changed servers operations sent node old new at stays is_sound c = record
   one_request = subst (λ (n : ℕ). AreOneRequest n sent) (sym (length_set servers node new)) c.one_request;
   fine = λ i op e. subst (λ (n : ℕ). IsFine n sent i op) (sym (length_set servers node new)) (c.fine i op e);
   history = λ j m e. elim (get_set servers node j m new e) [
-    | inl h ↦ subst (λ (n : Machine MemoryState). HasHistory sent j n) (sym h.1) (history_on sent j old new stays (c.history j old (ap (slice_get servers) h.0 ∙ at)))
+    | inl h ↦ subst (λ (n : ServerState MemoryState). HasHistory sent j n) (sym h.1) (history_on sent j old new stays (c.history j old (ap (slice_get servers) h.0 ∙ at)))
     | inr h ↦ c.history j m h
   ];
   after = subst (λ (n : ℕ). AnswersComeAfter n operations sent) (sym (length_set servers node new)) c.after;
@@ -108,14 +108,14 @@ server_changed servers operations sent node old new at stays is_sound c = record
 -- ---- more is sent
 
 -- a message that is sent: an answer that is justified, or a request that is recorded
-pub record IsFounded (servers : List (Machine MemoryState)) (operations : List Operation) (sent : List Sent) (y : Sent) : Type 0 where
-  pub justified : (m : Machine MemoryState) (answer : Message) → slice_get servers y.from ≡ Some m → IsBodyOf answer y.body → is_request answer.body ≡ false → IsJustified m sent y answer
+pub record IsFounded (servers : List (ServerState MemoryState)) (operations : List Operation) (sent : List Sent) (y : Sent) : Type 0 where
+  pub justified : (m : ServerState MemoryState) (answer : Message) → slice_get servers y.from ≡ Some m → IsBodyOf answer y.body → is_request answer.body ≡ false → IsJustified m sent y answer
   pub recorded : (m : Message) → y.from < length servers → IsBodyOf m y.body → is_request m.body ≡ true → IsRecorded operations y m
-  pub told : (m : Machine MemoryState) (answer : Message) → slice_get servers y.from ≡ Some m → IsBodyOf answer y.body → is_request answer.body ≡ false → IsAnswerBy sent y answer m.store.shelf
+  pub told : (m : ServerState MemoryState) (answer : Message) → slice_get servers y.from ≡ Some m → IsBodyOf answer y.body → is_request answer.body ≡ false → IsAnswerBy sent y answer m.store.shelf
   pub alike : (x : Sent) (m n : Message) → y.from < length servers → IsBodyOf n y.body → is_request n.body ≡ true → IsRecorded operations x m → m.session ≡ n.session → m.number ≡ n.number
       → without_bytes m.body ≡ without_bytes n.body
 
-justified_more : (m : Machine MemoryState) (sent more : List Sent) (x : Sent) (answer : Message) → IsJustified m sent x answer → IsJustified m (sent ++ more) x answer
+justified_more : (m : ServerState MemoryState) (sent more : List Sent) (x : Sent) (answer : Message) → IsJustified m sent x answer → IsJustified m (sent ++ more) x answer
 justified_more m sent more x answer j = record {
   frame = j.frame;
   request = j.request;
@@ -143,7 +143,7 @@ fine_more honest sent more i op f = record {
 }
 
 -- requests that were sent and one more are one where they have one session and number
-one_request_more : (servers : List (Machine MemoryState)) (operations : List Operation) (sent : List Sent) (y : Sent) → IsFounded servers operations sent y
+one_request_more : (servers : List (ServerState MemoryState)) (operations : List Operation) (sent : List Sent) (y : Sent) → IsFounded servers operations sent y
     → AreConsistent servers operations sent → AreOneRequest (length servers) (sent ++ y ∷ [])
 one_request_more servers operations sent y f c a b m n in_a in_b from_a from_b spelled_a spelled_b kind_a kind_b session number =
     elim (Contains-push_cases sent y a in_a) [
@@ -165,7 +165,7 @@ one_request_more servers operations sent y f c a b m n in_a in_b from_a from_b s
         → k.number ≡ l.number → without_bytes k.body ≡ without_bytes l.body
     last x k z l is from spelled kind = f.alike x k l (subst (λ (t : Sent). t.from < length servers) (sym is) from) (subst (λ (t : Sent). IsBodyOf l t.body) (sym is) spelled) kind
 
-pub sent_more : (servers : List (Machine MemoryState)) (operations : List Operation) (sent : List Sent) (y : Sent) → IsFounded servers operations sent y
+pub sent_more : (servers : List (ServerState MemoryState)) (operations : List Operation) (sent : List Sent) (y : Sent) → IsFounded servers operations sent y
     → AreConsistent servers operations sent → AreConsistent servers operations (sent ++ y ∷ [])
 sent_more servers operations sent y founded c = record {
   sound = c.sound;
@@ -188,10 +188,10 @@ sent_more servers operations sent y founded c = record {
   ];
 }
 
-pub same_sent : (servers : List (Machine MemoryState)) (operations : List Operation) (sent : List Sent) → AreConsistent servers operations sent → AreConsistent servers operations (sent ++ [])
+pub same_sent : (servers : List (ServerState MemoryState)) (operations : List Operation) (sent : List Sent) → AreConsistent servers operations sent → AreConsistent servers operations (sent ++ [])
 same_sent servers operations sent c = subst (AreConsistent servers operations) (sym (append_none sent)) c
 
-all_sent : (servers : List (Machine MemoryState)) (operations : List Operation) (sent more : List Sent) → ((s : List Sent) (x : Sent) → Contains more x → IsFounded servers operations s x)
+all_sent : (servers : List (ServerState MemoryState)) (operations : List Operation) (sent more : List Sent) → ((s : List Sent) (x : Sent) → Contains more x → IsFounded servers operations s x)
     → AreConsistent servers operations sent → AreConsistent servers operations (sent ++ more)
 all_sent servers operations sent [] each c = same_sent servers operations sent c
 all_sent servers operations sent (y ∷ ys) each c =
@@ -200,14 +200,14 @@ all_sent servers operations sent (y ∷ ys) each c =
     (sent_more servers operations sent y (each sent y (member_here y ys)) c))
 
 -- an answer that is sent is justified
-pub answered : (servers : List (Machine MemoryState)) (operations : List Operation) (sent : List Sent) (x : Sent) (m said : Message) (after : Machine MemoryState)
+pub answered : (servers : List (ServerState MemoryState)) (operations : List Operation) (sent : List Sent) (x : Sent) (m said : Message) (after : ServerState MemoryState)
     → slice_get servers x.to ≡ Some after → Contains sent x → IsBodyOf m x.body → IsMessage said → IsAnswer (shelved after).store m said
     → TellsAll (shelved after).store m.body said.body → IsFounded servers operations sent (sent_to x.to x.from said)
 answered servers operations sent x m said after at there spelled spoken answers all = record {
   justified = λ n a e s kind.
       let same : said ≡ a = spelled_alike said a spoken s.0 s.1 in
       let server : after ≡ n = same_some after n (sym at ∙ e) in
-      subst (λ (k : Machine MemoryState). IsJustified k sent (sent_to x.to x.from said) a) server record {
+      subst (λ (k : ServerState MemoryState). IsJustified k sent (sent_to x.to x.from said) a) server record {
         frame = x;
         request = m;
         was_sent = there;
@@ -223,7 +223,7 @@ answered servers operations sent x m said after at there spelled spoken answers 
   told = λ n a e s kind.
       let same : said ≡ a = spelled_alike said a spoken s.0 s.1 in
       let server : after ≡ n = same_some after n (sym at ∙ e) in
-      subst (λ (k : Machine MemoryState). IsAnswerBy sent (sent_to x.to x.from said) a k.store.shelf) server record {
+      subst (λ (k : ServerState MemoryState). IsAnswerBy sent (sent_to x.to x.from said) a k.store.shelf) server record {
         frame = x;
         request = m;
         was_sent = there;
@@ -240,8 +240,8 @@ answered servers operations sent x m said after at there spelled spoken answers 
 }
 
 -- what a liar sends is nobody's answer and nobody's request
-pub said_by_liar : (servers : List (Machine MemoryState)) (operations : List Operation) (sent : List Sent) (x : Sent) → length servers ≤ x.from
-    → ((m : Machine MemoryState) → slice_get servers x.from ≡ Some m → x.from < length servers) → IsFounded servers operations sent x
+pub said_by_liar : (servers : List (ServerState MemoryState)) (operations : List Operation) (sent : List Sent) (x : Sent) → length servers ≤ x.from
+    → ((m : ServerState MemoryState) → slice_get servers x.from ≡ Some m → x.from < length servers) → IsFounded servers operations sent x
 said_by_liar servers operations sent x liar within = record {
   justified = λ m a at spelled kind. absurd (omega (arith, within m at, liar));
   recorded = λ m honest spelled kind. absurd (omega (arith, honest, liar));
@@ -260,7 +260,7 @@ AllKeep old new = (i : ℕ) (op : Operation) → slice_get old i ≡ Some op
 recorded_on : (old new : List Operation) (x : Sent) (m : Message) → AllKeep old new → IsRecorded old x m → IsRecorded new x m
 recorded_on old new x m k r = (let next = k m.session r.operation r.at in record { operation = next.0; at = next.1; request = next.2 x m r.request })
 
-pub operations_change : (servers : List (Machine MemoryState)) (old new : List Operation) (sent : List Sent) → AllKeep old new
+pub operations_change : (servers : List (ServerState MemoryState)) (old new : List Operation) (sent : List Sent) → AllKeep old new
     → ((i : ℕ) (op : Operation) → slice_get new i ≡ Some op → IsFine (length servers) sent i op) → AreConsistent servers old sent → AreConsistent servers new sent
 operations_change servers old new sent k fine c = record {
   sound = c.sound;
@@ -289,7 +289,7 @@ one_keeps operations number old new at keeps began i op e = elim (get_set_back o
 ]
 
 -- one operation changes, and stays fine
-pub one_changes : (servers : List (Machine MemoryState)) (operations : List Operation) (sent : List Sent) (number : ℕ) (old new : Operation) → slice_get operations number ≡ Some old
+pub one_changes : (servers : List (ServerState MemoryState)) (operations : List Operation) (sent : List Sent) (number : ℕ) (old new : Operation) → slice_get operations number ≡ Some old
     → ((x : Sent) (m : Message) → IsRequestOf old x m → IsRequestOf new x m) → new.sent_before ≡ old.sent_before → IsFine (length servers) sent number new
     → AreConsistent servers operations sent → AreConsistent servers (slice_set operations number new) sent
 one_changes servers operations sent number old new at keeps began fine c =
@@ -327,7 +327,7 @@ fine_on New honest sent i old new same g came right given f = record {
 }
 
 -- a frame of an operation's request is recorded, and is no answer
-founded : (servers : List (Machine MemoryState)) (operations : List Operation) (sent : List Sent) (i : ℕ) (op : Operation) (node : ℕ) (x : Sent)
+founded : (servers : List (ServerState MemoryState)) (operations : List Operation) (sent : List Sent) (i : ℕ) (op : Operation) (node : ℕ) (x : Sent)
     → slice_get operations i ≡ Some op → op.node ≡ node → (requests_of op.task).session ≡ i → IsFrameOf op.task node x → IsFounded servers operations sent x
 founded servers operations sent i op node x at own session f = record {
   justified = λ m a e s kind.
@@ -354,7 +354,7 @@ founded servers operations sent i op node x at own session f = record {
 }
 
 -- what every call of an operation does keeps the world consistent
-pub operation_moves : (New : Said) (servers : List (Machine MemoryState)) (operations : List Operation) (sent after : List Sent) (i : ℕ) (old new : Operation) → slice_get operations i ≡ Some old
+pub operation_moves : (New : Said) (servers : List (ServerState MemoryState)) (operations : List Operation) (sent after : List Sent) (i : ℕ) (old new : Operation) → slice_get operations i ≡ Some old
     → Moves New old new sent after → ((place server : ℕ) (asks : Asked) (said : Body) → New place server asks said → CameFrom sent i old.node place server asks said) → IsRightTask new.task
     → AreConsistent servers operations sent → AreConsistent servers (slice_set operations i new) after
 operation_moves New servers operations sent after i old new at moves came right c =
@@ -387,7 +387,7 @@ range_below n server c =
     let is : 0 + c.0 ≡ server = sym (get_or-range_with_len 0 n c.0 server low) ∙ c.2 in
     omega (arith, low, is)
 
-pub operation_begins : (servers : List (Machine MemoryState)) (operations : List Operation) (sent : List Sent) (nodes : List ℕ) (node : ℕ) (job : Job) (task : Task) → node < length servers
+pub operation_begins : (servers : List (ServerState MemoryState)) (operations : List Operation) (sent : List Sent) (nodes : List ℕ) (node : ℕ) (job : Job) (task : Task) → node < length servers
     → ((server : ℕ) → server < length servers → Contains nodes server) → IsNewTask nodes (length operations) job task → IsRightTask task → AreConsistent servers operations sent
     → AreConsistent servers (operations ++ new_operation node job (length sent) task ∷ []) sent
 operation_begins servers operations sent nodes node job task honest all begins right c =

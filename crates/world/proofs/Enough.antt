@@ -22,7 +22,7 @@ use Rattle.request_record.specs.Record.{fits}
 use Rattle.share_store.specs.Memory.{MemoryState}
 use Rattle.share_store.specs.Shelf.{Shelf, closed_at}
 use Rattle.share_store.specs.declared.shelf.ClosedShare.{ClosedShare}
-use Rattle.server_core.specs.Machine.{Machine}
+use Rattle.server_core.specs.ServerState.{ServerState}
 use Rattle.server_core.specs.Sound.{is_request}
 use Rattle.file_encoding.specs.Encoding.{ciphertext_encoding, encoding_of}
 use Rattle.file_encoding.specs.Params.{UploadParameters, parameters_of}
@@ -59,7 +59,7 @@ use Rattle.world.proofs.Hashed.{encoding_among, share_among}
 use Rattle.world.proofs.Keep.{share_hashed}
 
 abbrev Server : Type 0
-Server = Machine MemoryState
+Server = ServerState MemoryState
 
 -- ---- an answer tells how its server stood
 

@@ -7,7 +7,7 @@ use Rattle.wire.specs.declared.message.ShareId.{ShareId}
 use Rattle.share_store.specs.Memory.{MemoryState}
 use Rattle.share_store.specs.Shelf.{closed_at}
 use Rattle.share_store.specs.declared.shelf.ClosedShare.{ClosedShare}
-use Rattle.server_core.specs.Machine.{Machine}
+use Rattle.server_core.specs.ServerState.{ServerState}
 use Rattle.download_core.specs.Hashed as download
 use Rattle.download_core.specs.State.{DownloadState}
 use Rattle.file_encoding.specs.Inputs.{encoding_inputs}
@@ -27,7 +27,7 @@ pub encoding_among : (w : WorldState) (i : ℕ) (op : Operation) (file secret : 
 encoding_among w i op file secret p x at uploads one_key c = started op file secret p (member_at w.operations i op at) uploads one_key c
 
 -- a share that is closed at an honest server
-pub share_among : (w : WorldState) (node : ℕ) (m : Machine MemoryState) (id : ShareId) (c : ClosedShare)
+pub share_among : (w : WorldState) (node : ℕ) (m : ServerState MemoryState) (id : ShareId) (c : ClosedShare)
     → slice_get w.servers node ≡ Some m → closed_at id m.store.shelf.closed ≡ Some c → IsHashed w (tagged_input WholeShare c.bytes)
 share_among w node m id c at found =
     closed m (member_at w.servers node m at) record { id = id; share = c; found = found; is = refl }

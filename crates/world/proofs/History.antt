@@ -8,7 +8,7 @@ use Rattle.wire.specs.declared.message.Message.{Message}
 use Rattle.wire.specs.Frames.{IsBodyOf}
 use Rattle.share_store.specs.Memory.{MemoryState}
 use Rattle.share_store.specs.Shelf.{Shelf}
-use Rattle.server_core.specs.Machine.{Machine}
+use Rattle.server_core.specs.ServerState.{ServerState}
 use Rattle.server_core.specs.Sound.{ClosedStay, is_request}
 use Rattle.world_operations.specs.declared.message.Sent.{Sent}
 use Rattle.world_operations.proofs.Places.{get_push}
@@ -16,7 +16,7 @@ use Rattle.world.specs.History.{HasHistory, IsAnswerBy}
 
 -- ---- a server goes on
 
-pub history_on : (sent : List Sent) (node : ℕ) (old new : Machine MemoryState) → ClosedStay old.store.shelf new.store.shelf → HasHistory sent node old → HasHistory sent node new
+pub history_on : (sent : List Sent) (node : ℕ) (old new : ServerState MemoryState) → ClosedStay old.store.shelf new.store.shelf → HasHistory sent node old → HasHistory sent node new
 history_on sent node old new stays h = record {
   shelf_at = h.shelf_at;
   stays = h.stays;
@@ -38,7 +38,7 @@ answer_more sent more x answer s a = record {
   all = a.all;
 }
 
-module _ (sent : List Sent) (y : Sent) (node : ℕ) (m : Machine MemoryState) (h : HasHistory sent node m)
+module _ (sent : List Sent) (y : Sent) (node : ℕ) (m : ServerState MemoryState) (h : HasHistory sent node m)
     (told : (answer : Message) → y.from ≡ node → IsBodyOf answer y.body → is_request answer.body ≡ false → IsAnswerBy sent y answer m.store.shelf) where
   -- from now on it stands as it does now
   abbrev shelf_then : ℕ → Shelf

@@ -14,7 +14,7 @@ use Rattle.request_record.specs.declared.requests.Outcome.{Outcome}
 use Rattle.request_record.specs.declared.requests.Outcome.TheVariants.{Outstanding, Answered, Lost, Unawaited}
 use Rattle.request_record.specs.declared.requests.Request.{Request}
 use Rattle.share_store.specs.Memory.{MemoryState}
-use Rattle.server_core.specs.Machine.{Machine}
+use Rattle.server_core.specs.ServerState.{ServerState}
 use Rattle.placement.specs.Matching.{IsMatching, Pair}
 use Rattle.proved_parts.proofs.Segments.{data_agrees_in}
 use Rattle.file_encoding.specs.Encoding.{encoding_of}
@@ -51,7 +51,7 @@ acknowledged_keep w c no_clash file secret p pair a honest =
     let shares : List (List ℕ) = (encoding_of file secret (parameters_of p)).shares in
     let by = acked.acked_by aim a.request.server a.request.asked a.answer.body pair a.acknowledges in
     let server = get_below w.servers pair.0 honest in
-    let m : Machine MemoryState = server.0 in
+    let m : ServerState MemoryState = server.0 in
     let at : slice_get w.servers a.frame.from ≡ Some m = ap (slice_get w.servers) (a.from ∙ sym by.server_is) ∙ server.1 in
     let told = acknowledgement_told w c file secret p pair a m at (acked.acks_answer a.request.asked a.answer.body pair.1 (slice_index_or aim.digests pair.1 []) by.acks) in
     let is_for = for_upload w a.answer.session file secret p a.operation a.upload c a.upload_of in

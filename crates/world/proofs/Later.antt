@@ -7,7 +7,7 @@ use Rattle.std.proofs.lemmas.List.Elements.{Contains-append_left}
 use Rattle.placement.specs.Matching.{Pair}
 use Rattle.request_record.specs.declared.requests.Request.{Request}
 use Rattle.share_store.specs.Memory.{MemoryState}
-use Rattle.server_core.specs.Machine.{Machine}
+use Rattle.server_core.specs.ServerState.{ServerState}
 use Rattle.server_core.specs.Sound.{ClosedStay}
 use Rattle.upload_core.specs.declared.status.UploadStatus.TheVariants.{Happy}
 use Rattle.download_segments.specs.declared.piece.Piece.{Piece}
@@ -115,17 +115,17 @@ moves_send New old new before after m = (m.task.more, m.task.appended)
 
 -- ---- servers
 
-abbrev pub AllStay : List (Machine MemoryState) → List (Machine MemoryState) → Type 0
-AllStay old new = (node : ℕ) (m : Machine MemoryState) → slice_get old node ≡ Some m → (n : Machine MemoryState) × (slice_get new node ≡ Some n) × ClosedStay m.store.shelf n.store.shelf
+abbrev pub AllStay : List (ServerState MemoryState) → List (ServerState MemoryState) → Type 0
+AllStay old new = (node : ℕ) (m : ServerState MemoryState) → slice_get old node ≡ Some m → (n : ServerState MemoryState) × (slice_get new node ≡ Some n) × ClosedStay m.store.shelf n.store.shelf
 
-pub none_change : (servers : List (Machine MemoryState)) → AllStay servers servers
+pub none_change : (servers : List (ServerState MemoryState)) → AllStay servers servers
 none_change servers node m at = (m, at, λ id c e. e)
 
-pub one_stays : (servers : List (Machine MemoryState)) (node : ℕ) (old new : Machine MemoryState) → slice_get servers node ≡ Some old → ClosedStay old.store.shelf new.store.shelf
+pub one_stays : (servers : List (ServerState MemoryState)) (node : ℕ) (old new : ServerState MemoryState) → slice_get servers node ≡ Some old → ClosedStay old.store.shelf new.store.shelf
     → AllStay servers (slice_set servers node new)
 one_stays servers node old new at stays j m e = elim (get_set_back servers node j m new e) [
   | inl h ↦ (let same : old ≡ m = same_some old m (sym at ∙ ap (slice_get servers) (sym h.0) ∙ e) in
-      (new, h.1, subst (λ (x : Machine MemoryState). ClosedStay x.store.shelf new.store.shelf) same stays))
+      (new, h.1, subst (λ (x : ServerState MemoryState). ClosedStay x.store.shelf new.store.shelf) same stays))
   | inr h ↦ (m, h, λ id c f. f)
 ]
 

@@ -4,7 +4,7 @@ use Rattle.std.specs.Prelude.{◌==◌, ◌&&◌, slice_get, slice_set, option_m
 use Rattle.std.proofs.lemmas.Option.{slice_get-map}
 use Rattle.wire.specs.declared.message.Message.{Message}
 use Rattle.share_store.specs.Memory.{MemoryState}
-use Rattle.server_core.specs.Machine.{Machine}
+use Rattle.server_core.specs.ServerState.{ServerState}
 use Rattle.world_operations.specs.declared.message.Sent.{Sent}
 use Rattle.world_operations.specs.declared.operation.Life.{Life}
 use Rattle.world_operations.specs.declared.operation.Life.TheVariants.{Forgotten}
@@ -27,7 +27,7 @@ request_with : (op : Operation) (fate : Life) (x : Sent) (m : Message) → IsReq
 request_with op fate x m (gone number is) = gone number is
 request_with op fate x m (asked from r) = asked from r
 
-pub lives_changed : (servers : List (Machine MemoryState)) (old new : List Operation) (sent : List Sent) → HaveOtherLives old new
+pub lives_changed : (servers : List (ServerState MemoryState)) (old new : List Operation) (sent : List Sent) → HaveOtherLives old new
     → AreConsistent servers old sent → AreConsistent servers new sent
 lives_changed servers old new sent h c =
     operations_change servers old new sent (λ i op e. let f = h.on i op e in (with_life f.0 op, f.1, request_with op f.0, refl))

@@ -11,7 +11,7 @@ use Rattle.std.proofs.lemmas.Option.{slice_get_read}
 use Rattle.wire.specs.declared.message.Message.{Message}
 use Rattle.wire.specs.Frames.{IsBodyOf, IsMessage}
 use Rattle.share_store.specs.Memory.{MemoryState, memory_calls}
-use Rattle.server_core.specs.Machine.{Machine, Outcome, RestartsTo, Ticks}
+use Rattle.server_core.specs.ServerState.{ServerState, Outcome, RestartsTo, Ticks}
 use Rattle.upload_core.specs.declared.status.ServerInfo.{ServerInfo}
 use Rattle.world_operations.specs.declared.job.Job.{Job}
 use Rattle.world_operations.specs.declared.message.Sent.{Sent}
@@ -33,7 +33,7 @@ use Rattle.world.proofs.Lives.{all_forgotten, one_life}
 use Rattle.world.proofs.Preserving.{preserves_answered, preserves_begun, preserves_got, preserves_held, preserves_itself, preserves_lives, preserves_moved, preserves_on, preserves_restarted, preserves_said, preserves_served, preserves_ticked}
 
 abbrev Server : Type 0
-Server = Machine MemoryState
+Server = ServerState MemoryState
 
 -- ---- a server answers
 

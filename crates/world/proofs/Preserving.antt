@@ -10,7 +10,7 @@ use Rattle.wire.specs.Frames.{IsBodyOf}
 use Rattle.request_record.specs.declared.requests.Asked.{Asked}
 use Rattle.share_store.specs.Memory.{MemoryState, memory_calls}
 use Rattle.share_store.specs.Shelf.{Shelf, Restarts, closed_at}
-use Rattle.server_core.specs.Machine.{Machine, Outcome, RestartsTo, Serves, Ticks}
+use Rattle.server_core.specs.ServerState.{ServerState, Outcome, RestartsTo, Serves, Ticks}
 use Rattle.server_core.specs.Sound.{AreRight, Answers, ClosedStay, IsKept, IsSound, StaysSound}
 use Rattle.server_core.proofs.Keeps.{messages_keep, restarts_keep, starts_sound, ticks_keep}
 use Rattle.server_core.proofs.Over.{serves_over}
@@ -49,14 +49,14 @@ pub preserves_quiet : (old new : WorldState) → new.servers ≡ old.servers →
 preserves_quiet old new servers operations sent heard c =
     let same : WorldState = record new { servers = old.servers; operations = old.operations; sent = old.sent } in
     let e : same ≡ new =
-    ap (λ (s : List (Machine MemoryState)). record new { servers = s; operations = old.operations; sent = old.sent }) (sym servers)
+    ap (λ (s : List (ServerState MemoryState)). record new { servers = s; operations = old.operations; sent = old.sent }) (sym servers)
     ∙ ap (λ (o : List Operation). record new { operations = o; sent = old.sent }) (sym operations) ∙ ap (λ (s : List Sent). record new { sent = s }) (sym sent) in
     subst (λ (w : WorldState). IsConsistent w × IsLater old w) e (c, later_from old same (none_change old.servers) (none_grow old.operations) (no_more old.sent) (refl, heard))
 
 -- ---- servers
 
 abbrev Server : Type 0
-Server = Machine MemoryState
+Server = ServerState MemoryState
 
 -- what a message does to an honest server
 served : (before after : Server) (from now : ℕ) (m : Message) (outcome : Outcome) → IsSound (shelved before)
@@ -139,7 +139,7 @@ pub preserves_held : (w : WorldState) (node : ℕ) (before after : Server) → s
     → Preserves w (record w { servers = slice_set w.servers node after })
 preserves_held w node before after at same c =
     server_goes w node before after at (subst IsSound (sym same) (c.sound node before at))
-    (λ id x e. ap (λ (m : Machine Shelf). closed_at id m.store.closed) same ∙ e) c
+    (λ id x e. ap (λ (m : ServerState Shelf). closed_at id m.store.closed) same ∙ e) c
 
 -- ---- what liars say
 

@@ -21,7 +21,7 @@ use Rattle.request_record.specs.declared.requests.Outcome.TheVariants.{Outstandi
 use Rattle.request_record.specs.declared.requests.Request.{Request}
 use Rattle.request_record.specs.Asking.{Spells}
 use Rattle.share_store.specs.Memory.{MemoryState}
-use Rattle.server_core.specs.Machine.{Machine}
+use Rattle.server_core.specs.ServerState.{ServerState}
 use Rattle.server_core.specs.Sound.{is_request}
 use Rattle.placement.specs.Matching.{IsMatching, Pair}
 use Rattle.proved_parts.proofs.Segments.{data_agrees_in}
@@ -76,7 +76,7 @@ pub record IsAckOf (w : WorldState) (g : Goal) (pair : Pair) (op : Operation) (u
   pub to : frame.to ≡ op.node
   pub acknowledges : Contains (acked_answer g request.server request.asked answer.body) pair
 
-told : (w : WorldState) → IsConsistent w → (g : Goal) (pair : Pair) (op : Operation) (u : Up) (a : IsAckOf w g pair op u) (m : Machine MemoryState)
+told : (w : WorldState) → IsConsistent w → (g : Goal) (pair : Pair) (op : Operation) (u : Up) (a : IsAckOf w g pair op u) (m : ServerState MemoryState)
     → slice_get w.servers a.frame.from ≡ Some m → is_request a.answer.body ≡ false → IsToldOf m u.course.goal.cap.storage_index a.request.asked a.answer.body
 told w c g pair op u a m at says =
     let j = c.justified a.frame m a.answer a.was_sent at a.spelled says in
@@ -102,7 +102,7 @@ keeps w c no_clash cap shares pair op u goal_is hashed a honest =
     let aim : Goal = shares_goal cap shares in
     let by = acked.acked_by aim a.request.server a.request.asked a.answer.body pair a.acknowledges in
     let server = get_below w.servers pair.0 honest in
-    let m : Machine MemoryState = server.0 in
+    let m : ServerState MemoryState = server.0 in
     let at : slice_get w.servers a.frame.from ≡ Some m = ap (slice_get w.servers) (a.from ∙ sym by.server_is) ∙ server.1 in
     let says = told w c aim pair op u a m at (acked.acks_answer a.request.asked a.answer.body pair.1 (slice_index_or aim.digests pair.1 []) by.acks) in
     let index : List ℕ = u.course.goal.cap.storage_index in

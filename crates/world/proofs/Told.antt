@@ -8,7 +8,7 @@ use Rattle.request_record.specs.declared.requests.Asked.{Asked}
 use Rattle.request_record.specs.declared.requests.Request.{Request}
 use Rattle.request_record.specs.Asking.{Spells}
 use Rattle.share_store.specs.Memory.{MemoryState}
-use Rattle.server_core.specs.Machine.{Machine}
+use Rattle.server_core.specs.ServerState.{ServerState}
 use Rattle.server_core.specs.Sound.{Tells, is_request}
 use Rattle.placement.specs.Matching.{Pair}
 use Rattle.file_encoding.specs.Params.{UploadParameters}
@@ -25,7 +25,7 @@ use Rattle.world.specs.Headline.{IsAcknowledgement}
 use Rattle.world.proofs.Happy.{Up}
 
 -- the request that an answer is to, and what the answer tells of the shares of a server
-pub record IsToldOf (m : Machine MemoryState) (index : List ℕ) (asks : Asked) (said : Body) : Type 0 where
+pub record IsToldOf (m : ServerState MemoryState) (index : List ℕ) (asks : Asked) (said : Body) : Type 0 where
   pub request : Message
   pub spelled : Spells index asks request.body
   pub tells : Tells (shelved m).store request.body said
@@ -37,7 +37,7 @@ request_of op u x m task (gone number is) = absurd (clash number (sym is ∙ tas
   clash n e = cc
 request_of op u x m task (asked node r) = subst (λ (t : Task). IsRequestBy t x m) task r
 
-pub acknowledgement_told : (w : WorldState) → IsConsistent w → (file secret : List ℕ) (p : UploadParameters) (pair : Pair) (a : IsAcknowledgement w file secret p pair) (m : Machine MemoryState)
+pub acknowledgement_told : (w : WorldState) → IsConsistent w → (file secret : List ℕ) (p : UploadParameters) (pair : Pair) (a : IsAcknowledgement w file secret p pair) (m : ServerState MemoryState)
     → slice_get w.servers a.frame.from ≡ Some m → is_request a.answer.body ≡ false → IsToldOf m a.upload.course.goal.cap.storage_index a.request.asked a.answer.body
 acknowledgement_told w c file secret p pair a m at says =
     let j = c.justified a.frame m a.answer a.was_sent at a.spelled says in

@@ -46,7 +46,7 @@ BlocksAreOwn w = (file secret : List ℕ) (p : UploadParameters) (d : DownloadSt
     (place segment : ℕ) (r : ReaderState)
     → IsStarted w file secret p → IsDownloadOf w (prepared_of file secret p).cap d
     → d.found ≡ Some f → IsReader f.file place r → HasRightBlock d.requests.entries r segment
-    → block_of d.requests.entries r.source segment ≡ block_in file secret p r.share segment
+    → block_of d.requests.entries r.supply segment ≡ block_in file secret p r.share segment
 
 -- Each share that a check of its verify cap read to its end and that is good is the upload's, byte
 -- for byte: what its server answered, joined by place.

@@ -11,7 +11,7 @@ use Rattle.request_record.specs.declared.requests.Asked.{Asked}
 use Rattle.request_record.specs.declared.requests.Outcome.TheVariants.{Answered}
 use Rattle.request_record.specs.declared.requests.Request.{Request}
 use Rattle.share_store.specs.Memory.{MemoryState}
-use Rattle.server_core.specs.Machine.{Machine}
+use Rattle.server_core.specs.ServerState.{ServerState}
 use Rattle.server_core.specs.Sound.{IsAnswer, IsSound, is_request}
 use Rattle.world_operations.specs.declared.message.Sent.{Sent}
 use Rattle.world_operations.specs.declared.operation.Operation.{Operation}
@@ -27,7 +27,8 @@ use Rattle.world.specs.History.{AnswersComeAfter, HasHistory}
 use Rattle.world.specs.State.{WorldState, shelved}
 
 -- an answer of an honest server belongs to a request that was sent to it, and what it tells is so
-pub record IsJustified (m : Machine MemoryState) (sent : List Sent) (x : Sent) (answer : Message)
+pub record IsJustified (m : ServerState MemoryState) (sent : List Sent) (x : Sent)
+    (answer : Message)
     : Type 0 where
   pub frame : Sent
   pub request : Message
@@ -89,11 +90,11 @@ pub record IsFine (honest : ℕ) (sent : List Sent) (number : ℕ) (op : Operati
 
 -- Of a world its servers, its operations and what was sent: its time, and what liars heard, are
 -- nothing to it.
-pub record AreConsistent (servers : List (Machine MemoryState)) (operations : List Operation)
+pub record AreConsistent (servers : List (ServerState MemoryState)) (operations : List Operation)
     (sent : List Sent) : Type 0 where
-  pub sound : (node : ℕ) (m : Machine MemoryState) → slice_get servers node ≡ Some m
+  pub sound : (node : ℕ) (m : ServerState MemoryState) → slice_get servers node ≡ Some m
       → IsSound (shelved m)
-  pub justified : (x : Sent) (m : Machine MemoryState) (answer : Message) → Contains sent x
+  pub justified : (x : Sent) (m : ServerState MemoryState) (answer : Message) → Contains sent x
       → slice_get servers x.from ≡ Some m → IsBodyOf answer x.body
       → is_request answer.body ≡ false → IsJustified m sent x answer
   pub recorded : (x : Sent) (m : Message) → Contains sent x → x.from < length servers
@@ -101,7 +102,7 @@ pub record AreConsistent (servers : List (Machine MemoryState)) (operations : Li
   pub one_request : AreOneRequest (length servers) sent
   pub fine : (number : ℕ) (op : Operation) → slice_get operations number ≡ Some op
       → IsFine (length servers) sent number op
-  pub history : (node : ℕ) (m : Machine MemoryState) → slice_get servers node ≡ Some m
+  pub history : (node : ℕ) (m : ServerState MemoryState) → slice_get servers node ≡ Some m
       → HasHistory sent node m
   pub after : AnswersComeAfter (length servers) operations sent
 

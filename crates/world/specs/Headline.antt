@@ -12,7 +12,7 @@ use Rattle.request_record.specs.declared.requests.Request.{Request}
 use Rattle.share_store.specs.Memory.{MemoryState}
 use Rattle.share_store.specs.Shelf.{closed_at}
 use Rattle.share_store.specs.declared.shelf.ClosedShare.{ClosedShare}
-use Rattle.server_core.specs.Machine.{Machine}
+use Rattle.server_core.specs.ServerState.{ServerState}
 use Rattle.placement.specs.Matching.{IsMatching, Pair}
 use Rattle.file_encoding.specs.Inputs.{encoding_inputs}
 use Rattle.file_encoding.specs.Params.{UploadParameters, parameters_of}
@@ -38,7 +38,7 @@ use Rattle.world.specs.State.{WorldState}
 -- ---- what was hashed
 
 -- a share is closed at this server, and this is hashed for its digest
-pub record IsClosedInput (m : Machine MemoryState) (input : List ℕ) : Type 0 where
+pub record IsClosedInput (m : ServerState MemoryState) (input : List ℕ) : Type 0 where
   pub id : ShareId
   pub share : ClosedShare
   pub found : closed_at id m.store.shelf.closed ≡ Some share
@@ -47,7 +47,7 @@ pub record IsClosedInput (m : Machine MemoryState) (input : List ℕ) : Type 0 w
 -- For the files whose uploads were started (of a source that changes, where both passes have one
 -- key), by downloads for what they found, and of the shares
 -- that are closed at honest servers.
-pub data IsHashedIn (operations : List Operation) (servers : List (Machine MemoryState))
+pub data IsHashedIn (operations : List Operation) (servers : List (ServerState MemoryState))
     (input : List ℕ) : Type 0 where
   started : (op : Operation) (file secret : List ℕ) (p : UploadParameters) → Contains operations op
       → Uploads op.job file secret p → HasOneKey op.job
@@ -55,7 +55,7 @@ pub data IsHashedIn (operations : List Operation) (servers : List (Machine Memor
       → IsHashedIn operations servers input
   downloaded : (op : Operation) → Contains operations op → IsHashedBy op.task input
       → IsHashedIn operations servers input
-  closed : (m : Machine MemoryState) → Contains servers m → IsClosedInput m input
+  closed : (m : ServerState MemoryState) → Contains servers m → IsClosedInput m input
       → IsHashedIn operations servers input
 
 abbrev pub IsHashed : WorldState → List ℕ → Type 0
@@ -124,7 +124,7 @@ pub record IsAcknowledgement (w : WorldState) (file secret : List ℕ) (p : Uplo
 -- at a server the closed bytes of a share are exactly these
 pub record Keeps (w : WorldState) (server : ℕ) (index : List ℕ) (share : ℕ) (bytes : List ℕ)
     : Type 0 where
-  pub machine : Machine MemoryState
+  pub machine : ServerState MemoryState
   pub closed : ClosedShare
   pub at : slice_get w.servers server ≡ Some machine
   pub found : closed_at (record { index = index; share = share }) machine.store.shelf.closed

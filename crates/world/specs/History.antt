@@ -4,7 +4,7 @@ use Rattle.wire.specs.declared.message.Message.{Message}
 use Rattle.wire.specs.Frames.{IsBodyOf}
 use Rattle.share_store.specs.Memory.{MemoryState}
 use Rattle.share_store.specs.Shelf.{Shelf}
-use Rattle.server_core.specs.Machine.{Machine}
+use Rattle.server_core.specs.ServerState.{ServerState}
 use Rattle.server_core.specs.Sound.{ClosedStay, IsAnswer, is_request}
 use Rattle.enough_binding.specs.Servers.{TellsAll}
 use Rattle.world_operations.specs.declared.message.Sent.{Sent}
@@ -25,7 +25,7 @@ pub record IsAnswerBy (sent : List Sent) (x : Sent) (answer : Message) (s : Shel
 
 -- The shelf of a server at each moment, from which nothing goes away that is closed. Each of its
 -- answers tells how it stood then. Moments are places in the list of what was sent.
-pub record HasHistory (sent : List Sent) (node : ℕ) (m : Machine MemoryState) : Type 0 where
+pub record HasHistory (sent : List Sent) (node : ℕ) (m : ServerState MemoryState) : Type 0 where
   pub shelf_at : ℕ → Shelf
   pub stays : (i j : ℕ) → i ≤ j → ClosedStay (shelf_at i) (shelf_at j)
   pub last : (i : ℕ) → ClosedStay (shelf_at i) (shelved m).store

@@ -2,7 +2,7 @@
 use Rattle.std.specs.Prelude.{◌≡◌, ℕ, List, ◌++◌, Some, slice_get, slice_set}
 use Rattle.wire.specs.declared.message.Message.{Message}
 use Rattle.share_store.specs.Memory.{MemoryState, memory_calls}
-use Rattle.server_core.specs.Machine.{Machine, Outcome, Serves}
+use Rattle.server_core.specs.ServerState.{ServerState, Outcome, Serves}
 use Rattle.world_operations.specs.declared.message.Sent.{Sent}
 use Rattle.world_operations.specs.declared.operation.Operation.{Operation}
 use Rattle.request_record.specs.Follow.{IsSaid, Nothing, Said}
@@ -10,15 +10,16 @@ use Rattle.world_operations.specs.Follow.{Moves}
 use Rattle.world_operations.specs.Tasks.{IsRightTask, requests_of}
 
 -- the server at a place becomes another, by a relation
-pub record ServerBecomes (R : Machine MemoryState → Machine MemoryState → Type 0)
-    (old : List (Machine MemoryState)) (place : ℕ) (new : List (Machine MemoryState)) : Type 0 where
-  pub before : Machine MemoryState
-  pub after : Machine MemoryState
+pub record ServerBecomes (R : ServerState MemoryState → ServerState MemoryState → Type 0)
+    (old : List (ServerState MemoryState)) (place : ℕ)
+    (new : List (ServerState MemoryState)) : Type 0 where
+  pub before : ServerState MemoryState
+  pub after : ServerState MemoryState
   pub at : slice_get old place ≡ Some before
   pub becomes : R before after
   pub is : new ≡ slice_set old place after
 
-abbrev pub ServesBy : ℕ → Message → ℕ → Outcome → Machine MemoryState → Machine MemoryState
+abbrev pub ServesBy : ℕ → Message → ℕ → Outcome → ServerState MemoryState → ServerState MemoryState
     → Type 0
 ServesBy from m now outcome before after = Serves memory_calls before from m now outcome after
 

@@ -5,7 +5,7 @@ use Rattle.std.specs.List.{range_with_len}
 use Rattle.sha1.specs.Sha1.{sha1}
 use Rattle.share_store.specs.Memory.{MemoryState}
 use Rattle.share_store.specs.Shelf.{Shelf}
-use Rattle.server_core.specs.Machine.{Machine}
+use Rattle.server_core.specs.ServerState.{ServerState}
 use Rattle.server_core.specs.Sound.{over}
 use Rattle.upload_core.specs.declared.status.ServerInfo.{ServerInfo}
 use Rattle.world_operations.specs.declared.message.Sent.{Sent}
@@ -15,7 +15,7 @@ use Rattle.world.specs.declared.scene.Scene.{Scene}
 -- Nodes 0, 1, .. are honest, and have servers; liars come after them, each with what it heard.
 -- Operations and messages are named by their places.
 pub record WorldState : Type 0 where
-  pub servers : List (Machine MemoryState)
+  pub servers : List (ServerState MemoryState)
   pub heard : List (List Sent)
   pub operations : List Operation
   pub sent : List Sent
@@ -36,7 +36,7 @@ state_of s = record {
 }
 
 -- a server, over what its store holds
-abbrev pub shelved : Machine MemoryState → Machine Shelf
+abbrev pub shelved : ServerState MemoryState → ServerState Shelf
 shelved m = over (λ (s : MemoryState). s.shelf) m
 
 abbrev pub node_count : WorldState → ℕ
@@ -67,7 +67,7 @@ abbrev pub server_capacity : ℕ
 server_capacity = 2 ^ 42
 
 -- a server with an empty store
-abbrev pub new_server : Machine MemoryState
+abbrev pub new_server : ServerState MemoryState
 new_server = record {
   store = record {
     shelf = record { closed = []; opened = [] };

@@ -5,7 +5,7 @@ use Rattle.std.specs.Prelude.{if◌then◌else◌, length, map, slice_get, slice
 use Rattle.wire.specs.declared.message.Message.{Message}
 use Rattle.wire.specs.Frames.{IsBodyOf, IsMessage}
 use Rattle.share_store.specs.Memory.{MemoryState, memory_calls}
-use Rattle.server_core.specs.Machine.{Machine, Outcome, RestartsTo, Serves, Ticks}
+use Rattle.server_core.specs.ServerState.{ServerState, Outcome, RestartsTo, Serves, Ticks}
 use Rattle.server_core.specs.Sound.{is_request}
 use Rattle.server_core.specs.declared.error.ServerFault.TheVariants.{OutOfMemory}
 use Rattle.checker.specs.Good.{AreGoodShares}
@@ -29,7 +29,7 @@ use Rattle.world.specs.State.{IsHonest, IsNode, WorldState, nodes_of, servers_of
 
 -- ---- parts of a world that change
 
-abbrev pub with_server : WorldState → ℕ → Machine MemoryState → List Sent → WorldState
+abbrev pub with_server : WorldState → ℕ → ServerState MemoryState → List Sent → WorldState
 with_server w node m more =
     record w { servers = slice_set w.servers node m; sent = w.sent ++ more }
 
@@ -65,8 +65,8 @@ IsSpoken (Err e) = ⊤
 
 -- a request comes to a server, whose answer is sent
 pub record ServerGets (old : WorldState) (x : Sent) (m : Message) (new : WorldState) : Type 0 where
-  pub before : Machine MemoryState
-  pub after : Machine MemoryState
+  pub before : ServerState MemoryState
+  pub after : ServerState MemoryState
   pub outcome : Outcome
   pub at : slice_get old.servers x.to ≡ Some before
   pub serves : Serves memory_calls before x.from m old.clock outcome after
@@ -186,8 +186,8 @@ pub record HaveTicked (old : WorldState) (node : ℕ) (new : WorldState) : Type 
 
 -- a node's server and its operations tick
 pub record TicksAt (old : WorldState) (node : ℕ) (new : WorldState) : Type 0 where
-  pub before : Machine MemoryState
-  pub after : Machine MemoryState
+  pub before : ServerState MemoryState
+  pub after : ServerState MemoryState
   pub at : slice_get old.servers node ≡ Some before
   pub server : Ticks before old.clock after
   pub tasks : HaveTicked (record old { servers = slice_set old.servers node after }) node new
@@ -205,8 +205,8 @@ forgotten_by node op =
     if (op.node == node) && is_running op then with_life Forgotten op else op
 
 pub record RestartsAt (old : WorldState) (node : ℕ) (new : WorldState) : Type 0 where
-  pub before : Machine MemoryState
-  pub after : Machine MemoryState
+  pub before : ServerState MemoryState
+  pub after : ServerState MemoryState
   pub at : slice_get old.servers node ≡ Some before
   pub server : RestartsTo memory_calls.restart_gives before after
   pub is : new ≡ record old {
@@ -215,7 +215,7 @@ pub record RestartsAt (old : WorldState) (node : ℕ) (new : WorldState) : Type 
   }
 
 -- a store that fails at its next call that can fail
-abbrev pub failing : Machine MemoryState → Machine MemoryState
+abbrev pub failing : ServerState MemoryState → ServerState MemoryState
 failing m = record m { store = record m.store { failing = true } }
 
 -- The clock stops at its greatest value.
@@ -239,7 +239,7 @@ Step old (Pass seconds) new = new ≡ later_by seconds old
 Step old (Tick node) new = TicksAt old node new
 Step old (Restart node) new = RestartsAt old node new
 Step old (FailStore node) new =
-    (m : Machine MemoryState) × (slice_get old.servers node ≡ Some m)
+    (m : ServerState MemoryState) × (slice_get old.servers node ≡ Some m)
     × (new ≡ record old { servers = slice_set old.servers node (failing m) })
 Step old (Refuse number) new =
     (op : Operation) × (slice_get old.operations number ≡ Some op) × (new

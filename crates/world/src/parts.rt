@@ -5,7 +5,7 @@ ghost use Rattle.std.specs.Prelude.{IfNone, IfOk, IfSome};
 ghost use Rattle.std.specs.Prelude.{slice_get, slice_set, vec_len};
 ghost use Rattle.wire.specs.declared.message.Message.{Message};
 ghost use Rattle.wire.specs.Frames.{IsBodyOf};
-ghost use Rattle.server_core.specs.Machine.{RestartsTo, Ticks};
+ghost use Rattle.server_core.specs.ServerState.{RestartsTo, Ticks};
 ghost use Rattle.server_core.specs.Sound.{is_request};
 ghost use Rattle.share_store.specs.Memory.{memory_calls};
 ghost use Rattle.checker.specs.State.{CheckState};

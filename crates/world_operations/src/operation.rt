@@ -74,8 +74,8 @@ impl Operation {
         }
     }
 
-    /// Takes a message from a node over, at a second. Without memory its machine failed, or less was
-    /// handed out and sent than there was.
+    /// Takes a message from a node over, at a second. Without memory its machine failed, or less
+    /// was handed out and sent than there was.
     pub fn on_message(
         &mut self,
         alloc: Global,

@@ -14,7 +14,8 @@ ghost use Rattle.world_operations.specs.declared.upload_pieces.UploadPieces.TheV
 ghost use Rattle.world_operations.specs.Follow.{GoesOn};
 ghost use Rattle.world_operations.specs.Given.{IsGivenBy};
 ghost use Rattle.world_operations.specs.Jobs.{MayStart, changing};
-ghost use Rattle.world_operations.specs.Moves.{Advances, Begins, GivesUp, Takes, TakesPiece, TicksOn};
+ghost use Rattle.world_operations.specs.Moves.{Advances, Begins, GivesUp, Takes, TakesPiece};
+ghost use Rattle.world_operations.specs.Moves.{TicksOn};
 ghost use Rattle.world_operations.specs.Moves.{task_calls};
 ghost use Rattle.world_operations.specs.Tasks.{IsRightTask, requests_of, runs};
 

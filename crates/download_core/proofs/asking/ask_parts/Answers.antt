@@ -3,7 +3,7 @@ use Rattle.std.proofs.Common.{ap, ◌∙◌, get_or, refl, sym, subst}
 use Rattle.download_shares.specs.HoldingMoves.{Asks, IsUnasked}
 use Rattle.download_shares.proofs.Opened.{goes_asked, goes_none, goes_trans}
 use Rattle.download_parts.specs.declared.part.Part.TheVariants.{ShareHashes}
-use Rattle.download_source.specs.declared.wanted.Wanted.{Wanted}
+use Rattle.download_supply.specs.declared.wanted.Wanted.{Wanted}
 use Rattle.download_shares.proofs.Caused.{reads_asked, reads_none, reads_trans}
 use Rattle.download_file.specs.Asked.{IsOneOf}
 use Rattle.download_shares.specs.Reads.{AddsReads}

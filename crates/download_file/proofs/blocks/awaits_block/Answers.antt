@@ -3,8 +3,8 @@ use Rattle.std.proofs.lemmas.Bool.{true≢false}
 use Rattle.std.proofs.lemmas.List.Elements.{Contains-get_or}
 use Rattle.lemmas.proofs.Places.{got}
 use Rattle.lemmas.proofs.Options.{some_of}
-use Rattle.download_source.specs.Blocks.{IsReady}
-use Rattle.download_source.specs.Source.{SourceState}
+use Rattle.download_supply.specs.Blocks.{IsReady}
+use Rattle.download_supply.specs.Supply.{SupplyState}
 use Rattle.download_file.proofs.blocks.awaits_block.Goals as goal
 
 pub returns-then-not-is_ready : goal.returns-then-not-is_ready
@@ -15,7 +15,7 @@ returns-then-not-is_ready c = λ _.
       among = Contains-get_or c.args.live.now c.loop-place.place-index 0 c.loop-place-test.true;
       r = c.index-readers-place.result;
       there = got c.args.readers.now _ c.index-readers-place.result (c.requires c.loop-place.place-index 0 c.loop-place-test.true) c.index-readers-place.is;
-      lacks = λ ready. true≢false (sym (c.is_ready.ensures.ready.1 (subst (λ (s : SourceState). IsReady s c.args.number) (sym c.source.ensures) ready)) ∙ c.if-not-is_ready.true);
+      lacks = λ ready. true≢false (sym (c.is_ready.ensures.ready.1 (subst (λ (s : SupplyState). IsReady s c.args.number) (sym c.supply.ensures) ready)) ∙ c.if-not-is_ready.true);
       place = first.0;
       first = sym c.first_place.ensures ∙ first.1;
     }

@@ -5,8 +5,8 @@ use Rattle.std.proofs.lemmas.List.Elements.{Contains-get_or}
 use Rattle.std.proofs.lemmas.Option.{slice_get-get_or}
 use Rattle.lemmas.proofs.Options.{one_there}
 use Rattle.lemmas.proofs.Places.{got}
-use Rattle.download_source.specs.Source.{SourceState}
-use Rattle.download_source.specs.Taking.{IsProved}
+use Rattle.download_supply.specs.Supply.{SupplyState}
+use Rattle.download_supply.specs.Taking.{IsProved}
 use Rattle.download_segments.specs.GroupMaking.{nth_block}
 use Rattle.download_file.specs.State.{ReaderState}
 use Rattle.download_file.proofs.blocks.find_wrong.Goals as goal
@@ -16,7 +16,7 @@ proves-requires c =
     let i = c.loop-place.place-index in
     let at = got c.args.readers.now _ c.index-readers-place.result (c.requires.there i 0 c.loop-place-test.true) c.index-readers-place.is in
     let ready = c.requires.ready (get_or c.args.places.now i 0) c.index-readers-place.result (Contains-get_or c.args.places.now i 0 c.loop-place-test.true) at in
-    subst (λ (s : SourceState). c.args.number < s.end) (sym c.source.ensures) ready.held.within.before
+    subst (λ (s : SupplyState). c.args.number < s.end) (sym c.supply.ensures) ready.held.within.before
 
 pub returns-then-not-proves-clause-wrong : goal.returns-then-not-proves-clause-wrong
 returns-then-not-proves-clause-wrong c =
@@ -28,8 +28,8 @@ returns-then-not-proves-clause-wrong c =
       r = c.index-readers-place.result;
       there = got c.args.readers.now _ c.index-readers-place.result (c.requires.there i 0 c.loop-place-test.true) c.index-readers-place.is;
       not = λ proved. true≢false (sym (c.proves.ensures.1
-          (subst (λ (s : SourceState). IsProved s c.args.number c.split_at.result.0.now) (sym c.source.ensures)
-          (subst (λ (b : List ℕ). IsProved c.index-readers-place.result.source c.args.number b) (sym block) proved))) ∙ c.if-not-proves.true);
+          (subst (λ (s : SupplyState). IsProved s c.args.number c.split_at.result.0.now) (sym c.supply.ensures)
+          (subst (λ (b : List ℕ). IsProved c.index-readers-place.result.supply c.args.number b) (sym block) proved))) ∙ c.if-not-proves.true);
     }
 
 pub loop-place-preserved : goal.loop-place-preserved
@@ -43,9 +43,9 @@ loop-place-preserved c =
     let r : ReaderState = c.index-readers-place.result in
     let at : slice_get readers (get_or places i 0) ≡ Some r = got readers (get_or places i 0) r (c.requires.there i 0 c.loop-place-test.true) c.index-readers-place.is in
     let block : c.split_at.result.0.now ≡ nth_block joined size i = c.split_at.ensures.front ∙ ap (take size) k.rest in
-    let proved : IsProved r.source c.args.number (nth_block joined size i) =
-    subst (λ (b : List ℕ). IsProved r.source c.args.number b) block
-    (subst (λ (s : SourceState). IsProved s c.args.number c.split_at.result.0.now) c.source.ensures (c.proves.ensures.0 c.if-not-proves.false)) in
+    let proved : IsProved r.supply c.args.number (nth_block joined size i) =
+    subst (λ (b : List ℕ). IsProved r.supply c.args.number b) block
+    (subst (λ (s : SupplyState). IsProved s c.args.number c.split_at.result.0.now) c.supply.ensures (c.proves.ensures.0 c.if-not-proves.false)) in
     record {
       rest = c.split_at.ensures.back ∙ ap (drop size) k.rest ∙ drop-drop size (i * size) joined
           ∙ ap (λ (n : ℕ). drop n joined) (omega (arith, add-mul i 1 size));
@@ -56,7 +56,7 @@ loop-place-preserved c =
             let one : get_or places i 0 ≡ place = one_there (slice_get places j) (get_or places i 0) place
             (ap (slice_get places) same ∙ slice_get-get_or places i 0 c.loop-place-test.true) is in
             let other : r ≡ s = one_there (slice_get readers place) r s (ap (slice_get readers) (sym one) ∙ at) there in
-            subst (λ (t : ReaderState). IsProved t.source c.args.number (nth_block joined size j)) other
-            (subst (λ (n : ℕ). IsProved r.source c.args.number (nth_block joined size n)) (sym same) proved)
+            subst (λ (t : ReaderState). IsProved t.supply c.args.number (nth_block joined size j)) other
+            (subst (λ (n : ℕ). IsProved r.supply c.args.number (nth_block joined size n)) (sym same) proved)
       ];
     }

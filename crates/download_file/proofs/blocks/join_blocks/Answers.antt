@@ -3,8 +3,8 @@ use Rattle.std.proofs.lemmas.Option.{slice_get_within}
 use Rattle.lemmas.proofs.Options.{one_there}
 use Rattle.lemmas.proofs.Places.{got}
 use Rattle.share_layout.specs.Pieces.{block_length}
-use Rattle.download_source.specs.Blocks.{IsHeld}
-use Rattle.download_source.specs.Source.{SourceState}
+use Rattle.download_supply.specs.Blocks.{IsHeld}
+use Rattle.download_supply.specs.Supply.{SupplyState}
 use Rattle.download_file.specs.State.{ReaderState}
 use Rattle.download_file.specs.Answers.{block_of}
 use Rattle.download_file.specs.Steps.{HasBlock}
@@ -23,7 +23,7 @@ push_block-requires-clause-held c =
     let has : HasBlock c.args.readers.now c.args.number c.args.size place = c.requires c.loop-place.place-index 0 c.loop-place-test.true in
     let same : has.r ≡ c.index-readers-place.result = one_there (slice_get c.args.readers.now place) has.r _ has.there
     (got c.args.readers.now place _ (slice_get_within c.args.readers.now place has.r has.there) c.index-readers-place.is) in
-    subst (λ (s : SourceState). IsHeld s c.args.number) (ap (λ (r : ReaderState). r.source) same ∙ sym c.source.ensures) has.held
+    subst (λ (s : SupplyState). IsHeld s c.args.number) (ap (λ (r : ReaderState). r.supply) same ∙ sym c.supply.ensures) has.held
 
 pub push_block-requires-clause-long : goal.push_block-requires-clause-long
 push_block-requires-clause-long c =
@@ -31,7 +31,7 @@ push_block-requires-clause-long c =
     let has : HasBlock c.args.readers.now c.args.number c.args.size place = c.requires c.loop-place.place-index 0 c.loop-place-test.true in
     let same : has.r ≡ c.index-readers-place.result = one_there (slice_get c.args.readers.now place) has.r _ has.there
     (got c.args.readers.now place _ (slice_get_within c.args.readers.now place has.r has.there) c.index-readers-place.is) in
-    has.long ∙ ap (λ (s : SourceState). block_length s.geometry c.args.number) (ap (λ (r : ReaderState). r.source) same ∙ sym c.source.ensures)
+    has.long ∙ ap (λ (s : SupplyState). block_length s.geometry c.args.number) (ap (λ (r : ReaderState). r.supply) same ∙ sym c.supply.ensures)
 
 pub loop-place-preserved : goal.loop-place-preserved
 loop-place-preserved c =
@@ -41,5 +41,5 @@ loop-place-preserved c =
     let has : HasBlock c.args.readers.now c.args.number c.args.size place = c.requires i 0 c.loop-place-test.true in
     let at : slice_get c.args.readers.now place ≡ Some c.index-readers-place.result = got c.args.readers.now place _ (slice_get_within c.args.readers.now place has.r has.there) c.index-readers-place.is in
     c.in_ok-push_block.ensures
-    ∙ (λ i'. c.loop-place.invariant i' ++ block_of entries (c.source.ensures i') c.args.number)
+    ∙ (λ i'. c.loop-place.invariant i' ++ block_of entries (c.supply.ensures i') c.args.number)
     ∙ sym (blocks_more entries c.args.readers.now c.args.number c.args.places.now i c.index-readers-place.result c.loop-place-test.true at)

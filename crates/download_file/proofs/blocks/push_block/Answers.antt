@@ -1,7 +1,7 @@
 use Rattle.std.proofs.Common.{◌≡◌, ◌∙◌, ◌++◌, ◌+◌, ◌-◌, List, ℕ, ap, sym, take, drop, map, length}
 use Rattle.std.specs.List.{concat}
 use Rattle.std.proofs.lemmas.List.{append_assoc}
-use Rattle.download_source.specs.Blocks.{block_offset}
+use Rattle.download_supply.specs.Blocks.{block_offset}
 use Rattle.download_file.specs.Answers.{answer_at}
 use Rattle.download_file.proofs.BlockLemmas.{counts_more, piece_taken, read_more}
 use Rattle.download_file.proofs.blocks.push_block.Goals as goal
@@ -10,7 +10,7 @@ pub loop-place-preserved : goal.loop-place-preserved
 loop-place-preserved c =
     let entries = c.args.requests.now.entries in
     let size : ℕ = c.args.size in
-    let offset = block_offset c.args.source.now.geometry c.args.source.now.first c.args.number in
+    let offset = block_offset c.args.supply.now.geometry c.args.supply.now.first c.args.number in
     let places : List ℕ = c.block_places-place-items.result.now in
     let i = c.loop-place.place-index in
     let k = c.loop-place.invariant in

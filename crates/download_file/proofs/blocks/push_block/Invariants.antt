@@ -1,12 +1,12 @@
 use Rattle.std.proofs.Common.{◌≡◌, ◌-◌, ◌++◌, List, ℕ, drop, length, map, take}
 use Rattle.std.specs.List.{concat}
-use Rattle.download_source.specs.Blocks.{block_offset}
+use Rattle.download_supply.specs.Blocks.{block_offset}
 use Rattle.download_file.specs.Answers.{answer_at}
 use Rattle.download_file.proofs.blocks.push_block.Given as goal
 
 abbrev pub invariant-loop-place : goal.invariant-loop-place
 invariant-loop-place l =
-    let offset = block_offset l.source.geometry l.source.first l.number in
+    let offset = block_offset l.supply.geometry l.supply.first l.number in
     let read : List ℕ = concat (map (answer_at l.requests.entries) (take l.place-index l.place-items)) in
     record {
       joined : l.joined.items ≡ l.initial.joined.items ++ take l.size (drop offset read);

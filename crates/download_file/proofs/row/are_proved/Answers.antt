@@ -1,6 +1,6 @@
 use Rattle.std.proofs.Common.{◌≡◌, ◌+◌, ℕ, inl, inr, List, Some, map, ap, subst, sym, ◌∙◌, refl, arith}
 use Rattle.std.proofs.lemmas.Bool.{cases_lt, true≢false}
-use Rattle.download_source.specs.Taking.{IsProved, known_hash}
+use Rattle.download_supply.specs.Taking.{IsProved, known_hash}
 use Rattle.download_segments.specs.GroupMaking.{nth, nth_block}
 use Rattle.download_file.proofs.row.are_proved.Goals as goal
 
@@ -15,7 +15,7 @@ pub returns-then-not-proves_hash : goal.returns-then-not-proves_hash
 returns-then-not-proves_hash c = (
   λ yes. absurd (true≢false (sym yes)),
   λ all. sym c.if-not-proves_hash.true ∙ c.proves_hash.ensures.1
-      (ap (known_hash c.args.source.now) c.loop-hash.invariant.place ∙ all c.loop-hash.hash-index c.loop-hash-test.true
+      (ap (known_hash c.args.supply.now) c.loop-hash.invariant.place ∙ all c.loop-hash.hash-index c.loop-hash-test.true
       ∙ ap Some (sym (c.block_hashes-hashes.ensures c.loop-hash.hash-index c.loop-hash-test.true))),
 )
 
@@ -26,8 +26,8 @@ loop-hash-preserved c =
     let number : ℕ = c.args.number in
     let rows : List (List ℕ) = map (λ r. r.items) c.args.rows.now in
     let place = k.place in
-    let one : IsProved c.args.source.now (number + n) (nth_block (nth rows n) c.args.size c.args.k) =
-    ap (known_hash c.args.source.now) (sym place) ∙ c.proves_hash.ensures.0 c.if-not-proves_hash.false
+    let one : IsProved c.args.supply.now (number + n) (nth_block (nth rows n) c.args.size c.args.k) =
+    ap (known_hash c.args.supply.now) (sym place) ∙ c.proves_hash.ensures.0 c.if-not-proves_hash.false
     ∙ ap Some (c.block_hashes-hashes.ensures n c.loop-hash-test.true) in
     record {
       place = omega (arith, place);
@@ -35,7 +35,7 @@ loop-hash-preserved c =
         | inl less ↦ k.proved i less
         | inr more ↦
             let same : n ≡ i = omega (arith, below, more) in
-            subst (λ (j : ℕ). IsProved c.args.source.now (number + j) (nth_block (nth rows j) c.args.size c.args.k)) same one
+            subst (λ (j : ℕ). IsProved c.args.supply.now (number + j) (nth_block (nth rows j) c.args.size c.args.k)) same one
       ];
     }
 

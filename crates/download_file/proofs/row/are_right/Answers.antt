@@ -4,7 +4,7 @@ use Rattle.std.proofs.lemmas.Bool.{true≢false}
 use Rattle.std.proofs.lemmas.List.Elements.{Contains-get_or}
 use Rattle.std.proofs.lemmas.Option.{slice_get-get_or}
 use Rattle.lemmas.proofs.Places.{got}
-use Rattle.download_source.specs.Source.{SourceState}
+use Rattle.download_supply.specs.Supply.{SupplyState}
 use Rattle.download_segments.specs.GroupMaking.{nth}
 use Rattle.download_file.specs.State.{ReaderState}
 use Rattle.download_file.specs.Rows.{ProvesBlocks}
@@ -19,7 +19,7 @@ are_proved-requires-clause-within c =
     let at : slice_get c.args.readers.now (get_or places k 0) ≡ Some r =
     got c.args.readers.now (get_or places k 0) r (c.requires.there k 0 c.loop-k-test.true) c.index-readers-places.is in
     let before = (c.requires.ready 7 (omega arith) (get_or places k 0) r (Contains-get_or places k 0 c.loop-k-test.true) at).held.within.before in
-    subst (λ (s : SourceState). c.args.number + 8 ≤ s.end) (sym c.source.ensures) (omega (arith, before))
+    subst (λ (s : SupplyState). c.args.number + 8 ≤ s.end) (sym c.supply.ensures) (omega (arith, before))
 
 pub returns-then-not-are_proved : goal.returns-then-not-are_proved
 returns-then-not-are_proved c =
@@ -31,7 +31,7 @@ returns-then-not-are_proved c =
     got c.args.readers.now (get_or places k 0) r (c.requires.there k 0 c.loop-k-test.true) c.index-readers-places.is in (
       λ yes. absurd (true≢false (sym yes)),
       λ all. sym c.if-not-are_proved.true ∙ c.are_proved.ensures.1
-          (subst (λ (s : SourceState). ProvesBlocks s c.args.number rows c.args.size k) (sym c.source.ensures)
+          (subst (λ (s : SupplyState). ProvesBlocks s c.args.number rows c.args.size k) (sym c.supply.ensures)
           (λ i low. all i low k (get_or places k 0) r c.loop-k-test.true (slice_get-get_or places k 0 c.loop-k-test.true) at)),
     )
 
@@ -43,7 +43,7 @@ loop-k-preserved c =
     let r : ReaderState = c.index-readers-places.result in
     let at : slice_get c.args.readers.now (get_or places k 0) ≡ Some r =
     got c.args.readers.now (get_or places k 0) r (c.requires.there k 0 c.loop-k-test.true) c.index-readers-places.is in
-    let proved : ProvesBlocks r.source c.args.number rows c.args.size k =
-    subst (λ (s : SourceState). ProvesBlocks s c.args.number rows c.args.size k) c.source.ensures (c.are_proved.ensures.0 c.if-not-are_proved.false) in
+    let proved : ProvesBlocks r.supply c.args.number rows c.args.size k =
+    subst (λ (s : SupplyState). ProvesBlocks s c.args.number rows c.args.size k) c.supply.ensures (c.are_proved.ensures.0 c.if-not-are_proved.false) in
     λ i low. proved_more c.args.readers.now places (c.args.number + i) (nth rows i) c.args.size k (get_or places k 0) r
     (slice_get-get_or places k 0 c.loop-k-test.true) at (proved i low) (c.loop-k.invariant i low)

@@ -2,8 +2,8 @@ use Rattle.std.proofs.Common.{[], ◌+◌, ◌∙◌, length, ap, subst, arith}
 use Rattle.std.proofs.lemmas.List.{length-set}
 use Rattle.lemmas.proofs.Places.{get_of}
 use Rattle.share_reading.specs.declared.opening.Opening.TheVariants.{Start}
-use Rattle.share_reading.specs.declared.reading.Reading.TheVariants.{Beginning}
-use Rattle.share_reading.specs.declared.reading.Reading.{Reading}
+use Rattle.share_reading.specs.declared.reading.ShareReading.TheVariants.{Beginning}
+use Rattle.share_reading.specs.declared.reading.ShareReading.{ShareReading}
 use Rattle.checker.specs.Book.{HasAsked}
 use Rattle.checker.proofs.AnswerMoves.{safe_first}
 use Rattle.checker.proofs.MachineMoves.{asks_asked, asks_nothing, book_begun, kinds_asked_now, listed_at, once_asked_now, shares_asked_now, unread_at}
@@ -20,7 +20,7 @@ pub returns-clause-book : goal.returns-clause-book
 returns-clause-book c =
     let m = c.args.self.now in
     let o = get_of m.offers.items m.begun c.requires.more in
-    let a = subst (λ (r : Reading). HasAsked m m.begun r o.0 c.ask.new.self) c.start.ensures (c.in_ok-ask.ensures.ok o.0 o.1) in
+    let a = subst (λ (r : ShareReading). HasAsked m m.begun r o.0 c.ask.new.self) c.start.ensures (c.in_ok-ask.ensures.ok o.0 o.1) in
     book_begun m c.ask.new.self o.0 c.requires.book o.1 a
 
 pub returns-clause-asks : goal.returns-clause-asks
@@ -37,7 +37,7 @@ pub returns-clause-safe : goal.returns-clause-safe
 returns-clause-safe c =
     let m = c.args.self.now in
     let o = get_of m.offers.items m.begun c.requires.more in
-    let a = subst (λ (r : Reading). HasAsked m m.begun r o.0 c.ask.new.self) c.start.ensures (c.in_ok-ask.ensures.ok o.0 o.1) in
+    let a = subst (λ (r : ShareReading). HasAsked m m.begun r o.0 c.ask.new.self) c.start.ensures (c.in_ok-ask.ensures.ok o.0 o.1) in
     let may = safe_first m.cap m.requests.entries o.0 (unread_at m o.0 c.requires.book o.1) (listed_at m [] c.requires.book m.begun o.0 o.1) in
     record {
       once = once_asked_now m c.ask.new.self m.begun (Beginning Start) o.0 c.requires.safe may a;

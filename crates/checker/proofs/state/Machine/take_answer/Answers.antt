@@ -9,7 +9,7 @@ use Rattle.share_reading.specs.Judged.{IsUnderway}
 use Rattle.share_reading.specs.declared.judged.Found.{Found}
 use Rattle.share_reading.specs.declared.judged.Found.TheVariants as found
 use Rattle.share_reading.specs.declared.reading.Progress.TheVariants.{Next, Whole}
-use Rattle.share_reading.specs.declared.reading.Reading as readings
+use Rattle.share_reading.specs.declared.reading.ShareReading as readings
 use Rattle.share_reading.specs.declared.verdict.Verdict.TheVariants as verdicts
 use Rattle.checker.specs.Offers.{IsTaken}
 use Rattle.checker.specs.Book.{AsksMore, HasBook, IsBrought, IsSafe}
@@ -32,7 +32,7 @@ none_came : (entries : List Request) (place : ℕ) (bytes : Option (Vec ℕ Glob
 none_came entries place bytes is brought = subst (λ (o : Option (Vec ℕ Global)). IsBrought entries place (option_map bytes_of o)) is brought
 
 -- what came is taken
-took : (cap : VerifyCapValue) (r : readings.Reading) (place : ℕ) (bytes text : List ℕ) (found told : Found) (old o new : Offer) → old ≡ o → bytes ≡ text → found ≡ told
+took : (cap : VerifyCapValue) (r : readings.ShareReading) (place : ℕ) (bytes text : List ℕ) (found told : Found) (old o new : Offer) → old ≡ o → bytes ≡ text → found ≡ told
     → IsTaken cap r place bytes found old new → IsTaken cap r place text told o new
 took cap r place bytes text found told old o new same text_is is t =
     subst (λ (x : Offer). IsTaken cap r place text told x new) same

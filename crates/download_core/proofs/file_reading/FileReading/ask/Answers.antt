@@ -7,7 +7,7 @@ use Rattle.lemmas.proofs.Results.{on_ok_then}
 use Rattle.lemmas.proofs.Places.{got}
 use Rattle.download_shares.specs.HoldingMoves.{IsUnasked}
 use Rattle.download_shares.proofs.Opened.{goes_none}
-use Rattle.download_source.specs.declared.wanted.Wanted.{Wanted}
+use Rattle.download_supply.specs.declared.wanted.Wanted.{Wanted}
 use Rattle.download_file.specs.State.{IsLive, placed, waiting_at}
 use Rattle.download_core.specs.Reading.{AreLinked, AreReading, IsOf}
 use Rattle.download_core.specs.ReadingState.{ReadingState, reading_state}

@@ -1,7 +1,7 @@
 use Rattle.std.proofs.Common.{◌≡◌, rules, subst, sym}
 use Rattle.std.specs.List.{filter}
 use Rattle.std.proofs.lemmas.Fn.{filter_same}
-use Rattle.server_core.specs.Machine.{is_fresh_at}
+use Rattle.server_core.specs.ServerState.{is_fresh_at}
 use Rattle.server_core.specs.Sound.{AreApart}
 use Rattle.server_core.proofs.Listed.{apart_filter}
 use Rattle.server_core.proofs.buckets.Buckets.drop_stale.Goals as goal

@@ -1,5 +1,5 @@
 use Rattle.std.proofs.Common.{rules}
-use Rattle.server_core.specs.Machine.{DoesFor, ListsHoldings}
+use Rattle.server_core.specs.ServerState.{DoesFor, ListsHoldings}
 use Rattle.server_core.proofs.server.Server.answer.Goals as goal
 
 pub returns-in-Ask-clause-does : goal.returns-in-Ask-clause-does

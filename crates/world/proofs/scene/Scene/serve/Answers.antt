@@ -1,5 +1,5 @@
 use Rattle.std.proofs.Common.{◌∙◌, ◌++◌, ◌∷◌, [], Ok, Some, ap, subst}
-use Rattle.server_core.specs.Machine.{Outcome}
+use Rattle.server_core.specs.ServerState.{Outcome}
 use Rattle.world_operations.specs.declared.message.Sent.{Sent}
 use Rattle.lemmas.proofs.Results.{on_ok}
 use Rattle.world.specs.Parts.{ServerBecomes, ServesBy}

@@ -1,0 +1,182 @@
+use Rattle.std.proofs.Common.{refl, ◌≡◌, ◌∙◌, ◌<◌, inr, ℕ, List, Err, Some, ap, subst, sym, length, slice_get, slice_set, rules}
+use Rattle.std.proofs.lemmas.List.Elements.{All-contains}
+use Rattle.lemmas.proofs.Options.{one_there}
+use Rattle.lemmas.proofs.Places.{got}
+use Rattle.request_record.specs.declared.requests.Request.{Request}
+use Rattle.download_parts.specs.declared.error.TreeFault.TheVariants as faults
+use Rattle.download_segments.specs.State.{HandoutState}
+use Rattle.download_file.specs.State.{FileState, IsLive, ReaderState, copies, waiting_at, file_state}
+use Rattle.download_file.specs.Answers.{AnswersFirst, IsRead}
+use Rattle.download_file.specs.Asked.{AsksNoMore}
+use Rattle.download_file.specs.Changes.{HandsNothing, IsSameFile, StaysAskedUp}
+use Rattle.download_file.specs.Right.{IsFile}
+use Rattle.download_file.specs.Taking.{IsRefused}
+use Rattle.download_file.proofs.GrowLemmas.{same_itself}
+use Rattle.download_file.proofs.TakeLemmas.{HasTaken, front_is, has_taken, is_taker, same_still}
+use Rattle.download_file.proofs.Fields.{seen}
+use Rattle.download_file.proofs.file.PartialFile.take.Goals as goal
+
+pub take_part-requires-clause-taker : goal.take_part-requires-clause-taker
+take_part-requires-clause-taker c =
+    let f : FileState = seen c.self.inside in
+    let live : IsLive f c.args.reader = subst (λ (s : FileState). IsLive s c.args.reader) (sym c.self.view_is) c.requires.live in
+    let low : c.args.reader < length f.readers = All-contains (λ place. place < length f.readers) f.live c.args.reader c.self.invariant.0.live.there live in
+    let r : ReaderState = c.index_mut.result.now in
+    let at : slice_get f.readers c.args.reader ≡ Some r = got f.readers c.args.reader r low c.index_mut.ensures.value in
+    let was : c.index.result.now ≡ r = one_there (slice_get f.readers c.args.reader) c.index.result.now r (got f.readers c.args.reader c.index.result.now low c.index.ensures) at in
+    let front = front_is r.waiting c.in-Some.first (sym (ap (λ (q : ReaderState). slice_get q.waiting 0) was) ∙ sym c.first.ensures ∙ c.in-Some.is) in
+    is_taker f f.handout.trees c.args.reader r r c.in-Some.first front.0 f.taken c.self.invariant.0 live at front.1
+
+-- ---- it is taken
+
+abbrev then : goal.In_ok-take_part → FileState
+then c = file_state c.take_part.new.handout c.self.inside.plan.first c.self.inside.plan.end c.take_part.new.taken (slice_set c.self.inside.readers.items c.args.reader c.take_part.new.reader) c.self.inside.live.items c.self.inside.groups.items
+
+taken : (c : goal.In_ok-take_part) → HasTaken c.args.self.now c.args.reader c.args.bytes.now (then c)
+taken c =
+    let f : FileState = seen c.self.inside in
+    let live : IsLive f c.args.reader = subst (λ (s : FileState). IsLive s c.args.reader) (sym c.self.view_is) c.requires.live in
+    let low : c.args.reader < length f.readers = All-contains (λ place. place < length f.readers) f.live c.args.reader c.self.invariant.0.live.there live in
+    let r : ReaderState = c.index_mut.result.now in
+    let at : slice_get f.readers c.args.reader ≡ Some r = got f.readers c.args.reader r low c.index_mut.ensures.value in
+    let was : c.index.result.now ≡ r = one_there (slice_get f.readers c.args.reader) c.index.result.now r (got f.readers c.args.reader c.index.result.now low c.index.ensures) at in
+    let front = front_is r.waiting c.in-Some.first (sym (ap (λ (q : ReaderState). slice_get q.waiting 0) was) ∙ sym c.first.ensures ∙ c.in-Some.is) in
+    subst (λ (s : FileState). HasTaken s c.args.reader c.args.bytes.now (then c)) c.self.view_is
+    (has_taken f c.take_part.new.handout c.args.reader r c.take_part.new.reader c.in-Some.first front.0 c.take_part.new.taken c.args.bytes.now c.self.invariant.0 live at front.1
+    c.in_ok-take_part.ensures.taken c.if-bytes-first.false)
+
+pub invariant_of-self-2 : goal.invariant_of-self-2
+invariant_of-self-2 c = ((taken c).right, c.self.invariant.1 ∙ sym (ap (λ (h : HandoutState). h.geometry) c.in_ok-take_part.ensures.taken.handout))
+
+pub returns-clause-right : goal.returns-clause-right
+returns-clause-right c = (taken c).right
+
+pub returns-clause-taken : goal.returns-clause-taken
+returns-clause-taken c = (taken c).taken_is
+
+pub returns-clause-copies : goal.returns-clause-copies
+returns-clause-copies c = (taken c).copies_are
+
+pub returns-clause-others : goal.returns-clause-others
+returns-clause-others c = (taken c).others
+
+pub returns-clause-asked : goal.returns-clause-asked
+returns-clause-asked c = (taken c).asked
+
+pub returns-clause-asked_up : goal.returns-clause-asked_up
+returns-clause-asked_up c = (taken c).asked_up
+
+pub returns-clause-reads : goal.returns-clause-reads
+returns-clause-reads c = (taken c).reads
+
+-- ---- it is refused
+
+abbrev still : goal.After-from_residual → FileState
+still c = file_state c.take_part.new.handout c.self.inside.plan.first c.self.inside.plan.end c.take_part.new.taken (slice_set c.self.inside.readers.items c.args.reader c.take_part.new.reader) c.self.inside.live.items c.self.inside.groups.items
+
+same : (c : goal.After-from_residual) → still c ≡ c.args.self.now
+same c =
+    let f : FileState = seen c.self.inside in
+    let live : IsLive f c.args.reader = subst (λ (s : FileState). IsLive s c.args.reader) (sym c.self.view_is) c.requires.live in
+    let low : c.args.reader < length f.readers = All-contains (λ place. place < length f.readers) f.live c.args.reader c.self.invariant.0.live.there live in
+    let r : ReaderState = c.index_mut.result.now in
+    let at : slice_get f.readers c.args.reader ≡ Some r = got f.readers c.args.reader r low c.index_mut.ensures.value in
+    let was : c.index.result.now ≡ r = one_there (slice_get f.readers c.args.reader) c.index.result.now r (got f.readers c.args.reader c.index.result.now low c.index.ensures) at in
+    let front = front_is r.waiting c.in-Some.first (sym (ap (λ (q : ReaderState). slice_get q.waiting 0) was) ∙ sym c.first.ensures ∙ c.in-Some.is) in
+    same_still f c.take_part.new.handout c.args.reader r c.take_part.new.reader c.take_part.new.taken at c.in_err-take_part.ensures.handout c.in_err-take_part.ensures.reader c.in_err-take_part.ensures.pieces
+    ∙ c.self.view_is
+
+right : (c : goal.After-from_residual) → IsFile (still c)
+right c = subst IsFile (sym (same c)) (subst IsFile c.self.view_is c.self.invariant.0)
+
+pub invariant_of-self : goal.invariant_of-self
+invariant_of-self c = (right c, c.self.invariant.1 ∙ sym (ap (λ (h : HandoutState). h.geometry) c.in_err-take_part.ensures.handout))
+
+pub returns-in_err-take_part-clause-right : goal.returns-in_err-take_part-clause-right
+returns-in_err-take_part-clause-right c = right c
+
+pub returns-in_err-take_part-clause-asked : goal.returns-in_err-take_part-clause-asked
+returns-in_err-take_part-clause-asked c = subst (AsksNoMore c.args.self.now) (sym (same c)) (λ reader offset len. ((λ h. h), (λ h. h)))
+
+pub returns-in_err-take_part-clause-asked_up : goal.returns-in_err-take_part-clause-asked_up
+returns-in_err-take_part-clause-asked_up c = subst (λ (g : FileState). (other : ℕ) → StaysAskedUp c.args.self.now g other) (sym (same c)) (λ other h. h)
+
+pub returns-in_err-take_part-clause-reads : goal.returns-in_err-take_part-clause-reads
+returns-in_err-take_part-clause-reads c =
+    subst (λ (g : FileState). (entries : List Request) → IsRead entries c.args.self.now → AnswersFirst entries c.args.self.now c.args.reader c.args.bytes.now
+    → IsRead entries g) (sym (same c)) (λ entries read answered. read)
+
+pub returns-in_err-take_part-clause-refused : goal.returns-in_err-take_part-clause-refused
+returns-in_err-take_part-clause-refused c = λ check is.
+    let f : FileState = seen c.self.inside in
+    let live : IsLive f c.args.reader = subst (λ (s : FileState). IsLive s c.args.reader) (sym c.self.view_is) c.requires.live in
+    let low : c.args.reader < length f.readers = All-contains (λ place. place < length f.readers) f.live c.args.reader c.self.invariant.0.live.there live in
+    let r : ReaderState = c.index_mut.result.now in
+    let at : slice_get f.readers c.args.reader ≡ Some r = got f.readers c.args.reader r low c.index_mut.ensures.value in
+    let was : c.index.result.now ≡ r = one_there (slice_get f.readers c.args.reader) c.index.result.now r (got f.readers c.args.reader c.index.result.now low c.index.ensures) at in
+    let front = front_is r.waiting c.in-Some.first (sym (ap (λ (q : ReaderState). slice_get q.waiting 0) was) ∙ sym c.first.ensures ∙ c.in-Some.is) in
+    let fault : c.in_err-take_part.field-0.0 ≡ faults.Check check = search rules in
+    subst (λ (s : FileState). IsRefused s c.args.reader c.args.bytes.now check) c.self.view_is
+    (record {
+      r = r;
+      there = at;
+      first = c.in-Some.first;
+      others = front.0;
+      waits = front.1;
+      why = inr (c.if-bytes-first.false, c.in_err-take_part.ensures.refused check (ap Err fault));
+    })
+
+pub returns-clause-same : goal.returns-clause-same
+returns-clause-same c = (taken c).same
+
+pub returns-in_err-take_part-clause-same : goal.returns-in_err-take_part-clause-same
+returns-in_err-take_part-clause-same c = subst (IsSameFile c.args.self.now) (sym (same c)) (same_itself c.args.self.now)
+
+-- ---- bytes of another length
+
+pub returns-then-bytes-first-clause-right : goal.returns-then-bytes-first-clause-right
+returns-then-bytes-first-clause-right c = subst IsFile c.self.view_is c.self.invariant.0
+
+pub returns-then-bytes-first-clause-same : goal.returns-then-bytes-first-clause-same
+returns-then-bytes-first-clause-same c = same_itself c.args.self.now
+
+pub returns-then-bytes-first-clause-asked : goal.returns-then-bytes-first-clause-asked
+returns-then-bytes-first-clause-asked c = λ reader offset len. ((λ h. h), (λ h. h))
+
+pub returns-then-bytes-first-clause-asked_up : goal.returns-then-bytes-first-clause-asked_up
+returns-then-bytes-first-clause-asked_up c = λ other h. h
+
+pub returns-then-bytes-first-clause-reads : goal.returns-then-bytes-first-clause-reads
+returns-then-bytes-first-clause-reads c = λ entries read answered. read
+
+pub returns-then-bytes-first-clause-live : goal.returns-then-bytes-first-clause-live
+returns-then-bytes-first-clause-live c = refl
+
+pub returns-then-bytes-first-clause-copies : goal.returns-then-bytes-first-clause-copies
+returns-then-bytes-first-clause-copies c = refl
+
+pub returns-then-bytes-first-clause-others : goal.returns-then-bytes-first-clause-others
+returns-then-bytes-first-clause-others c = λ other not. refl
+
+pub returns-then-bytes-first-clause-handout : goal.returns-then-bytes-first-clause-handout
+returns-then-bytes-first-clause-handout c = record { handout = refl; first = refl; end = refl }
+
+pub returns-then-bytes-first-clause-unchanged : goal.returns-then-bytes-first-clause-unchanged
+returns-then-bytes-first-clause-unchanged c = refl
+
+-- ---- what a refusal does not touch
+
+pub returns-in_err-take_part-clause-live : goal.returns-in_err-take_part-clause-live
+returns-in_err-take_part-clause-live c = ap (λ (s : FileState). s.live) (same c)
+
+pub returns-in_err-take_part-clause-copies : goal.returns-in_err-take_part-clause-copies
+returns-in_err-take_part-clause-copies c = ap copies (same c)
+
+pub returns-in_err-take_part-clause-others : goal.returns-in_err-take_part-clause-others
+returns-in_err-take_part-clause-others c = λ other not. ap (λ (s : FileState). waiting_at s other) (same c)
+
+pub returns-in_err-take_part-clause-handout : goal.returns-in_err-take_part-clause-handout
+returns-in_err-take_part-clause-handout c = subst (HandsNothing c.args.self.now) (sym (same c)) (record { handout = refl; first = refl; end = refl })
+
+pub returns-clause-live : goal.returns-clause-live
+returns-clause-live c = ap (λ (s : FileState). s.live) c.self.view_is

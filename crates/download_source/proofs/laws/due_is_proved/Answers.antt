@@ -1,5 +1,0 @@
-use Rattle.download_source.proofs.UpperLemmas.{due_is_proved}
-use Rattle.download_source.proofs.laws.due_is_proved.Goals as goal
-
-pub returns : goal.returns
-returns c = due_is_proved

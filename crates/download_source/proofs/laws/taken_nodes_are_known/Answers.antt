@@ -1,5 +1,0 @@
-use Rattle.download_source.proofs.LawLemmas.{taken_known}
-use Rattle.download_source.proofs.laws.taken_nodes_are_known.Goals as goal
-
-pub returns : goal.returns
-returns c = taken_known

@@ -1,5 +1,0 @@
-use Rattle.download_source.proofs.LawLemmas.{lead_append}
-use Rattle.download_source.proofs.laws.waiting_goes_on.Goals as goal
-
-pub returns : goal.returns
-returns c = lead_append

@@ -1,5 +1,0 @@
-use Rattle.download_source.proofs.UpperLemmas.{upper_giving}
-use Rattle.download_source.proofs.laws.waiting_stays_ordered_giving.Goals as goal
-
-pub returns : goal.returns
-returns c = upper_giving

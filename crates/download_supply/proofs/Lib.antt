@@ -1,0 +1,9 @@
+pub mod CursorLemmas
+pub mod PlanLemmas
+pub mod BatchLemmas
+pub mod LevelLemmas
+pub mod StepLemmas
+pub mod SupplyLemmas
+pub mod TakingLemmas
+pub mod LawLemmas
+pub mod UpperLemmas
